@@ -1,0 +1,5 @@
+-- The lemmas.
+pub mod Parts
+pub mod ReadBack
+pub mod Refused
+pub mod Spellings

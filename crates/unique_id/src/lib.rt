@@ -1,0 +1,14 @@
+//! Unique ids: where a node stands in the tree, and the canonical text of that.
+#![tactic(auto)]
+
+mod fault;
+mod spelling;
+mod text;
+mod unique_id;
+
+pub use fault::UidFault;
+pub use text::Text;
+pub use unique_id::{Segment, UniqueId};
+
+#[cfg(test)]
+mod tests;

@@ -1,0 +1,76 @@
+//! Writes segments in the canonical spelling.
+
+ghost use Rattle.std.specs.Prelude.{◌≡◌, ◌≤◌, OnOk, ◌++◌, length, string_bytes, encode_utf8};
+ghost use Rattle.unique_id.specs.Spelling.{spelled_byte, spelled_part, spelled_segment};
+
+use std::alloc::AllocError;
+
+/// Writes a character of a part, with an escape where it needs one.
+fn push_char(text: &mut String, c: char) -> Result<(), AllocError>
+    ensures { OnOk result (string_bytes text.new ≡ string_bytes text.old ++ spelled_part (encode_utf8 c)) }
+{
+    match c {
+        '%' => text.push_str("%25"),
+        '+' => text.push_str("%2B"),
+        '[' => text.push_str("%5B"),
+        ']' => text.push_str("%5D"),
+        ':' => text.push_str("%3A"),
+        '/' => text.push_str("%2F"),
+        _ => text.push(c),
+    }
+}
+
+/// Writes a part with its escapes.
+fn push_part(text: &mut String, part: &str) -> Result<(), AllocError>
+    ensures { OnOk result (string_bytes text.new ≡ string_bytes text.old ++ spelled_part part.now) }
+{
+    for c in part.chars() {
+        push_char(text, c)?;
+    }
+    Ok(())
+}
+
+/// Writes a segment.
+pub fn push_segment(text: &mut String, kind: &str, value: &str) -> Result<(), AllocError>
+    ensures { OnOk result (string_bytes text.new ≡ string_bytes text.old ++ spelled_segment kind.now value.now) }
+{
+    text.push_str("[")?;
+    push_part(text, kind)?;
+    text.push_str(":")?;
+    push_part(text, value)?;
+    text.push_str("]")?;
+    Ok(())
+}
+
+/// How many bytes a byte of a part is written in.
+fn byte_len(byte: u8) -> usize
+    ensures { result ≡ length (spelled_byte byte) }
+{
+    match byte {
+        b'%' | b'+' | b'[' | b']' | b':' | b'/' => 3,
+        _ => 1,
+    }
+}
+
+/// How many bytes a part is written in.
+fn part_len(part: &str) -> usize
+    requires { length part.now ≤ 1024 }
+    ensures spelled { result ≡ length (spelled_part part.now) }
+    ensures bounded { result ≤ 3072 }
+{
+    let mut written = 0;
+    for byte in part.as_bytes() {
+        written += byte_len(*byte);
+    }
+    written
+}
+
+/// How many bytes a segment is written in.
+pub fn segment_len(kind: &str, value: &str) -> usize
+    requires kind_fits { length kind.now ≤ 1024 }
+    requires value_fits { length value.now ≤ 1024 }
+    ensures spelled { result ≡ length (spelled_segment kind.now value.now) }
+    ensures bounded { result ≤ 6147 }
+{
+    part_len(kind) + part_len(value) + 3
+}

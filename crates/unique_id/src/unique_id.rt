@@ -1,0 +1,201 @@
+//! A unique id: its segments, with their canonical text beside them.
+
+ghost use Rattle.std.specs.Prelude.{◌≡◌, ◌≢◌, ◌<◌, ◌≤◌, ◌↔◌, IsTrue, Some, None, IfOk, IfErr, [], ◌∷◌, ◌++◌, length, All, string_bytes};
+ghost use Rattle.unique_id.specs.Segments.{IsWhole};
+ghost use Rattle.unique_id.specs.Spelling.{refusal, spelling};
+
+use crate::fault::UidFault;
+use crate::spelling::{push_segment, segment_len};
+use crate::text::Text;
+use std::alloc::{AllocError, Global};
+use std::marker::Model;
+
+/// The greatest number of segments.
+const MOST_SEGMENTS: usize = 64;
+
+/// The greatest length of the canonical text, in bytes.
+const LONGEST_TEXT: usize = 1024;
+
+/// One step down the tree: the kind of the node there, and what tells it from its siblings.
+#[derive(Debug, Drop)]
+pub struct Segment {
+    pub kind: Text,
+    pub value: Text,
+}
+
+impl Segment {
+    /// This kind and this value, in memory of their own.
+    pub fn new(alloc: Global, kind: &str, value: &str) -> Result<Segment, AllocError>
+        ensures { IfOk result (λ s. s ≡ record { kind = kind.now; value = value.now }) }
+    {
+        Ok(Segment {
+            kind: Text::new(alloc, kind)?,
+            value: Text::new(alloc, value)?,
+        })
+    }
+
+    /// The same segment, in memory of its own.
+    pub fn copy(&self, alloc: Global) -> Result<Segment, AllocError>
+        ensures { IfOk result (λ s. s ≡ self.now) }
+    {
+        Segment::new(alloc, self.kind.as_str(), self.value.as_str())
+    }
+}
+
+/// Where a node stands: one segment for each step down the tree.
+#[derive(Debug, Drop)]
+pub struct UniqueId {
+    segments: Vec<Segment>,
+    text: String,
+}
+
+impl Model for UniqueId {
+    ghost use Rattle.std.specs.Prelude.{List};
+    ghost use Rattle.unique_id.specs.declared.unique_id.Segment.{Segment};
+
+    ghost Value = { List Segment };
+
+    ghost use Rattle.unique_id.specs.Fields.{IsSound};
+
+    ghost view = { λ u. u.segments.items };
+
+    ghost invariant = { IsSound };
+}
+
+impl UniqueId {
+    /// The canonical text, at most 1,024 bytes.
+    pub fn text(&self) -> &str
+        ensures spelled { result.now ≡ spelling self.now }
+        ensures short { length result.now ≤ 1024 }
+    {
+        self.text.as_str()
+    }
+
+    /// The segments, from the root down: one to 64.
+    pub fn segments(&self) -> &[Segment]
+        ensures items { result.now ≡ self.now }
+        ensures some { 0 < length self.now }
+        ensures few { length self.now ≤ 64 }
+        ensures whole { All IsWhole self.now }
+    {
+        self.segments.as_slice()
+    }
+
+    /// The id with this one segment; an empty part is refusal 5, a text that gets too long refusal 6.
+    pub fn of(alloc: Global, kind: &str, value: &str) -> Result<UniqueId, UidFault>
+        ensures ok { IfOk result (λ id. id ≡ record { kind = kind.now; value = value.now } ∷ []) }
+        ensures accepted { IfOk result (λ _. refusal [] kind.now value.now ≡ None) }
+        ensures refused { IfErr result (λ fault. fault ≢ UidFault.NoMemory → refusal [] kind.now value.now ≡ Some fault) }
+        ensures no_memory { IfErr result (λ fault. fault ≡ UidFault.NoMemory → refusal [] kind.now value.now ≡ None) }
+    {
+        grown(alloc, &[], "", kind, value)
+    }
+
+    /// This id with one more segment; an empty part is refusal 5, a 65th segment or a text that
+    /// gets too long refusal 6.
+    pub fn append(&self, alloc: Global, kind: &str, value: &str) -> Result<UniqueId, UidFault>
+        ensures ok { IfOk result (λ id. id ≡ self.now ++ record { kind = kind.now; value = value.now } ∷ []) }
+        ensures accepted { IfOk result (λ _. refusal self.now kind.now value.now ≡ None) }
+        ensures refused { IfErr result (λ fault. fault ≢ UidFault.NoMemory → refusal self.now kind.now value.now ≡ Some fault) }
+        ensures no_memory { IfErr result (λ fault. fault ≡ UidFault.NoMemory → refusal self.now kind.now value.now ≡ None) }
+    {
+        grown(alloc, self.segments(), self.text(), kind, value)
+    }
+
+    /// Whether both have the same segments.
+    pub fn same(&self, other: &UniqueId) -> bool
+        ensures { IsTrue result ↔ (self.now ≡ other.now) }
+    {
+        self.text() == other.text()
+    }
+
+    /// The same id, in memory of its own.
+    pub fn copy(&self, alloc: Global) -> Result<UniqueId, AllocError>
+        ensures { IfOk result (λ id. id ≡ self.now) }
+    {
+        Ok(UniqueId {
+            segments: copied(alloc, self.segments())?,
+            text: String::from_str(alloc, self.text())?,
+        })
+    }
+}
+
+/// What refuses one more segment after `segments`, whose spelling is `text`.
+fn fault_of(segments: &[Segment], text: &str, kind: &str, value: &str) -> Option<UidFault>
+    requires spelled { text.now ≡ spelling segments.now }
+    requires short { length text.now ≤ 1024 }
+    ensures { result ≡ refusal segments.now kind.now value.now }
+{
+    if kind.is_empty() {
+        return Some(UidFault::EmptyPart(0));
+    }
+    if value.is_empty() {
+        return Some(UidFault::EmptyPart(1));
+    }
+    if segments.len() >= MOST_SEGMENTS || kind.len() > LONGEST_TEXT || value.len() > LONGEST_TEXT {
+        return Some(UidFault::TooLong);
+    }
+    let slash = usize::from(!segments.is_empty());
+    if text.len() + slash + segment_len(kind, value) > LONGEST_TEXT {
+        return Some(UidFault::TooLong);
+    }
+    None
+}
+
+/// The spelling of `segments`, which is `text`, and one more.
+fn longer_text(
+    alloc: Global,
+    segments: &[Segment],
+    text: &str,
+    kind: &str,
+    value: &str,
+) -> Result<String, AllocError>
+    requires { text.now ≡ spelling segments.now }
+    ensures { IfOk result (λ longer. string_bytes longer ≡ spelling (segments.now ++ record { kind = kind.now; value = value.now } ∷ [])) }
+{
+    let mut longer = String::from_str(alloc, text)?;
+    if !segments.is_empty() {
+        longer.push_str("/")?;
+    }
+    push_segment(&mut longer, kind, value)?;
+    Ok(longer)
+}
+
+/// The id of `segments`, whose spelling is `text`, and one more.
+fn grown(
+    alloc: Global,
+    segments: &[Segment],
+    text: &str,
+    kind: &str,
+    value: &str,
+) -> Result<UniqueId, UidFault>
+    requires spelled { text.now ≡ spelling segments.now }
+    requires short { length text.now ≤ 1024 }
+    requires whole { All IsWhole segments.now }
+    ensures ok { IfOk result (λ id. id ≡ segments.now ++ record { kind = kind.now; value = value.now } ∷ []) }
+    ensures accepted { IfOk result (λ _. refusal segments.now kind.now value.now ≡ None) }
+    ensures refused { IfErr result (λ fault. fault ≢ UidFault.NoMemory → refusal segments.now kind.now value.now ≡ Some fault) }
+    ensures no_memory { IfErr result (λ fault. fault ≡ UidFault.NoMemory → refusal segments.now kind.now value.now ≡ None) }
+{
+    if let Some(fault) = fault_of(segments, text, kind, value) {
+        return Err(fault);
+    }
+    let text = longer_text(alloc, segments, text, kind, value)?;
+    let mut longer = copied(alloc, segments)?;
+    longer.push(Segment::new(alloc, kind, value)?)?;
+    Ok(UniqueId {
+        segments: longer,
+        text,
+    })
+}
+
+/// The same segments, in memory of their own.
+fn copied(alloc: Global, items: &[Segment]) -> Result<Vec<Segment>, AllocError>
+    ensures { IfOk result (λ v. v.items ≡ items.now) }
+{
+    let mut copies = Vec::new(alloc);
+    for item in items {
+        copies.push(item.copy(alloc)?)?;
+    }
+    Ok(copies)
+}
