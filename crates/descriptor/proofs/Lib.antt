@@ -1,0 +1,7 @@
+-- The lemmas, by subject.
+pub mod Belows
+pub mod Distinct
+pub mod Grown
+pub mod Accepted
+pub mod Sets
+pub mod Children

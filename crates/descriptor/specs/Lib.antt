@@ -1,0 +1,6 @@
+-- The definitions that contracts cite.
+pub mod BuilderFields
+pub mod Children
+pub mod Fields
+pub mod Nodes
+pub mod Refusals

@@ -1,0 +1,138 @@
+-- The nodes of a tree as contracts see them: each node's parent, and what is said of each node but the plan.
+use Rattle.std.specs.Prelude.{◌≡◌, ℕ, zero, suc, ◌+◌, ◌-◌, ◌<◌, ◌≤◌, ◌&&◌, ◌==◌, nat_lt, Bool, true, false, cond, List, [], ◌∷◌, ◌++◌, length, Option, Some, None, slice_get, slice_index_or, ◌⊎◌}
+use Rattle.unique_id.specs.Spelling.{spelling}
+use Rattle.descriptor.specs.declared.node.Node.{Node}
+use Rattle.descriptor.specs.declared.kind.Kind.TheVariants.{Test, Container, ContainerAndTest}
+use Rattle.descriptor.specs.declared.kind.Kind.{Kind}
+
+-- `parents` has a number for node 0 too, which says nothing; `nodes` begins with node 1
+pub record Nodes : Type 0 where
+  pub parents : List ℕ
+  pub nodes : List Node
+
+-- how many nodes there are, the plan included
+abbrev pub size : Nodes → ℕ
+size t = length t.parents
+
+-- the number that stands for the parent of n, and 0 past the end
+abbrev pub parent_of : Nodes → ℕ → ℕ
+parent_of t n = slice_index_or t.parents n 0
+
+-- what the tree says of node n; of the plan it says nothing
+abbrev pub node_at : Nodes → ℕ → Option Node
+node_at t zero = None
+node_at t (suc n) = slice_get t.nodes n
+
+-- c is a child of a
+pub record IsChild (t : Nodes) (a c : ℕ) : Type 0 where
+  pub above_zero : 0 < c
+  pub inside : c < size t
+  pub parent : parent_of t c ≡ a
+
+-- b is reached from a by one or more children
+pub data Below (t : Nodes) (a : ℕ) : ℕ → Type 0 where
+  child : {c : ℕ} → IsChild t a c → Below t a c
+  under : {c d : ℕ} → Below t a c → IsChild t c d → Below t a d
+
+-- the numbers below n that pass, from the least
+abbrev pub numbers_where : (ℕ → Bool) → ℕ → List ℕ
+numbers_where q zero = []
+numbers_where q (suc n) = numbers_where q n ++ cond (q n) (n ∷ []) []
+
+-- whether c is a child of a, as a test
+abbrev pub is_child : Nodes → ℕ → ℕ → Bool
+is_child t a c = nat_lt 0 c && (parent_of t c == a)
+
+-- a truth value as a number
+abbrev pub bit : Bool → ℕ
+bit true = 1
+bit false = 0
+
+-- how many numbers below n pass
+abbrev pub count_below : (ℕ → Bool) → ℕ → ℕ
+count_below q zero = 0
+count_below q (suc n) = bit (q n) + count_below q n
+
+-- the children of a, in order
+abbrev pub children_of : Nodes → ℕ → List ℕ
+children_of t a = numbers_where (is_child t a) (size t)
+
+-- how many steps lead from n up to node 0, of so many that may be taken; as a parent has a smaller number, n are enough
+abbrev pub steps_up : List ℕ → ℕ → ℕ → ℕ
+steps_up parents zero n = 0
+steps_up parents (suc k) zero = 0
+steps_up parents (suc k) (suc n) = suc (steps_up parents k (slice_index_or parents (suc n) 0))
+
+-- how many steps lead from node n up to node 0
+abbrev pub depth_of : Nodes → ℕ → ℕ
+depth_of t n = steps_up t.parents n n
+
+-- the next node may be a child of a: a is the last node, or the last node is below it
+abbrev pub MayTake : Nodes → ℕ → Type 0
+MayTake t a = (a < size t) × ((a ≡ size t - 1) ⊎ Below t a (size t - 1))
+
+-- a test that holds no other node
+abbrev pub is_test_kind : Kind → Bool
+is_test_kind Test = true
+is_test_kind Container = false
+is_test_kind ContainerAndTest = false
+
+-- what a node may hold; where there is none, what the plan may hold
+abbrev pub kind_or : Option Node → Kind
+kind_or None = Container
+kind_or (Some node) = node.kind
+
+-- what node n may hold; the plan is a container
+abbrev pub kind_of : Nodes → ℕ → Kind
+kind_of t n = kind_or (node_at t n)
+
+-- whether node n is a test that holds no other node; the plan is none
+abbrev pub is_test_at : Nodes → ℕ → Bool
+is_test_at t n = is_test_kind (kind_of t n)
+
+-- the body of a node; where there is none, no body
+abbrev pub body_or : Option Node → Option ℕ
+body_or None = None
+body_or (Some node) = node.body
+
+-- what runs for node n; the plan has no body
+abbrev pub body_of : Nodes → ℕ → Option ℕ
+body_of t n = body_or (node_at t n)
+
+-- the canonical text of a node's unique id; where there is no node, none
+abbrev pub text_or : Option Node → Option (List ℕ)
+text_or None = None
+text_or (Some node) = Some (spelling node.id)
+
+-- the canonical text of the unique id of node n; the plan has none
+abbrev pub text_of : Nodes → ℕ → Option (List ℕ)
+text_of t n = text_or (node_at t n)
+
+-- node 0 and the nodes below it, in preorder, within the limits
+pub record IsTree (t : Nodes) : Type 0 where
+  -- there is the plan
+  pub root : 0 < size t
+  -- at most 4,095 nodes besides
+  pub few : size t ≤ 4096
+  -- each node but the plan is told of
+  pub nodes_len : length t.nodes + 1 ≡ size t
+  -- a parent has a smaller number
+  pub up : (n : ℕ) → 0 < n → n < size t → parent_of t n < n
+  -- the parent of a node is the node before it, or that one is below the parent
+  pub preorder : (n : ℕ) → 0 < n → n < size t → (parent_of t n ≡ n - 1) ⊎ Below t (parent_of t n) (n - 1)
+  -- at most 64 steps down
+  pub shallow : (n : ℕ) → n < size t → depth_of t n ≤ 64
+  -- a test has no children
+  pub leaf : (n c : ℕ) → IsChild t n c → is_test_at t n ≡ false
+  -- no two nodes have one unique id
+  pub ids : (m n : ℕ) (text : List ℕ) → text_of t m ≡ Some text → text_of t n ≡ Some text → m ≡ n
+  -- no two nodes have one body
+  pub bodies : (m n b : ℕ) → body_of t m ≡ Some b → body_of t n ≡ Some b → m ≡ n
+
+-- the plan alone
+abbrev pub plan_alone : Nodes
+plan_alone = record { parents = 0 ∷ []; nodes = [] }
+
+-- t with one more node, a child of a
+abbrev pub appended : Nodes → ℕ → Node → Nodes
+appended t a node = record { parents = t.parents ++ a ∷ []; nodes = t.nodes ++ node ∷ [] }

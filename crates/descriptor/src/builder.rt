@@ -1,0 +1,150 @@
+//! Building a tree node by node.
+
+ghost use Rattle.std.specs.Prelude.{◌≡◌, ◌≢◌, ℕ, ◌<◌, ◌↔◌, IsTrue, None, Some, OnOk, OnErr, IfOk, IfErr};
+
+use crate::body_id::BodyId;
+use crate::fault::TreeFault;
+use crate::node::Node;
+use crate::node_id::NodeId;
+use crate::tree::Tree;
+use std::alloc::{AllocError, Global};
+use std::collections::HashSet;
+use std::marker::Model;
+
+/// The greatest number of nodes, the plan included.
+const MOST_NODES: usize = 4096;
+
+/// The greatest depth of a node; the plan has depth 0.
+const MOST_DEPTH: u8 = 64;
+
+/// The greatest length of a name, in bytes.
+const LONGEST_NAME: usize = 1024;
+
+/// A tree that grows at its end: each node comes right after the nodes below its elder sibling.
+#[derive(Drop)]
+pub struct TreeBuilder {
+    tree: Tree,
+    // the canonical texts of the nodes' unique ids, so that no search goes over all nodes
+    ids: HashSet<String>,
+    bodies: HashSet<BodyId>,
+}
+
+impl Model for TreeBuilder {
+    ghost use Rattle.descriptor.specs.Nodes.{Nodes};
+
+    ghost Value = { Nodes };
+
+    ghost use Rattle.descriptor.specs.BuilderFields.{IsBuilderSound};
+
+    ghost view = { λ b. b.tree };
+
+    ghost invariant = { IsBuilderSound };
+}
+
+impl TreeBuilder {
+    ghost use Rattle.descriptor.specs.Children.{ListsChildren};
+    ghost use Rattle.descriptor.specs.Nodes.{size, plan_alone, appended, MayTake, IsTree};
+    ghost use Rattle.descriptor.specs.Refusals.{refusal, has_body};
+
+    /// The builder of a tree of the plan alone.
+    pub fn new(alloc: Global) -> Result<TreeBuilder, AllocError>
+        ensures { IfOk result (λ b. b ≡ plan_alone) }
+    {
+        Ok(TreeBuilder {
+            tree: Tree::new(alloc)?,
+            ids: HashSet::new(alloc),
+            bodies: HashSet::new(alloc),
+        })
+    }
+
+    /// Whether the next node may be a child of this one, which is so for the last node and for
+    /// each node that it is below.
+    pub fn may_take(&self, parent: NodeId) -> bool
+        ensures { IsTrue result ↔ MayTake self.now parent }
+    {
+        let last = self.tree.last();
+        parent == last || self.tree.below(last, parent)
+    }
+
+    /// Adds the next node as the last child of a node that may take it, and returns its number.
+    ///
+    /// Errors: the first of refusals 10, 11, 12, 13, 15 and 17 that holds, and else want of memory.
+    pub fn add(&mut self, alloc: Global, parent: NodeId, node: Node) -> Result<NodeId, TreeFault>
+        requires { MayTake self.old parent }
+        ensures ok { IfOk result (λ number. (number ≡ size self.old) × (refusal self.old parent node ≡ None)) }
+        ensures added { OnOk result (self.new ≡ appended self.old parent node) }
+        ensures refused { IfErr result (λ fault. fault ≢ TreeFault.NoMemory → refusal self.old parent node ≡ Some fault) }
+        ensures no_memory { IfErr result (λ fault. fault ≡ TreeFault.NoMemory → refusal self.old parent node ≡ None) }
+        ensures err { OnErr result (self.new ≡ self.old) }
+    {
+        if let Some(fault) = self.refusal(parent, &node) {
+            return Err(fault);
+        }
+        let id = String::from_str(alloc, node.id.text())?;
+        let body = node.body;
+        self.ids.reserve(1)?;
+        self.bodies.reserve(1)?;
+        let number = self.tree.push(alloc, parent, node)?;
+        // nothing below can fail, so that an `Err` leaves the builder as it was
+        let Ok(_) = self.ids.insert(id) else {
+            unreachable!()
+        };
+        if let Some(body) = body {
+            let Ok(_) = self.bodies.insert(body) else {
+                unreachable!()
+            };
+        }
+        Ok(number)
+    }
+
+    /// The tree so far.
+    pub fn tree(&self) -> &Tree
+        ensures same { result.now ≡ self.now }
+        ensures tree { IsTree self.now }
+    {
+        // the contract of `len` tells that it is a tree
+        let _ = self.tree.len();
+        &self.tree
+    }
+
+    /// The tree as it is.
+    pub fn finish(self) -> Tree
+        ensures same { result ≡ self }
+        ensures tree { IsTree result }
+        ensures children { (n : ℕ) → ListsChildren result n }
+    {
+        // the contract of `len` tells that it is a tree
+        let _ = self.tree.len();
+        self.tree
+    }
+
+    fn refusal(&self, parent: NodeId, node: &Node) -> Option<TreeFault>
+        requires { parent < size self.now }
+        ensures { result ≡ refusal self.now parent node.now }
+    {
+        if self.tree.len() == MOST_NODES {
+            Some(TreeFault::TooMany)
+        } else if self.tree.depth(parent) == MOST_DEPTH {
+            Some(TreeFault::TooDeep)
+        } else if self.ids.contains(node.id.text()) {
+            Some(TreeFault::DoubleId)
+        } else if self.tree.is_test(parent) {
+            Some(TreeFault::ParentIsTest)
+        } else if self.has_body(node.body) {
+            Some(TreeFault::BodyTwice)
+        } else if node.name.as_str().len() > LONGEST_NAME {
+            Some(TreeFault::OverLimit)
+        } else {
+            None
+        }
+    }
+
+    fn has_body(&self, body: Option<BodyId>) -> bool
+        ensures { result ≡ has_body self.now body }
+    {
+        match body {
+            Some(body) => self.bodies.contains(&body),
+            None => false,
+        }
+    }
+}

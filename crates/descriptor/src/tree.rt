@@ -1,0 +1,184 @@
+//! A tree of nodes.
+
+ghost use Rattle.std.specs.Prelude.{◌≡◌, ◌<◌, ◌≤◌, ◌-◌, ◌↔◌, IsTrue, None, Some, OnOk, OnErr, IfSome, IfOk, IsNone};
+
+use crate::body_id::BodyId;
+use crate::kind::Kind;
+use crate::node::Node;
+use crate::node_id::NodeId;
+use std::alloc::{AllocError, Global};
+use std::marker::Model;
+
+/// A tree of nodes, numbered in preorder. Node 0 is the plan.
+#[derive(Debug, Drop)]
+pub struct Tree {
+    // one place for each node, the plan included
+    parents: Vec<NodeId>,
+    depths: Vec<u8>,
+    children: Vec<Vec<NodeId>>,
+    // from node 1
+    nodes: Vec<Node>,
+}
+
+impl Model for Tree {
+    ghost use Rattle.descriptor.specs.Nodes.{Nodes};
+
+    ghost Value = { Nodes };
+
+    ghost use Rattle.descriptor.specs.Fields.{nodes_of, IsSound};
+
+    ghost view = { nodes_of };
+
+    ghost invariant = { IsSound };
+}
+
+impl Tree {
+    ghost use Rattle.descriptor.specs.Refusals.{refusal};
+    ghost use Rattle.descriptor.specs.Nodes.{size, plan_alone, parent_of, children_of, node_at, kind_of, body_of, is_test_at, depth_of, appended, Below, MayTake, IsTree, IsChild};
+
+    /// How many nodes there are, the plan included.
+    pub fn len(&self) -> usize
+        ensures len { result ≡ size self.now }
+        ensures tree { IsTree self.now }
+    {
+        self.parents.len()
+    }
+
+    /// The node that a node is a child of; the plan has none.
+    pub fn parent(&self, node: NodeId) -> Option<NodeId>
+        requires { node < size self.now }
+        ensures root { IsNone result ↔ (node ≡ 0) }
+        ensures parent { IfSome result (λ parent. IsChild self.now parent node) }
+        ensures value { IfSome result (λ parent. parent ≡ parent_of self.now node) }
+        ensures smaller { IfSome result (λ parent. parent < node) }
+    {
+        if node == NodeId::ROOT {
+            None
+        } else {
+            Some(self.parents[node.index()])
+        }
+    }
+
+    /// The children of a node, in order.
+    pub fn children(&self, node: NodeId) -> &[NodeId]
+        requires { node < size self.now }
+        ensures { result.now ≡ children_of self.now node }
+    {
+        &self.children[node.index()]
+    }
+
+    /// What the tree was given for a node; it was given nothing for the plan.
+    pub fn node(&self, node: NodeId) -> &Node
+        requires above_zero { 0 < node }
+        requires inside { node < size self.now }
+        ensures { node_at self.now node ≡ Some result.now }
+    {
+        &self.nodes[node.index() - 1]
+    }
+
+    /// What a node may hold; the plan is a container.
+    pub fn kind(&self, node: NodeId) -> Kind
+        requires { node < size self.now }
+        ensures { result ≡ kind_of self.now node }
+    {
+        if node == NodeId::ROOT {
+            Kind::Container
+        } else {
+            self.node(node).kind
+        }
+    }
+
+    /// What runs for a node, if anything; nothing runs for the plan.
+    pub fn body(&self, node: NodeId) -> Option<BodyId>
+        requires { node < size self.now }
+        ensures { result ≡ body_of self.now node }
+    {
+        if node == NodeId::ROOT {
+            None
+        } else {
+            self.node(node).body
+        }
+    }
+
+    /// Whether the first node is reached from the second by one or more steps to a child. Takes at
+    /// most 64 steps.
+    pub fn below(&self, node: NodeId, ancestor: NodeId) -> bool
+        requires { node < size self.now }
+        ensures below { IsTrue result ↔ Below self.now ancestor node }
+        ensures smaller { IsTrue result → ancestor < node }
+    {
+        let mut current = node;
+        while let Some(parent) = self.parent(current) {
+            if parent == ancestor {
+                return true;
+            }
+            current = parent;
+        }
+        false
+    }
+
+    /// The tree of the plan alone.
+    pub(crate) fn new(alloc: Global) -> Result<Tree, AllocError>
+        ensures { IfOk result (λ t. t ≡ plan_alone) }
+    {
+        Ok(Tree {
+            parents: vec![in alloc; NodeId::ROOT]?,
+            depths: vec![in alloc; 0u8]?,
+            children: vec![in alloc; Vec::new(alloc)]?,
+            nodes: Vec::new(alloc),
+        })
+    }
+
+    /// Adds a last node.
+    pub(crate) fn push(
+        &mut self,
+        alloc: Global,
+        parent: NodeId,
+        node: Node,
+    ) -> Result<NodeId, AllocError>
+        requires may_take { MayTake self.old parent }
+        requires accepted { refusal self.old parent node ≡ None }
+        ensures number { IfOk result (λ number. number ≡ size self.old) }
+        ensures ok { OnOk result (self.new ≡ appended self.old parent node) }
+        ensures err { OnErr result (self.new ≡ self.old) }
+    {
+        let next = NodeId::new(self.parents.len() as u16);
+        let depth = self.depths[parent.index()] + 1;
+        // room first: from the last `?` on nothing can fail
+        self.parents.reserve(1)?;
+        self.depths.reserve(1)?;
+        self.children.reserve(1)?;
+        self.nodes.reserve(1)?;
+        self.children[parent.index()].push(next)?;
+        self.parents.push(parent).unwrap();
+        self.depths.push(depth).unwrap();
+        self.children.push(Vec::new(alloc)).unwrap();
+        self.nodes.push(node).unwrap();
+        Ok(next)
+    }
+
+    /// The last node.
+    pub(crate) fn last(&self) -> NodeId
+        ensures last { result ≡ size self.now - 1 }
+        ensures inside { result < size self.now }
+        ensures few { size self.now ≤ 4096 }
+    {
+        NodeId::new((self.parents.len() - 1) as u16)
+    }
+
+    /// Whether the node is a test that takes no children.
+    pub(crate) fn is_test(&self, node: NodeId) -> bool
+        requires { node < size self.now }
+        ensures { result ≡ is_test_at self.now node }
+    {
+        self.kind(node) == Kind::Test
+    }
+
+    /// How many steps lead from the plan to the node.
+    pub(crate) fn depth(&self, node: NodeId) -> u8
+        requires { node < size self.now }
+        ensures { result ≡ depth_of self.now node }
+    {
+        self.depths[node.index()]
+    }
+}
