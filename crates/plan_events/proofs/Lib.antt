@@ -1,0 +1,2 @@
+-- Lemmas on words of events.
+pub mod Readings

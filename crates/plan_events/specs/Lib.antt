@@ -1,0 +1,4 @@
+-- The definitions that contracts cite.
+pub mod Statuses
+pub mod Texts
+pub mod Words

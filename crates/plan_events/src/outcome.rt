@@ -1,0 +1,33 @@
+//! What a body answers.
+
+ghost use Rattle.std.specs.Prelude.{◌≡◌, IfOk};
+
+use crate::status::Status;
+use std::alloc::{AllocError, Global};
+use unique_id::Text;
+
+/// How a body ended, and what it says of it.
+#[derive(Debug, Drop)]
+pub struct Outcome {
+    pub status: Status,
+    pub text: Text,
+}
+
+impl Outcome {
+    /// The same outcome, with a text in memory of its own.
+    pub fn copy(&self, alloc: Global) -> Result<Outcome, AllocError>
+        ensures { IfOk result (λ copy. copy ≡ self.now) }
+    {
+        Ok(Outcome {
+            status: self.status,
+            text: self.text.copy(alloc)?,
+        })
+    }
+}
+
+/// What a body answers when it is run: how many dynamic tests it registers first, and its outcome.
+#[derive(Debug, Drop)]
+pub struct Reply {
+    pub pulls: u16,
+    pub outcome: Outcome,
+}
