@@ -1,0 +1,80 @@
+-- The parts of the workers: how they grow with the history.
+use Rattle.std.proofs.Common.{◌≡◌, ◌≢◌, ℕ, zero, suc, ◌+◌, ◌-◌, ◌<◌, ◌≤◌, Bool, true, false, cond, ◌==◌, List, [], ◌∷◌, ◌++◌, length, set, get_or, replicate, refl, sym, ap, ◌∙◌, subst, arith, ◌⊎◌, inl, inr, length-append}
+use Rattle.std.specs.List.{filter}
+use Rattle.std.proofs.lemmas.List.{append-nil, set-append_left, get_or_append_left}
+use Rattle.std.proofs.Math.Seq.{set-append_seam, get_or-append_seam}
+use Rattle.std.proofs.lemmas.List.Elements.{filter-append}
+use Rattle.std.proofs.lemmas.Bool.{eq-eqb, ne_eqb, cases_eq}
+use Rattle.std.proofs.lemmas.Grind.{common_steps}
+use Rattle.plan_events.specs.declared.event.Event.{Event}
+use Rattle.sched_core.specs.History.{part_of}
+use Rattle.sched_core.specs.Fields.{parts_upto}
+
+-- the part of a worker after one more event
+pub part_mine : (k : ℕ) (h : List Event) (e : Event) → e.worker ≡ k → part_of k (h ++ e ∷ []) ≡ part_of k h ++ e ∷ []
+part_mine k h e is =
+    let here : (e.worker == k) ≡ true = eq-eqb e.worker k is in
+    filter-append (λ (x : Event). x.worker == k) h (e ∷ []) ∙ ap (λ (l : List Event). part_of k h ++ l) (one (λ (x : Event). x.worker == k) e here)
+  where
+    one : (q : Event → Bool) (e : Event) → q e ≡ true → filter q (e ∷ []) ≡ e ∷ []
+    one q e here = grind (arith, common_steps, here)
+
+pub part_other : (k : ℕ) (h : List Event) (e : Event) → e.worker ≢ k → part_of k (h ++ e ∷ []) ≡ part_of k h
+part_other k h e not =
+    let here : (e.worker == k) ≡ false = ne_eqb e.worker k not in
+    filter-append (λ (x : Event). x.worker == k) h (e ∷ []) ∙ ap (λ (l : List Event). part_of k h ++ l) (none (λ (x : Event). x.worker == k) e here) ∙ append-nil (part_of k h)
+  where
+    none : (q : Event → Bool) (e : Event) → q e ≡ false → filter q (e ∷ []) ≡ []
+    none q e here = grind (arith, common_steps, here)
+
+pub parts_len : (n : ℕ) (h : List Event) → length (parts_upto n h) ≡ n
+parts_len zero h = refl
+parts_len (suc n) h = omega (arith, length-append (parts_upto n h) (part_of (n + 1) h ∷ []), parts_len n h)
+
+pub parts_at : (n w : ℕ) (h : List Event) → w < n → get_or (parts_upto n h) w [] ≡ part_of (w + 1) h
+parts_at zero w h lt = absurd (omega arith)
+parts_at (suc n) w h lt =
+    elim (cases_eq w n) [
+      | inl e ↦ ap (λ (i : ℕ). get_or (parts_upto n h ++ part_of (n + 1) h ∷ []) i []) (e ∙ sym (parts_len n h)) ∙ get_or-append_seam (parts_upto n h) (part_of (n + 1) h) [] [] ∙ ap (λ (i : ℕ). part_of (i + 1) h) (sym e)
+      | inr ne ↦ get_or_append_left (parts_upto n h) (part_of (n + 1) h ∷ []) [] w (omega (arith, parts_len n h, lt, ne)) ∙ parts_at n w h (omega (arith, lt, ne))
+    ]
+
+parts_same : (n w : ℕ) (h : List Event) (e : Event) → e.worker ≡ w + 1 → n ≤ w → parts_upto n (h ++ e ∷ []) ≡ parts_upto n h
+parts_same zero w h e is le = refl
+parts_same (suc n) w h e is le =
+    let rest : parts_upto n (h ++ e ∷ []) ≡ parts_upto n h = parts_same n w h e is (omega (arith, le)) in
+    let here : part_of (n + 1) (h ++ e ∷ []) ≡ part_of (n + 1) h = part_other (n + 1) h e (λ q. omega (arith, q, is, le)) in
+    ap (λ (l : List (List Event)). l ++ part_of (n + 1) (h ++ e ∷ []) ∷ []) rest ∙ ap (λ (x : List Event). parts_upto n h ++ x ∷ []) here
+
+-- one more event is last in its worker's list, and no other list changes
+pub parts_more : (n w : ℕ) (h : List Event) (e : Event) → e.worker ≡ w + 1 → w < n → parts_upto n (h ++ e ∷ []) ≡ set (parts_upto n h) w (get_or (parts_upto n h) w [] ++ e ∷ [])
+parts_more zero w h e is lt = absurd (omega arith)
+parts_more (suc n) w h e is lt =
+    elim (cases_eq w n) [
+      | inl q ↦ (let at : w ≡ length (parts_upto n h) = q ∙ sym (parts_len n h) in
+          let rest : parts_upto n (h ++ e ∷ []) ≡ parts_upto n h = parts_same n w h e is (omega (arith, q)) in
+          let here : part_of (n + 1) (h ++ e ∷ []) ≡ part_of (n + 1) h ++ e ∷ [] = part_mine (n + 1) h e (is ∙ ap (λ (i : ℕ). i + 1) q) in
+          let mine : get_or (parts_upto (suc n) h) w [] ≡ part_of (n + 1) h = parts_at (suc n) w h lt ∙ ap (λ (i : ℕ). part_of (i + 1) h) q in
+          ap (λ (l : List (List Event)). l ++ part_of (n + 1) (h ++ e ∷ []) ∷ []) rest
+          ∙ ap (λ (x : List Event). parts_upto n h ++ x ∷ []) here
+          ∙ sym (set-append_seam (parts_upto n h) (part_of (n + 1) h) [] (part_of (n + 1) h ++ e ∷ []))
+          ∙ ap (λ (i : ℕ). set (parts_upto (suc n) h) i (part_of (n + 1) h ++ e ∷ [])) (sym at)
+          ∙ ap (λ (x : List Event). set (parts_upto (suc n) h) w (x ++ e ∷ [])) (sym mine))
+      | inr q ↦ (let less : w < n = omega (arith, lt, q) in
+          let inside : w < length (parts_upto n h) = omega (arith, less, parts_len n h) in
+          let rest = parts_more n w h e is less in
+          let here : part_of (n + 1) (h ++ e ∷ []) ≡ part_of (n + 1) h = part_other (n + 1) h e (λ r. omega (arith, r, is, less)) in
+          let mine : get_or (parts_upto (suc n) h) w [] ≡ get_or (parts_upto n h) w [] = get_or_append_left (parts_upto n h) (part_of (n + 1) h ∷ []) [] w inside in
+          ap (λ (l : List (List Event)). l ++ part_of (n + 1) (h ++ e ∷ []) ∷ []) rest
+          ∙ ap (λ (x : List Event). set (parts_upto n h) w (get_or (parts_upto n h) w [] ++ e ∷ []) ++ x ∷ []) here
+          ∙ sym (set-append_left (parts_upto n h) (part_of (n + 1) h ∷ []) w (get_or (parts_upto n h) w [] ++ e ∷ []) inside)
+          ∙ ap (λ (x : List Event). set (parts_upto (suc n) h) w (x ++ e ∷ [])) (sym mine))
+    ]
+
+replicate_last : {X : Type 0} (n : ℕ) (x : X) → replicate n x ++ x ∷ [] ≡ x ∷ replicate n x
+replicate_last zero x = refl
+replicate_last (suc n) x = ap (λ l. x ∷ l) (replicate_last n x)
+
+pub parts_none : (n : ℕ) → parts_upto n [] ≡ replicate n []
+parts_none zero = refl
+parts_none (suc n) = ap (λ (l : List (List Event)). l ++ [] ∷ []) (parts_none n) ∙ replicate_last n []

@@ -1,0 +1,19 @@
+use Rattle.std.proofs.Common.{◌≡◌, ◌<◌, arith, ap, subst, sym, length}
+use Rattle.std.proofs.lemmas.Grind.{common_steps}
+use Rattle.descriptor.specs.Nodes.{size}
+use Rattle.sched_core.proofs.machine.Machine.admit.Goals as goal
+
+pub children-requires : goal.children-requires
+children-requires c =
+    let can = c.requires.admits _ _ c.in-Admit.is in
+    grind (arith, common_steps, can.node, c.tree.ensures.same)
+
+pub offset_bounds-children-index : goal.offset_bounds-children-index
+offset_bounds-children-index c =
+    let can = c.requires.admits _ _ c.in-Admit.is in
+    grind (arith, common_steps, can.child, c.tree.ensures.same, c.children.ensures, c.children.type_inv)
+
+pub bounds-children-index : goal.bounds-children-index
+bounds-children-index c =
+    let can = c.requires.admits _ _ c.in-Admit.is in
+    grind (arith, common_steps, can.child, c.tree.ensures.same, c.children.ensures)

@@ -1,0 +1,11 @@
+use Rattle.std.proofs.Common.{◌≡◌}
+use Rattle.sched_core.specs.Drives.{LeadsTo}
+use Rattle.sched_core.specs.Fields.{state_of, IsSound}
+use Rattle.sched_core.specs.Work.{work_left}
+use Rattle.sched_core.proofs.machine.Machine.drive.Given as goal
+
+abbrev pub invariant-schedule : goal.invariant-schedule
+invariant-schedule l = IsSound l.plan l.answers l.self × (l.self.workers ≡ 1) × LeadsTo l.plan l.answers (state_of l.initial.self) (state_of l.self)
+
+abbrev pub decreases-schedule : goal.decreases-schedule
+decreases-schedule l = work_left (state_of l.self)

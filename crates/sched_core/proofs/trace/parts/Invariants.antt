@@ -1,0 +1,7 @@
+use Rattle.std.proofs.Common.{◌≡◌}
+use Rattle.sched_core.specs.Fields.{parts_upto}
+use Rattle.sched_core.specs.Traces.{lists_of}
+use Rattle.sched_core.proofs.trace.parts.Given as goal
+
+abbrev pub invariant-loop-worker : goal.invariant-loop-worker
+invariant-loop-worker l = lists_of l.lists ≡ parts_upto l.worker l.events

@@ -1,0 +1,13 @@
+pub mod Replies
+pub mod History
+pub mod Following
+pub mod Machine
+pub mod Invariant
+pub mod Fields
+pub mod Runs
+pub mod Drives
+pub mod Snapshot
+pub mod CoreFields
+pub mod Work
+pub mod Traces
+pub mod Texts

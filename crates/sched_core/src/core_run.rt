@@ -1,0 +1,87 @@
+//! The core of a run, a step at a time.
+
+ghost use Rattle.std.specs.Prelude.{◌≡◌, ◌≢◌, ◌≤◌, Some, None, IfOk, IfErr};
+ghost use Rattle.sched_core.specs.Snapshot.{workers_refusal};
+
+use crate::answers::Answers;
+use crate::fault::{CoreFault, NotEnabled};
+use crate::machine::Machine;
+use crate::step::Step;
+use crate::trace::Trace;
+use resource_locks::Plan;
+use std::alloc::{AllocError, Global};
+use std::marker::Model;
+
+/// The greatest number of workers.
+const MOST_WORKERS: u32 = 64;
+
+/// The number of workers, if there may be so many.
+pub(crate) fn worker_count(workers: u32) -> Result<u8, CoreFault>
+    ensures count { IfOk result (λ count. (count ≡ workers) × (count ≤ 64) × (workers_refusal workers ≡ None)) }
+    ensures refused { IfErr result (λ fault. (workers_refusal workers ≡ Some fault) × (fault ≢ CoreFault.NoMemory)) }
+{
+    if workers == 0 {
+        Err(CoreFault::NoWorkers)
+    } else if workers > MOST_WORKERS {
+        Err(CoreFault::TooManyWorkers)
+    } else {
+        Ok(workers as u8)
+    }
+}
+
+/// A run of a plan, a step at a time.
+#[derive(Drop)]
+pub struct Core {
+    plan: Plan,
+    answers: Answers,
+    machine: Machine,
+}
+
+impl Model for Core {
+    ghost use Rattle.sched_core.specs.Snapshot.{Snapshot};
+
+    ghost Value = { Snapshot };
+
+    ghost use Rattle.sched_core.specs.CoreFields.{snapshot_of, IsSoundInside};
+
+    ghost view = { snapshot_of };
+
+    ghost invariant = { IsSoundInside };
+}
+
+impl Core {
+    ghost use Rattle.sched_core.specs.Machine.{opening};
+    ghost use Rattle.sched_core.specs.Snapshot.{stepped, IsStep};
+    ghost use Rattle.sched_core.specs.Traces.{IsTraceOf};
+
+    /// The run of a plan by so many workers, from 1 to 64, before its first step. It makes room for every event, so
+    /// that no step wants memory.
+    pub fn new(alloc: Global, plan: Plan, answers: Answers, workers: u32) -> Result<Core, CoreFault>
+        ensures ok { IfOk result (λ core. core ≡ record { plan = plan; answers = answers; state = opening plan workers }) }
+        ensures accepted { IfOk result (λ _. workers_refusal workers ≡ None) }
+        ensures refused { IfErr result (λ fault. fault ≢ CoreFault.NoMemory → workers_refusal workers ≡ Some fault) }
+        ensures no_memory { IfErr result (λ fault. fault ≡ CoreFault.NoMemory → workers_refusal workers ≡ None) }
+    {
+        let count = worker_count(workers)?;
+        let machine = Machine::new(alloc, &plan, count)?;
+        Ok(Core {
+            plan,
+            answers,
+            machine,
+        })
+    }
+
+    /// One step: an `Err` says that it is not possible now, and changes nothing.
+    pub fn step(&mut self, step: Step) -> Result<(), NotEnabled>
+        ensures { IsStep self.old (stepped self.old step) result self.new }
+    {
+        self.machine.step(&self.plan, &self.answers, step)
+    }
+
+    /// What the run has left so far, with no step counted as passed over.
+    pub fn trace(&self, alloc: Global) -> Result<Trace, AllocError>
+        ensures { IfOk result (λ trace. IsTraceOf self.now.state 0 trace) }
+    {
+        self.machine.trace(alloc, 0)
+    }
+}

@@ -1,0 +1,61 @@
+//! Whole runs: of a list of steps, and of the fixed schedule.
+
+ghost use Rattle.std.specs.Prelude.{◌≡◌, ◌≢◌, Some, None, IfOk, IfErr};
+ghost use Rattle.sched_core.specs.Machine.{opening};
+ghost use Rattle.sched_core.specs.Snapshot.{workers_refusal};
+ghost use Rattle.sched_core.specs.Runs.{run, passed_over};
+ghost use Rattle.sched_core.specs.Traces.{IsTraceOf, IsRightTrace, IsDriven, IsWhole};
+ghost use Rattle.sched_core.specs.Fields.{state_of, IsSound};
+
+use crate::answers::Answers;
+use crate::core_run::worker_count;
+use crate::fault::CoreFault;
+use crate::machine::Machine;
+use crate::step::Step;
+use crate::trace::Trace;
+use resource_locks::Plan;
+use std::alloc::{AllocError, Global};
+
+impl Machine {
+    /// Takes the steps in order, and says how many were passed over.
+    fn run(&mut self, plan: &Plan, answers: &Answers, steps: &[Step]) -> usize
+        requires { IsSound plan.now answers.now self.old }
+        ensures state { state_of self.new ≡ run plan.now answers.now (state_of self.old) steps.now }
+        ensures passed_over { result ≡ passed_over plan.now answers.now (state_of self.old) steps.now }
+        ensures sound { IsSound plan.now answers.now self.new }
+        ensures workers { self.new.workers ≡ self.old.workers }
+    {
+        let mut missed = 0;
+        for step in steps {
+            if self.step(plan, answers, *step).is_err() {
+                missed += 1;
+            }
+        }
+        missed
+    }
+}
+
+/// Runs the steps in order with so many workers, from 1 to 64. A step that is not possible is passed over and counted.
+pub fn run_steps(alloc: Global, plan: &Plan, answers: &Answers, workers: u32, steps: &[Step]) -> Result<Trace, CoreFault>
+    ensures exact { IfOk result (λ trace. IsTraceOf (run plan.now answers.now (opening plan.now workers) steps.now) (passed_over plan.now answers.now (opening plan.now workers) steps.now) trace) }
+    ensures right { IfOk result (λ trace. IsRightTrace plan.now answers.now workers trace) }
+    ensures accepted { IfOk result (λ _. workers_refusal workers ≡ None) }
+    ensures refused { IfErr result (λ fault. fault ≢ CoreFault.NoMemory → workers_refusal workers ≡ Some fault) }
+    ensures no_memory { IfErr result (λ fault. fault ≡ CoreFault.NoMemory → workers_refusal workers ≡ None) }
+{
+    let count = worker_count(workers)?;
+    let mut machine = Machine::new(alloc, plan, count)?;
+    let missed = machine.run(plan, answers, steps);
+    Ok(machine.trace(alloc, missed)?)
+}
+
+/// Runs the plan to its end with one worker, by the fixed schedule.
+pub fn drive(alloc: Global, plan: &Plan, answers: &Answers) -> Result<Trace, AllocError>
+    ensures driven { IfOk result (λ trace. IsDriven plan.now answers.now trace) }
+    ensures right { IfOk result (λ trace. IsRightTrace plan.now answers.now 1 trace) }
+    ensures whole { IfOk result (λ trace. IsWhole plan.now trace) }
+{
+    let mut machine = Machine::new(alloc, plan, 1)?;
+    machine.drive(plan, answers);
+    machine.trace(alloc, 0)
+}

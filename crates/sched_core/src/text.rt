@@ -1,0 +1,57 @@
+//! The texts of a history.
+
+ghost use Rattle.std.specs.Prelude.{◌≡◌, ◌<◌, ◌++◌, ◌∷◌, [], List, length, IfOk, OnOk};
+ghost use Rattle.descriptor.specs.Nodes.{size};
+ghost use Rattle.plan_events.specs.declared.event.Event.{Event};
+ghost use Rattle.sched_core.specs.Texts.{own_note, AreTexts};
+
+use crate::answers::Answers;
+use descriptor::NodeId;
+use plan_events::{Event, EventKind, Note, Texts};
+use resource_locks::Plan;
+use std::alloc::{AllocError, Global};
+use unique_id::Text;
+
+/// What the node's job said, if it has one: nothing for a job without a reply.
+fn own_text(alloc: Global, plan: &Plan, answers: &Answers, node: NodeId) -> Result<Option<Note>, AllocError>
+    requires { node < size plan.now.tree }
+    ensures { IfOk result (λ note. note ≡ own_note plan.now answers.now node) }
+{
+    let Some(body) = plan.tree().body(node) else {
+        return Ok(None);
+    };
+    let text = match answers.reply(body) {
+        Some(reply) => reply.outcome.text.as_str(),
+        None => "",
+    };
+    Ok(Some(Note::Own(Text::new(alloc, text)?)))
+}
+
+/// Notes what one more event says.
+fn note(alloc: Global, plan: &Plan, answers: &Answers, event: Event, texts: &mut Texts) -> Result<(), AllocError>
+    requires { length texts.old ≡ size plan.now.tree }
+    ensures { OnOk result ((h : List Event) → AreTexts plan.now answers.now h texts.old → AreTexts plan.now answers.now (h ++ event ∷ []) texts.new) }
+{
+    let EventKind::Finished = event.kind else {
+        return Ok(());
+    };
+    if event.node.index() >= plan.tree().len() {
+        return Ok(());
+    }
+    let Some(note) = own_text(alloc, plan, answers, event.node)? else {
+        return Ok(());
+    };
+    texts.set(event.node, note);
+    Ok(())
+}
+
+/// The texts of these events: of each node that is finished and has a job, what the job said.
+pub fn texts_of(alloc: Global, plan: &Plan, answers: &Answers, events: &[Event]) -> Result<Texts, AllocError>
+    ensures { IfOk result (λ texts. AreTexts plan.now answers.now events.now texts) }
+{
+    let mut texts = Texts::new(alloc, plan.tree())?;
+    for event in events {
+        note(alloc, plan, answers, *event, &mut texts)?;
+    }
+    Ok(texts)
+}
