@@ -1,0 +1,48 @@
+-- The numbers and places of the program's refusals.
+use Rattle.std.specs.Prelude.{◌≡◌, ℕ, List, [], ◌++◌, codes, Option, Some, None}
+use Rattle.std.specs.Fmt.{decimal}
+use Rattle.clap.specs.declared.error.kind.ErrorKind.{ErrorKind}
+use Rattle.clap.specs.declared.error.kind.ErrorKind.TheVariants as kinds
+use Rattle.console.specs.SuiteFaults as suite_faults
+use Rattle.console.specs.declared.suite_fault.SuiteFault.{SuiteFault}
+use Rattle.console.specs.declared.suite_fault.SuiteFault.TheVariants as suites
+use Rattle.console.specs.declared.bytes.ReadFault.{ReadFault}
+use Rattle.console.specs.declared.bytes.ReadFault.TheVariants as reads
+use Rattle.console.specs.declared.fault.ConsoleFault.{ConsoleFault}
+use Rattle.console.specs.declared.fault.ConsoleFault.TheVariants.{NoMemory, Suite, BadWords, Reading, Writing}
+
+-- the number that is printed behind `error`
+abbrev pub number_of : ConsoleFault → ℕ
+number_of NoMemory = 0
+number_of (Suite fault) = suite_faults.number_of fault
+number_of BadWords = 105
+number_of Reading = 106
+number_of (Writing fault) = 81
+
+-- the place that is printed behind `at`, if there is one
+abbrev pub place_of : ConsoleFault → Option ℕ
+place_of (Suite fault) = suite_faults.place_of fault
+place_of (Writing fault) = Some fault.sent
+place_of _ = None
+
+abbrev pub place_text : Option ℕ → List ℕ
+place_text None = []
+place_text (Some place) = codes " at " ++ decimal place
+
+-- the line that the program ends with, without its line end
+abbrev pub refusal_text : ConsoleFault → List ℕ
+refusal_text fault = codes "error " ++ decimal (number_of fault) ++ place_text (place_of fault)
+
+-- want of memory is the program's own, and any other refusal of a suite is one of a suite
+abbrev pub IsSuiteFault : SuiteFault → ConsoleFault → Type 0
+IsSuiteFault suites.NoMemory fault = fault ≡ NoMemory
+IsSuiteFault cause fault = fault ≡ Suite cause
+
+abbrev pub IsReadFault : ReadFault → ConsoleFault → Type 0
+IsReadFault reads.NoMemory fault = fault ≡ NoMemory
+IsReadFault reads.Failed fault = fault ≡ Reading
+
+-- want of memory is told apart; every other refusal of the words is one
+abbrev pub IsWordsFault : ErrorKind → ConsoleFault → Type 0
+IsWordsFault kinds.OutOfMemory fault = fault ≡ NoMemory
+IsWordsFault _ fault = fault ≡ BadWords

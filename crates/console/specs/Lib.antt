@@ -1,0 +1,14 @@
+pub mod Bytes
+pub mod Faults
+pub mod Feed
+pub mod Printed
+pub mod Runs
+pub mod SuiteFaults
+pub mod SuiteLines
+pub mod SuiteNodes
+pub mod SuiteParts
+pub mod SuitePaths
+pub mod SuiteScripts
+pub mod SuiteWords
+pub mod Suites
+pub mod Words

@@ -1,0 +1,40 @@
+-- The suite of a text, line by line, or its first fault.
+use Rattle.std.specs.Prelude.{ℕ, ◌+◌, nat_lt, List, [], ◌∷◌, length, if◌then◌else◌, Result, Ok, Err}
+use Rattle.std.specs.Str.Lines.{lines}
+use Rattle.console.specs.declared.suite_fault.SuiteFault.{SuiteFault}
+use Rattle.console.specs.declared.suite_fault.SuiteFault.TheVariants.{TooLarge}
+use Rattle.console.specs.declared.suite.Suite.{Suite}
+use Rattle.console.specs.SuiteFaults.{◌>>=◌}
+use Rattle.console.specs.SuiteLines.{says_nothing, words_of, level_of}
+use Rattle.console.specs.SuiteWords.{Declaration, declared_by}
+use Rattle.console.specs.SuiteParts.{SuiteParts, LinesRead, no_lines, parts_of}
+use Rattle.console.specs.SuiteNodes.{word_on, refusal_on, grown, unless_refused}
+
+-- with the node that a line declares on its level
+abbrev pub with_declared : ℕ → LinesRead → ℕ → Declaration → Result LinesRead SuiteFault
+with_declared number read level d = unless_refused number (refusal_on read level d) (grown read level d)
+
+-- with what the words of a line declare on its level
+abbrev pub with_declaration : ℕ → LinesRead → ℕ → List (List ℕ) → Result LinesRead SuiteFault
+with_declaration number read level words = declared_by number (word_on read level) words >>= (λ d. with_declared number read level d)
+
+-- with what a line of these words declares
+abbrev pub with_words : ℕ → LinesRead → List ℕ → List (List ℕ) → Result LinesRead SuiteFault
+with_words number read line words = level_of number (length read.path) line >>= (λ level. with_declaration number read level words)
+
+-- with one more line, of this number
+abbrev pub with_line : ℕ → LinesRead → List ℕ → Result LinesRead SuiteFault
+with_line number read line = if says_nothing line then Ok read else with_words number read line (words_of line)
+
+-- with all lines, the first of which has this number
+abbrev pub suite_from : ℕ → LinesRead → List (List ℕ) → Result LinesRead SuiteFault
+suite_from number read [] = Ok read
+suite_from number read (line ∷ more) = with_line number read line >>= (λ next. suite_from (number + 1) next more)
+
+-- the suite of a text
+abbrev pub suite_of : List ℕ → Result SuiteParts SuiteFault
+suite_of text = if nat_lt 1048576 (length text) then Err TooLarge else (suite_from 1 no_lines (lines text) >>= (λ read. Ok (parts_of read)))
+
+-- a suite, without where it lies in memory
+abbrev pub suite_parts : Suite → SuiteParts
+suite_parts suite = record { tree = suite.tree; scripts = suite.scripts.items }

@@ -1,0 +1,34 @@
+//! How texts are printed.
+
+ghost use Rattle.std.specs.Prelude.{◌≡◌, ◌++◌, OnOk, string_bytes, encode_utf8};
+ghost use Rattle.console.specs.Printed.{cleaned, text_after};
+
+use std::alloc::AllocError;
+
+/// A character as it is printed: a control character as a space.
+fn printed_char(c: char) -> char
+    ensures { encode_utf8 result ≡ cleaned (encode_utf8 c) }
+{
+    if c.is_ascii_control() { ' ' } else { c }
+}
+
+/// Appends a text with each control byte as a space.
+fn push_cleaned(printed: &mut String, text: &str) -> Result<(), AllocError>
+    ensures { OnOk result (string_bytes printed.new ≡ string_bytes printed.old ++ cleaned text.now) }
+{
+    for c in text.chars() {
+        printed.push(printed_char(c))?;
+    }
+    Ok(())
+}
+
+/// Appends a text after one space, with each control byte as a space; nothing for an empty text.
+pub(crate) fn push_text(printed: &mut String, text: &str) -> Result<(), AllocError>
+    ensures { OnOk result (string_bytes printed.new ≡ string_bytes printed.old ++ text_after text.now) }
+{
+    if text.is_empty() {
+        return Ok(());
+    }
+    printed.push_str(" ")?;
+    push_cleaned(printed, text)
+}

@@ -1,0 +1,29 @@
+//! The program over any reader and writer.
+
+ghost use Rattle.std.specs.Prelude.{◌≡◌, IfErr, IfSome, false, take, map, string_bytes};
+ghost use Rattle.std.specs.Io.KnownBytes.{Keeps};
+ghost use Rattle.console.specs.Runs.{IsRunBy, suite_read, is_writing};
+ghost use Rattle.console.specs.Words.{options_of};
+ghost use Rattle.console.specs.declared.run.TheConstants.{MOST_READ};
+
+use crate::fault::ConsoleFault;
+use crate::run::run_options;
+use crate::words::read_options;
+use std::alloc::Global;
+use std::io::{Read, Write};
+
+/// Runs the suite that the reader holds, with the options that the words give; the first word is
+/// the program's name. Words that give no options are refused (105), and then nothing is read and
+/// nothing is written. Everything else is as `run_options` says.
+pub fn run_console<R: Read, W: Write>(
+    alloc: Global,
+    words: &[String],
+    reader: &mut R,
+    writer: &mut W,
+) -> Result<u8, ConsoleFault>
+    ensures exact { IfSome (R.remaining reader.old) (λ bytes. IsRunBy (options_of (map string_bytes words.now)) (suite_read (take MOST_READ bytes)) (W.contents writer.old) (W.contents writer.new) result) }
+    ensures quiet { IfErr result (λ fault. is_writing fault ≡ false → Keeps (W.contents writer.old) (W.contents writer.new)) }
+{
+    let options = read_options(alloc, words)?;
+    run_options(alloc, &options, reader, writer)
+}

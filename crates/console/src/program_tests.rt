@@ -1,0 +1,358 @@
+//! What no clause says: a writer or a reader that really fails, and worked texts.
+
+ghost use Rattle.std.specs.Prelude.{Some};
+
+use crate::bytes::{ReadFault, print_to, read_front};
+use crate::details::Details;
+use crate::fault::ConsoleFault;
+use crate::feed::feed_text;
+use crate::program::run_console;
+use crate::words::read_options;
+use descriptor::{Kind, Node, NodeId, TreeBuilder};
+use plan_events::{Event, EventKind, Note, Status, Texts};
+use resource_locks::Plan;
+use std::alloc::{AllocError, Global};
+use std::io::{Error, ErrorKind, Read, Result as IoResult, Write};
+use std::test::Fail;
+use unique_id::{Text, UniqueId};
+
+/// A suite of one passing test.
+const SUITE: &str = "engine e\n  class a.B\n    test t() pass\n";
+
+/// Its feed.
+const FEED: &str = "w1 plan started
+w1 started [engine:e]
+w1 started [engine:e]/[class:a.B]
+w1 started [engine:e]/[class:a.B]/[method:t()]
+w1 finished [engine:e]/[class:a.B]/[method:t()] SUCCESSFUL
+w1 finished [engine:e]/[class:a.B] SUCCESSFUL
+w1 finished [engine:e] SUCCESSFUL
+w1 plan finished
+";
+
+/// Takes so many bytes, a few at a time, and then fails.
+#[derive(Drop)]
+struct Failing {
+    taken: Vec<u8>,
+    room: usize,
+    step: usize,
+}
+
+impl Write for Failing {
+    ghost contents = { λ f. Some f.taken.items };
+
+    fn write(&mut self, buf: &[u8]) -> IoResult<usize> {
+        if self.room == 0 {
+            return Err(Error::from(ErrorKind::Interrupted));
+        }
+        let count = buf.len().min(self.room).min(self.step);
+        self.taken.extend_from_slice(&buf[..count])?;
+        self.room -= count;
+        Ok(count)
+    }
+
+    fn flush(&mut self) -> IoResult<()> {
+        Ok(())
+    }
+}
+
+/// Gives its text, so many bytes at a time, and then fails.
+#[derive(Drop)]
+struct Broken<'a> {
+    text: &'a [u8],
+    step: usize,
+}
+
+impl Read for Broken<'_> {
+    fn read(&mut self, buf: &mut [u8]) -> IoResult<usize> {
+        if self.text.is_empty() {
+            return Err(Error::from(ErrorKind::Other));
+        }
+        let count = self.text.len().min(buf.len()).min(self.step);
+        buf[..count].copy_from_slice(&self.text[..count]);
+        self.text = &self.text[count..];
+        Ok(count)
+    }
+}
+
+#[test]
+fn a_writer_that_fails_ends_the_printing(rt: HostRuntime) -> Result<(), Fail> {
+    for (room, step) in [(16, 99), (16, 1), (0, 1), (18, 1)] {
+        let mut writer = Failing {
+            taken: Vec::new(rt.alloc()),
+            room,
+            step,
+        };
+        let fault = print_to(&mut writer, b"w1 plan started\nw1 ")
+            .err()
+            .ok_or("no fault")?;
+        assert_eq!(rt; fault.sent, room);
+        assert_eq!(rt; writer.taken.as_slice(), &b"w1 plan started\nw1 "[..room]);
+    }
+    // step 0: a writer that takes nothing
+    let mut idle = Failing {
+        taken: Vec::new(rt.alloc()),
+        room: 9,
+        step: 0,
+    };
+    assert_eq!(rt; print_to(&mut idle, b"w1").err().ok_or("no fault")?.sent, 0);
+    assert!(rt; print_to(&mut idle, b"").is_ok());
+    Ok(())
+}
+
+#[test]
+fn a_writer_that_takes_all_is_no_fault(rt: HostRuntime) -> Result<(), Fail> {
+    let mut writer = Failing {
+        taken: Vec::new(rt.alloc()),
+        room: 19,
+        step: 1,
+    };
+    assert!(rt; print_to(&mut writer, b"w1 plan started\nw1 ").is_ok());
+    assert_eq!(rt; writer.taken.as_slice(), b"w1 plan started\nw1 ".as_slice());
+    Ok(())
+}
+
+#[test]
+fn a_reader_that_fails_ends_the_reading(rt: HostRuntime) -> Result<(), Fail> {
+    let texts: [&[u8]; 2] = [b"", b"engine e\n"];
+    for text in texts {
+        let mut reader = Broken { text, step: 99 };
+        assert_eq!(rt;
+            read_front(rt.alloc(), &mut reader, 99).err().ok_or("read")?,
+            ReadFault::Failed
+        );
+    }
+    let mut reader = Broken {
+        text: b"engine e\n",
+        step: 2,
+    };
+    let front = read_front(rt.alloc(), &mut reader, 6)
+        .ok()
+        .ok_or("not read")?;
+    assert_eq!(rt; front.as_slice(), b"engine".as_slice());
+    let mut whole = b"engine e\n".as_slice();
+    let front = read_front(rt.alloc(), &mut whole, 99)
+        .ok()
+        .ok_or("not read")?;
+    assert_eq!(rt; front.as_slice(), b"engine e\n".as_slice());
+    Ok(())
+}
+
+fn words_of(alloc: Global, line: &str) -> Result<Vec<String>, AllocError> {
+    let mut words = Vec::new(alloc);
+    for word in line.split(' ') {
+        words.push(String::from_str(alloc, word)?)?;
+    }
+    Ok(words)
+}
+
+#[test]
+fn words_of_the_two_details_are_read(rt: HostRuntime) -> Result<(), Fail> {
+    let lines = [
+        ("console --details none", Details::None),
+        ("console --details testfeed", Details::Testfeed),
+        ("any/path --details=testfeed", Details::Testfeed),
+    ];
+    for (line, details) in lines {
+        let words = words_of(rt.alloc(), line)?;
+        let options = read_options(rt.alloc(), words.as_slice())
+            .ok()
+            .ok_or("refused")?;
+        assert_eq!(rt; options.details, details, "{line}");
+    }
+    Ok(())
+}
+
+#[test]
+fn other_words_are_refused(rt: HostRuntime) -> Result<(), Fail> {
+    let lines = [
+        "console",
+        "console --details",
+        "console --details=",
+        "console --details flat",
+        "console --details None",
+        "console --details none --details testfeed",
+        "console --details none x",
+        "console --detail none",
+        "console -d none",
+        "console --processors 2 --details none",
+        "console --help",
+        "console --version",
+        "--details none",
+    ];
+    for line in lines {
+        let words = words_of(rt.alloc(), line)?;
+        let fault = read_options(rt.alloc(), words.as_slice())
+            .err()
+            .ok_or("accepted")?;
+        assert_eq!(rt; fault, ConsoleFault::BadWords, "{line}");
+        assert_eq!(rt; fault.number(), 105);
+        assert_eq!(rt; fault.place(), None);
+    }
+    Ok(())
+}
+
+/// What the program answers and writes for these words and this input.
+fn run(
+    rt: &HostRuntime,
+    line: &str,
+    mut input: &[u8],
+) -> Result<(Result<u8, ConsoleFault>, Vec<u8>), Fail> {
+    let words = words_of(rt.alloc(), line)?;
+    let mut written = Vec::new(rt.alloc());
+    let answer = run_console(rt.alloc(), words.as_slice(), &mut input, &mut written);
+    Ok((answer, written))
+}
+
+#[test]
+fn a_passing_test_has_eight_events(rt: HostRuntime) -> Result<(), Fail> {
+    let (answer, written) = run(&rt, "console --details testfeed", SUITE.as_bytes())?;
+    assert_eq!(rt; answer, Ok(0));
+    assert_eq!(rt; written.as_slice(), FEED.as_bytes());
+    let (answer, written) = run(&rt, "console --details none", SUITE.as_bytes())?;
+    assert_eq!(rt; answer, Ok(0));
+    assert!(rt; written.is_empty());
+    Ok(())
+}
+
+#[test]
+fn an_output_that_is_cut_short_is_refused(rt: HostRuntime) -> Result<(), Fail> {
+    let words = words_of(rt.alloc(), "console --details testfeed")?;
+    for room in [0, 16, FEED.len() - 1] {
+        let mut input = SUITE.as_bytes();
+        let mut writer = Failing {
+            taken: Vec::new(rt.alloc()),
+            room,
+            step: 7,
+        };
+        let fault = run_console(rt.alloc(), words.as_slice(), &mut input, &mut writer)
+            .err()
+            .ok_or("no fault")?;
+        assert_eq!(rt; fault.number(), 81);
+        assert_eq!(rt; fault.place(), Some(room as u64));
+        assert_eq!(rt; writer.taken.as_slice(), &FEED.as_bytes()[..room]);
+    }
+    Ok(())
+}
+
+#[test]
+fn refusals_have_numbers_and_places(rt: HostRuntime) -> Result<(), Fail> {
+    let inputs: [(&[u8], &str); 6] = [
+        (b"engine e\n  class a.B\n    test t()\n", "error 102 at 3"),
+        (
+            b"engine e\n  class a.B\n      test t() pass\n",
+            "error 101 at 3",
+        ),
+        (b"engine e\n  suite a.B\n", "error 100 at 2"),
+        (b"# a\nengine e\n  class \xffB\n \xfe\n", "error 100 at 3"),
+        (b"\xc3", "error 100 at 1"),
+        (b"engine e\nengine e\n", "error 12 at 2"),
+    ];
+    for (input, line) in inputs {
+        let (answer, written) = run(&rt, "console --details testfeed", input)?;
+        let fault = answer.err().ok_or("no fault")?;
+        assert_eq!(rt; format!(in rt.alloc(); "{fault}")?.as_str(), line);
+        assert!(rt; written.is_empty());
+    }
+    Ok(())
+}
+
+#[test]
+fn a_suite_of_too_many_bytes_is_refused(rt: HostRuntime) -> Result<(), Fail> {
+    // no text, so that a test for text before one for the length would tell
+    let long = vec![in rt.alloc(); 0xff_u8; 1_048_577]?;
+    let (answer, _) = run(&rt, "console --details none", long.as_slice())?;
+    let fault = answer.err().ok_or("no fault")?;
+    assert_eq!(rt; format!(in rt.alloc(); "{fault}")?.as_str(), "error 103");
+    let (answer, _) = run(&rt, "console --details none", &long.as_slice()[1..])?;
+    let fault = answer.err().ok_or("no fault")?;
+    assert_eq!(rt;
+        format!(in rt.alloc(); "{fault}")?.as_str(),
+        "error 100 at 1"
+    );
+    Ok(())
+}
+
+#[test]
+fn an_input_that_fails_is_refused(rt: HostRuntime) -> Result<(), Fail> {
+    let words = words_of(rt.alloc(), "console --details testfeed")?;
+    let mut written = Vec::new(rt.alloc());
+    let mut reader = Broken {
+        text: SUITE.as_bytes(),
+        step: 9,
+    };
+    let fault = run_console(rt.alloc(), words.as_slice(), &mut reader, &mut written)
+        .err()
+        .ok_or("no fault")?;
+    assert_eq!(rt; format!(in rt.alloc(); "{fault}")?.as_str(), "error 106");
+    assert!(rt; written.is_empty());
+    Ok(())
+}
+
+/// A plan of one engine.
+fn plan_of_one(alloc: Global) -> Result<Plan, Fail> {
+    let mut builder = TreeBuilder::new(alloc)?;
+    let node = Node {
+        id: UniqueId::of(alloc, "engine", "a\tb").ok().ok_or("no id")?,
+        name: Text::new(alloc, "a")?,
+        kind: Kind::Container,
+        body: None,
+    };
+    if !builder.may_take(NodeId::ROOT) {
+        return Err("not taken".into());
+    }
+    builder
+        .add(alloc, NodeId::ROOT, node)
+        .ok()
+        .ok_or("refused")?;
+    Ok(Plan::plain(builder.finish()))
+}
+
+fn event_of(kind: EventKind, node: u16, status: Option<Status>) -> Event {
+    Event {
+        kind,
+        node: NodeId::new(node),
+        status,
+        worker: 12,
+    }
+}
+
+#[test]
+fn each_event_has_a_line(rt: HostRuntime) -> Result<(), Fail> {
+    let plan = plan_of_one(rt.alloc())?;
+    let texts = Texts::new(rt.alloc(), plan.tree())?;
+    let events = [
+        event_of(EventKind::Registered, 1, None),
+        event_of(EventKind::Skipped, 1, None),
+        event_of(EventKind::Finished, 1, Some(Status::Aborted)),
+        event_of(EventKind::Started, 2, None),
+        event_of(EventKind::Finished, 0, Some(Status::Successful)),
+    ];
+    let feed = feed_text(rt.alloc(), &plan, events.as_slice(), &texts)?;
+    let lines = "w12 registered [engine:a\tb]
+w12 skipped [engine:a\tb]
+w12 finished [engine:a\tb] ABORTED
+w12 started \nw12 plan finished\n";
+    assert_eq!(rt; feed.as_str(), lines);
+    Ok(())
+}
+
+#[test]
+fn texts_are_printed_with_spaces_for_control_bytes(rt: HostRuntime) -> Result<(), Fail> {
+    let plan = plan_of_one(rt.alloc())?;
+    let mut texts = Texts::new(rt.alloc(), plan.tree())?;
+    let text = Text::new(rt.alloc(), "no\tfile\u{7f}\nx\u{e9}")?;
+    assert!(rt; plan.tree().len() > 1);
+    texts.set(NodeId::new(1), Note::Own(text));
+    let events = [
+        event_of(EventKind::Skipped, 1, None),
+        event_of(EventKind::Finished, 1, Some(Status::Failed)),
+        event_of(EventKind::Finished, 1, Some(Status::Successful)),
+    ];
+    let feed = feed_text(rt.alloc(), &plan, events.as_slice(), &texts)?;
+    let lines = "w12 skipped [engine:a\tb] no file  x\u{e9}
+w12 finished [engine:a\tb] FAILED no file  x\u{e9}
+w12 finished [engine:a\tb] SUCCESSFUL\n";
+    assert_eq!(rt; feed.as_str(), lines);
+    Ok(())
+}

@@ -1,0 +1,126 @@
+//! A run: from the bytes of a reader to the bytes of a writer.
+
+ghost use Rattle.std.specs.Prelude.{◌≡◌, ◌+◌, ◌==◌, ℕ, IfOk, IfErr, IfSome, false, take, map, count_by, string_bytes};
+ghost use Rattle.std.specs.Io.KnownBytes.{Keeps};
+ghost use Rattle.plan_events.specs.declared.event.Event.{Event};
+ghost use Rattle.console.specs.SuiteFaults.{Gives};
+ghost use Rattle.console.specs.Suites.{suite_parts};
+ghost use Rattle.console.specs.Runs.{IsRun, IsOutput, ReadsSuite, suite_read, answers_of as answers_in, is_writing, Prints};
+
+use crate::bytes::{ReadFault, print_to, read_front};
+use crate::details::{Details, Options};
+use crate::fault::ConsoleFault;
+use crate::feed::feed_text;
+use crate::script::Script;
+use crate::suite::Suite;
+use crate::suite_fault::SuiteFault;
+use plan_events::Event;
+use resource_locks::Plan;
+use sched_core::{Answers, drive, texts_of};
+use std::alloc::{AllocError, Global};
+use std::io::{Read, Write};
+
+/// The greatest number of bytes of a suite.
+const LONGEST_SUITE: usize = 1_048_576;
+
+/// How many bytes are read at most: one more tells that there are too many.
+pub const MOST_READ: usize = 1_048_577;
+
+/// The number of the line that follows these bytes, from 1.
+fn line_after(bytes: &[u8]) -> usize
+    ensures { result ≡ 1 + count_by (λ byte. byte == 10) bytes.now }
+{
+    let mut line = 1;
+    for byte in bytes {
+        if *byte == b'\n' {
+            line += 1;
+        }
+    }
+    line
+}
+
+/// The suite that these bytes are.
+fn suite_of_bytes(alloc: Global, bytes: &[u8]) -> Result<Suite, SuiteFault>
+    ensures { Gives suite_parts result (suite_read bytes.now) }
+{
+    if bytes.len() > LONGEST_SUITE {
+        return Err(SuiteFault::TooLarge);
+    }
+    match std::str::from_utf8(bytes) {
+        Ok(text) => Suite::parse(alloc, text),
+        Err(fault) => Err(SuiteFault::BadLine(line_after(&bytes[..fault.valid_up_to()]))),
+    }
+}
+
+/// The suite that a reader holds.
+fn read_suite<R: Read>(alloc: Global, reader: &mut R) -> Result<Suite, ConsoleFault>
+    ensures { IfSome (R.remaining reader.old) (λ bytes. ReadsSuite (suite_read (take MOST_READ bytes)) result) }
+{
+    let bytes = read_front(alloc, reader, MOST_READ)?;
+    Ok(suite_of_bytes(alloc, bytes.as_slice())?)
+}
+
+/// The answers that the scripts give.
+fn answers_of(alloc: Global, scripts: Vec<Script>) -> Result<Answers, AllocError>
+    ensures { IfOk result (λ answers. answers ≡ answers_in scripts.items) }
+{
+    let mut replies = Vec::new(alloc);
+    for script in scripts {
+        replies.push((script.body, script.reply))?;
+    }
+    Ok(Answers::of(replies))
+}
+
+/// What is printed of a history.
+fn details_text(
+    alloc: Global,
+    details: Details,
+    plan: &Plan,
+    answers: &Answers,
+    history: &[Event],
+) -> Result<String, AllocError>
+    ensures { IfOk result (λ text. Prints details plan.now answers.now history.now (string_bytes text)) }
+{
+    match details {
+        Details::None => Ok(String::new(alloc)),
+        Details::Testfeed => {
+            let texts = texts_of(alloc, plan, answers, history)?;
+            feed_text(alloc, plan, history, &texts)
+        }
+    }
+}
+
+/// What is printed of the run of a suite.
+fn output_of(alloc: Global, options: &Options, suite: Suite) -> Result<String, AllocError>
+    ensures { IfOk result (λ text. IsOutput options.now.details (suite_parts suite) (string_bytes text)) }
+{
+    let answers = answers_of(alloc, suite.scripts)?;
+    let plan = Plan::plain(suite.tree);
+    let trace = drive(alloc, &plan, &answers)?;
+    details_text(
+        alloc,
+        options.details,
+        &plan,
+        &answers,
+        trace.published.as_slice(),
+    )
+}
+
+/// Reads a suite, runs it, and writes what the options ask for. Answers the program's status: 0,
+/// since no test of a suite can fail. Refused are a reader that fails (106), a suite (10 to 17 and
+/// 100 to 103), and a writer that fails (81, when the first bytes of the output are written); on
+/// any other refusal nothing is written.
+pub fn run_options<R: Read, W: Write>(
+    alloc: Global,
+    options: &Options,
+    reader: &mut R,
+    writer: &mut W,
+) -> Result<u8, ConsoleFault>
+    ensures exact { IfSome (R.remaining reader.old) (λ bytes. IsRun options.now.details (suite_read (take MOST_READ bytes)) (W.contents writer.old) (W.contents writer.new) result) }
+    ensures quiet { IfErr result (λ fault. is_writing fault ≡ false → Keeps (W.contents writer.old) (W.contents writer.new)) }
+{
+    let suite = read_suite(alloc, reader)?;
+    let text = output_of(alloc, options, suite)?;
+    print_to(writer, text.as_bytes())?;
+    Ok(0)
+}

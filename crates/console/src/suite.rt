@@ -1,0 +1,49 @@
+//! The suite of a text.
+
+ghost use Rattle.std.specs.Prelude.{◌≡◌, ◌≢◌, ◌≤◌, length, IfOk, IfErr, Err};
+ghost use Rattle.console.specs.SuiteFaults.{Gives};
+ghost use Rattle.console.specs.SuiteParts.{bodies_of, bodies_answered};
+ghost use Rattle.console.specs.Suites.{suite_of, suite_parts};
+
+use crate::script::Script;
+use crate::suite_builder::SuiteBuilder;
+use crate::suite_fault::SuiteFault;
+use crate::suite_lines::lines_in;
+use descriptor::Tree;
+use std::alloc::Global;
+
+/// The greatest number of bytes of a suite text.
+pub const LONGEST_SUITE: usize = 1_048_576;
+
+/// A tree of tests, and what its bodies answer.
+#[derive(Drop)]
+pub struct Suite {
+    pub tree: Tree,
+    pub scripts: Vec<Script>,
+}
+
+impl Suite {
+    /// The suite of a text. Lines end at a line feed, before which a carriage return is dropped;
+    /// the last may go without. Refusals: 103 for more than 1,048,576 bytes, else the first
+    /// faulty line's: 101, 100, 102, 17, 10 and 12, in this order.
+    #[tactic(auto, using(crate::proofs::SuiteNever::never_no_memory))]
+    pub fn parse(alloc: Global, text: &str) -> Result<Suite, SuiteFault>
+        ensures exact { Gives suite_parts result (suite_of text.now) }
+        // Want of memory is no property of a text.
+        ensures never { suite_of text.now ≢ Err SuiteFault.NoMemory }
+        // Each body of the tree has one script, in the order of the nodes.
+        ensures answered { IfOk result (λ suite. bodies_answered suite.scripts.items ≡ bodies_of suite.tree.nodes) }
+        // Memory is taken only for a text that is not too large.
+        ensures no_memory { IfErr result (λ fault. fault ≡ SuiteFault.NoMemory → length text.now ≤ 1048576) }
+    {
+        if text.len() > LONGEST_SUITE {
+            return Err(SuiteFault::TooLarge);
+        }
+        let lines = lines_in(alloc, text)?;
+        let mut builder = SuiteBuilder::new(alloc)?;
+        for (index, line) in lines.iter().enumerate() {
+            builder.read_line(alloc, index + 1, line)?;
+        }
+        Ok(builder.finish())
+    }
+}

@@ -1,0 +1,246 @@
+//! Suites and faulty lines, with answers from the format's description.
+
+use crate::suite::Suite;
+use crate::suite_fault::SuiteFault;
+use descriptor::{BodyId, Kind, NodeId, TreeFault};
+use plan_events::Status;
+use std::alloc::{AllocError, Global};
+use std::test::Fail;
+
+/// How many nodes the suite of a text has, or why there is none.
+fn nodes_of(alloc: Global, text: &str) -> Result<usize, SuiteFault> {
+    let suite = Suite::parse(alloc, text)?;
+    Ok(suite.tree.len())
+}
+
+/// A text of one comment line of this many bytes.
+fn comment_of(alloc: Global, len: usize) -> Result<String, AllocError> {
+    let mut text = String::from_str(alloc, "#")?;
+    for _ in 1..len {
+        text.push('x')?;
+    }
+    Ok(text)
+}
+
+/// An engine with a name of this many bytes.
+fn engine_of(alloc: Global, len: usize) -> Result<String, AllocError> {
+    let mut text = String::from_str(alloc, "engine ")?;
+    for _ in 0..len {
+        text.push('n')?;
+    }
+    Ok(text)
+}
+
+/// An engine, and this many classes, each in the one before it.
+fn nested_classes(alloc: Global, classes: usize) -> Result<String, AllocError> {
+    let mut text = String::from_str(alloc, "engine e\n")?;
+    for class in 0..classes {
+        for _ in 0..=class {
+            text.push_str("  ")?;
+        }
+        text.push_str("class c\n")?;
+    }
+    Ok(text)
+}
+
+/// An engine with a class of this many tests.
+fn many_tests(alloc: Global, tests: usize) -> Result<String, AllocError> {
+    let mut text = String::from_str(alloc, "engine e\n  class A\n")?;
+    for test in 0..tests {
+        writeln!(text, "    test t{test} pass")?;
+    }
+    Ok(text)
+}
+
+#[test]
+fn reads_the_tree_of_a_suite(rt: HostRuntime) -> Result<(), Fail> {
+    let text = "engine e\n  class a.B\n    test t() pass\n    class C\n      test u pass\n";
+    let suite = Suite::parse(rt.alloc(), text)?;
+    let nodes = [
+        (0, "[engine:e]", "e", Kind::Container, None),
+        (1, "[engine:e]/[class:a.B]", "a.B", Kind::Container, None),
+        (
+            2,
+            "[engine:e]/[class:a.B]/[method:t()]",
+            "t()",
+            Kind::Test,
+            Some(BodyId::new(3)),
+        ),
+        (
+            2,
+            "[engine:e]/[class:a.B]/[nested-class:C]",
+            "C",
+            Kind::Container,
+            None,
+        ),
+        (
+            4,
+            "[engine:e]/[class:a.B]/[nested-class:C]/[method:u]",
+            "u",
+            Kind::Test,
+            Some(BodyId::new(5)),
+        ),
+    ];
+    assert_eq!(rt; suite.tree.len(), 6);
+    for (index, (parent, id, name, kind, body)) in nodes.iter().enumerate() {
+        let number = NodeId::new(index as u16 + 1);
+        assert!(rt; number.index() > 0 && number.index() < suite.tree.len());
+        let node = suite.tree.node(number);
+        assert_eq!(rt; node.id.text(), *id);
+        assert_eq!(rt; node.name.as_str(), *name);
+        assert_eq!(rt; node.kind, *kind, "{id}");
+        assert_eq!(rt; node.body, *body, "{id}");
+        assert_eq!(rt;
+            suite.tree.parent(number),
+            Some(NodeId::new(*parent)),
+            "{id}"
+        );
+    }
+    assert_eq!(rt; suite.scripts.len(), 2);
+    for (script, body) in suite.scripts.iter().zip([3, 5]) {
+        assert_eq!(rt; script.body, BodyId::new(body));
+        assert_eq!(rt; script.reply.pulls, 0);
+        assert_eq!(rt; script.reply.outcome.status, Status::Successful);
+        assert_eq!(rt; script.reply.outcome.text.as_str(), "");
+    }
+    Ok(())
+}
+
+#[test]
+fn reads_and_refuses_lines(rt: HostRuntime) {
+    let texts = [
+        ("", Ok(1)),
+        ("# a\n\n   \n#", Ok(1)),
+        ("engine e", Ok(2)),
+        ("engine e\n", Ok(2)),
+        ("engine   e  \n  class  A   \n", Ok(3)),
+        ("engine e\r\n  class A\r\n    test t pass\r\n", Ok(4)),
+        ("engine e\n# between\n\n  class A", Ok(3)),
+        (
+            "engine e\n  class A\n    class B\n      test t pass\n  class C\nengine f",
+            Ok(7),
+        ),
+        ("\t", Err(SuiteFault::BadLine(1))),
+        ("\tengine e", Err(SuiteFault::BadLine(1))),
+        ("\r", Err(SuiteFault::BadLine(1))),
+        ("\r\r\n", Err(SuiteFault::BadLine(1))),
+        (
+            "engine e\n  class A\n    test t pass\r",
+            Err(SuiteFault::BadLine(3)),
+        ),
+        (" engine e", Err(SuiteFault::BadIndent(1))),
+        ("  engine e", Err(SuiteFault::BadIndent(1))),
+        ("  # a", Err(SuiteFault::BadIndent(1))),
+        ("engine e\n  # a", Err(SuiteFault::BadLine(2))),
+        (
+            "engine e\n  class A\n   test t pass",
+            Err(SuiteFault::BadIndent(3)),
+        ),
+        ("engine e\n    class A", Err(SuiteFault::BadIndent(2))),
+        ("engine e\n  engine f", Err(SuiteFault::BadLine(2))),
+        ("class A", Err(SuiteFault::BadLine(1))),
+        ("test t pass", Err(SuiteFault::BadLine(1))),
+        ("engine e\n  test t pass", Err(SuiteFault::BadLine(2))),
+        ("engine e\n  test t pass\n   x", Err(SuiteFault::BadLine(2))),
+        (
+            "engine e\n  class A\n    test t pass\n      test u pass",
+            Err(SuiteFault::BadLine(4)),
+        ),
+        (
+            "engine e\n  class A\n    test t pass\n        test u pass",
+            Err(SuiteFault::BadIndent(4)),
+        ),
+        ("Engine e", Err(SuiteFault::BadLine(1))),
+        ("engine", Err(SuiteFault::BadLine(1))),
+        ("engine e x", Err(SuiteFault::BadLine(1))),
+        ("engine e\n  class A pass", Err(SuiteFault::BadLine(2))),
+        ("engine e\n  class A\n    test", Err(SuiteFault::BadLine(3))),
+        (
+            "engine e\n  class A\n    test t",
+            Err(SuiteFault::MissingVerdict(3)),
+        ),
+        (
+            "engine e\n  class A\n    test t bogus pass",
+            Err(SuiteFault::BadLine(3)),
+        ),
+        (
+            "engine e\n  class A\n    test t pass x",
+            Err(SuiteFault::BadLine(3)),
+        ),
+        (
+            "engine e\n\nengine e",
+            Err(SuiteFault::Refused {
+                fault: TreeFault::DoubleId,
+                line: 3,
+            }),
+        ),
+    ];
+    for (text, answer) in texts {
+        assert_eq!(rt; nodes_of(rt.alloc(), text), answer, "{text:?}");
+    }
+}
+
+#[test]
+fn keeps_the_limits(rt: HostRuntime) -> Result<(), Fail> {
+    let alloc = rt.alloc();
+    let over_limit = |line| {
+        Err(SuiteFault::Refused {
+            fault: TreeFault::OverLimit,
+            line,
+        })
+    };
+    assert_eq!(rt; nodes_of(alloc, engine_of(alloc, 1015)?.as_str()), Ok(2));
+    assert_eq!(rt;
+        nodes_of(alloc, engine_of(alloc, 1016)?.as_str()),
+        over_limit(1)
+    );
+    assert_eq!(rt;
+        nodes_of(alloc, nested_classes(alloc, 60)?.as_str()),
+        Ok(62)
+    );
+    assert_eq!(rt;
+        nodes_of(alloc, nested_classes(alloc, 61)?.as_str()),
+        over_limit(62)
+    );
+    assert_eq!(rt;
+        nodes_of(alloc, comment_of(alloc, 1_048_576)?.as_str()),
+        Ok(1)
+    );
+    assert_eq!(rt;
+        nodes_of(alloc, comment_of(alloc, 1_048_577)?.as_str()),
+        Err(SuiteFault::TooLarge)
+    );
+    assert_eq!(rt;
+        nodes_of(alloc, many_tests(alloc, 4093)?.as_str()),
+        Ok(4096)
+    );
+    let too_many = SuiteFault::Refused {
+        fault: TreeFault::TooMany,
+        line: 4096,
+    };
+    assert_eq!(rt;
+        nodes_of(alloc, many_tests(alloc, 4094)?.as_str()),
+        Err(too_many)
+    );
+    Ok(())
+}
+
+#[test]
+fn numbers_refusals(rt: HostRuntime) {
+    let double = SuiteFault::Refused {
+        fault: TreeFault::DoubleId,
+        line: 7,
+    };
+    let refusals = [
+        (SuiteFault::NoMemory, 0, None),
+        (SuiteFault::BadLine(3), 100, Some(3)),
+        (SuiteFault::BadIndent(1), 101, Some(1)),
+        (SuiteFault::MissingVerdict(2), 102, Some(2)),
+        (SuiteFault::TooLarge, 103, None),
+        (double, 12, Some(7)),
+    ];
+    for (refusal, number, place) in refusals {
+        assert_eq!(rt; refusal.number(), number);
+        assert_eq!(rt; refusal.place(), place);
+    }
+}
