@@ -1,10 +1,10 @@
 -- A tree with one more node that is not refused is a tree.
 use Rattle.std.proofs.Common.{◌≡◌, ◌≢◌, ℕ, zero, suc, ◌-◌, ◌<◌, ◌≤◌, Bool, true, false, cond, eqb, List, [], ◌∷◌, ◌++◌, length, refl, ap, sym, ◌∙◌, arith, inl, inr, ◌⊎◌, subst, Some, None}
-use Rattle.std.specs.Prelude.{slice_get, nat_lt}
+use Rattle.std.specs.Prelude.{slice_get}
 use Rattle.descriptor.specs.declared.node.Node.{Node}
 use Rattle.descriptor.specs.Nodes.{Nodes, IsTree, IsChild, Below, child, under, MayTake, size, parent_of, depth_of, appended, is_test_at, is_test_kind, kind_or}
 use Rattle.descriptor.specs.declared.fault.TreeFault.TheVariants.{TooMany, TooDeep, DoubleId, ParentIsTest, BodyTwice, OverLimit}
-use Rattle.descriptor.specs.Refusals.{refusal, has_id, has_body}
+use Rattle.descriptor.specs.Refusals.{refusal, has_id, has_body, is_over_limit}
 use Rattle.descriptor.proofs.Distinct.{ids_once, bodies_once}
 use Rattle.descriptor.proofs.Grown.{length_more, get_before, get_last, depth_before, depth_last, below_or_last}
 
@@ -27,7 +27,7 @@ pub record IsAccepted (t : Nodes) (a : ℕ) (node : Node) : Type 0 where
 
 pub accepted : (t : Nodes) (a : ℕ) (node : Node) → refusal t a node ≡ None → IsAccepted t a node
 accepted t a node e =
-    let all = none_passed (eqb (size t) 4096) (eqb (depth_of t a) 64) (has_id t node.id) (is_test_at t a) (has_body t node.body) (nat_lt 1024 (length node.name)) TooMany TooDeep DoubleId ParentIsTest BodyTwice OverLimit e in
+    let all = none_passed (eqb (size t) 4096) (eqb (depth_of t a) 64) (has_id t node.id) (is_test_at t a) (has_body t node.body) (is_over_limit node) TooMany TooDeep DoubleId ParentIsTest BodyTwice OverLimit e in
     record { few = grind (arith, all.0); shallow = grind (arith, all.1); new_id = all.2; container = all.3; new_body = all.4 }
 
 get_early : {X : Type 0} (xs : List X) (x : X) (n : ℕ) → n < length xs → slice_get (xs ++ x ∷ []) n ≡ slice_get xs n

@@ -1,5 +1,6 @@
 -- The nodes of a tree as contracts see them: each node's parent, and what is said of each node but the plan.
 use Rattle.std.specs.Prelude.{◌≡◌, ℕ, zero, suc, ◌+◌, ◌-◌, ◌<◌, ◌≤◌, ◌&&◌, ◌==◌, nat_lt, Bool, true, false, cond, List, [], ◌∷◌, ◌++◌, length, Option, Some, None, slice_get, slice_index_or, ◌⊎◌}
+use Rattle.std.specs.Option.{is_some}
 use Rattle.unique_id.specs.Spelling.{spelling}
 use Rattle.descriptor.specs.declared.node.Node.{Node}
 use Rattle.descriptor.specs.declared.kind.Kind.TheVariants.{Test, Container, ContainerAndTest}
@@ -98,6 +99,19 @@ body_or (Some node) = node.body
 -- what runs for node n; the plan has no body
 abbrev pub body_of : Nodes → ℕ → Option ℕ
 body_of t n = body_or (node_at t n)
+
+-- why a node is disabled; where there is none, no reason
+abbrev pub reason_or : Option Node → Option (List ℕ)
+reason_or None = None
+reason_or (Some node) = node.disabled
+
+-- why node n is disabled, none where it is not; the plan is not disabled
+abbrev pub reason_of : Nodes → ℕ → Option (List ℕ)
+reason_of t n = reason_or (node_at t n)
+
+-- whether node n is disabled; the plan is not
+abbrev pub is_disabled : Nodes → ℕ → Bool
+is_disabled t n = is_some (reason_of t n)
 
 -- the canonical text of a node's unique id; where there is no node, none
 abbrev pub text_or : Option Node → Option (List ℕ)

@@ -1,5 +1,5 @@
 -- When a node is refused.
-use Rattle.std.specs.Prelude.{ℕ, ◌==◌, nat_lt, Bool, false, cond, List, length, Option, Some, None}
+use Rattle.std.specs.Prelude.{ℕ, ◌==◌, ◌||◌, nat_lt, Bool, false, cond, List, length, Option, Some, None}
 use Rattle.std.specs.List.{list_any}
 use Rattle.std.specs.Str.{bytes_eq}
 use Rattle.unique_id.specs.Spelling.{spelling}
@@ -37,6 +37,19 @@ abbrev pub has_body : Nodes → Option ℕ → Bool
 has_body t None = false
 has_body t (Some b) = list_any (λ node. is_body b node.body) t.nodes
 
+-- a text has more than 1,024 bytes
+abbrev pub is_long : List ℕ → Bool
+is_long text = nat_lt 1024 (length text)
+
+-- a reason has more than 1,024 bytes
+abbrev pub is_long_reason : Option (List ℕ) → Bool
+is_long_reason None = false
+is_long_reason (Some reason) = is_long reason
+
+-- the name or the reason has more than 1,024 bytes
+abbrev pub is_over_limit : Node → Bool
+is_over_limit node = is_long node.name || is_long_reason node.disabled
+
 -- the first reason to refuse a node below a, in the order in which they are looked for
 abbrev pub refusal : Nodes → ℕ → Node → Option TreeFault
 refusal t a node =
@@ -45,4 +58,4 @@ refusal t a node =
     cond (has_id t node.id) (Some DoubleId) (
     cond (is_test_at t a) (Some ParentIsTest) (
     cond (has_body t node.body) (Some BodyTwice) (
-    cond (nat_lt 1024 (length node.name)) (Some OverLimit) None)))))
+    cond (is_over_limit node) (Some OverLimit) None)))))

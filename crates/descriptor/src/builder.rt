@@ -17,9 +17,6 @@ const MOST_NODES: usize = 4096;
 /// The greatest depth of a node; the plan has depth 0.
 const MOST_DEPTH: u8 = 64;
 
-/// The greatest length of a name, in bytes.
-const LONGEST_NAME: usize = 1024;
-
 /// A tree that grows at its end: each node comes right after the nodes below its elder sibling.
 #[derive(Drop)]
 pub struct TreeBuilder {
@@ -132,7 +129,7 @@ impl TreeBuilder {
             Some(TreeFault::ParentIsTest)
         } else if self.has_body(node.body) {
             Some(TreeFault::BodyTwice)
-        } else if node.name.as_str().len() > LONGEST_NAME {
+        } else if node.is_over_limit() {
             Some(TreeFault::OverLimit)
         } else {
             None

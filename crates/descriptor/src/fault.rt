@@ -28,8 +28,8 @@ pub enum TreeFault {
     /// Refusal 15: a node has the same body.
     #[error("a node has this body")]
     BodyTwice,
-    /// Refusal 17: the name has more than 1,024 bytes.
-    #[error("a name of more than 1024 bytes")]
+    /// Refusal 17: the name or the reason has more than 1,024 bytes.
+    #[error("a name or a reason of more than 1024 bytes")]
     OverLimit,
 }
 

@@ -1,8 +1,13 @@
 //! What a tree says of a node.
 
+ghost use Rattle.std.specs.Prelude.{◌≡◌};
+
 use crate::body_id::BodyId;
 use crate::kind::Kind;
 use unique_id::{Text, UniqueId};
+
+/// The greatest length of a name and of a reason, in bytes.
+const LONGEST_TEXT: usize = 1024;
 
 /// A node other than the plan.
 #[derive(Debug, Drop)]
@@ -15,4 +20,26 @@ pub struct Node {
     pub kind: Kind,
     /// What runs for the node, if anything; no two nodes of a tree have the same.
     pub body: Option<BodyId>,
+    /// Why the node is disabled, of at most 1,024 bytes; `None` where it is not. The reason may be
+    /// empty.
+    pub disabled: Option<Text>,
+}
+
+impl Node {
+    ghost use Rattle.descriptor.specs.Refusals.{is_over_limit};
+
+    /// Whether the name or the reason has more than 1,024 bytes.
+    pub(crate) fn is_over_limit(&self) -> bool
+        ensures { result ≡ is_over_limit self.now }
+    {
+        is_long(&self.name) || self.disabled.as_ref().is_some_and(|reason| is_long(reason))
+    }
+}
+
+ghost use Rattle.descriptor.specs.Refusals.{is_long};
+
+fn is_long(text: &Text) -> bool
+    ensures { result ≡ is_long text.now }
+{
+    text.as_str().len() > LONGEST_TEXT
 }

@@ -19,6 +19,7 @@ fn node(
         name: Text::new(alloc, name)?,
         kind,
         body: body.map(BodyId::new),
+        disabled: None,
     })
 }
 
@@ -39,13 +40,13 @@ fn add(
     builder.add(alloc, parent, node)
 }
 
-/// A name of this many bytes.
-fn name_of_length(alloc: Global, length: usize) -> Result<String, Fail> {
-    let mut name = String::new(alloc);
+/// A text of this many bytes.
+fn text_of_length(alloc: Global, length: usize) -> Result<String, Fail> {
+    let mut text = String::new(alloc);
     for _ in 0..length {
-        name.push('n')?;
+        text.push('n')?;
     }
-    Ok(name)
+    Ok(text)
 }
 
 /// A class with a test and a factory that holds a test, and an empty class.
@@ -193,8 +194,8 @@ fn takes_64_levels(rt: HostRuntime) -> Result<(), Fail> {
 #[test]
 fn refuses_in_order(rt: HostRuntime) -> Result<(), Fail> {
     let alloc = rt.alloc();
-    let long = name_of_length(alloc, 1025)?;
-    let longest = name_of_length(alloc, 1024)?;
+    let long = text_of_length(alloc, 1025)?;
+    let longest = text_of_length(alloc, 1024)?;
     let mut builder = TreeBuilder::new(alloc)?;
     let test = node(alloc, "test", longest.as_str(), Kind::Test, Some(7))?;
     let test = add(&rt, alloc, &mut builder, NodeId::ROOT, test)?;
@@ -217,5 +218,66 @@ fn refuses_in_order(rt: HostRuntime) -> Result<(), Fail> {
         Ok(NodeId::new(2))
     );
     assert_eq!(rt; builder.finish().len(), 3);
+    Ok(())
+}
+
+/// A test with this reason.
+fn disabled(alloc: Global, value: &str, reason: &str) -> Result<Node, Fail> {
+    let mut node = node(alloc, value, value, Kind::Test, None)?;
+    node.disabled = Some(Text::new(alloc, reason)?);
+    Ok(node)
+}
+
+#[test]
+fn tells_reasons(rt: HostRuntime) -> Result<(), Fail> {
+    let alloc = rt.alloc();
+    let mut builder = TreeBuilder::new(alloc)?;
+    let root = NodeId::ROOT;
+    add(
+        &rt,
+        alloc,
+        &mut builder,
+        root,
+        disabled(alloc, "one", "not on Windows")?,
+    )?;
+    add(&rt, alloc, &mut builder, root, container(alloc, "two")?)?;
+    add(
+        &rt,
+        alloc,
+        &mut builder,
+        root,
+        disabled(alloc, "three", "")?,
+    )?;
+    let tree = builder.finish();
+    assert_eq!(rt; tree.len(), 4);
+    let reasons = [None, Some("not on Windows"), None, Some("")];
+    for (number, want) in reasons.iter().enumerate() {
+        assert!(rt; number < 4);
+        let reason = tree.reason(NodeId::new(number as u16));
+        assert_eq!(rt; reason, *want, "at {number}");
+    }
+    Ok(())
+}
+
+#[test]
+fn refuses_long_reasons(rt: HostRuntime) -> Result<(), Fail> {
+    let alloc = rt.alloc();
+    let long = text_of_length(alloc, 1025)?;
+    let longest = text_of_length(alloc, 1024)?;
+    let mut builder = TreeBuilder::new(alloc)?;
+    let root = NodeId::ROOT;
+    let refused = disabled(alloc, "test", long.as_str())?;
+    assert_eq!(rt;
+        add(&rt, alloc, &mut builder, root, refused),
+        Err(TreeFault::OverLimit)
+    );
+    let taken = disabled(alloc, "test", longest.as_str())?;
+    assert_eq!(rt;
+        add(&rt, alloc, &mut builder, root, taken),
+        Ok(NodeId::new(1))
+    );
+    let tree = builder.finish();
+    assert_eq!(rt; tree.len(), 2);
+    assert_eq!(rt; tree.reason(NodeId::new(1)), Some(longest.as_str()));
     Ok(())
 }

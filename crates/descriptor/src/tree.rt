@@ -8,6 +8,7 @@ use crate::node::Node;
 use crate::node_id::NodeId;
 use std::alloc::{AllocError, Global};
 use std::marker::Model;
+use unique_id::Text;
 
 /// A tree of nodes, numbered in preorder. Node 0 is the plan.
 #[derive(Debug, Drop)]
@@ -33,8 +34,9 @@ impl Model for Tree {
 }
 
 impl Tree {
+    ghost use Rattle.std.specs.Option.{is_some};
     ghost use Rattle.descriptor.specs.Refusals.{refusal};
-    ghost use Rattle.descriptor.specs.Nodes.{size, plan_alone, parent_of, children_of, node_at, kind_of, body_of, is_test_at, depth_of, appended, Below, MayTake, IsTree, IsChild};
+    ghost use Rattle.descriptor.specs.Nodes.{size, plan_alone, parent_of, children_of, node_at, kind_of, body_of, reason_of, is_disabled, is_test_at, depth_of, appended, Below, MayTake, IsTree, IsChild};
 
     /// How many nodes there are, the plan included.
     pub fn len(&self) -> usize
@@ -97,6 +99,20 @@ impl Tree {
             None
         } else {
             self.node(node).body
+        }
+    }
+
+    /// Why a node is disabled, if it is; the plan is not.
+    pub fn reason(&self, node: NodeId) -> Option<&str>
+        requires { node < size self.now }
+        ensures some { IfSome result (λ reason. reason_of self.now node ≡ Some reason.now) }
+        ensures none { IsNone result ↔ (reason_of self.now node ≡ None) }
+        ensures disabled { is_some result ≡ is_disabled self.now node }
+    {
+        if node == NodeId::ROOT {
+            None
+        } else {
+            self.node(node).disabled.as_ref().map(Text::as_str)
         }
     }
 

@@ -1,2 +1,3 @@
--- Lemmas on words of events.
+-- Lemmas on words of events and on reasons.
 pub mod Readings
+pub mod Reasons

@@ -2,6 +2,8 @@
 
 use crate::{Event, EventKind, Note, Outcome, Status, Texts};
 use descriptor::{Kind, Node, NodeId, TreeBuilder};
+use std::alloc::Global;
+use std::process::Abort;
 use std::test::Fail;
 use unique_id::{Text, UniqueId};
 
@@ -103,29 +105,67 @@ fn copies_outcomes(rt: HostRuntime) -> Result<(), Fail> {
     Ok(())
 }
 
+/// A test below the plan, disabled where there is a reason.
+fn add(
+    rt: &impl Abort,
+    alloc: Global,
+    builder: &mut TreeBuilder,
+    name: &str,
+    reason: Option<&str>,
+) -> Result<NodeId, Fail> {
+    let node = Node {
+        id: UniqueId::of(alloc, "test", name)?,
+        name: Text::new(alloc, name)?,
+        kind: Kind::Test,
+        body: None,
+        disabled: reason.map(|reason| Text::new(alloc, reason)).transpose()?,
+    };
+    assert!(rt; builder.may_take(NodeId::ROOT));
+    Ok(builder.add(alloc, NodeId::ROOT, node)?)
+}
+
 #[test]
 fn keeps_texts(rt: HostRuntime) -> Result<(), Fail> {
     let alloc = rt.alloc();
     let mut builder = TreeBuilder::new(alloc)?;
-    assert!(rt; builder.may_take(NodeId::ROOT));
-    let node = Node {
-        id: UniqueId::of(alloc, "class", "A")?,
-        name: Text::new(alloc, "A")?,
-        kind: Kind::Test,
-        body: None,
-    };
-    let class = builder.add(alloc, NodeId::ROOT, node)?;
+    let test = add(&rt, alloc, &mut builder, "adds", None)?;
     let tree = builder.finish();
-    assert!(rt; class.index() < tree.len());
+    assert!(rt; test.index() < tree.len());
     let mut texts = Texts::new(alloc, &tree)?;
-    assert!(rt; texts.of(class).is_none());
-    texts.set(class, Note::Own(Text::new(alloc, "broken")?));
-    assert_eq!(rt; texts.of(class), Some("broken"));
+    assert!(rt; texts.of(test).is_none());
+    texts.set(test, Note::Own(Text::new(alloc, "broken")?));
+    assert_eq!(rt; texts.of(test), Some("broken"));
     assert!(rt; texts.of(NodeId::ROOT).is_none());
-    texts.set(class, Note::TooMany);
-    assert_eq!(rt; texts.of(class), Some("too many dynamic tests"));
-    texts.set(class, Note::Reason);
-    assert!(rt; texts.of(class).is_none());
+    texts.set(test, Note::TooMany);
+    assert_eq!(rt; texts.of(test), Some("too many dynamic tests"));
+    texts.set(test, Note::Reason);
+    assert!(rt; texts.of(test).is_none());
     assert!(rt; texts.of(NodeId::new(2)).is_none());
+    Ok(())
+}
+
+#[test]
+fn tells_reasons(rt: HostRuntime) -> Result<(), Fail> {
+    let alloc = rt.alloc();
+    let mut builder = TreeBuilder::new(alloc)?;
+    let enabled = add(&rt, alloc, &mut builder, "adds", None)?;
+    let disabled = add(&rt, alloc, &mut builder, "rounds", Some("flaky"))?;
+    let unexplained = add(&rt, alloc, &mut builder, "waits", Some(""))?;
+    let tree = builder.finish();
+    let mut texts = Texts::new(alloc, &tree)?;
+    // a reason is told where a note asks for it
+    assert!(rt; texts.of(disabled).is_none());
+    assert!(rt; enabled.index() < tree.len());
+    texts.set(enabled, Note::Reason);
+    assert!(rt; disabled.index() < tree.len());
+    texts.set(disabled, Note::Reason);
+    assert!(rt; unexplained.index() < tree.len());
+    texts.set(unexplained, Note::Reason);
+    assert!(rt; texts.of(enabled).is_none());
+    assert_eq!(rt; texts.of(disabled), Some("flaky"));
+    assert_eq!(rt; texts.of(unexplained), Some(""));
+    assert!(rt; texts.of(NodeId::new(4)).is_none());
+    texts.set(disabled, Note::Own(Text::new(alloc, "broken")?));
+    assert_eq!(rt; texts.of(disabled), Some("broken"));
     Ok(())
 }

@@ -15,6 +15,7 @@ fn counts_two_events_for_each_node(rt: HostRuntime) -> Result<(), Fail> {
         name: Text::new(alloc, "A")?,
         kind: Kind::Test,
         body: None,
+        disabled: None,
     };
     builder.add(alloc, NodeId::ROOT, node)?;
     let plan = Plan::plain(builder.finish());
