@@ -1,22 +1,18 @@
 -- Bounds that every state which keeps the invariant has: lengths, room for an event, places of tasks and counters.
 -- A task is meant as an answer decides it, `decided p status t`; for a task that waits for none that is the task.
-use Rattle.std.proofs.Common.{◌≡◌, ℕ, ◌+◌, ◌*◌, ◌<◌, ◌≤◌, Bool, true, false, nat_lt, if◌then◌else◌, List, length, get_or, Option, Some, None, slice_get, slice_index_or, inl, inr, refl, sym, ap, ◌∙◌, subst, arith}
+use Rattle.std.proofs.Common.{◌≡◌, ℕ, ◌+◌, ◌*◌, ◌<◌, true, false, List, length, get_or, Option, Some, None, slice_get, slice_index_or, refl, sym, ap, ◌∙◌, subst, arith}
 use Rattle.std.proofs.lemmas.Option.{none-some, slice_get_within, same_Some, slice_get-get_or}
-use Rattle.std.proofs.lemmas.List.{get_or_past}
-use Rattle.std.proofs.lemmas.Bool.{ltb-true, both_ways, cases_lt}
-use Rattle.descriptor.specs.Nodes.{size, parent_of, children_of, is_test_at, IsChild, IsTree}
+use Rattle.descriptor.specs.Nodes.{size, parent_of, children_of, IsChild, IsTree}
 use Rattle.descriptor.proofs.Children.{children_listed}
 use Rattle.plan_events.specs.declared.status.Status.{Status}
 use Rattle.plan_events.specs.declared.event.Event.{Event}
 use Rattle.plan_events.specs.declared.outcome.Reply.{Reply}
 use Rattle.resource_locks.specs.Plans.{PlanParts, most_events}
-use Rattle.sched_core.specs.declared.status.NodeStatus.TheVariants.{Hidden}
 use Rattle.sched_core.specs.declared.task.Task.{Task}
 use Rattle.sched_core.specs.declared.task.Task.TheVariants.{Free, Begin, Drawn, Open, Admit, Guard, End, Settle, Up}
-use Rattle.sched_core.specs.Replies.{is_successful}
 use Rattle.sched_core.specs.History.{stops_with}
-use Rattle.sched_core.specs.Machine.{State, status_at, counter_at, is_ready, answered, decided}
-use Rattle.sched_core.specs.Invariant.{Stage, task_phase, phase, task_finished, is_finished, guard, phase_counts, is_pending, pending, IsAt, TaskOk, subject, drawn_count, IsKept}
+use Rattle.sched_core.specs.Machine.{State, counter_at, answered, decided}
+use Rattle.sched_core.specs.Invariant.{How, Runs, how_stopped, Stage, task_phase, phase, task_finished, is_finished, guard, phase_counts, is_pending, pending, IsAt, TaskOk, subject, drawn_count, IsKept}
 use Rattle.sched_core.proofs.Decisions.{answered_any}
 use Rattle.sched_core.proofs.Frames.{pending_less, drawn_room}
 use Rattle.sched_core.proofs.Rows.{at_unseen, at_counted, parent_up, parent_is}
@@ -30,16 +26,16 @@ module _ (p : PlanParts) (status : Status) where
   answered_subject : (n : ℕ) → subject (answered p n status) ≡ Some n
   answered_subject n = answered_any (λ t. subject t ≡ Some n) p n status refl (λ _. refl) refl
 
-  answered_unfinished : (n : ℕ) → task_finished (answered p n status) ≡ false
-  answered_unfinished n = answered_any (λ t. task_finished t ≡ false) p n status refl (λ _. refl) refl
+  answered_unfinished : (n : ℕ) (how : How) → task_finished (answered p n status) how ≡ false
+  answered_unfinished n how = answered_any (λ t. task_finished t how ≡ false) p n status refl (λ _. refl) refl
 
   pub decided_subject : (t : Task) → subject (decided p status t) ≡ subject t
   decided_subject (Open n) = answered_subject n
   decided_subject _ = refl
 
-  pub decided_finished : (t : Task) → task_finished (decided p status t) ≡ task_finished t
-  decided_finished (Open n) = answered_unfinished n
-  decided_finished _ = refl
+  pub decided_finished : (t : Task) (how : How) → task_finished (decided p status t) how ≡ task_finished t how
+  decided_finished (Open n) how = answered_unfinished n how
+  decided_finished _ how = refl
 
 -- the child that a task admits stands in the list
 abbrev AdmitsInside : PlanParts → Task → Type 0
@@ -67,7 +63,7 @@ module _ (p : PlanParts) (replies : ℕ → List Reply) (s : State) (k : IsKept 
       go (Open m) ok r = same (Open m) m ok r
       go (Admit m i) ok r = same (Admit m i) m ok.0 r
       go (Guard m) ok r = same (Guard m) m ok r
-      go (End m status) ok r = same (End m status) m (record { inside = ok.inside; claimer = ok.claimer; stopped = stops_with p m status; at = ok.at }) r
+      go (End m status) ok r = same (End m status) m (record { inside = ok.inside; claimer = ok.claimer; how = how_stopped (stops_with p m status); at = ok.at }) r
       go (Settle m) ok r = same (Settle m) m ok r
       go (Up m) ok r = same (Up m) m ok.0 r
 
@@ -97,17 +93,17 @@ module _ (p : PlanParts) (replies : ℕ → List Reply) (s : State) (k : IsKept 
       go u q r = drawn_inside w i e (q ∙ ap Some r)
 
   -- there is room for an event of a node whose finish is not drawn
-  pub room : (w n : ℕ) (t : Task) → slice_get s.tasks w ≡ Some t → subject t ≡ Some n → task_finished t ≡ false → length s.published < most_events p
+  pub room : (w n : ℕ) (t : Task) → slice_get s.tasks w ≡ Some t → subject t ≡ Some n → ((how : How) → task_finished t how ≡ false) → length s.published < most_events p
   room w n t q about open' =
       let at = task_at w n t q about in
-      let free : drawn_count p k.0 < 2 * size p.tree = drawn_room p k.0 n at.inside (ap is_finished at.at ∙ open') in
+      let free : drawn_count p k.0 < 2 * size p.tree = drawn_room p k.0 n at.inside (ap is_finished at.at ∙ open' at.how) in
       omega (arith, k.1.drawn, free)
 
   pub room_start : (w n : ℕ) (t : Task) (status : Status) → slice_get s.tasks w ≡ Some t → decided p status t ≡ Begin n → length s.published < most_events p
-  room_start w n t status q same = room w n t q (sym (decided_subject p status t) ∙ ap subject same) (sym (decided_finished p status t) ∙ ap task_finished same)
+  room_start w n t status q same = room w n t q (sym (decided_subject p status t) ∙ ap subject same) (λ how. sym (decided_finished p status t how) ∙ ap (λ (u : Task). task_finished u how) same)
 
   pub room_finish : (w n : ℕ) (result : Status) (t : Task) (status : Status) → slice_get s.tasks w ≡ Some t → decided p status t ≡ End n result → length s.published < most_events p
-  room_finish w n result t status q same = room w n t q (sym (decided_subject p status t) ∙ ap subject same) (sym (decided_finished p status t) ∙ ap task_finished same)
+  room_finish w n result t status q same = room w n t q (sym (decided_subject p status t) ∙ ap subject same) (λ how. sym (decided_finished p status t how) ∙ ap (λ (u : Task). task_finished u how) same)
 
   -- the child that is to be admitted stands in the list
   pub admit_inside : (w n i : ℕ) (t : Task) (status : Status) → slice_get s.tasks w ≡ Some t → decided p status t ≡ Admit n i → i < length (children_of p.tree n)
@@ -120,9 +116,9 @@ module _ (p : PlanParts) (replies : ℕ → List Reply) (s : State) (k : IsKept 
 
 -- the counter that `done` lowers is above 0
 module _ (p : PlanParts) (replies : ℕ → List Reply) (tree : IsTree p.tree) (s : State) (k : IsKept p replies s) where
-  counts_at : (w n : ℕ) (t : Task) → IsAt p k.0 w t n → ((stopped : Bool) → phase_counts (task_phase t stopped) ≡ true) → (n < size p.tree) × (0 < counter_at s n)
+  counts_at : (w n : ℕ) (t : Task) → IsAt p k.0 w t n → ((how : How) → phase_counts (task_phase t how) ≡ true) → (n < size p.tree) × (0 < counter_at s n)
   counts_at w n t at counts =
-      let sum : counter_at s n ≡ guard (k.0 n) + pending p k.0 n = k.1.counters n at.inside (ap (λ (st : Stage). phase_counts (phase st)) at.at ∙ counts at.stopped) in
+      let sum : counter_at s n ≡ guard (k.0 n) + pending p k.0 n = k.1.counters n at.inside (ap (λ (st : Stage). phase_counts (phase st)) at.at ∙ counts at.how) in
       let one : guard (k.0 n) ≡ 1 = ap guard at.at in
       (at.inside, omega (arith, sum, one))
 
@@ -133,9 +129,9 @@ module _ (p : PlanParts) (replies : ℕ → List Reply) (tree : IsTree p.tree) (
       let lt : a < c = tree.up c old.1 at.inside in
       let in' : a < size p.tree = omega (arith, lt, at.inside) in
       let ch : IsChild p.tree a c = parent_is p replies tree s k.0 k.1 c old.1 at.inside in
-      let up = parent_up p replies tree s k.0 k.1 a c ch (at_unseen (k.0 c) w at.claimer (Up c) at.stopped at.at) (at_counted (k.0 c) w at.claimer (Up c) at.stopped at.at) in
+      let up = parent_up p replies tree s k.0 k.1 a c ch (at_unseen (k.0 c) w at.claimer (Up c) at.how at.at) (at_counted (k.0 c) w at.claimer (Up c) at.how at.at) in
       let sum : counter_at s a ≡ guard (k.0 a) + pending p k.0 a = k.1.counters a in' up.counts in
-      let less = pending_less p k.0 c a false ch (ap is_pending at.at) in
+      let less = pending_less p k.0 c a Runs ch (ap is_pending at.at) in
       (in', omega (arith, sum, less))
 
   counts_above : (w : ℕ) (t : Task) (status : Status) → slice_get s.tasks w ≡ Some t → CountsAbove p s (decided p status t)

@@ -1,28 +1,25 @@
 -- The fixed schedule of one worker: its next step is enabled, and what it leads to when there is none.
-use Rattle.std.proofs.Common.{◌≡◌, ◌≢◌, ℕ, zero, suc, ◌+◌, ◌-◌, ◌<◌, ◌≤◌, Bool, true, false, ◌==◌, nat_lt, if◌then◌else◌, List, length, take, Option, Some, None, slice_get, slice_set, slice_index_or, option_and_then, inl, inr, refl, sym, ap, ◌∙◌, subst, arith, length-set, take_all}
-use Rattle.std.proofs.lemmas.Option.{same_Some, none-some, slice_get-get_or, cond_some}
-use Rattle.std.proofs.lemmas.Bool.{cond-true, both_ways, cases_lt, cases_Bool}
-use Rattle.descriptor.specs.Nodes.{children_of, is_test_at, IsTree}
-use Rattle.descriptor.proofs.Grown.{below_or_last}
-use Rattle.plan_events.specs.declared.status.Status.{Status}
+use Rattle.std.proofs.Common.{◌≡◌, ◌≢◌, ℕ, ◌<◌, List, length, take, Some, None, slice_get, slice_index_or, option_and_then, inl, inr, refl, sym, ap, ◌∙◌, subst, arith, take_all}
+use Rattle.std.proofs.lemmas.Option.{same_Some, none-some, slice_get-get_or}
+use Rattle.std.proofs.lemmas.Bool.{cond-true, both_ways, cases_lt}
+use Rattle.descriptor.specs.Nodes.{IsTree}
 use Rattle.plan_events.specs.declared.outcome.Reply.{Reply}
 use Rattle.resource_locks.specs.Plans.{PlanParts}
 use Rattle.sched_core.specs.declared.status.NodeStatus.TheVariants.{Settled}
 use Rattle.sched_core.specs.declared.task.Task.{Task}
 use Rattle.sched_core.specs.declared.task.Task.TheVariants.{Free, Begin, Drawn, Open, Admit, Guard, End, Settle, Up}
 use Rattle.sched_core.specs.declared.step.Action.{Action}
-use Rattle.sched_core.specs.declared.step.Action.TheVariants.{Claim, Draw, Show, Admit as DoAdmit, Done, Settle as DoSettle, Look}
-use Rattle.sched_core.specs.declared.step.Step.{Step}
-use Rattle.sched_core.specs.declared.step.Step.TheVariants.{Worker, Read}
-use Rattle.sched_core.specs.Replies.{replies_of, is_successful}
+use Rattle.sched_core.specs.declared.step.Action.TheVariants.{Claim, Look}
+use Rattle.sched_core.specs.declared.step.Step.TheVariants.{Worker}
+use Rattle.sched_core.specs.Replies.{replies_of}
 use Rattle.sched_core.specs.History.{EndsInPlan}
-use Rattle.sched_core.specs.Machine.{State, status_at, given_list, is_ready, claimed, admit_from, answered, decided, status_awaited, row, claim_row, draw_row, show_row, admit_row, done_row, settle_row, look_row, read_row, after}
+use Rattle.sched_core.specs.Machine.{State, status_at, given_list, is_ready, claimed, answered, decided, status_awaited, row, read_row, after}
 use Rattle.sched_core.specs.Invariant.{IsKept}
 use Rattle.sched_core.specs.Drives.{LeadsTo, IsFirstReady, action_for, IsNext, Drives, finished, reads, works}
 use Rattle.sched_core.specs.Work.{work_left}
 use Rattle.sched_core.proofs.Decisions.{answered_any}
 use Rattle.sched_core.proofs.Headline.{ends_in_plan}
-use Rattle.sched_core.proofs.Progress.{all_read, free_ready, plan_finish_stands}
+use Rattle.sched_core.proofs.Progress.{all_read, plan_finish_stands}
 use Rattle.sched_core.proofs.Falls.{row_falls}
 
 -- the task of the only worker

@@ -1,12 +1,12 @@
 -- Each step but look lowers what is left to do.
-use Rattle.std.proofs.Common.{◌≡◌, ◌≢◌, ℕ, zero, suc, ◌+◌, ◌-◌, ◌<◌, ◌≤◌, Bool, true, false, ◌==◌, nat_lt, if◌then◌else◌, List, length, set, get_or, sum_by, Option, Some, None, slice_get, slice_index_or, option_and_then, inl, inr, refl, sym, ap, ◌∙◌, subst, arith, length-set}
+use Rattle.std.proofs.Common.{◌≡◌, ◌≢◌, ℕ, ◌+◌, ◌-◌, ◌<◌, ◌≤◌, Bool, true, false, ◌==◌, nat_lt, if◌then◌else◌, List, length, set, get_or, sum_by, Some, slice_get, inl, inr, refl, ap, ◌∙◌, subst, arith, length-set}
 use Rattle.std.proofs.lemmas.Option.{none-some, slice_get_within, same_Some, get_or_from_slice_get, slice_get-get_or, cond_some}
 use Rattle.std.proofs.lemmas.List.{get_or_past}
 use Rattle.std.proofs.lemmas.List.Sums.{sum_by-set}
-use Rattle.std.proofs.lemmas.Bool.{cases_lt, both_ways, and_from, lt-ltb, eq-eqb, ltb-true}
-use Rattle.descriptor.specs.Nodes.{size, parent_of, children_of, is_test_at, IsTree, IsChild, is_child, bit, count_below}
+use Rattle.std.proofs.lemmas.Bool.{cases_lt, both_ways}
+use Rattle.descriptor.specs.Nodes.{size, parent_of, children_of, is_disabled, IsTree, IsChild}
 use Rattle.descriptor.proofs.Children.{children_listed}
-use Rattle.descriptor.proofs.Grown.{length_more, below_or_last}
+use Rattle.descriptor.proofs.Grown.{length_more}
 use Rattle.plan_events.specs.declared.event.EventKind.{EventKind}
 use Rattle.plan_events.specs.declared.event.EventKind.TheVariants.{Started, Finished, Skipped, Registered}
 use Rattle.plan_events.specs.declared.status.Status.{Status}
@@ -20,11 +20,8 @@ use Rattle.sched_core.specs.declared.task.Task.{Task}
 use Rattle.sched_core.specs.declared.task.Task.TheVariants.{Free, Begin, Drawn, Open, Admit, Guard, End, Settle, Up}
 use Rattle.sched_core.specs.declared.step.Action.{Action}
 use Rattle.sched_core.specs.declared.step.Action.TheVariants.{Claim, Draw, Show, Admit as DoAdmit, Done, Settle as DoSettle, Look}
-use Rattle.sched_core.specs.declared.step.Step.{Step}
-use Rattle.sched_core.specs.declared.step.Step.TheVariants.{Worker, Read}
-use Rattle.sched_core.specs.Replies.{replies_of, is_successful}
-use Rattle.sched_core.specs.Machine.{State, status_at, counter_at, claimed, is_ready, started_event, finished_event, drawn, task_after, admit_from, decided, status_awaited, counted_off, row, claim_row, draw_row, show_row, admit_row, done_row, settle_row, read_row, after}
-use Rattle.sched_core.specs.Invariant.{Stage, Unseen, At, Phase, Before, Admitting, Running, Ended, Barred, phase, phase_counts, Fits, guard, is_pending, is_counted, subject, status_of, TaskOk, Holds, IsKept}
+use Rattle.sched_core.specs.Machine.{State, status_at, counter_at, claimed, is_ready, begun_event, first_kind, finished_event, drawn, task_after, admit_from, decided, counted_off, row, claim_row, draw_row, show_row, admit_row, done_row, settle_row}
+use Rattle.sched_core.specs.Invariant.{Stage, Unseen, phase, Fits, status_of, TaskOk, IsKept, subject}
 use Rattle.sched_core.specs.Work.{status_rank, drawn_rank, task_rank, work_left}
 use Rattle.sched_core.proofs.Decisions.{answered_any}
 use Rattle.sched_core.proofs.Bounds.{decided_inside, admit_inside, guard_counts, up_counts}
@@ -51,6 +48,13 @@ after_rank Started n = omega arith
 after_rank Finished n = omega arith
 after_rank Skipped n = omega arith
 after_rank Registered n = omega arith
+
+first_rank : (p : PlanParts) (n : ℕ) → drawn_rank (first_kind p n) ≤ 10
+first_rank p n = go (is_disabled p.tree n)
+  where
+    go : (b : Bool) → drawn_rank (if b then Skipped else Started) ≤ 10
+    go true = omega arith
+    go false = omega arith
 
 from_rank : (p : PlanParts) (n k : ℕ) → task_rank (admit_from p n k) ≡ 8
 from_rank p n k = go (nat_lt k (length (children_of p.tree n)))
@@ -115,8 +119,8 @@ module _ (p : PlanParts) (replies : ℕ → List Reply) (tree : IsTree p.tree) (
       let len = length_more s.shown false in
       subst (λ (x : State). work_left x < work_left s) r (omega (arith, a, len, less))
 
-  draw_falls : (t : State) (u : Task) → decided p status task ≡ u → draw_row s w u ≡ Some t → work_left t < work_left s
-  draw_falls t (Begin n) e r = draw_one t (started_event n w) (let a = ap task_rank e in omega (arith, a)) (same_Some _ t r)
+  draw_falls : (t : State) (u : Task) → decided p status task ≡ u → draw_row p s w u ≡ Some t → work_left t < work_left s
+  draw_falls t (Begin n) e r = draw_one t (begun_event (first_kind p n) n w) (let a = ap task_rank e in let b = first_rank p n in omega (arith, a, b)) (same_Some _ t r)
   draw_falls t (End n status) e r = draw_one t (finished_event n status w) (let a = ap task_rank e in omega (arith, a)) (same_Some _ t r)
   draw_falls t _ e r = absurd (none-some t r)
 
@@ -174,3 +178,4 @@ module _ (p : PlanParts) (replies : ℕ → List Reply) (tree : IsTree p.tree) (
   row_falls t Done acts r = done_falls t (decided p status task) refl r
   row_falls t DoSettle acts r = settle_falls t (decided p status task) refl r
   row_falls t Look acts r = absurd (acts refl)
+  row_falls t _ acts r = absurd (none-some t r)

@@ -1,11 +1,11 @@
 -- How each part of the invariant carries over where one node's stage, one worker's task and one place of a list change.
-use Rattle.std.proofs.Common.{◌≡◌, ◌≢◌, ℕ, zero, suc, ◌+◌, ◌-◌, ◌*◌, ◌<◌, ◌≤◌, Bool, true, false, cond, ◌&&◌, ◌||◌, ◌==◌, nat_lt, List, [], ◌∷◌, ◌++◌, length, set, get_or, Some, slice_get, ◌⊎◌, inl, inr, refl, sym, ap, ◌∙◌, subst, subst₂, arith, get_or-set_other, length-append, length-set}
+use Rattle.std.proofs.Common.{◌≡◌, ◌≢◌, ℕ, zero, suc, ◌+◌, ◌-◌, ◌*◌, ◌<◌, ◌≤◌, Bool, true, false, cond, ◌&&◌, ◌||◌, ◌==◌, not, nat_lt, List, [], ◌∷◌, ◌++◌, length, set, get_or, Some, slice_get, ◌⊎◌, inl, inr, refl, sym, ap, ◌∙◌, subst, subst₂, arith, get_or-set_other, length-append, length-set}
 use Rattle.std.proofs.lemmas.Option.{same_Some}
 use Rattle.std.proofs.lemmas.Grind.{get_or-set_at}
-use Rattle.std.proofs.lemmas.List.Elements.{filter-append}
 use Rattle.std.proofs.lemmas.Bool.{or_right, and_from, and_left, and_right, eq-eqb, ne_eqb, lt-ltb, false≢true, both_ways, cases_Bool, cases_eq, cond-true, cond-false}
 use Rattle.descriptor.specs.Nodes.{size, parent_of, IsChild, IsTree, bit, count_below, body_of}
 use Rattle.plan_events.specs.declared.event.EventKind.{EventKind}
+use Rattle.plan_events.specs.declared.event.EventKind.TheVariants.{Skipped}
 use Rattle.plan_events.specs.declared.status.Status.{Status}
 use Rattle.plan_events.specs.declared.status.Status.TheVariants.{Successful}
 use Rattle.plan_events.specs.declared.event.Event.{Event}
@@ -16,9 +16,8 @@ use Rattle.sched_core.specs.declared.status.NodeStatus.TheVariants.{Hidden}
 use Rattle.sched_core.specs.declared.task.Task.{Task}
 use Rattle.sched_core.specs.declared.task.Task.TheVariants.{Free, Begin, Drawn, Open, Admit, Guard, End, Settle, Up}
 use Rattle.sched_core.specs.Replies.{IsResult}
-use Rattle.sched_core.specs.History.{part_of}
 use Rattle.sched_core.specs.Following.{has, is_of, same_kind}
-use Rattle.sched_core.specs.Invariant.{Stage, Unseen, Offered, At, Waiting, Counted, phase, status_of, is_started, is_finished, guard, phase_counts, phase_admits, is_pending, pends_at, pending, is_counted, ended, Fits, IsAt, IsEnding, TaskOk, TasksOk, StatusesOk, CountersOk, EdgesOk, ResultsOk, FlagOk, PlacesOk, IsHeld, UnshownOk, MineOk, subject, HoldersOk, WaitsOk, events_of, sum_below, drawn_count}
+use Rattle.sched_core.specs.Invariant.{How, Runs, Stops, Skips, is_skip, Stage, Unseen, Offered, At, Waiting, Counted, phase, status_of, task_started, is_started, is_finished, task_skipped, is_skipped, guard, phase_counts, phase_admits, is_pending, pends_at, pending, is_counted, ended, Fits, IsAt, IsEnding, TaskOk, TasksOk, StatusesOk, CountersOk, EdgesOk, ResultsOk, FlagOk, PlacesOk, IsHeld, UnshownOk, MineOk, subject, HoldersOk, WaitsOk, events_of, sum_below, drawn_count}
 use Rattle.sched_core.proofs.Parts.{part_mine, part_other}
 use Rattle.sched_core.proofs.Histories.{get_snoc, get_front}
 
@@ -77,12 +76,12 @@ statuses_keep p l g x b same old n lt =
 
 -- no task of worker v is about node x
 abbrev pub IsNotAt : (ℕ → Stage) → ℕ → ℕ → Type 0
-IsNotAt g v x = (c : ℕ) (t : Task) (stopped : Bool) → g x ≡ At v c t stopped → ⊥
+IsNotAt g v x = (c : ℕ) (t : Task) (how : How) → g x ≡ At v c t how → ⊥
 
 pub is_at_keep : (p : PlanParts) (g : ℕ → Stage) (x : ℕ) (b : Stage) (v : ℕ) (t : Task) (n : ℕ) → IsNotAt g v x → IsAt p g v t n → IsAt p (upd g x b) v t n
 is_at_keep p g x b v t n free at =
-    let ne : n ≢ x = λ e. free at.claimer t at.stopped (ap g (sym e) ∙ at.at) in
-    record { inside = at.inside; claimer = at.claimer; stopped = at.stopped; at = upd_other g x b n ne ∙ at.at }
+    let ne : n ≢ x = λ e. free at.claimer t at.how (ap g (sym e) ∙ at.at) in
+    record { inside = at.inside; claimer = at.claimer; how = at.how; at = upd_other g x b n ne ∙ at.at }
 
 pub is_ending_keep : (p : PlanParts) (replies : ℕ → List Reply) (g : ℕ → Stage) (x : ℕ) (b : Stage) (v n : ℕ) (status : Status) → IsNotAt g v x → IsEnding p replies g v n status → IsEnding p replies (upd g x b) v n status
 is_ending_keep p replies g x b v n status free at =
@@ -111,22 +110,22 @@ tasks_set p replies tasks g x b w t free new old v u q =
     ]
 
 -- what worker w is at, no other is
-pub only_at : (g : ℕ → Stage) (x w c : ℕ) (t : Task) (stopped : Bool) → g x ≡ At w c t stopped → (v : ℕ) → v ≢ w → IsNotAt g v x
-only_at g x w c t stopped at v ne d u barred q = ne (same_at v d u barred w c t stopped (sym q ∙ at))
+pub only_at : (g : ℕ → Stage) (x w c : ℕ) (t : Task) (how : How) → g x ≡ At w c t how → (v : ℕ) → v ≢ w → IsNotAt g v x
+only_at g x w c t how at v ne d u barred q = ne (same_at v d u barred w c t how (sym q ∙ at))
   where
-    same_at : (v d : ℕ) (u : Task) (barred : Bool) (w c : ℕ) (t : Task) (stopped : Bool) → At v d u barred ≡ At w c t stopped → v ≡ w
-    same_at v d u barred w c t stopped q = cc
+    same_at : (v d : ℕ) (u : Task) (barred : How) (w c : ℕ) (t : Task) (how : How) → At v d u barred ≡ At w c t how → v ≡ w
+    same_at v d u barred w c t how q = cc
 
 -- the other way round: worker w goes on from a task about x, or about nothing, to task t
 pub holders_set : (p : PlanParts) (tasks : List Task) (g : ℕ → Stage) (x : ℕ) (b : Stage) (w : ℕ) (t t0 : Task) → slice_get tasks w ≡ Some t0 → ((n : ℕ) → subject t0 ≡ Some n → n ≡ x)
-    → ((v c : ℕ) (u : Task) (stopped : Bool) → b ≡ At v c u stopped → (v ≡ w) × (u ≡ t) × (subject t ≡ Some x)) → HoldersOk p tasks g → HoldersOk p (set tasks w t) (upd g x b)
-holders_set p tasks g x b w t t0 q about new old n v c u stopped lt at =
+    → ((v c : ℕ) (u : Task) (how : How) → b ≡ At v c u how → (v ≡ w) × (u ≡ t) × (subject t ≡ Some x)) → HoldersOk p tasks g → HoldersOk p (set tasks w t) (upd g x b)
+holders_set p tasks g x b w t t0 q about new old n v c u how lt at =
     elim (cases_eq n x) [
-      | inl e ↦ (let m = new v c u stopped (sym (upd_same g x b n e) ∙ at) in (
+      | inl e ↦ (let m = new v c u how (sym (upd_same g x b n e) ∙ at) in (
         subst (λ (i : ℕ). slice_get (set tasks w t) i ≡ Some u) (sym m.0) (get_set_same tasks w t t0 q ∙ ap Some (sym m.1)),
         ap subject m.1 ∙ m.2 ∙ ap Some (sym e),
       ))
-      | inr ne ↦ (let o = old n v c u stopped lt (sym (upd_other g x b n ne) ∙ at) in
+      | inr ne ↦ (let o = old n v c u how lt (sym (upd_other g x b n ne) ∙ at) in
           elim (cases_eq v w) [
             | inl e ↦ (let same : u ≡ t0 = same_Some u t0 (sym o.0 ∙ ap (slice_get tasks) e ∙ q) in absurd (ne (about n (sym (ap subject same) ∙ o.1))))
             | inr nv ↦ (get_set_other tasks w t v nv ∙ o.0, o.1)
@@ -134,11 +133,11 @@ holders_set p tasks g x b w t t0 q about new old n v c u stopped lt at =
     ]
 
 -- a stage that no worker is at changes to another such
-pub holders_keep : (p : PlanParts) (tasks : List Task) (g : ℕ → Stage) (x : ℕ) (b : Stage) → ((v c : ℕ) (u : Task) (stopped : Bool) → b ≡ At v c u stopped → ⊥) → HoldersOk p tasks g → HoldersOk p tasks (upd g x b)
-holders_keep p tasks g x b new old n v c u stopped lt at =
+pub holders_keep : (p : PlanParts) (tasks : List Task) (g : ℕ → Stage) (x : ℕ) (b : Stage) → ((v c : ℕ) (u : Task) (how : How) → b ≡ At v c u how → ⊥) → HoldersOk p tasks g → HoldersOk p tasks (upd g x b)
+holders_keep p tasks g x b new old n v c u how lt at =
     elim (cases_eq n x) [
-      | inl e ↦ absurd (new v c u stopped (sym (upd_same g x b n e) ∙ at))
-      | inr ne ↦ old n v c u stopped lt (sym (upd_other g x b n ne) ∙ at)
+      | inl e ↦ absurd (new v c u how (sym (upd_same g x b n e) ∙ at))
+      | inr ne ↦ old n v c u how lt (sym (upd_other g x b n ne) ∙ at)
     ]
 
 pub waits_keep : (p : PlanParts) (l : List ℕ) (g : ℕ → Stage) (x : ℕ) (b : Stage) → ((c : ℕ) → b ≡ Waiting c → ⊥) → WaitsOk p l g → WaitsOk p l (upd g x b)
@@ -335,14 +334,14 @@ pending_keep p g x b a same =
     ])
 
 -- a child that is counted off
-pub pending_less : (p : PlanParts) (g : ℕ → Stage) (x a : ℕ) (stopped : Bool) → IsChild p.tree a x → is_pending (g x) ≡ true → pending p g a ≡ pending p (upd g x (Counted stopped)) a + 1
+pub pending_less : (p : PlanParts) (g : ℕ → Stage) (x a : ℕ) (how : How) → IsChild p.tree a x → is_pending (g x) ≡ true → pending p g a ≡ pending p (upd g x (Counted how)) a + 1
 unfolding pending
-pending_less p g x a stopped ch was =
+pending_less p g x a how ch was =
     let here : pends_at p g a x ≡ true = and_from (nat_lt 0 x && (parent_of p.tree x == a)) (is_pending (g x)) (and_from (nat_lt 0 x) (parent_of p.tree x == a) (lt-ltb 0 x ch.above_zero) (eq-eqb (parent_of p.tree x) a ch.parent)) was in
-    let gone : pends_at p (upd g x (Counted stopped)) a x ≡ false = and_right (nat_lt 0 x && (parent_of p.tree x == a)) (is_pending (upd g x (Counted stopped) x)) (ap is_pending (upd_same g x (Counted stopped) x refl)) in
-    let change = count_change (pends_at p g a) (pends_at p (upd g x (Counted stopped)) a) x (size p.tree) ch.inside (λ k ne. sym (pends_other p g x (Counted stopped) a k ne)) in
+    let gone : pends_at p (upd g x (Counted how)) a x ≡ false = and_right (nat_lt 0 x && (parent_of p.tree x == a)) (is_pending (upd g x (Counted how) x)) (ap is_pending (upd_same g x (Counted how) x refl)) in
+    let change = count_change (pends_at p g a) (pends_at p (upd g x (Counted how)) a) x (size p.tree) ch.inside (λ k ne. sym (pends_other p g x (Counted how) a k ne)) in
     let u : bit (pends_at p g a x) ≡ 1 = ap bit here in
-    let v : bit (pends_at p (upd g x (Counted stopped)) a x) ≡ 0 = ap bit gone in
+    let v : bit (pends_at p (upd g x (Counted how)) a x) ≡ 0 = ap bit gone in
     omega (arith, change, u, v)
 
 -- for any other node that counts, nothing changes
@@ -372,9 +371,9 @@ pending_none p g a c z ch =
     counted : (s : Stage) → is_pending s ≡ false → is_counted s ≡ true
     counted Unseen q = cc
     counted Offered q = cc
-    counted (At w c t stopped) q = cc
+    counted (At w c t how) q = cc
     counted (Waiting c) q = cc
-    counted (Counted stopped) q = refl
+    counted (Counted how) q = refl
 
 -- counters: the list may change at node x, whose stage changes
 pub counters_at : (p : PlanParts) (l : List ℕ) (g : ℕ → Stage) (x : ℕ) (b : Stage) (m : List ℕ) → ((n : ℕ) → n ≢ x → get_or m n 0 ≡ get_or l n 0) → ((a : ℕ) → pending p (upd g x b) a ≡ pending p g a)
@@ -401,27 +400,28 @@ counters_keep p l g x b in' same pend counts old =
     (λ q. (let o : get_or l x 0 ≡ guard (g x) + pending p g x = old x in' (counts q) in omega (arith, o, same))) old
 
 -- a node that has ended counts no more, stopped or not
-pub ended_counts : (stopped : Bool) → phase_counts (ended stopped) ≡ false
-ended_counts true = refl
-ended_counts false = refl
+pub ended_counts : (how : How) → phase_counts (ended how) ≡ false
+ended_counts Runs = refl
+ended_counts Stops = refl
+ended_counts Skips = refl
 
 -- a child that is counted off at its parent
-pub counters_off : (p : PlanParts) (l : List ℕ) (g : ℕ → Stage) (a c : ℕ) (stopped : Bool) → length l ≡ size p.tree → a < size p.tree → a ≢ c → IsChild p.tree a c → is_pending (g c) ≡ true → CountersOk p l g → CountersOk p (set l a (get_or l a 0 - 1)) (upd g c (Counted stopped))
-counters_off p l g a c stopped len in' apart ch was old n lt q =
+pub counters_off : (p : PlanParts) (l : List ℕ) (g : ℕ → Stage) (a c : ℕ) (how : How) → length l ≡ size p.tree → a < size p.tree → a ≢ c → IsChild p.tree a c → is_pending (g c) ≡ true → CountersOk p l g → CountersOk p (set l a (get_or l a 0 - 1)) (upd g c (Counted how))
+counters_off p l g a c how len in' apart ch was old n lt q =
     elim (cases_eq n c) [
-      | inl e ↦ absurd (both_ways (phase_counts (phase (upd g c (Counted stopped) n))) (ap (λ (s : Stage). phase_counts (phase s)) (upd_same g c (Counted stopped) n e) ∙ ended_counts stopped) q)
-      | inr ne ↦ (let was' : phase_counts (phase (g n)) ≡ true = ap (λ (s : Stage). phase_counts (phase s)) (sym (upd_other g c (Counted stopped) n ne)) ∙ q in
+      | inl e ↦ absurd (both_ways (phase_counts (phase (upd g c (Counted how) n))) (ap (λ (s : Stage). phase_counts (phase s)) (upd_same g c (Counted how) n e) ∙ ended_counts how) q)
+      | inr ne ↦ (let was' : phase_counts (phase (g n)) ≡ true = ap (λ (s : Stage). phase_counts (phase s)) (sym (upd_other g c (Counted how) n ne)) ∙ q in
           let o : get_or l n 0 ≡ guard (g n) + pending p g n = old n lt was' in
-          let u : guard (upd g c (Counted stopped) n) ≡ guard (g n) = ap guard (upd_other g c (Counted stopped) n ne) in
+          let u : guard (upd g c (Counted how) n) ≡ guard (g n) = ap guard (upd_other g c (Counted how) n ne) in
           elim (cases_eq n a) [
-            | inl e ↦ (let less : pending p g a ≡ pending p (upd g c (Counted stopped)) a + 1 = pending_less p g c a stopped ch was in
+            | inl e ↦ (let less : pending p g a ≡ pending p (upd g c (Counted how)) a + 1 = pending_less p g c a how ch was in
                 let v : pending p g n ≡ pending p g a = ap (pending p g) e in
-                let v' : pending p (upd g c (Counted stopped)) n ≡ pending p (upd g c (Counted stopped)) a = ap (pending p (upd g c (Counted stopped))) e in
+                let v' : pending p (upd g c (Counted how)) n ≡ pending p (upd g c (Counted how)) a = ap (pending p (upd g c (Counted how))) e in
                 let now : get_or (set l a (get_or l a 0 - 1)) n 0 ≡ get_or l a 0 - 1 = get_or-set_at l a n (get_or l a 0 - 1) 0 e (omega (arith, len, in')) in
                 let o' : get_or l n 0 ≡ get_or l a 0 = ap (λ (k : ℕ). get_or l k 0) e in
                 omega (arith, less, v, v', now, o, o', u))
             | inr na ↦ (let now : get_or (set l a (get_or l a 0 - 1)) n 0 ≡ get_or l n 0 = get_or-set_other l a n (get_or l a 0 - 1) 0 na in
-                let v : pending p (upd g c (Counted stopped)) n ≡ pending p g n = pending_elsewhere p g c (Counted stopped) n (λ h. na (sym h ∙ ch.parent)) in
+                let v : pending p (upd g c (Counted how)) n ≡ pending p g n = pending_elsewhere p g c (Counted how) n (λ h. na (sym h ∙ ch.parent)) in
                 omega (arith, now, o, u, v))
           ])
     ]
@@ -466,34 +466,63 @@ drawn_change p g x b in' =
 pub drawn_keep : (p : PlanParts) (h : List Event) (g : ℕ → Stage) (x : ℕ) (b : Stage) → x < size p.tree → events_of (g x) ≡ events_of b → length h ≡ drawn_count p g → length h ≡ drawn_count p (upd g x b)
 drawn_keep p h g x b in' same old = omega (arith, old, drawn_change p g x b in', same)
 
+pub same_events : (a b : Stage) → is_started a ≡ is_started b → is_finished a ≡ is_finished b → is_skipped a ≡ is_skipped b → events_of a ≡ events_of b
+same_events a b started finished skipped =
+    let x = ap bit started in
+    let y = ap bit finished in
+    let z = ap bit skipped in
+    omega (arith, x, y, z)
+
 pub drawn_more : (p : PlanParts) (h : List Event) (e : Event) (g : ℕ → Stage) (x : ℕ) (b : Stage) → x < size p.tree → events_of (g x) + 1 ≡ events_of b → length h ≡ drawn_count p g → length (h ++ e ∷ []) ≡ drawn_count p (upd g x b)
 drawn_more p h e g x b in' more old = omega (arith, old, drawn_change p g x b in', more, length-append h (e ∷ []))
 
--- at most two events of each node
+-- a node is started or skipped, or neither
+one_first : (st : Stage) → bit (is_started st) + bit (is_skipped st) ≤ 1
+one_first st = go st
+  where
+    one : (b : Bool) → bit (not b) + bit b ≤ 1
+    one true = omega arith
+    one false = omega arith
+
+    at : (t : Task) (how : How) → bit (task_started t how) + bit (task_skipped t how) ≤ 1
+    at Free how = omega arith
+    at (Begin n) how = omega arith
+    at (Drawn i e) how = one (same_kind e.kind Skipped)
+    at (Open n) how = omega arith
+    at (Admit n k) how = omega arith
+    at (Guard n) how = omega arith
+    at (End n status) how = omega arith
+    at (Settle n) how = one (is_skip how)
+    at (Up n) how = one (is_skip how)
+
+    go : (st : Stage) → bit (is_started st) + bit (is_skipped st) ≤ 1
+    go Unseen = omega arith
+    go Offered = omega arith
+    go (At w c t how) = at t how
+    go (Waiting c) = omega arith
+    go (Counted how) = one (is_skip how)
+
+-- at most two events of each node, and one where it has not finished
+events_few : (st : Stage) → events_of st ≤ 1 + bit (is_finished st)
+events_few st = omega (arith, one_first st)
+
 pub drawn_most : (p : PlanParts) (g : ℕ → Stage) → drawn_count p g ≤ 2 * size p.tree
 unfolding drawn_count
 drawn_most p g = most (size p.tree)
   where
-    two : (a b : Bool) → bit a + bit b ≤ 2
-    two true true = omega arith
-    two true false = omega arith
-    two false true = omega arith
-    two false false = omega arith
+    one : (b : Bool) → bit b ≤ 1
+    one true = omega arith
+    one false = omega arith
 
     most : (n : ℕ) → sum_below (λ k. events_of (g k)) n ≤ 2 * n
     most zero = omega arith
-    most (suc n) = (let a = most n in let b = two (is_started (g n)) (is_finished (g n)) in omega (arith, a, b))
+    most (suc n) = (let a = most n in let b = events_few (g n) in let c = one (is_finished (g n)) in omega (arith, a, b, c))
 
 -- so there is room for another event of a node that has not finished
 pub drawn_room : (p : PlanParts) (g : ℕ → Stage) (x : ℕ) → x < size p.tree → is_finished (g x) ≡ false → drawn_count p g < 2 * size p.tree
 drawn_room p g x in' q =
-    let change = drawn_change p g x (Counted false) in' in
-    let all = drawn_most p (upd g x (Counted false)) in
-    let few : events_of (g x) ≤ 1 = one (is_started (g x)) (is_finished (g x)) q in
-    omega (arith, change, all, few)
-  where
-    one : (a b : Bool) → b ≡ false → bit a + bit b ≤ 1
-    one true true q = absurd (both_ways true q refl)
-    one true false q = omega arith
-    one false true q = omega arith
-    one false false q = omega arith
+    let change = drawn_change p g x (Counted Runs) in' in
+    let all = drawn_most p (upd g x (Counted Runs)) in
+    let few = events_few (g x) in
+    let none : bit (is_finished (g x)) ≡ 0 = ap bit q in
+    omega (arith, change, all, few, none)

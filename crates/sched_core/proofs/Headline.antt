@@ -1,5 +1,5 @@
 -- What follows from a legal history.
-use Rattle.std.proofs.Common.{◌≡◌, ℕ, zero, suc, ◌+◌, ◌*◌, ◌<◌, ◌≤◌, Bool, true, false, List, [], ◌∷◌, ◌++◌, length, map, take, drop, get_or, eqb, option_map, Option, Some, None, slice_get, slice_index_or, ◌⊎◌, inl, inr, refl, sym, ap, ◌∙◌, subst, arith, take-append-drop}
+use Rattle.std.proofs.Common.{◌≡◌, ℕ, zero, suc, ◌+◌, ◌*◌, ◌<◌, ◌≤◌, Bool, true, false, List, [], ◌∷◌, ◌++◌, length, map, take, drop, get_or, eqb, option_map, Option, Some, None, slice_get, slice_index_or, inl, inr, refl, sym, ap, ◌∙◌, subst, arith, take-append-drop}
 use Rattle.std.specs.List.{list_any, IsDistinct}
 use Rattle.std.proofs.lemmas.Option.{slice_get_within, slice_get_cases, slice_get-get_or, slice_get-map, get_or_from_slice_get}
 use Rattle.std.proofs.lemmas.Bool.{cases_eq, cases_lt, or_cases, eqb-true, ne_eqb, false≢true}
@@ -44,29 +44,25 @@ pub plan_finishes : (p : PlanParts) (h : List Event) (i : ℕ) → StandsAt h i 
 plan_finishes p h i root = record { event = root.event; here = root.here; kind = root.kind; node = root.node; stops = plan_goes_on p root.event.status }
 
 module _ (p : PlanParts) (replies : ℕ → List Reply) (workers : ℕ) (h : List Event) (legal : IsLegal p replies workers h) where
-  -- a legal history has starts and finishes alone
-  pub kind_cases : (i : ℕ) (e : Event) → slice_get h i ≡ Some e → (e.kind ≡ Started) ⊎ (e.kind ≡ Finished)
-  kind_cases i e q = go e.kind refl
-    where
-      go : (k : EventKind) → e.kind ≡ k → (k ≡ Started) ⊎ (k ≡ Finished)
-      go Started s = inl refl
-      go Finished s = inr refl
-      go Skipped s = absurd (legal.skipped i e.node (record { event = e; here = q; kind = s; node = refl }))
-      go Registered s = absurd (legal.registered i e.node (record { event = e; here = q; kind = s; node = refl }))
-
   -- no event stands after the plan's finish
   none_after : IsTree p.tree → (i j : ℕ) (e : Event) → StandsAt h i Finished 0 → slice_get h j ≡ Some e → i < j → ⊥
   none_after tree i j e root q lt =
       elim (cases_eq e.node 0) [
         | inr ne ↦ legal.open_above j 0 e q (below_root p tree e.node (omega (arith, ne)) (legal.nodes j e q)) (record { place = i; before = lt; stands = root })
-        | inl z ↦ elim (kind_cases j e q) [
-          | inl k ↦ (let s = legal.after_start i 0 root in
-              let same : s.place ≡ j = legal.once s.place j 0 Started s.stands (record { event = e; here = q; kind = k; node = z }) in
-              let before : s.place < i = s.before in
-              omega (arith, same, before, lt))
-          | inr k ↦ (let same : i ≡ j = legal.once i j 0 Finished root (record { event = e; here = q; kind = k; node = z }) in omega (arith, same, lt))
-        ]
+        | inl z ↦ at_root z e.kind refl
       ]
+    where
+      start : StandsBefore h i Started 0
+      start = legal.after_start i 0 root
+
+      at_root : e.node ≡ 0 → (k : EventKind) → e.kind ≡ k → ⊥
+      at_root z Started k =
+          let same : start.place ≡ j = legal.once start.place j 0 Started start.stands (record { event = e; here = q; kind = k; node = z }) in
+          let before : start.place < i = start.before in
+          omega (arith, same, before, lt)
+      at_root z Finished k = (let same : i ≡ j = legal.once i j 0 Finished root (record { event = e; here = q; kind = k; node = z }) in omega (arith, same, lt))
+      at_root z Skipped k = legal.apart start.place j 0 start.stands (record { event = e; here = q; kind = k; node = z })
+      at_root z Registered k = legal.registered j 0 (record { event = e; here = q; kind = k; node = z })
 
   -- The plan's finish stands last.
   pub nothing_after : IsTree p.tree → (i : ℕ) → StandsAt h i Finished 0 → i + 1 ≡ length h
@@ -103,6 +99,9 @@ legal_front p replies workers g r legal = record {
   by_workers = λ i e q. legal.by_workers i e (get_front g r e i q);
   once = λ i j n k s t. legal.once i j n k (stands_later r s) (stands_later r t);
   skipped = λ i n s. legal.skipped i n (stands_later r s);
+  unstarted = λ i n s. legal.unstarted i n (stands_later r s);
+  apart = λ i j n s t. legal.apart i j n (stands_later r s) (stands_later r t);
+  below_skipped = λ i j a e s q b. legal.below_skipped i j a e (stands_later r s) (get_front g r e j q) b;
   registered = λ i n s. legal.registered i n (stands_later r s);
   after_start = λ i n s. front i Started n (stands_within s) (legal.after_start i n (stands_later r s));
   start_above = λ i a e q b. front i Started a (slice_get_within g i e q) (legal.start_above i a e (get_front g r e i q) b);
@@ -122,7 +121,7 @@ prefix_legal p replies workers given h first legal = legal_front p replies worke
 pub given_prefix : (k : ℕ) (h : List Event) → IsPrefix (take k h) h
 given_prefix k h = (drop k h, take-append-drop k h)
 
--- a number for each kind and node, with which a finish is told from a start
+-- a number for each kind and node, with which a finish is told from a start; a node that is skipped has no other event
 abbrev code_of : Event → ℕ
 code_of e = 2 * e.node + bit (same_kind e.kind Finished)
 
@@ -148,6 +147,9 @@ module _ (p : PlanParts) (replies : ℕ → List Reply) (workers : ℕ) (h : Lis
   start_code : (e : Event) → e.kind ≡ Started → code_of e ≡ 2 * e.node
   start_code e k = let b : bit (same_kind e.kind Finished) ≡ 0 = ap (λ (x : EventKind). bit (same_kind x Finished)) k in omega (arith, b)
 
+  skip_code : (e : Event) → e.kind ≡ Skipped → code_of e ≡ 2 * e.node
+  skip_code e k = let b : bit (same_kind e.kind Finished) ≡ 0 = ap (λ (x : EventKind). bit (same_kind x Finished)) k in omega (arith, b)
+
   finish_code : (e : Event) → e.kind ≡ Finished → code_of e ≡ 2 * e.node + 1
   finish_code e k = let b : bit (same_kind e.kind Finished) ≡ 1 = ap (λ (x : EventKind). bit (same_kind x Finished)) k in omega (arith, b)
 
@@ -155,17 +157,24 @@ module _ (p : PlanParts) (replies : ℕ → List Reply) (workers : ℕ) (h : Lis
   same_place i j e f k q r a b n = legal.once i j f.node k (record { event = e; here = q; kind = a; node = n }) (record { event = f; here = r; kind = b; node = refl })
 
   codes_apart : (i j : ℕ) (e f : Event) → slice_get h i ≡ Some e → slice_get h j ≡ Some f → code_of e ≡ code_of f → i ≡ j
-  codes_apart i j e f q r same =
-      elim (kind_cases p replies workers h legal i e q) [
-        | inl a ↦ elim (kind_cases p replies workers h legal j f r) [
-          | inl b ↦ same_place i j e f Started q r a b (omega (arith, same, start_code e a, start_code f b))
-          | inr b ↦ absurd (omega (arith, same, start_code e a, finish_code f b))
-        ]
-        | inr a ↦ elim (kind_cases p replies workers h legal j f r) [
-          | inl b ↦ absurd (omega (arith, same, finish_code e a, start_code f b))
-          | inr b ↦ same_place i j e f Finished q r a b (omega (arith, same, finish_code e a, finish_code f b))
-        ]
-      ]
+  codes_apart i j e f q r same = go e.kind f.kind refl refl
+    where
+      go : (k l : EventKind) → e.kind ≡ k → f.kind ≡ l → i ≡ j
+      go Started Started a b = same_place i j e f Started q r a b (omega (arith, same, start_code e a, start_code f b))
+      go Started Finished a b = absurd (omega (arith, same, start_code e a, finish_code f b))
+      go Started Skipped a b =
+          let node : e.node ≡ f.node = omega (arith, same, start_code e a, skip_code f b) in
+          absurd (legal.apart i j f.node (record { event = e; here = q; kind = a; node = node }) (record { event = f; here = r; kind = b; node = refl }))
+      go Finished Started a b = absurd (omega (arith, same, finish_code e a, start_code f b))
+      go Finished Finished a b = same_place i j e f Finished q r a b (omega (arith, same, finish_code e a, finish_code f b))
+      go Finished Skipped a b = absurd (omega (arith, same, finish_code e a, skip_code f b))
+      go Skipped Started a b =
+          let node : f.node ≡ e.node = omega (arith, same, skip_code e a, start_code f b) in
+          absurd (legal.apart j i e.node (record { event = f; here = r; kind = b; node = node }) (record { event = e; here = q; kind = a; node = refl }))
+      go Skipped Finished a b = absurd (omega (arith, same, skip_code e a, finish_code f b))
+      go Skipped Skipped a b = same_place i j e f Skipped q r a b (omega (arith, same, skip_code e a, skip_code f b))
+      go Registered _ a b = absurd (legal.registered i e.node (record { event = e; here = q; kind = a; node = refl }))
+      go _ Registered a b = absurd (legal.registered j f.node (record { event = f; here = r; kind = b; node = refl }))
 
   codes_distinct : IsDistinct eqb (map code_of h)
   codes_distinct = IsDistinct-from_apart eqb (map code_of h) (λ i j d lt within.

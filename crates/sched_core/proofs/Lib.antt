@@ -1,3 +1,4 @@
+-- The lemmas of this crate.
 pub mod Parts
 pub mod Start
 pub mod Histories

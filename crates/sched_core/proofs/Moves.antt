@@ -1,8 +1,8 @@
 -- One lemma for a row that moves one node: worker w goes on from task t0 to task t, and node x goes to stage b.
 -- Each premise is what the row has to say; most are `refl` or an `ap` of the node's stage.
-use Rattle.std.proofs.Common.{◌≡◌, ◌≢◌, ℕ, ◌+◌, ◌<◌, Bool, true, List, length, set, Some, slice_get, slice_set, sym, ◌∙◌, subst, ap₂, arith, length-set}
-use Rattle.descriptor.specs.Nodes.{size, IsChild, IsTree, bit, body_of}
-use Rattle.plan_events.specs.declared.event.EventKind.TheVariants.{Started, Finished}
+use Rattle.std.proofs.Common.{◌≡◌, ◌≢◌, ℕ, ◌<◌, Bool, true, List, length, set, Some, slice_get, slice_set, sym, ◌∙◌, subst, arith, length-set}
+use Rattle.descriptor.specs.Nodes.{size, IsChild, IsTree, body_of}
+use Rattle.plan_events.specs.declared.event.EventKind.TheVariants.{Started, Finished, Skipped}
 use Rattle.plan_events.specs.declared.status.Status.TheVariants.{Successful}
 use Rattle.plan_events.specs.declared.event.Event.{Event}
 use Rattle.plan_events.specs.declared.outcome.Reply.{Reply}
@@ -12,8 +12,8 @@ use Rattle.sched_core.specs.declared.task.Task.{Task}
 use Rattle.sched_core.specs.Replies.{IsResult}
 use Rattle.sched_core.specs.History.{IsLegal}
 use Rattle.sched_core.specs.Machine.{State}
-use Rattle.sched_core.specs.Invariant.{Stage, Unseen, At, phase, is_started, is_finished, phase_admits, Fits, TaskOk, StatusesOk, CountersOk, PlacesOk, UnshownOk, subject, Holds}
-use Rattle.sched_core.proofs.Frames.{upd, IsNotAt, tasks_set, holders_set, seen_keep, results_keep, edges_upd, flag_keep, mine_set, drawn_keep}
+use Rattle.sched_core.specs.Invariant.{How, Stage, Unseen, At, phase, is_started, is_finished, is_skipped, phase_admits, Fits, TaskOk, StatusesOk, CountersOk, PlacesOk, UnshownOk, subject, Holds}
+use Rattle.sched_core.proofs.Frames.{upd, IsNotAt, tasks_set, holders_set, seen_keep, results_keep, edges_upd, flag_keep, mine_set, drawn_keep, same_events}
 
 -- What a row that publishes nothing says of its node
 pub record Moves (p : PlanParts) (replies : ℕ → List Reply) (s : State) (g : ℕ → Stage) (w x : ℕ) (t0 t : Task) (b : Stage) (statuses : List NodeStatus) (counters : List ℕ) (shown : List Bool) : Type 0 where
@@ -21,7 +21,7 @@ pub record Moves (p : PlanParts) (replies : ℕ → List Reply) (s : State) (g :
   pub task : slice_get s.tasks w ≡ Some t0
   pub about : (n : ℕ) → subject t0 ≡ Some n → n ≡ x
   pub alone : (v : ℕ) → v ≢ w → IsNotAt g v x
-  pub now_at : (v c : ℕ) (u : Task) (stopped : Bool) → b ≡ At v c u stopped → (v ≡ w) × (u ≡ t) × (subject t ≡ Some x)
+  pub now_at : (v c : ℕ) (u : Task) (how : How) → b ≡ At v c u how → (v ≡ w) × (u ≡ t) × (subject t ≡ Some x)
   pub task_ok : TaskOk p replies (upd g x b) w t
   pub seen : b ≢ Unseen
   pub above : (a : ℕ) → IsChild p.tree a x → Fits p (phase (g a)) a x b
@@ -29,6 +29,7 @@ pub record Moves (p : PlanParts) (replies : ℕ → List Reply) (s : State) (g :
   pub admits : phase_admits (phase b) ≡ true → IsResult replies (body_of p.tree x) Successful
   pub started : is_started (g x) ≡ is_started b
   pub finished : is_finished (g x) ≡ is_finished b
+  pub skipped : is_skipped (g x) ≡ is_skipped b
   pub statuses_len : length statuses ≡ size p.tree
   pub statuses_ok : StatusesOk p statuses (upd g x b)
   pub counters_len : length counters ≡ size p.tree
@@ -58,7 +59,8 @@ moved p replies tree s g h w x t0 t b statuses counters shown m = record {
   results = results_keep p replies g x b m.admits h.results;
   started = flag_keep Started is_started p s.published g x b m.started h.started;
   finished = flag_keep Finished is_finished p s.published g x b m.finished h.finished;
-  drawn = drawn_keep p s.published g x b m.inside (ap₂ (λ (u v : Bool). bit u + bit v) m.started m.finished) h.drawn;
+  skipped = flag_keep Skipped is_skipped p s.published g x b m.skipped h.skipped;
+  drawn = drawn_keep p s.published g x b m.inside (same_events (g x) b m.started m.finished m.skipped) h.drawn;
   places = m.places_ok;
   unshown = m.unshown_ok;
   given = h.given;

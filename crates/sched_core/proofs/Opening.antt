@@ -1,8 +1,8 @@
 -- The opening state meets the invariant; and the counters of which it consists.
-use Rattle.std.proofs.Common.{◌≡◌, ℕ, zero, suc, ◌+◌, ◌<◌, ◌≤◌, Bool, true, false, ◌&&◌, List, [], ◌∷◌, ◌++◌, length, replicate, Some, slice_get, slice_set, slice_index_or, refl, sym, ap, ◌∙◌, subst, arith, inl, inr, length-set}
+use Rattle.std.proofs.Common.{◌≡◌, ℕ, zero, suc, ◌+◌, ◌<◌, ◌≤◌, Bool, true, false, ◌&&◌, List, [], length, replicate, Some, slice_get, slice_set, slice_index_or, refl, sym, ap, ◌∙◌, subst, arith, inl, inr, length-set}
 use Rattle.std.proofs.lemmas.List.{length-replicate, get_or-replicate}
 use Rattle.std.proofs.lemmas.Bool.{both_ways}
-use Rattle.descriptor.specs.Nodes.{size, children_of, IsTree, is_child, bit, count_below}
+use Rattle.descriptor.specs.Nodes.{size, children_of, IsTree, is_child}
 use Rattle.descriptor.proofs.Children.{children_counted}
 use Rattle.descriptor.proofs.Grown.{length_more, get_before, get_last, below_or_last}
 use Rattle.plan_events.specs.declared.outcome.Reply.{Reply}
@@ -11,7 +11,7 @@ use Rattle.sched_core.specs.declared.status.NodeStatus.TheVariants.{Hidden, Read
 use Rattle.sched_core.specs.declared.task.Task.{Task}
 use Rattle.sched_core.specs.declared.task.Task.TheVariants.{Free, Drawn}
 use Rattle.sched_core.specs.Machine.{counters_upto, opening}
-use Rattle.sched_core.specs.Invariant.{Stage, Unseen, Offered, At, Waiting, pending, pends_at, phase, Fits, is_started, is_finished, phase_admits, events_of, sum_below, drawn_count, status_of, guard, TaskOk, IsKept}
+use Rattle.sched_core.specs.Invariant.{How, Stage, Unseen, Offered, At, Waiting, pending, pends_at, phase, Fits, is_started, is_finished, is_skipped, phase_admits, events_of, sum_below, drawn_count, status_of, guard, TaskOk, IsKept}
 use Rattle.sched_core.proofs.Frames.{count_same}
 use Rattle.sched_core.proofs.Histories.{legal_nil}
 
@@ -70,10 +70,10 @@ first_fits p (suc a) zero pos = absurd (omega arith)
 first_fits p zero (suc c) pos = refl
 first_fits p (suc a) (suc c) pos = refl
 
-nobody_at : (n w c : ℕ) (t : Task) (stopped : Bool) → first_stage n ≡ At w c t stopped → ⊥
+nobody_at : (n w c : ℕ) (t : Task) (how : How) → first_stage n ≡ At w c t how → ⊥
 unfolding first_stage
-nobody_at zero w c t stopped q = cc
-nobody_at (suc n) w c t stopped q = cc
+nobody_at zero w c t how q = cc
+nobody_at (suc n) w c t how q = cc
 
 none_waits : (n c : ℕ) → first_stage n ≡ Waiting c → ⊥
 unfolding first_stage
@@ -101,6 +101,11 @@ unfolding first_stage
 none_finished zero = refl
 none_finished (suc n) = refl
 
+none_skipped : (n : ℕ) → false ≡ is_skipped (first_stage n)
+unfolding first_stage
+none_skipped zero = refl
+none_skipped (suc n) = refl
+
 pub opening_keeps : (p : PlanParts) (replies : ℕ → List Reply) → IsTree p.tree → (workers : ℕ) → workers ≤ 64 → IsKept p replies (opening p workers)
 unfolding first_stage drawn_count
 opening_keeps p replies tree workers few =
@@ -116,12 +121,13 @@ opening_keeps p replies tree workers few =
         statuses = first_statuses (size p.tree);
         counters = λ n lt _. (let a = counters_element p (size p.tree) n lt in let b = all_pending p n in let c = first_guard n in omega (arith, a, b, c));
         tasks = λ w t q. subst (TaskOk p replies first_stage w) (get_replicate workers Free t w q) tt;
-        holders = λ n w c t stopped lt q. absurd (nobody_at n w c t stopped q);
+        holders = λ n w c t how lt q. absurd (nobody_at n w c t how q);
         seen = λ q. cc;
         edges = λ a c ch. first_fits p a c ch.above_zero;
         results = λ n lt q. absurd (both_ways (phase_admits (phase (first_stage n))) (none_admits n) q);
         started = λ n lt. none_started n;
         finished = λ n lt. none_finished n;
+        skipped = λ n lt. none_skipped n;
         drawn = sym (none_drawn (size p.tree));
         places = λ w i e q. absurd (let f : Free ≡ Drawn i e = get_replicate workers Free (Drawn i e) w q in cc);
         unshown = λ i q. absurd (cc);

@@ -1,21 +1,19 @@
 -- While the plan is not settled and no worker has a task, some node is ready; and once it is, no worker has one.
-use Rattle.std.proofs.Common.{◌≡◌, ◌≢◌, ℕ, zero, suc, ◌+◌, ◌-◌, ◌<◌, ◌≤◌, Bool, true, false, ◌==◌, nat_lt, List, length, get_or, Some, None, slice_get, slice_index_or, inl, inr, refl, sym, ap, ◌∙◌, subst, arith}
-use Rattle.std.proofs.lemmas.List.{get_or_past}
+use Rattle.std.proofs.Common.{◌≡◌, ◌≢◌, ℕ, zero, suc, ◌+◌, ◌-◌, ◌<◌, ◌≤◌, Bool, true, false, ◌==◌, not, nat_lt, List, length, get_or, Some, None, slice_get, inl, inr, refl, sym, ap, ◌∙◌, subst, arith}
 use Rattle.std.proofs.lemmas.Option.{same_Some, slice_get_within, slice_get-get_or, none-some}
-use Rattle.std.proofs.lemmas.Bool.{and_parts, eqb-true, ltb-true, cases_Bool, cases_eq, cases_lt, both_ways, cond-true}
+use Rattle.std.proofs.lemmas.Bool.{and_parts, eqb-true, ltb-true, cases_Bool, cases_eq, cases_lt, both_ways, false≢true, cond-true}
 use Rattle.descriptor.specs.Nodes.{size, parent_of, IsTree, IsChild, is_child, bit, count_below}
-use Rattle.plan_events.specs.declared.event.EventKind.TheVariants.{Finished}
+use Rattle.plan_events.specs.declared.event.EventKind.TheVariants.{Finished, Skipped}
 use Rattle.plan_events.specs.declared.event.Event.{Event}
 use Rattle.plan_events.specs.declared.outcome.Reply.{Reply}
 use Rattle.resource_locks.specs.Plans.{PlanParts}
-use Rattle.sched_core.specs.declared.status.NodeStatus.{NodeStatus}
-use Rattle.sched_core.specs.declared.status.NodeStatus.TheVariants.{Hidden, Claimed, Settled}
+use Rattle.sched_core.specs.declared.status.NodeStatus.TheVariants.{Claimed, Settled}
 use Rattle.sched_core.specs.declared.task.Task.{Task}
 use Rattle.sched_core.specs.declared.task.Task.TheVariants.{Free, Begin, Drawn, Open, Admit, Guard, End, Settle, Up}
 use Rattle.sched_core.specs.History.{StandsAt}
 use Rattle.sched_core.specs.Following.{has}
 use Rattle.sched_core.specs.Machine.{State, status_at, is_ready, read_row}
-use Rattle.sched_core.specs.Invariant.{Stage, Unseen, Offered, At, Waiting, Counted, Before, Admitting, Running, Ended, Barred, ended, phase, phase_counts, phase_admits, Fits, guard, is_pending, is_counted, is_finished, task_finished, pends_at, pending, status_of, task_status, task_phase, subject, TaskOk, IsHeld, Holds, WaitsOk, IsKept}
+use Rattle.sched_core.specs.Invariant.{How, Stage, Unseen, Offered, At, Waiting, Counted, ended, phase, phase_counts, phase_admits, Fits, guard, is_pending, is_counted, is_finished, task_finished, is_skipped, task_skipped, pends_at, pending, status_of, task_status, task_phase, subject, TaskOk, IsHeld, Holds, WaitsOk, IsKept}
 use Rattle.sched_core.proofs.Histories.{has_stands}
 use Rattle.sched_core.proofs.Rows.{ended_admits, parent_up, parent_is}
 
@@ -42,9 +40,9 @@ child_waits p g n pos =
 pending_uncounted : (stage : Stage) → is_pending stage ≡ true → is_counted stage ≡ false
 pending_uncounted Unseen q = refl
 pending_uncounted Offered q = refl
-pending_uncounted (At w c t stopped) q = refl
+pending_uncounted (At w c t how) q = refl
 pending_uncounted (Waiting c) q = refl
-pending_uncounted (Counted stopped) q = absurd (both_ways (is_pending (Counted stopped)) refl q)
+pending_uncounted (Counted how) q = absurd (both_ways (is_pending (Counted how)) refl q)
 
 pub ready_below : (p : PlanParts) (replies : ℕ → List Reply) → IsTree p.tree → (s : State) (g : ℕ → Stage) → Holds p replies s g → WaitsOk p s.counters g → AllFree s
     → (fuel n : ℕ) → size p.tree - n ≤ fuel → n < size p.tree → g n ≢ Unseen → is_counted (g n) ≡ false → (m : ℕ) × (m < size p.tree) × (is_ready (status_at s m) ≡ true)
@@ -55,7 +53,7 @@ ready_below p replies tree s g h waits free (suc fuel) n le in' nu nc = go (λ k
         → (m : ℕ) × (m < size p.tree) × (is_ready (status_at s m) ≡ true)
     go more Unseen q = absurd (nu q)
     go more Offered q = (n, in', ap is_ready (h.statuses n in' ∙ ap status_of q))
-    go more (At w c t stopped) q = (let o = h.holders n w c t stopped in' q in let f : t ≡ Free = free w t o.0 in absurd (let z : subject Free ≡ Some n = ap subject (sym f) ∙ o.1 in cc))
+    go more (At w c t how) q = (let o = h.holders n w c t how in' q in let f : t ≡ Free = free w t o.0 in absurd (let z : subject Free ≡ Some n = ap subject (sym f) ∙ o.1 in cc))
     go more (Waiting c) q =
         let sum = h.counters n in' (ap (λ (stage : Stage). phase_counts (phase stage)) q) in
         let pos = waits n c in' q in
@@ -63,14 +61,14 @@ ready_below p replies tree s g h waits free (suc fuel) n le in' nu nc = go (λ k
         let up : parent_of p.tree k.0 < k.0 = tree.up k.0 k.1.above_zero k.1.inside in
         let edge : g k.0 ≢ Unseen = subst (λ (stage : Stage). Fits p (phase stage) n k.0 (g k.0)) q (h.edges n k.0 k.1) in
         more k.0 k.1.inside (omega (arith, up, k.1.parent)) edge (pending_uncounted (g k.0) k.2)
-    go more (Counted stopped) q = absurd (both_ways (is_counted (g n)) nc (ap is_counted q))
+    go more (Counted how) q = absurd (both_ways (is_counted (g n)) nc (ap is_counted q))
 
 unsettled_uncounted : (stage : Stage) → status_of stage ≢ Settled → is_counted stage ≡ false
 unsettled_uncounted Unseen ne = refl
 unsettled_uncounted Offered ne = refl
-unsettled_uncounted (At w c t stopped) ne = refl
+unsettled_uncounted (At w c t how) ne = refl
 unsettled_uncounted (Waiting c) ne = refl
-unsettled_uncounted (Counted stopped) ne = absurd (ne refl)
+unsettled_uncounted (Counted how) ne = absurd (ne refl)
 
 pub ready_exists : (p : PlanParts) (replies : ℕ → List Reply) → IsTree p.tree → (s : State) → IsKept p replies s → AllFree s → status_at s 0 ≢ Settled → (m : ℕ) × (m < size p.tree) × (is_ready (status_at s m) ≡ true)
 ready_exists p replies tree s k free not =
@@ -89,9 +87,9 @@ admitting_seen stage q e = both_ways (phase_admits (phase stage)) (ap (λ (st : 
 admitting_uncounted : (stage : Stage) → phase_admits (phase stage) ≡ true → is_counted stage ≡ false
 admitting_uncounted Unseen q = refl
 admitting_uncounted Offered q = refl
-admitting_uncounted (At w c t stopped) q = refl
+admitting_uncounted (At w c t how) q = refl
 admitting_uncounted (Waiting c) q = refl
-admitting_uncounted (Counted stopped) q = absurd (both_ways (phase_admits (ended stopped)) (ended_admits stopped) q)
+admitting_uncounted (Counted how) q = absurd (both_ways (phase_admits (ended how)) (ended_admits how) q)
 
 claimed_open : (c : ℕ) → Claimed (c + 1) ≢ Settled
 claimed_open c e = cc
@@ -100,10 +98,10 @@ claimed_open c e = cc
 admitting_unsettled : (stage : Stage) → phase_admits (phase stage) ≡ true → status_of stage ≢ Settled
 admitting_unsettled Unseen q e = both_ways (phase_admits (phase Unseen)) refl q
 admitting_unsettled Offered q e = both_ways (phase_admits (phase Offered)) refl q
-admitting_unsettled (At w c t stopped) q e = task t q e
+admitting_unsettled (At w c t how) q e = task t q e
   where
-    task : (t : Task) → phase_admits (task_phase t stopped) ≡ true → task_status c t ≢ Settled
-    task (Up n) q e = both_ways (phase_admits (ended stopped)) (ended_admits stopped) q
+    task : (t : Task) → phase_admits (task_phase t how) ≡ true → task_status c t ≢ Settled
+    task (Up n) q e = both_ways (phase_admits (ended how)) (ended_admits how) q
     task Free q e = claimed_open c e
     task (Begin n) q e = claimed_open c e
     task (Drawn i f) q e = claimed_open c e
@@ -113,7 +111,7 @@ admitting_unsettled (At w c t stopped) q e = task t q e
     task (End n status) q e = claimed_open c e
     task (Settle n) q e = claimed_open c e
 admitting_unsettled (Waiting c) q e = claimed_open c e
-admitting_unsettled (Counted stopped) q e = both_ways (phase_admits (ended stopped)) (ended_admits stopped) q
+admitting_unsettled (Counted how) q e = both_ways (phase_admits (ended how)) (ended_admits how) q
 
 module _ (p : PlanParts) (replies : ℕ → List Reply) (tree : IsTree p.tree) (s : State) (g : ℕ → Stage) (h : Holds p replies s g) where
   -- so may those of its parent, since it has been seen and is not counted off
@@ -131,8 +129,8 @@ module _ (p : PlanParts) (replies : ℕ → List Reply) (tree : IsTree p.tree) (
       ]
 
   -- where node 0 is settled no worker is at a node
-  nobody_at : status_at s 0 ≡ Settled → (w n c : ℕ) (t : Task) (stopped : Bool) → slice_get s.tasks w ≡ Some t → n < size p.tree → g n ≡ At w c t stopped → ⊥
-  nobody_at end w n c t stopped q in' at =
+  nobody_at : status_at s 0 ≡ Settled → (w n c : ℕ) (t : Task) (how : How) → slice_get s.tasks w ≡ Some t → n < size p.tree → g n ≡ At w c t how → ⊥
+  nobody_at end w n c t how q in' at =
       elim (cases_eq n 0) [
         | inl z ↦ at_root (ap g (sym z) ∙ at)
         | inr ne ↦ (let pos : 0 < n = omega (arith, ne) in let up : parent_of p.tree n < n = tree.up n pos in' in
@@ -140,7 +138,7 @@ module _ (p : PlanParts) (replies : ℕ → List Reply) (tree : IsTree p.tree) (
             admitting_unsettled (g 0) (root_admits (parent_of p.tree n) (parent_of p.tree n) (omega arith) (omega (arith, up, in')) parent) (sym (h.statuses 0 tree.root) ∙ end))
       ]
     where
-      seen_at : At w c t stopped ≡ Unseen → ⊥
+      seen_at : At w c t how ≡ Unseen → ⊥
       seen_at e = cc
 
       -- a worker at node 0 has a task by which it is claimed, since only a node above 0 goes on to be counted off
@@ -155,8 +153,8 @@ module _ (p : PlanParts) (replies : ℕ → List Reply) (tree : IsTree p.tree) (
       claimed_at (End m status) ok about e = claimed_open c e
       claimed_at (Settle m) ok about e = claimed_open c e
 
-      at_root : g 0 ≡ At w c t stopped → ⊥
-      at_root root = claimed_at t (h.tasks w t q) (h.holders 0 w c t stopped tree.root root).1 (sym (h.statuses 0 tree.root ∙ ap status_of root) ∙ end)
+      at_root : g 0 ≡ At w c t how → ⊥
+      at_root root = claimed_at t (h.tasks w t q) (h.holders 0 w c t how tree.root root).1 (sym (h.statuses 0 tree.root ∙ ap status_of root) ∙ end)
 
   -- so none has a task
   task_free : status_at s 0 ≡ Settled → (w : ℕ) (t : Task) → slice_get s.tasks w ≡ Some t → t ≡ Free
@@ -164,14 +162,14 @@ module _ (p : PlanParts) (replies : ℕ → List Reply) (tree : IsTree p.tree) (
     where
       go : (u : Task) → slice_get s.tasks w ≡ Some u → TaskOk p replies g w u → u ≡ Free
       go Free q ok = refl
-      go (Begin n) q ok = absurd (nobody_at end w n ok.claimer (Begin n) ok.stopped q ok.inside ok.at)
-      go (Drawn i e) q ok = absurd (nobody_at end w e.node ok.claimer (Drawn i e) ok.stopped q ok.inside ok.at)
-      go (Open n) q ok = absurd (nobody_at end w n ok.claimer (Open n) ok.stopped q ok.inside ok.at)
-      go (Admit n k) q ok = absurd (nobody_at end w n ok.0.claimer (Admit n k) ok.0.stopped q ok.0.inside ok.0.at)
-      go (Guard n) q ok = absurd (nobody_at end w n ok.claimer (Guard n) ok.stopped q ok.inside ok.at)
+      go (Begin n) q ok = absurd (nobody_at end w n ok.claimer (Begin n) ok.how q ok.inside ok.at)
+      go (Drawn i e) q ok = absurd (nobody_at end w e.node ok.claimer (Drawn i e) ok.how q ok.inside ok.at)
+      go (Open n) q ok = absurd (nobody_at end w n ok.claimer (Open n) ok.how q ok.inside ok.at)
+      go (Admit n k) q ok = absurd (nobody_at end w n ok.0.claimer (Admit n k) ok.0.how q ok.0.inside ok.0.at)
+      go (Guard n) q ok = absurd (nobody_at end w n ok.claimer (Guard n) ok.how q ok.inside ok.at)
       go (End n status) q ok = absurd (nobody_at end w n ok.claimer (End n status) _ q ok.inside ok.at)
-      go (Settle n) q ok = absurd (nobody_at end w n ok.claimer (Settle n) ok.stopped q ok.inside ok.at)
-      go (Up n) q ok = absurd (nobody_at end w n ok.0.claimer (Up n) ok.0.stopped q ok.0.inside ok.0.at)
+      go (Settle n) q ok = absurd (nobody_at end w n ok.claimer (Settle n) ok.how q ok.inside ok.at)
+      go (Up n) q ok = absurd (nobody_at end w n ok.0.claimer (Up n) ok.0.how q ok.0.inside ok.0.at)
 
 -- Once node 0 is settled, no worker has a task
 pub all_settled : (p : PlanParts) (replies : ℕ → List Reply) → IsTree p.tree → (s : State) → IsKept p replies s → status_at s 0 ≡ Settled → (w : ℕ) (t : Task) → slice_get s.tasks w ≡ Some t → t ≡ Free
@@ -195,26 +193,35 @@ all_read p replies tree s k end none =
         drawn_busy : (e : Event) → Drawn s.given e ≡ Free → ⊥
         drawn_busy e f = cc
 
-finished_stage : (stage : Stage) → status_of stage ≡ Settled → is_finished stage ≡ true
-finished_stage Unseen e = cc
-finished_stage Offered e = cc
-finished_stage (At w c t stopped) e = task t e
+-- a node that is settled and not skipped is finished
+finished_stage : (stage : Stage) → status_of stage ≡ Settled → is_skipped stage ≡ false → is_finished stage ≡ true
+finished_stage Unseen e q = cc
+finished_stage Offered e q = cc
+finished_stage (At w c t how) e q = task t e q
   where
-    task : (t : Task) → task_status c t ≡ Settled → task_finished t ≡ true
-    task (Up n) e = refl
-    task Free e = absurd (claimed_open c e)
-    task (Begin n) e = absurd (claimed_open c e)
-    task (Drawn i f) e = absurd (claimed_open c e)
-    task (Open n) e = absurd (claimed_open c e)
-    task (Admit n k) e = absurd (claimed_open c e)
-    task (Guard n) e = absurd (claimed_open c e)
-    task (End n status) e = absurd (claimed_open c e)
-    task (Settle n) e = absurd (claimed_open c e)
-finished_stage (Waiting c) e = absurd (claimed_open c e)
-finished_stage (Counted stopped) e = refl
+    task : (t : Task) → task_status c t ≡ Settled → task_skipped t how ≡ false → task_finished t how ≡ true
+    task (Up n) e q = ap not q
+    task Free e q = absurd (claimed_open c e)
+    task (Begin n) e q = absurd (claimed_open c e)
+    task (Drawn i f) e q = absurd (claimed_open c e)
+    task (Open n) e q = absurd (claimed_open c e)
+    task (Admit n k) e q = absurd (claimed_open c e)
+    task (Guard n) e q = absurd (claimed_open c e)
+    task (End n status) e q = absurd (claimed_open c e)
+    task (Settle n) e q = absurd (claimed_open c e)
+finished_stage (Waiting c) e q = absurd (claimed_open c e)
+finished_stage (Counted how) e q = ap not q
+
+-- the plan's node is not disabled, so it is not skipped
+plan_unskipped : (p : PlanParts) (replies : ℕ → List Reply) → IsTree p.tree → (s : State) → (k : IsKept p replies s) → is_skipped (k.0 0) ≡ false
+plan_unskipped p replies tree s k =
+    elim (cases_Bool (is_skipped (k.0 0))) [
+      | inl y ↦ (let stands = has_stands Skipped 0 s.published (k.1.skipped 0 tree.root ∙ y) in absurd (false≢true (k.1.legal.skipped stands.0 0 stands.1)))
+      | inr n ↦ n
+    ]
 
 pub plan_finished : (p : PlanParts) (replies : ℕ → List Reply) → IsTree p.tree → (s : State) → IsKept p replies s → status_at s 0 ≡ Settled → has Finished 0 s.published ≡ true
-plan_finished p replies tree s k end = k.1.finished 0 tree.root ∙ finished_stage (k.0 0) (sym (k.1.statuses 0 tree.root) ∙ end)
+plan_finished p replies tree s k end = k.1.finished 0 tree.root ∙ finished_stage (k.0 0) (sym (k.1.statuses 0 tree.root) ∙ end) (plan_unskipped p replies tree s k)
 
 pub plan_finish_stands : (p : PlanParts) (replies : ℕ → List Reply) → IsTree p.tree → (s : State) → IsKept p replies s → status_at s 0 ≡ Settled → (i : ℕ) × StandsAt s.published i Finished 0
 plan_finish_stands p replies tree s k end = has_stands Finished 0 s.published (plan_finished p replies tree s k end)

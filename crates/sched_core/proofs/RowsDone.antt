@@ -10,7 +10,7 @@ use Rattle.resource_locks.specs.Plans.{PlanParts}
 use Rattle.sched_core.specs.declared.task.Task.{Task}
 use Rattle.sched_core.specs.declared.task.Task.TheVariants.{Free, Guard, End, Up}
 use Rattle.sched_core.specs.Machine.{State, counter_at}
-use Rattle.sched_core.specs.Invariant.{Stage, Unseen, At, Waiting, Counted, phase, status_of, is_started, is_finished, guard, phase_counts, phase_admits, is_pending, pending, is_counted, IsAt, TaskOk, Holds}
+use Rattle.sched_core.specs.Invariant.{How, Runs, how_stopped, Stage, Unseen, At, Waiting, Counted, phase, status_of, is_started, is_finished, is_skipped, guard, phase_counts, phase_admits, is_pending, pending, is_counted, IsAt, TaskOk, Holds}
 use Rattle.sched_core.proofs.Frames.{upd, upd_same, statuses_keep, only_at, pending_keep, pending_none, counters_at, counters_off}
 use Rattle.sched_core.proofs.Moves.{moved}
 use Rattle.sched_core.proofs.Rows.{at_unseen, waiting_unseen, waiting_at, counted_unseen, counted_at, only_now, about_one, about_none, success_stops, above_any, above_at, below_same, admits_same, parent_is, places_kept, unshown_kept}
@@ -21,7 +21,7 @@ module _ (p : PlanParts) (replies : ℕ → List Reply) (tree : IsTree p.tree) (
   give_keeps w n task =
       let old : IsAt p g w (Guard n) n = h.tasks w (Guard n) task in
       let c = old.claimer in
-      let at : g n ≡ At w c (Guard n) old.stopped = old.at in
+      let at : g n ≡ At w c (Guard n) old.how = old.at in
       let b : Stage = Waiting c in
       let nu : b ≢ Unseen = waiting_unseen b c refl in
       let count : counter_at s n ≡ guard (g n) + pending p g n = h.counters n old.inside (ap (λ (st : Stage). phase_counts (phase st)) at) in
@@ -33,15 +33,16 @@ module _ (p : PlanParts) (replies : ℕ → List Reply) (tree : IsTree p.tree) (
           inside = old.inside;
           task = task;
           about = about_one (Guard n) n refl;
-          alone = only_at g n w c (Guard n) old.stopped at;
+          alone = only_at g n w c (Guard n) old.how at;
           now_at = λ v d u barred q. absurd (waiting_at c v d u barred q);
           task_ok = tt;
           seen = nu;
-          above = above_at p replies tree s g h n w c (Guard n) old.stopped b at nu;
+          above = above_at p replies tree s g h n w c (Guard n) old.how b at nu;
           below = below_same p replies tree s g h n b (ap phase at);
           admits = admits_same p replies tree s g h n b old.inside (ap phase at);
           started = ap is_started at;
           finished = ap is_finished at;
+          skipped = ap is_skipped at;
           statuses_len = h.statuses_len;
           statuses_ok = statuses_keep p s.statuses g n b (ap status_of at) h.statuses;
           counters_len = length-set s.counters n less ∙ h.counters_len;
@@ -54,36 +55,37 @@ module _ (p : PlanParts) (replies : ℕ → List Reply) (tree : IsTree p.tree) (
 
   -- A child is counted off at its parent
   pub up_keeps : (w c : ℕ) → slice_get s.tasks w ≡ Some (Up c)
-      → (stopped : Bool) × Holds p replies (record s { counters = slice_set s.counters (parent_of p.tree c) (counter_at s (parent_of p.tree c) - 1); tasks = slice_set s.tasks w Free }) (upd g c (Counted stopped))
+      → (how : How) × Holds p replies (record s { counters = slice_set s.counters (parent_of p.tree c) (counter_at s (parent_of p.tree c) - 1); tasks = slice_set s.tasks w Free }) (upd g c (Counted how))
   up_keeps w c task =
       let old : TaskOk p replies g w (Up c) = h.tasks w (Up c) task in
       let d = old.0.claimer in
-      let stopped = old.0.stopped in
-      let at : g c ≡ At w d (Up c) stopped = old.0.at in
+      let how = old.0.how in
+      let at : g c ≡ At w d (Up c) how = old.0.at in
       let a = parent_of p.tree c in
       let ch : IsChild p.tree a c = parent_is p replies tree s g h c old.1 old.0.inside in
       let lt : a < c = tree.up c old.1 old.0.inside in
       let less : ℕ = counter_at s a - 1 in
-      let b : Stage = Counted stopped in
-      let nu : b ≢ Unseen = counted_unseen stopped in (
-        stopped,
+      let b : Stage = Counted how in
+      let nu : b ≢ Unseen = counted_unseen how in (
+        how,
         moved p replies tree s g h w c (Up c) Free b s.statuses (slice_set s.counters a less) s.shown (record {
           inside = old.0.inside;
           task = task;
           about = about_one (Up c) c refl;
-          alone = only_at g c w d (Up c) stopped at;
-          now_at = λ v e u barred q. absurd (counted_at stopped v e u barred q);
+          alone = only_at g c w d (Up c) how at;
+          now_at = λ v e u barred q. absurd (counted_at how v e u barred q);
           task_ok = tt;
           seen = nu;
-          above = above_at p replies tree s g h c w d (Up c) stopped b at nu;
+          above = above_at p replies tree s g h c w d (Up c) how b at nu;
           below = below_same p replies tree s g h c b (ap phase at);
           admits = admits_same p replies tree s g h c b old.0.inside (ap phase at);
           started = ap is_started at;
           finished = ap is_finished at;
+          skipped = ap is_skipped at;
           statuses_len = h.statuses_len;
           statuses_ok = statuses_keep p s.statuses g c b (ap status_of at) h.statuses;
           counters_len = length-set s.counters a less ∙ h.counters_len;
-          counters_ok = counters_off p s.counters g a c stopped h.counters_len (omega (arith, lt, old.0.inside)) (λ q. omega (arith, q, lt)) ch (ap is_pending at) h.counters;
+          counters_ok = counters_off p s.counters g a c how h.counters_len (omega (arith, lt, old.0.inside)) (λ q. omega (arith, q, lt)) ch (ap is_pending at) h.counters;
           shown_len = h.shown_len;
           places_ok = places_kept p replies tree s g h w Free refl;
           unshown_ok = unshown_kept p replies tree s g h w Free (Up c) task refl;
@@ -92,24 +94,25 @@ module _ (p : PlanParts) (replies : ℕ → List Reply) (tree : IsTree p.tree) (
 
   -- Where nothing is outstanding at a node that waits, a free worker ends it, and it is successful
   pub end_keeps : (w n d : ℕ) → slice_get s.tasks w ≡ Some Free → n < size p.tree → g n ≡ Waiting d → pending p g n ≡ 0
-      → Holds p replies (record s { tasks = slice_set s.tasks w (End n Successful) }) (upd g n (At w d (End n Successful) false))
+      → Holds p replies (record s { tasks = slice_set s.tasks w (End n Successful) }) (upd g n (At w d (End n Successful) Runs))
   end_keeps w n d task in' waits none =
       let t : Task = End n Successful in
-      let b : Stage = At w d t false in
-      let nu : b ≢ Unseen = at_unseen b w d t false refl in
+      let b : Stage = At w d t Runs in
+      let nu : b ≢ Unseen = at_unseen b w d t Runs refl in
       moved p replies tree s g h w n Free t b s.statuses s.counters s.shown (record {
         inside = in';
         task = task;
         about = about_none n;
         alone = λ v ne c u barred q. waiting_at d v c u barred (sym waits ∙ q);
-        now_at = only_now w d t false n refl;
-        task_ok = record { inside = in'; claimer = d; at = upd_same g n b n refl ∙ ap (At w d t) (sym (success_stops p n)); result = h.results n in' (ap (λ (st : Stage). phase_admits (phase st)) waits) };
+        now_at = only_now w d t Runs n refl;
+        task_ok = record { inside = in'; claimer = d; at = upd_same g n b n refl ∙ ap (λ (stops : Bool). At w d t (how_stopped stops)) (sym (success_stops p n)); result = h.results n in' (ap (λ (st : Stage). phase_admits (phase st)) waits) };
         seen = nu;
         above = above_any p replies tree s g h n b nu (waiting_unseen (g n) d waits) (ap is_counted waits);
         below = λ x ch. pending_none p g n x none ch;
         admits = λ q. absurd (false≢true q);
         started = ap is_started waits;
         finished = ap is_finished waits;
+        skipped = ap is_skipped waits;
         statuses_len = h.statuses_len;
         statuses_ok = statuses_keep p s.statuses g n b (ap status_of waits) h.statuses;
         counters_len = h.counters_len;
@@ -140,6 +143,7 @@ module _ (p : PlanParts) (replies : ℕ → List Reply) (tree : IsTree p.tree) (
         results = h.results;
         started = h.started;
         finished = h.finished;
+        skipped = h.skipped;
         drawn = h.drawn;
         places = h.places;
         unshown = h.unshown;

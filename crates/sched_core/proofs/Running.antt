@@ -1,9 +1,6 @@
 -- The machine's steps as steps of a run and of the schedule, and what a trace tells of it.
-use Rattle.std.proofs.Common.{◌≡◌, ◌≢◌, ℕ, ◌+◌, ◌-◌, ◌<◌, ◌≤◌, Bool, true, false, List, [], ◌∷◌, ◌++◌, length, get_or, take, Option, Some, None, Result, Ok, Err, IsOk, IsErr, IfOk, slice_get, slice_index_or, refl, sym, ap, ◌∙◌, subst, arith}
-use Rattle.std.proofs.lemmas.Option.{slice_get-get_or}
+use Rattle.std.proofs.Common.{◌≡◌, ◌≢◌, ℕ, ◌+◌, ◌<◌, List, ◌∷◌, length, get_or, Option, Some, None, Result, Ok, Err, IsOk, IsErr, IfOk, slice_index_or, refl, sym, ap, ◌∙◌, subst, arith}
 use Rattle.std.proofs.lemmas.List.{get_or_default}
-use Rattle.descriptor.specs.Nodes.{size, IsTree}
-use Rattle.plan_events.specs.declared.event.EventKind.TheVariants.{Finished}
 use Rattle.plan_events.specs.declared.event.Event.{Event}
 use Rattle.plan_events.specs.declared.outcome.Reply.{Reply}
 use Rattle.resource_locks.specs.Plans.{PlanParts}
@@ -11,22 +8,22 @@ use Rattle.sched_core.specs.declared.machine.Machine.{Machine}
 use Rattle.sched_core.specs.declared.status.NodeStatus.TheVariants.{Settled}
 use Rattle.sched_core.specs.declared.step.Action.{Action}
 use Rattle.sched_core.specs.declared.step.Step.{Step}
-use Rattle.sched_core.specs.declared.step.Step.TheVariants.{Worker, Read}
+use Rattle.sched_core.specs.declared.step.Step.TheVariants.{Worker}
 use Rattle.sched_core.specs.declared.task.Task.{Task}
 use Rattle.sched_core.specs.declared.task.Task.TheVariants.{Free}
 use Rattle.sched_core.specs.declared.trace.Trace.{Trace}
 use Rattle.sched_core.specs.Replies.{replies_of}
 use Rattle.sched_core.specs.History.{IsLegal, IsComplete, EndsInPlan}
-use Rattle.sched_core.specs.Machine.{State, after, read_row, status_at, given_list}
+use Rattle.sched_core.specs.Machine.{State, after, read_row, status_at, given_list, opening}
 use Rattle.sched_core.specs.Fields.{state_of, parts_upto, IsSound, IsAnswered}
 use Rattle.sched_core.specs.Runs.{run, passed_over, missed, state_or, IsRight}
 use Rattle.sched_core.specs.Drives.{Drives, IsNext, LeadsTo}
-use Rattle.sched_core.specs.Traces.{IsTraceOf, IsRightTrace, IsWhole, lists_of}
+use Rattle.sched_core.specs.Traces.{IsTraceOf, IsRightTrace, IsDriven, IsOnlyDriven, IsWhole}
 use Rattle.sched_core.specs.Work.{work_left}
 use Rattle.sched_core.proofs.Parts.{parts_len, parts_at}
 use Rattle.sched_core.proofs.Headline.{right, complete_at_finish}
 use Rattle.sched_core.proofs.Progress.{plan_finish_stands}
-use Rattle.sched_core.proofs.Driving.{next_enabled, next_falls, leads_work, leads_read, drives_end, all_given, plan_ends}
+use Rattle.sched_core.proofs.Driving.{next_enabled, next_falls, leads_work, leads_read, drives_end, drives_one, all_given, plan_ends}
 
 -- an answer is not both
 apart : {T E : Type 0} (r : Result T E) → IsOk r → IsErr r → ⊥
@@ -89,6 +86,10 @@ module _ {T E : Type 0} (p : PlanParts) (answers : List (ℕ × Reply)) (old new
       let here : IsAnswered old (Some t.0) result new = subst (λ (o : Option State). IsAnswered old o result new) t.1 is in
       subst (λ (s : State). work_left s < work_left (state_of old)) (sym here.1) (next_falls p answers sound.tree (state_of old) t.0 sound.kept task a alone at next t.1)
 
+-- the schedule ends in one state only, so what is driven is driven to each state in which it ends
+pub only_driven : (p : PlanParts) (answers : List (ℕ × Reply)) (t : Trace) → IsDriven p answers t → IsOnlyDriven p answers t
+only_driven p answers t driven final drives = subst (λ (s : State). IsTraceOf s 0 t) (drives_one p answers (opening p 1) driven.final final driven.drives drives) driven.trace
+
 -- what a trace of a sound machine tells
 module _ (p : PlanParts) (answers : List (ℕ × Reply)) (m : Machine) (sound : IsSound p answers m) (workers passed : ℕ) (count : m.workers ≡ workers) (t : Trace) (is : IsTraceOf (state_of m) passed t) where
   pub right_trace : IsRightTrace p answers workers t
@@ -96,8 +97,8 @@ module _ (p : PlanParts) (answers : List (ℕ × Reply)) (m : Machine) (sound : 
       let legal : IsLegal p (replies_of answers) workers m.published.items = subst (λ (n : ℕ). IsLegal p (replies_of answers) n m.published.items) (sound.workers ∙ count) sound.kept.1.legal in
       let lists : length (parts_upto m.workers m.published.items) ≡ workers = parts_len m.workers m.published.items ∙ count in
       let here : IsRight p answers workers m.published.items (given_list (state_of m)) (parts_upto m.workers m.published.items) =
-          right p answers workers m.published.items (given_list (state_of m)) (parts_upto m.workers m.published.items) m.given sound.tree legal refl lists
-          (λ w lt. parts_at m.workers w m.published.items (omega (arith, lt, count))) in
+      right p answers workers m.published.items (given_list (state_of m)) (parts_upto m.workers m.published.items) m.given sound.tree legal refl lists
+      (λ w lt. parts_at m.workers w m.published.items (omega (arith, lt, count))) in
       subst (λ (l : List (List Event)). IsRight p answers workers t.published.items t.given.items l) (sym is.mine)
       (subst (λ (g : List Event). IsRight p answers workers t.published.items g (parts_upto m.workers m.published.items)) (sym is.given)
       (subst (λ (h : List Event). IsRight p answers workers h (given_list (state_of m)) (parts_upto m.workers m.published.items)) (sym is.published) here))

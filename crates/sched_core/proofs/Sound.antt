@@ -1,10 +1,9 @@
 -- What a sound machine has room for, and that its steps leave it sound.
-use Rattle.std.proofs.Common.{◌≡◌, ◌≢◌, ℕ, ◌+◌, ◌-◌, ◌<◌, ◌≤◌, Bool, true, false, List, [], length, get_or, Option, Some, None, Result, slice_get, slice_index_or, refl, sym, ap, ◌∙◌, subst, arith, vec_capacity, cond, if◌then◌else◌, ◌==◌, nat_lt, option_and_then, ltb}
-use Rattle.std.proofs.lemmas.Option.{slice_get_within, none-some, slice_get-get_or, slice_get_read}
+use Rattle.std.proofs.Common.{◌≡◌, ◌≢◌, ℕ, ◌-◌, ◌<◌, ◌≤◌, true, List, length, get_or, Option, Some, None, Result, slice_get, slice_index_or, refl, sym, ap, ◌∙◌, subst, arith, ◌==◌, option_and_then, ltb}
+use Rattle.std.proofs.lemmas.Option.{slice_get_within, slice_get_read}
 use Rattle.std.proofs.lemmas.Bool.{ne_eqb, cond-false, ltb-true}
-use Rattle.descriptor.specs.Nodes.{size, parent_of, children_of, is_test_at, IsTree}
+use Rattle.descriptor.specs.Nodes.{size, parent_of, children_of, IsTree}
 use Rattle.plan_events.specs.declared.status.Status.{Status}
-use Rattle.plan_events.specs.declared.event.Event.{Event}
 use Rattle.plan_events.specs.declared.outcome.Reply.{Reply}
 use Rattle.resource_locks.specs.Plans.{PlanParts, most_events}
 use Rattle.sched_core.specs.declared.machine.Machine.{Machine}
@@ -12,7 +11,7 @@ use Rattle.sched_core.specs.declared.step.Action.{Action}
 use Rattle.sched_core.specs.declared.step.Step.{Step}
 use Rattle.sched_core.specs.declared.task.Task.{Task}
 use Rattle.sched_core.specs.declared.task.Task.TheVariants.{Free, Begin, Drawn, Open, Admit, Guard, End, Settle, Up}
-use Rattle.sched_core.specs.Replies.{replies_of, is_successful}
+use Rattle.sched_core.specs.Replies.{replies_of}
 use Rattle.sched_core.specs.Machine.{State, status_awaited, decided, answered, after, opening, row, task_of, worker_step}
 use Rattle.sched_core.specs.Invariant.{IsKept, subject}
 use Rattle.sched_core.specs.Fields.{state_of, HasRoom, KeepsRoom, IsSound, IsAnswered, HasPlace, CanAdmit, CanCountOff, CanCountUp, InBounds}
@@ -76,6 +75,7 @@ module _ (p : PlanParts) (answers : List (ℕ × Reply)) (m : Machine) (sound : 
       worker = omega (arith, slice_get_within m.tasks.items w raw here, sound.workers);
       place = slice_get_within m.tasks.items w raw here;
       few = omega (arith, slice_get_within m.tasks.items w raw here, sound.kept.1.workers_few);
+      inside = λ n is. inside n (ap subject is);
       begins = λ n is. place_for (room_start p (replies_of answers) (state_of m) sound.kept w n raw status here is);
       ends = λ n result is. place_for (room_finish p (replies_of answers) (state_of m) sound.kept w n result raw status here is);
       shows = λ i e is. decided_drawn p (replies_of answers) (state_of m) sound.kept w i e raw status here is;

@@ -1,5 +1,5 @@
 -- The machine's fields at the start.
-use Rattle.std.proofs.Common.{◌≡◌, ℕ, ◌+◌, Bool, List, [], ◌∷◌, length, set, replicate, refl, sym, ap, ap₂, ◌∙◌}
+use Rattle.std.proofs.Common.{◌≡◌, ℕ, Bool, List, [], set, replicate, ap, ◌∙◌}
 use Rattle.descriptor.specs.Nodes.{size}
 use Rattle.plan_events.specs.declared.event.Event.{Event}
 use Rattle.resource_locks.specs.Plans.{PlanParts}
@@ -7,7 +7,7 @@ use Rattle.sched_core.specs.declared.status.NodeStatus.{NodeStatus}
 use Rattle.sched_core.specs.declared.status.NodeStatus.TheVariants.{Hidden, Ready}
 use Rattle.sched_core.specs.declared.task.Task.{Task}
 use Rattle.sched_core.specs.declared.task.Task.TheVariants.{Free}
-use Rattle.sched_core.specs.Machine.{State, counters_upto, opening}
+use Rattle.sched_core.specs.Machine.{counters_upto, opening}
 use Rattle.sched_core.specs.Fields.{parts_upto}
 use Rattle.sched_core.proofs.Parts.{parts_none}
 

@@ -1,9 +1,9 @@
 -- Each step, and so each run, keeps the invariant and the number of workers.
-use Rattle.std.proofs.Common.{◌≡◌, ◌≢◌, ℕ, ◌+◌, ◌-◌, ◌<◌, Bool, true, false, cond, ◌==◌, nat_lt, if◌then◌else◌, List, [], ◌∷◌, length, set, get_or, Option, Some, None, slice_get, slice_set, slice_index_or, inl, inr, refl, sym, ap, ◌∙◌, subst, arith, get_or-set_other, length-set, set-set}
+use Rattle.std.proofs.Common.{◌≡◌, ◌≢◌, ℕ, ◌+◌, ◌-◌, ◌<◌, Bool, true, false, cond, ◌==◌, if◌then◌else◌, List, [], ◌∷◌, length, set, get_or, Option, Some, None, slice_get, slice_set, slice_index_or, inl, inr, refl, sym, ap, ◌∙◌, subst, arith, get_or-set_other, length-set, set-set}
 use Rattle.std.proofs.lemmas.Option.{none-some, same_Some, option_and_then_some, cond_some}
 use Rattle.std.proofs.lemmas.Grind.{get_or-set_at}
 use Rattle.std.proofs.lemmas.Bool.{eqb-true, eqb-false, false≢true, cases_eq}
-use Rattle.descriptor.specs.Nodes.{size, parent_of, children_of, is_test_at, IsChild, IsTree, body_of}
+use Rattle.descriptor.specs.Nodes.{size, parent_of, IsChild, IsTree, body_of}
 use Rattle.plan_events.specs.declared.status.Status.{Status}
 use Rattle.plan_events.specs.declared.status.Status.TheVariants.{Successful}
 use Rattle.plan_events.specs.declared.outcome.Reply.{Reply}
@@ -14,24 +14,24 @@ use Rattle.sched_core.specs.declared.step.Action.{Action}
 use Rattle.sched_core.specs.declared.step.Action.TheVariants.{Claim, Draw, Show, Admit as DoAdmit, Done, Settle as DoSettle, Look}
 use Rattle.sched_core.specs.declared.step.Step.{Step}
 use Rattle.sched_core.specs.declared.step.Step.TheVariants.{Worker, Read}
-use Rattle.sched_core.specs.Replies.{IsResult, is_successful, replies_of, status_by, reply_of}
-use Rattle.sched_core.specs.Machine.{State, status_at, counter_at, claimed, is_ready, started_event, finished_event, drawn, admit_from, answered, decided, status_awaited, task_after, show_at, admitted, counted_off, settled, row, claim_row, draw_row, show_row, admit_row, done_row, settle_row, look_row, task_of, after}
-use Rattle.sched_core.specs.Invariant.{Stage, Unseen, Offered, At, Waiting, Counted, phase, guard, phase_counts, is_pending, pending, IsAt, TaskOk, WaitsOk, Holds, IsKept}
+use Rattle.sched_core.specs.Replies.{IsResult, replies_of, status_by, reply_of}
+use Rattle.sched_core.specs.Machine.{State, status_at, counter_at, claimed, is_ready, begun_event, first_kind, finished_event, drawn, admit_from, answered, decided, status_awaited, task_after, show_at, admitted, counted_off, settled, row, claim_row, draw_row, show_row, admit_row, done_row, settle_row, look_row, task_of, after}
+use Rattle.sched_core.specs.Invariant.{Runs, Stage, Unseen, Offered, At, Waiting, Counted, phase, guard, phase_counts, pending, IsAt, TaskOk, WaitsOk, Holds, IsKept}
+use Rattle.sched_core.proofs.Frames.{upd, upd_same, upd_other, get_set_same, waits_keep}
+use Rattle.sched_core.specs.Runs.{state_or, run}
+use Rattle.sched_core.proofs.Rows.{at_unseen, at_counted, at_waiting, parent_up, parent_is, claim_keeps, show_keeps, decide_keeps, settle_keeps, counted_waiting}
+use Rattle.sched_core.proofs.RowsDraw.{draw_first_keeps, draw_finish_keeps}
 use Rattle.sched_core.proofs.Decisions.{answered_any}
 use Rattle.sched_core.proofs.Bounds.{guard_counts, up_counts}
-use Rattle.sched_core.proofs.Frames.{upd, upd_same, upd_other, get_set_same, waits_keep, pending_less}
-use Rattle.sched_core.specs.Runs.{state_or, run}
-use Rattle.sched_core.proofs.Rows.{at_unseen, at_counted, at_waiting, counted_waiting, parent_up, parent_is, claim_keeps, show_keeps, decide_keeps, settle_keeps}
-use Rattle.sched_core.proofs.RowsDraw.{draw_start_keeps, draw_finish_keeps}
 use Rattle.sched_core.proofs.RowsAdmit.{admit_keeps}
 use Rattle.sched_core.proofs.RowsDone.{give_keeps, up_keeps, end_keeps, read_keeps}
 
 guard_none : (st : Stage) → guard st ≡ 0 → (d : ℕ) × (st ≡ Waiting d)
 guard_none Unseen q = absurd (omega (arith, q))
 guard_none Offered q = absurd (omega (arith, q))
-guard_none (At w c t stopped) q = absurd (omega (arith, q))
+guard_none (At w c t how) q = absurd (omega (arith, q))
 guard_none (Waiting d) q = (d, refl)
-guard_none (Counted stopped) q = absurd (omega (arith, q))
+guard_none (Counted how) q = absurd (omega (arith, q))
 
 -- a node whose counter has come to 0 is ended by a free worker
 zero_keeps : (p : PlanParts) (replies : ℕ → List Reply) → IsTree p.tree → (s : State) (g : ℕ → Stage) → Holds p replies s g → (w n : ℕ) → slice_get s.tasks w ≡ Some Free → n < size p.tree → phase_counts (phase (g n)) ≡ true → counter_at s n ≡ 0
@@ -39,11 +39,11 @@ zero_keeps : (p : PlanParts) (replies : ℕ → List Reply) → IsTree p.tree �
 zero_keeps p replies tree s g h w n task in' counts z waits =
     let sum : counter_at s n ≡ guard (g n) + pending p g n = h.counters n in' counts in
     let waiting = guard_none (g n) (omega (arith, sum, z)) in
-    let b : Stage = At w waiting.0 (End n Successful) false in (
+    let b : Stage = At w waiting.0 (End n Successful) Runs in (
       upd g n b,
       end_keeps p replies tree s g h w n waiting.0 task in' waiting.1 (omega (arith, sum, z)),
       λ x c lt at. elim (cases_eq x n) [
-        | inl e ↦ absurd (at_waiting w waiting.0 (End n Successful) false c (sym (upd_same g n b x e) ∙ at))
+        | inl e ↦ absurd (at_waiting w waiting.0 (End n Successful) Runs c (sym (upd_same g n b x e) ∙ at))
         | inr ne ↦ waits x c lt ne (sym (upd_other g n b x ne) ∙ at)
       ],
     )
@@ -84,11 +84,11 @@ module _ (p : PlanParts) (replies : ℕ → List Reply) (tree : IsTree p.tree) (
   claim_ok : (n : ℕ) (task : Task) → slice_get s.tasks w ≡ Some task → IsKept p replies s → claim_row s w n task ≡ Some t → IsKept p replies t
   claim_ok n Free q k r =
       let c = cond_some (is_ready (status_at s n)) (claimed s w n) t r in
-      subst (IsKept p replies) c.1 (still_kept p replies s (claimed s w n) k.0 n refl k.2 (At w w (Begin n) false, claim_keeps p replies tree s k.0 k.1 w n q c.0, at_waiting w w (Begin n) false))
+      subst (IsKept p replies) c.1 (still_kept p replies s (claimed s w n) k.0 n refl k.2 (At w w (Begin n) Runs, claim_keeps p replies tree s k.0 k.1 w n q c.0, at_waiting w w (Begin n) Runs))
   claim_ok n _ q k r = absurd (none-some t r)
 
-  draw_ok : (task : Task) → slice_get s.tasks w ≡ Some task → IsKept p replies s → draw_row s w task ≡ Some t → IsKept p replies t
-  draw_ok (Begin n) q k r = subst (IsKept p replies) (same_Some _ t r) (still_kept p replies s (drawn s w (started_event n w)) k.0 n refl k.2 (draw_start_keeps p replies tree s k.0 k.1 w n q))
+  draw_ok : (task : Task) → slice_get s.tasks w ≡ Some task → IsKept p replies s → draw_row p s w task ≡ Some t → IsKept p replies t
+  draw_ok (Begin n) q k r = subst (IsKept p replies) (same_Some _ t r) (still_kept p replies s (drawn s w (begun_event (first_kind p n) n w)) k.0 n refl k.2 (draw_first_keeps p replies tree s k.0 k.1 w n q))
   draw_ok (End n status) q k r = subst (IsKept p replies) (same_Some _ t r) (still_kept p replies s (drawn s w (finished_event n status w)) k.0 n refl k.2 (draw_finish_keeps p replies tree s k.0 k.1 w n status q))
   draw_ok _ q k r = absurd (none-some t r)
 
@@ -116,7 +116,7 @@ module _ (p : PlanParts) (replies : ℕ → List Reply) (tree : IsTree p.tree) (
       let a = parent_of p.tree c in
       let ch : IsChild p.tree a c = parent_is p replies tree s g h c old.1 old.0.inside in
       let lt : a < c = tree.up c old.1 old.0.inside in
-      let up = parent_up p replies tree s g h a c ch (at_unseen (g c) w old.0.claimer (Up c) old.0.stopped old.0.at) (at_counted (g c) w old.0.claimer (Up c) old.0.stopped old.0.at) in
+      let up = parent_up p replies tree s g h a c ch (at_unseen (g c) w old.0.claimer (Up c) old.0.how old.0.at) (at_counted (g c) w old.0.claimer (Up c) old.0.how old.0.at) in
       let ne : a ≢ c = λ e. omega (arith, e, lt) in
       let d = up_keeps p replies tree s g h w c q in
       let b : Stage = Counted d.0 in
@@ -144,6 +144,7 @@ module _ (p : PlanParts) (replies : ℕ → List Reply) (tree : IsTree p.tree) (
   row_ok Done task q k r = done_ok task q k r
   row_ok DoSettle task q k r = settle_ok task q k r
   row_ok Look task q k r = look_ok task q k r
+  row_ok _ task q k r = absurd (none-some t r)
 
 -- the worker at place w has this task in hand
 abbrev pub in_hand : State → ℕ → Task → State
@@ -159,8 +160,8 @@ module _ (p : PlanParts) (s : State) (w : ℕ) where
   claim_again n Free busy = absurd (false≢true (sym busy))
   claim_again n _ busy = refl
 
-  draw_again : (d : Task) → draw_row (in_hand s w d) w d ≡ draw_row s w d
-  draw_again (Begin n) = ap (λ (l : List Task). Some (record (drawn s w (started_event n w)) { tasks = l })) (set-set s.tasks w (Begin n) (Drawn (length s.published) (started_event n w)))
+  draw_again : (d : Task) → draw_row p (in_hand s w d) w d ≡ draw_row p s w d
+  draw_again (Begin n) = ap (λ (l : List Task). Some (record (drawn s w (begun_event (first_kind p n) n w)) { tasks = l })) (set-set s.tasks w (Begin n) (Drawn (length s.published) (begun_event (first_kind p n) n w)))
   draw_again (End n status) = ap (λ (l : List Task). Some (record (drawn s w (finished_event n status w)) { tasks = l })) (set-set s.tasks w (End n status) (Drawn (length s.published) (finished_event n status w)))
   draw_again _ = refl
 
@@ -194,6 +195,7 @@ module _ (p : PlanParts) (s : State) (w : ℕ) where
   row_again Done d busy = done_again d
   row_again DoSettle d busy = settle_again d
   row_again Look d busy = look_again d busy
+  row_again _ d busy = refl
 
 -- what an answer decides is a task
 pub answered_busy : (p : PlanParts) (n : ℕ) (status : Status) → is_free (answered p n status) ≡ false
@@ -255,8 +257,8 @@ module _ (p : PlanParts) (s u : State) (w : ℕ) where
   claim_workers n Free r = (let c = cond_some (is_ready (status_at s n)) (claimed s w n) u r in same_workers (claimed s w n) (slice_set s.tasks w (Begin n)) refl (length-set s.tasks w (Begin n)) (ap Some c.1))
   claim_workers n _ r = absurd (none-some u r)
 
-  draw_workers : (t : Task) → draw_row s w t ≡ Some u → length u.tasks ≡ length s.tasks
-  draw_workers (Begin n) r = same_workers (drawn s w (started_event n w)) _ refl (length-set s.tasks w _) r
+  draw_workers : (t : Task) → draw_row p s w t ≡ Some u → length u.tasks ≡ length s.tasks
+  draw_workers (Begin n) r = same_workers (drawn s w (begun_event (first_kind p n) n w)) _ refl (length-set s.tasks w _) r
   draw_workers (End n status) r = same_workers (drawn s w (finished_event n status w)) _ refl (length-set s.tasks w _) r
   draw_workers _ r = absurd (none-some u r)
 
@@ -289,6 +291,7 @@ module _ (p : PlanParts) (s u : State) (w : ℕ) where
   row_workers Done t r = done_workers t r
   row_workers DoSettle t r = settle_workers t r
   row_workers Look t r = look_workers t r
+  row_workers _ t r = absurd (none-some u r)
 
 pub after_workers : (p : PlanParts) (answers : List (ℕ × Reply)) (s t : State) (a : Step) → after p answers s a ≡ Some t → length t.tasks ≡ length s.tasks
 after_workers p answers s t (Worker worker a) r =

@@ -1,5 +1,5 @@
--- The machine's fields, as a state, and what they keep.
-use Rattle.std.specs.Prelude.{◌≡◌, ℕ, zero, suc, ◌+◌, ◌<◌, ◌≤◌, List, [], ◌∷◌, ◌++◌, length, Option, Some, None, Result, IsOk, IsErr, slice_get, slice_index_or, vec_capacity}
+-- The machine's fields, as a state, and what they keep. Only private functions and proofs need this file.
+use Rattle.std.specs.Prelude.{◌≡◌, ℕ, zero, suc, ◌+◌, ◌<◌, ◌≤◌, List, [], ◌∷◌, ◌++◌, length, Option, Some, None, Result, IsOk, IsErr, slice_index_or, vec_capacity}
 use Rattle.descriptor.specs.Nodes.{size, parent_of, children_of, IsTree}
 use Rattle.plan_events.specs.declared.status.Status.{Status}
 use Rattle.plan_events.specs.declared.event.Event.{Event}
@@ -7,7 +7,7 @@ use Rattle.plan_events.specs.declared.outcome.Reply.{Reply}
 use Rattle.resource_locks.specs.Plans.{PlanParts, most_events}
 use Rattle.sched_core.specs.declared.machine.Machine.{Machine}
 use Rattle.sched_core.specs.declared.task.Task.{Task}
-use Rattle.sched_core.specs.declared.task.Task.TheVariants.{Free, Begin, Drawn, Open, Admit, Guard, End, Settle, Up}
+use Rattle.sched_core.specs.declared.task.Task.TheVariants.{Begin, Drawn, Admit, Guard, End, Settle, Up}
 use Rattle.sched_core.specs.Replies.{replies_of}
 use Rattle.sched_core.specs.History.{part_of}
 use Rattle.sched_core.specs.Machine.{State}
@@ -41,6 +41,7 @@ pub record KeepsRoom (old new : Machine) : Type 0 where
   pub published : vec_capacity old.published ≤ vec_capacity new.published
   pub shown : vec_capacity old.shown ≤ vec_capacity new.shown
 
+-- the machine runs this plan: a task for each worker, a state that the core keeps, and room for every event
 pub record IsSound (p : PlanParts) (answers : List (ℕ × Reply)) (m : Machine) : Type 0 where
   pub tree : IsTree p.tree
   pub workers : length m.tasks.items ≡ m.workers
@@ -57,15 +58,18 @@ pub record HasPlace (m : Machine) : Type 0 where
   pub published : length m.published.items < vec_capacity m.published
   pub shown : length m.shown.items < vec_capacity m.shown
 
+-- what admit needs of node n and of its child at place k
 pub record CanAdmit (p : PlanParts) (m : Machine) (n k : ℕ) : Type 0 where
   pub node : n < size p.tree
   pub child : k < length (children_of p.tree n)
   pub status : slice_index_or (children_of p.tree n) k 0 < length m.statuses.items
 
+-- node n has a counter, and it is above 0
 pub record CanCountOff (m : Machine) (n : ℕ) : Type 0 where
   pub node : n < length m.counters.items
   pub counter : 0 < slice_index_or m.counters.items n 0
 
+-- the child has a parent, which has a counter above 0
 pub record CanCountUp (p : PlanParts) (m : Machine) (c : ℕ) : Type 0 where
   pub above_zero : 0 < c
   pub node : c < size p.tree
@@ -76,6 +80,7 @@ pub record InBounds (p : PlanParts) (m : Machine) (w : ℕ) (t : Task) : Type 0 
   pub worker : w < m.workers
   pub place : w < length m.tasks.items
   pub few : w < 64
+  pub inside : (n : ℕ) → t ≡ Begin n → n < size p.tree
   pub begins : (n : ℕ) → t ≡ Begin n → HasPlace m
   pub ends : (n : ℕ) (status : Status) → t ≡ End n status → HasPlace m
   pub shows : (i : ℕ) (e : Event) → t ≡ Drawn i e → i < length m.shown.items

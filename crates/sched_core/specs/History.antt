@@ -1,10 +1,9 @@
 -- What a list of events must be like: every statement here is by the places of the list.
-use Rattle.std.specs.Prelude.{◌≡◌, ℕ, ◌+◌, ◌<◌, ◌≤◌, Bool, true, false, ◌&&◌, ◌||◌, ◌==◌, not, List, [], ◌∷◌, ◌++◌, length, filter, Option, Some, None, is_some, slice_get, ◌⊎◌}
-use Rattle.descriptor.specs.Nodes.{size, parent_of, IsChild, Below, is_test_at, body_of}
+use Rattle.std.specs.Prelude.{◌≡◌, ℕ, ◌+◌, ◌<◌, ◌≤◌, Bool, true, false, ◌&&◌, ◌==◌, not, List, ◌++◌, length, filter, Option, Some, None, is_some, slice_get, ◌⊎◌}
+use Rattle.descriptor.specs.Nodes.{size, IsChild, Below, is_test_at, body_of, is_disabled}
 use Rattle.plan_events.specs.declared.event.EventKind.{EventKind}
 use Rattle.plan_events.specs.declared.event.EventKind.TheVariants.{Started, Finished, Skipped, Registered}
 use Rattle.plan_events.specs.declared.status.Status.{Status}
-use Rattle.plan_events.specs.declared.status.Status.TheVariants.{Successful}
 use Rattle.plan_events.specs.declared.event.Event.{Event}
 use Rattle.plan_events.specs.declared.outcome.Reply.{Reply}
 use Rattle.plan_events.specs.Words.{is_lawful}
@@ -32,6 +31,7 @@ IsSettledAt h i n = StandsBefore h i Finished n ⊎ StandsBefore h i Skipped n
 abbrev pub stops_with : PlanParts → ℕ → Status → Bool
 stops_with p n status = not (is_test_at p.tree n) && (is_some (body_of p.tree n) && not (is_successful status))
 
+-- the same of the status that an event has, if it has one
 abbrev pub stops_by : PlanParts → ℕ → Option Status → Bool
 stops_by p n None = false
 stops_by p n (Some status) = stops_with p n status
@@ -58,8 +58,14 @@ pub record IsLegal (p : PlanParts) (replies : ℕ → List Reply) (workers : ℕ
   pub by_workers : (i : ℕ) (e : Event) → slice_get h i ≡ Some e → e.worker ≤ workers
   -- each kind stands at most once per node
   pub once : (i j n : ℕ) (k : EventKind) → StandsAt h i k n → StandsAt h j k n → i ≡ j
-  -- no node is disabled, so none is skipped; and there is no factory that registers one
-  pub skipped : (i n : ℕ) → StandsAt h i Skipped n → ⊥
+  -- a disabled node alone is skipped, and it is never started
+  pub skipped : (i n : ℕ) → StandsAt h i Skipped n → is_disabled p.tree n ≡ true
+  pub unstarted : (i n : ℕ) → StandsAt h i Started n → is_disabled p.tree n ≡ false
+  -- no node is both started and skipped
+  pub apart : (i j n : ℕ) → StandsAt h i Started n → StandsAt h j Skipped n → ⊥
+  -- nothing stands for a node below one that is skipped
+  pub below_skipped : (i j a : ℕ) (e : Event) → StandsAt h i Skipped a → slice_get h j ≡ Some e → Below p.tree a e.node → ⊥
+  -- there is no factory that registers a node
   pub registered : (i n : ℕ) → StandsAt h i Registered n → ⊥
   -- a finish has its start before it
   pub after_start : (i n : ℕ) → StandsAt h i Finished n → StandsBefore h i Started n
@@ -74,9 +80,13 @@ pub record IsLegal (p : PlanParts) (replies : ℕ → List Reply) (workers : ℕ
   -- each finish has a lawful result
   pub result : (i : ℕ) (e : Event) → slice_get h i ≡ Some e → e.kind ≡ Finished → HasResult p replies e
 
--- every node is settled at the end, or lies below one that was stopped before its children
+-- what stands at place i closes node a to those below it: a finish that stops it, or that it was skipped
+abbrev pub IsClosedAt : PlanParts → List Event → ℕ → ℕ → Type 0
+IsClosedAt p h i a = FinishesAt p h i a true ⊎ StandsAt h i Skipped a
+
+-- every node is settled at the end, or lies below one that was stopped before its children or skipped
 abbrev pub IsComplete : PlanParts → List Event → Type 0
-IsComplete p h = (n : ℕ) → n < size p.tree → IsSettledAt h (length h) n ⊎ ((i : ℕ) × (a : ℕ) × FinishesAt p h i a true × Below p.tree a n)
+IsComplete p h = (n : ℕ) → n < size p.tree → IsSettledAt h (length h) n ⊎ ((i : ℕ) × (a : ℕ) × IsClosedAt p h i a × Below p.tree a n)
 
 -- the plan's finish stands last
 pub record EndsInPlan (h : List Event) : Type 0 where

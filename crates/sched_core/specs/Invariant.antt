@@ -1,9 +1,9 @@
 -- What each state of the core keeps. Each node has a stage, which no code holds; status, counter, flags of the
 -- history and the task that is about the node all follow from the stages. Only proofs need this file.
-use Rattle.std.specs.Prelude.{◌≡◌, ◌≢◌, ℕ, zero, suc, ◌+◌, ◌*◌, ◌<◌, ◌≤◌, Bool, true, false, ◌&&◌, List, [], ◌∷◌, length, Option, Some, None, slice_get, slice_index_or}
-use Rattle.descriptor.specs.Nodes.{size, parent_of, children_of, is_child, IsChild, IsTree, bit, count_below, body_of}
+use Rattle.std.specs.Prelude.{◌≡◌, ◌≢◌, ℕ, zero, suc, ◌+◌, ◌<◌, ◌≤◌, Bool, true, false, ◌&&◌, not, List, [], length, Option, Some, None, slice_get, slice_index_or}
+use Rattle.descriptor.specs.Nodes.{size, children_of, is_child, IsChild, bit, count_below, body_of}
 use Rattle.plan_events.specs.declared.event.EventKind.{EventKind}
-use Rattle.plan_events.specs.declared.event.EventKind.TheVariants.{Started, Finished}
+use Rattle.plan_events.specs.declared.event.EventKind.TheVariants.{Started, Finished, Skipped}
 use Rattle.plan_events.specs.declared.status.Status.{Status}
 use Rattle.plan_events.specs.declared.status.Status.TheVariants.{Successful}
 use Rattle.plan_events.specs.declared.event.Event.{Event}
@@ -18,17 +18,35 @@ use Rattle.sched_core.specs.History.{IsLegal, stops_with, part_of}
 use Rattle.sched_core.specs.Following.{has, same_kind}
 use Rattle.sched_core.specs.Machine.{State}
 
+-- How the node is run: it is started, and its children are run; it is started, and stopped before them; it is
+-- skipped. In the last two cases nothing below it will ever be seen.
+pub data How : Type 0 where
+  Runs : How
+  Stops : How
+  Skips : How
+
+-- how a node is run that is stopped or not
+abbrev pub how_stopped : Bool → How
+how_stopped true = Stops
+how_stopped false = Runs
+
+-- whether the node is skipped
+abbrev pub is_skip : How → Bool
+is_skip Skips = true
+is_skip _ = false
+
 -- Nobody has come to the node; it is offered; the task of the worker at place w is about it, and the one at place
--- c claimed it; it waits for its children, and no task is about it; it is settled and counted off. The Bool says
--- that it is stopped: nothing below it will ever be seen.
+-- c claimed it; it waits for its children, and no task is about it; it is settled and counted off. How it is run is
+-- told from the task on that follows from the answer or from the skip; before that, the How says nothing.
 pub data Stage : Type 0 where
   Unseen : Stage
   Offered : Stage
-  At : (w c : ℕ) → Task → Bool → Stage
+  At : (w c : ℕ) → Task → How → Stage
   Waiting : (c : ℕ) → Stage
-  Counted : Bool → Stage
+  Counted : How → Stage
 
--- how far a node has come, as its children see it
+-- How far a node has come, as its children see it: none of them is seen yet; those before place k of its list are; all
+-- are; all are counted off, and it has ended; it was stopped or skipped, and none will ever be seen.
 pub data Phase : Type 0 where
   Before : Phase
   Admitting : (k : ℕ) → Phase
@@ -36,65 +54,92 @@ pub data Phase : Type 0 where
   Ended : Phase
   Barred : Phase
 
-abbrev pub ended : Bool → Phase
-ended true = Barred
-ended false = Ended
+-- the phase of a node that has ended, and how
+abbrev pub ended : How → Phase
+ended Runs = Ended
+ended _ = Barred
 
-abbrev pub drawn_phase : EventKind → Bool → Phase
-drawn_phase Finished stopped = ended stopped
-drawn_phase _ stopped = Before
+-- the phase of a node whose event is drawn
+abbrev pub drawn_phase : EventKind → How → Phase
+drawn_phase Finished how = ended how
+drawn_phase Skipped how = Barred
+drawn_phase _ how = Before
 
-abbrev pub task_phase : Task → Bool → Phase
-task_phase Free stopped = Before
-task_phase (Begin n) stopped = Before
-task_phase (Drawn i e) stopped = drawn_phase e.kind stopped
-task_phase (Open n) stopped = Before
-task_phase (Admit n k) stopped = Admitting k
-task_phase (Guard n) stopped = Running
-task_phase (End n status) stopped = ended stopped
-task_phase (Settle n) stopped = ended stopped
-task_phase (Up n) stopped = ended stopped
+-- the phase of a node that a task is about
+abbrev pub task_phase : Task → How → Phase
+task_phase Free how = Before
+task_phase (Begin n) how = Before
+task_phase (Drawn i e) how = drawn_phase e.kind how
+task_phase (Open n) how = Before
+task_phase (Admit n k) how = Admitting k
+task_phase (Guard n) how = Running
+task_phase (End n status) how = ended how
+task_phase (Settle n) how = ended how
+task_phase (Up n) how = ended how
 
+-- the phase of a stage
 abbrev pub phase : Stage → Phase
 phase Unseen = Before
 phase Offered = Before
-phase (At w c t stopped) = task_phase t stopped
+phase (At w c t how) = task_phase t how
 phase (Waiting c) = Running
-phase (Counted stopped) = ended stopped
+phase (Counted how) = ended how
 
+-- the status of a node that a task is about, and that the worker at place c claimed
 abbrev pub task_status : ℕ → Task → NodeStatus
 task_status c (Up n) = Settled
 task_status c _ = Claimed (c + 1)
 
+-- the status of a stage
 abbrev pub status_of : Stage → NodeStatus
 status_of Unseen = Hidden
 status_of Offered = Ready
-status_of (At w c t stopped) = task_status c t
+status_of (At w c t how) = task_status c t
 status_of (Waiting c) = Claimed (c + 1)
-status_of (Counted stopped) = Settled
+status_of (Counted how) = Settled
 
-abbrev pub task_started : Task → Bool
-task_started Free = false
-task_started (Begin n) = false
-task_started _ = true
+-- whether the node that a task is about has its start drawn
+abbrev pub task_started : Task → How → Bool
+task_started Free how = false
+task_started (Begin n) how = false
+task_started (Drawn i e) how = not (same_kind e.kind Skipped)
+task_started (Settle n) how = not (is_skip how)
+task_started (Up n) how = not (is_skip how)
+task_started _ how = true
 
+-- whether a node at this stage has its start drawn
 abbrev pub is_started : Stage → Bool
 is_started Unseen = false
 is_started Offered = false
-is_started (At w c t stopped) = task_started t
+is_started (At w c t how) = task_started t how
 is_started (Waiting c) = true
-is_started (Counted stopped) = true
+is_started (Counted how) = not (is_skip how)
 
-abbrev pub task_finished : Task → Bool
-task_finished (Drawn i e) = same_kind e.kind Finished
-task_finished (Settle n) = true
-task_finished (Up n) = true
-task_finished _ = false
+-- whether the node that a task is about has its finish drawn
+abbrev pub task_finished : Task → How → Bool
+task_finished (Drawn i e) how = same_kind e.kind Finished
+task_finished (Settle n) how = not (is_skip how)
+task_finished (Up n) how = not (is_skip how)
+task_finished _ how = false
 
+-- whether a node at this stage has its finish drawn
 abbrev pub is_finished : Stage → Bool
-is_finished (At w c t stopped) = task_finished t
-is_finished (Counted stopped) = true
+is_finished (At w c t how) = task_finished t how
+is_finished (Counted how) = not (is_skip how)
 is_finished _ = false
+
+-- whether it is drawn that the node which a task is about is skipped
+abbrev pub task_skipped : Task → How → Bool
+task_skipped (Drawn i e) how = same_kind e.kind Skipped
+task_skipped (Settle n) how = is_skip how
+task_skipped (Up n) how = is_skip how
+task_skipped _ how = false
+
+-- whether it is drawn that a node at this stage is skipped
+abbrev pub is_skipped : Stage → Bool
+is_skipped (At w c t how) = task_skipped t how
+is_skipped (Counted how) = is_skip how
+is_skipped _ = false
 
 -- what the node's own guard adds to its counter
 abbrev pub guard : Stage → ℕ
@@ -115,9 +160,10 @@ phase_admits _ = false
 
 -- whether the node is still to be counted off at its parent
 abbrev pub is_pending : Stage → Bool
-is_pending (Counted stopped) = false
+is_pending (Counted how) = false
 is_pending _ = true
 
+-- whether c is a child of a that is still to be counted off
 abbrev pub pends_at : PlanParts → (ℕ → Stage) → ℕ → ℕ → Bool
 pends_at p g a c = is_child p.tree a c && is_pending (g c)
 
@@ -125,9 +171,9 @@ pends_at p g a c = is_child p.tree a c && is_pending (g c)
 unfoldable pub pending : PlanParts → (ℕ → Stage) → ℕ → ℕ
 pending p g a = count_below (pends_at p g a) (size p.tree)
 
--- the stage is Counted
+-- whether the node is settled and counted off
 abbrev pub is_counted : Stage → Bool
-is_counted (Counted stopped) = true
+is_counted (Counted how) = true
 is_counted _ = false
 
 -- What a child c may be while its parent a has this phase: unseen until it is admitted, and seen from then on
@@ -154,16 +200,17 @@ subject (Up n) = Some n
 pub record IsAt (p : PlanParts) (g : ℕ → Stage) (w : ℕ) (t : Task) (n : ℕ) : Type 0 where
   pub inside : n < size p.tree
   pub claimer : ℕ
-  pub stopped : Bool
-  pub at : g n ≡ At w claimer t stopped
+  pub how : How
+  pub at : g n ≡ At w claimer t how
 
 -- the node is about to finish with this status, a lawful one, by which it is stopped or not
 pub record IsEnding (p : PlanParts) (replies : ℕ → List Reply) (g : ℕ → Stage) (w n : ℕ) (status : Status) : Type 0 where
   pub inside : n < size p.tree
   pub claimer : ℕ
-  pub at : g n ≡ At w claimer (End n status) (stops_with p n status)
+  pub at : g n ≡ At w claimer (End n status) (how_stopped (stops_with p n status))
   pub result : IsResult replies (body_of p.tree n) status
 
+-- the task of the worker at place w is about a node at whose stage it stands
 abbrev pub TaskOk : PlanParts → (ℕ → List Reply) → (ℕ → Stage) → ℕ → Task → Type 0
 TaskOk p replies g w Free = Unit {0}
 TaskOk p replies g w (Begin n) = IsAt p g w (Begin n) n
@@ -175,23 +222,27 @@ TaskOk p replies g w (End n status) = IsEnding p replies g w n status
 TaskOk p replies g w (Settle n) = IsAt p g w (Settle n) n
 TaskOk p replies g w (Up n) = IsAt p g w (Up n) n × (0 < n)
 
+-- each worker's task is such
 abbrev pub TasksOk : PlanParts → (ℕ → List Reply) → List Task → (ℕ → Stage) → Type 0
 TasksOk p replies tasks g = (w : ℕ) (t : Task) → slice_get tasks w ≡ Some t → TaskOk p replies g w t
 
 -- a node that a worker is at is what that worker's task is about
 abbrev pub HoldersOk : PlanParts → List Task → (ℕ → Stage) → Type 0
-HoldersOk p tasks g = (n w c : ℕ) (t : Task) (stopped : Bool) → n < size p.tree → g n ≡ At w c t stopped → (slice_get tasks w ≡ Some t) × (subject t ≡ Some n)
+HoldersOk p tasks g = (n w c : ℕ) (t : Task) (how : How) → n < size p.tree → g n ≡ At w c t how → (slice_get tasks w ≡ Some t) × (subject t ≡ Some n)
 
--- a node that nobody is at waits for something
+-- a node that waits for its children has something outstanding
 abbrev pub WaitsOk : PlanParts → List ℕ → (ℕ → Stage) → Type 0
 WaitsOk p counters g = (n c : ℕ) → n < size p.tree → g n ≡ Waiting c → 0 < slice_index_or counters n 0
 
+-- each status is its stage's
 abbrev pub StatusesOk : PlanParts → List NodeStatus → (ℕ → Stage) → Type 0
 StatusesOk p statuses g = (n : ℕ) → n < size p.tree → slice_index_or statuses n Hidden ≡ status_of (g n)
 
+-- each counter that counts has the guard, if it is in, and the children that are still to be counted off
 abbrev pub CountersOk : PlanParts → List ℕ → (ℕ → Stage) → Type 0
 CountersOk p counters g = (n : ℕ) → n < size p.tree → phase_counts (phase (g n)) ≡ true → slice_index_or counters n 0 ≡ guard (g n) + pending p g n
 
+-- each child fits its parent's phase
 abbrev pub EdgesOk : PlanParts → (ℕ → Stage) → Type 0
 EdgesOk p g = (a c : ℕ) → IsChild p.tree a c → Fits p (phase (g a)) a c (g c)
 
@@ -205,7 +256,7 @@ FlagOk k flag p h g = (n : ℕ) → n < size p.tree → has k n h ≡ flag (g n)
 
 -- how many events of the node are drawn
 abbrev pub events_of : Stage → ℕ
-events_of stage = bit (is_started stage) + bit (is_finished stage)
+events_of stage = bit (is_started stage) + bit (is_finished stage) + bit (is_skipped stage)
 
 -- the sum of f over the numbers below n
 abbrev pub sum_below : (ℕ → ℕ) → ℕ → ℕ
@@ -234,6 +285,7 @@ UnshownOk tasks shown = (i : ℕ) → slice_get shown i ≡ Some false → IsHel
 abbrev pub MineOk : List Task → List (List Event) → List Event → Type 0
 MineOk tasks mine h = (w : ℕ) → w < length tasks → slice_index_or mine w [] ≡ part_of (w + 1) h
 
+-- the state is the picture of these stages
 pub record Holds (p : PlanParts) (replies : ℕ → List Reply) (s : State) (g : ℕ → Stage) : Type 0 where
   pub workers_few : length s.tasks ≤ 64
   pub mine_len : length s.mine ≡ length s.tasks
@@ -249,6 +301,7 @@ pub record Holds (p : PlanParts) (replies : ℕ → List Reply) (s : State) (g :
   pub results : ResultsOk p replies g
   pub started : FlagOk Started is_started p s.published g
   pub finished : FlagOk Finished is_finished p s.published g
+  pub skipped : FlagOk Skipped is_skipped p s.published g
   pub drawn : length s.published ≡ drawn_count p g
   pub places : PlacesOk s.tasks s.published s.shown
   pub unshown : UnshownOk s.tasks s.shown

@@ -1,13 +1,14 @@
+-- The definitions that the contracts of this crate cite; those from Invariant on serve proofs and private functions.
 pub mod Replies
 pub mod History
 pub mod Following
 pub mod Machine
-pub mod Invariant
-pub mod Fields
 pub mod Runs
 pub mod Drives
 pub mod Snapshot
-pub mod CoreFields
-pub mod Work
 pub mod Traces
 pub mod Texts
+pub mod Invariant
+pub mod Work
+pub mod Fields
+pub mod CoreFields

@@ -3,7 +3,6 @@ use Rattle.std.specs.Prelude.{◌≡◌, ℕ, ◌==◌, if◌then◌else◌, Boo
 use Rattle.descriptor.specs.Nodes.{body_of}
 use Rattle.plan_events.specs.declared.status.Status.{Status}
 use Rattle.plan_events.specs.declared.status.Status.TheVariants.{Successful, Aborted, Failed}
-use Rattle.plan_events.specs.declared.outcome.Outcome.{Outcome}
 use Rattle.plan_events.specs.declared.outcome.Reply.{Reply}
 use Rattle.resource_locks.specs.Plans.{PlanParts}
 
@@ -17,6 +16,7 @@ abbrev pub or_successful : Option Reply → Reply
 or_successful (Some reply) = reply
 or_successful None = record { pulls = 0; outcome = record { status = Successful; text = [] } }
 
+-- the reply of a body
 abbrev pub reply_of : List (ℕ × Reply) → ℕ → Reply
 reply_of answers body = or_successful (reply_to answers body)
 
@@ -29,21 +29,24 @@ abbrev pub status_by : List (ℕ × Reply) → Option ℕ → Status
 status_by answers None = Successful
 status_by answers (Some body) = (reply_of answers body).outcome.status
 
+-- the status with which the job of node n answers
 abbrev pub status_for : PlanParts → List (ℕ × Reply) → ℕ → Status
 status_for p answers n = status_by answers (body_of p.tree n)
 
+-- whether the status is successful
 abbrev pub is_successful : Status → Bool
 is_successful Successful = true
 is_successful Aborted = false
 is_successful Failed = false
 
--- a lawful result: successful without a job, and else the status of one of the job's replies
-pub record Answers (replies : ℕ → List Reply) (body : ℕ) (status : Status) : Type 0 where
+-- one of the replies that the body may give has this status
+pub record HasReply (replies : ℕ → List Reply) (body : ℕ) (status : Status) : Type 0 where
   pub place : ℕ
   pub reply : Reply
   pub stands : slice_get (replies body) place ≡ Some reply
   pub same : status ≡ reply.outcome.status
 
+-- a lawful result of a node with this body, or without one: successful without a job, and else the status of one of the job's replies
 abbrev pub IsResult : (ℕ → List Reply) → Option ℕ → Status → Type 0
 IsResult replies None status = status ≡ Successful
-IsResult replies (Some body) status = Answers replies body status
+IsResult replies (Some body) status = HasReply replies body status

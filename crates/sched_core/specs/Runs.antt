@@ -1,19 +1,20 @@
--- Whole runs: a step that is not enabled is passed over. And the headline, of a state.
-use Rattle.std.specs.Prelude.{◌≡◌, ℕ, ◌+◌, ◌<◌, ◌≤◌, List, [], ◌∷◌, ◌++◌, length, Option, Some, None, slice_get, slice_index_or}
-use Rattle.descriptor.specs.Nodes.{size}
+-- Whole runs, in which a step that is not enabled is passed over; and the headline, what holds of the events of any run.
+use Rattle.std.specs.Prelude.{◌≡◌, ℕ, ◌+◌, ◌<◌, ◌≤◌, List, [], ◌∷◌, length, Option, Some, None, slice_get}
 use Rattle.plan_events.specs.declared.event.EventKind.TheVariants.{Finished}
 use Rattle.plan_events.specs.declared.event.Event.{Event}
 use Rattle.plan_events.specs.declared.outcome.Reply.{Reply}
 use Rattle.resource_locks.specs.Plans.{PlanParts, most_events}
 use Rattle.sched_core.specs.declared.step.Step.{Step}
 use Rattle.sched_core.specs.Replies.{replies_of}
-use Rattle.sched_core.specs.History.{IsLegal, IsComplete, IsPrefix, StandsAt, EndsInPlan, part_of}
-use Rattle.sched_core.specs.Machine.{State, after, given_list}
+use Rattle.sched_core.specs.History.{IsLegal, IsComplete, IsPrefix, StandsAt, part_of}
+use Rattle.sched_core.specs.Machine.{State, after}
 
+-- the state after a step; the same where the step is not enabled
 abbrev pub state_or : State → Option State → State
 state_or s None = s
 state_or s (Some t) = t
 
+-- how many steps one step adds to those passed over
 abbrev pub missed : Option State → ℕ
 missed None = 1
 missed (Some t) = 0

@@ -31,6 +31,10 @@ pub record IsDriven (p : PlanParts) (answers : List (ℕ × Reply)) (t : Trace) 
   pub drives : Drives p answers (opening p 1) final
   pub trace : IsTraceOf final 0 t
 
+-- it is the trace of whatever state the fixed schedule ends in: the schedule is deterministic
+abbrev pub IsOnlyDriven : PlanParts → List (ℕ × Reply) → Trace → Type 0
+IsOnlyDriven p answers t = (final : State) → Drives p answers (opening p 1) final → IsTraceOf final 0 t
+
 -- a trace of the whole plan: complete, ending in the plan's finish, and all of it given
 pub record IsWhole (p : PlanParts) (t : Trace) : Type 0 where
   pub complete : IsComplete p t.published.items

@@ -1,4 +1,5 @@
--- A number that each step but look lowers: how much a run still has to do.
+-- How much a run still has to do: a number that each step but look lowers. Only private functions and proofs need
+-- this file.
 use Rattle.std.specs.Prelude.{ℕ, ◌+◌, ◌*◌, ◌-◌, length, sum_by}
 use Rattle.plan_events.specs.declared.event.EventKind.{EventKind}
 use Rattle.plan_events.specs.declared.event.EventKind.TheVariants.{Started}
@@ -15,6 +16,7 @@ status_rank Ready = 2
 status_rank (Claimed w) = 1
 status_rank Settled = 0
 
+-- the rank of a task to show an event of this kind
 abbrev pub drawn_rank : EventKind → ℕ
 drawn_rank Started = 10
 drawn_rank _ = 5

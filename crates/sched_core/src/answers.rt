@@ -7,7 +7,7 @@ use descriptor::BodyId;
 use plan_events::{Reply, Status};
 use std::marker::Model;
 
-/// The reply of each body. A body without one is successful, without text and without pulls.
+/// What each body answers, wherever it runs. A body without a reply is successful, without text and without pulls.
 #[derive(Drop)]
 pub struct Answers {
     replies: Vec<(BodyId, Reply)>,
@@ -23,14 +23,14 @@ impl Model for Answers {
 }
 
 impl Answers {
-    /// These replies. Of two with one body the first counts.
+    /// These replies. Of two with the same body the first counts.
     pub fn of(replies: Vec<(BodyId, Reply)>) -> Answers
         ensures { result ≡ replies.items }
     {
         Answers { replies }
     }
 
-    /// The first reply that stands with the body.
+    /// The first reply that stands with the body, if one does.
     pub fn reply(&self, body: BodyId) -> Option<&Reply>
         ensures { MatchOption result (reply_to self.now body ≡ None) (λ reply. reply_to self.now body ≡ Some reply.now) }
     {

@@ -29,7 +29,7 @@ pub(crate) fn worker_count(workers: u32) -> Result<u8, CoreFault>
     }
 }
 
-/// A run of a plan, a step at a time.
+/// A run of a plan with the answers of its jobs, a step at a time.
 #[derive(Drop)]
 pub struct Core {
     plan: Plan,
@@ -54,8 +54,8 @@ impl Core {
     ghost use Rattle.sched_core.specs.Snapshot.{stepped, IsStep};
     ghost use Rattle.sched_core.specs.Traces.{IsTraceOf};
 
-    /// The run of a plan by so many workers, from 1 to 64, before its first step. It makes room for every event, so
-    /// that no step wants memory.
+    /// The run of a plan by so many workers, before its first step. It makes room for every event, so that no step
+    /// wants memory. No workers are refusal 60, more than 64 are refusal 61, want of memory is refusal 0.
     pub fn new(alloc: Global, plan: Plan, answers: Answers, workers: u32) -> Result<Core, CoreFault>
         ensures ok { IfOk result (λ core. core ≡ record { plan = plan; answers = answers; state = opening plan workers }) }
         ensures accepted { IfOk result (λ _. workers_refusal workers ≡ None) }
@@ -71,14 +71,14 @@ impl Core {
         })
     }
 
-    /// One step: an `Err` says that it is not possible now, and changes nothing.
+    /// One step. Where it is not possible now it is refused (refusal 62), and nothing changes.
     pub fn step(&mut self, step: Step) -> Result<(), NotEnabled>
         ensures { IsStep self.old (stepped self.old step) result self.new }
     {
         self.machine.step(&self.plan, &self.answers, step)
     }
 
-    /// What the run has left so far, with no step counted as passed over.
+    /// What the run has left so far. No step counts as passed over.
     pub fn trace(&self, alloc: Global) -> Result<Trace, AllocError>
         ensures { IfOk result (λ trace. IsTraceOf self.now.state 0 trace) }
     {

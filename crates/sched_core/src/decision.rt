@@ -3,7 +3,7 @@
 ghost use Rattle.std.specs.Prelude.{◌≡◌, ◌<◌, ◌==◌, ℕ, if◌then◌else◌};
 ghost use Rattle.descriptor.specs.Nodes.{size};
 ghost use Rattle.plan_events.specs.declared.status.Status.TheVariants.{Successful};
-ghost use Rattle.sched_core.specs.Machine.{admit_from as admit_from_of, answered as answered_of, decided as decided_of, status_awaited, task_after as task_after_of};
+ghost use Rattle.sched_core.specs.Machine.{admit_from as admit_from_of, answered as answered_of, decided as decided_of, first_kind as first_kind_of, status_awaited, task_after as task_after_of};
 
 use crate::answers::Answers;
 use crate::task::Task;
@@ -45,6 +45,18 @@ pub(crate) fn decided(plan: &Plan, answers: &Answers, task: Task) -> Task
     match task {
         Task::Open(node) => answered(plan, node, answers.status(plan.tree().body(node))),
         _ => task,
+    }
+}
+
+/// The kind of the first event of a node: it is skipped where it is disabled, and else started.
+pub(crate) fn first_kind(plan: &Plan, node: NodeId) -> EventKind
+    requires { node < size plan.now.tree }
+    ensures { result ≡ first_kind_of plan.now node }
+{
+    if plan.tree().reason(node).is_some() {
+        EventKind::Skipped
+    } else {
+        EventKind::Started
     }
 }
 

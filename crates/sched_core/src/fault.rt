@@ -6,16 +6,16 @@ ghost use Rattle.sched_core.specs.declared.fault.CoreFault.TheVariants.{NoMemory
 use std::alloc::{AllocError, AllocFailed};
 use thiserror::Error;
 
-/// Why a core was not made, or its steps were not run.
+/// Why a core was not made, or steps were not run.
 #[derive(Clone, Copy, PartialEq, Eq, Debug, Error)]
 pub enum CoreFault {
-    /// Refusal 0.
+    /// Want of memory: refusal 0.
     #[error("no memory")]
     NoMemory,
-    /// Refusal 60.
+    /// A run needs a worker: refusal 60.
     #[error("no workers")]
     NoWorkers,
-    /// Refusal 61.
+    /// A run has at most 64 workers: refusal 61.
     #[error("more than 64 workers")]
     TooManyWorkers,
 }

@@ -9,7 +9,9 @@ ghost use Rattle.sched_core.specs.Machine.{row, counters_upto, claim_row, draw_r
 ghost use Rattle.sched_core.specs.Fields.{state_of, IsSound, IsAnswered, KeepsRoom, HasPlace, CanAdmit, CanCountOff, CanCountUp, InBounds};
 
 use crate::answers::Answers;
-use crate::decision::{admit_from, decided, task_after, task_after_count, task_after_settle};
+use crate::decision::{
+    admit_from, decided, first_kind, task_after, task_after_count, task_after_settle,
+};
 use crate::fault::NotEnabled;
 use crate::status::NodeStatus;
 use crate::step::{Action, Step};
@@ -96,16 +98,17 @@ impl Machine {
         self.tasks[usize::from(place)] = Task::Drawn(index, event_by(place, kind, node, status));
     }
 
-    fn draw(&mut self, place: u8, task: Task) -> Result<(), NotEnabled>
+    fn draw(&mut self, plan: &Plan, place: u8, task: Task) -> Result<(), NotEnabled>
         requires worker { place < self.old.workers }
         requires place { place < length self.old.tasks.items }
         requires few { place < 64 }
+        requires inside { (n : ℕ) → task ≡ Task.Begin n → n < size plan.now.tree }
         requires begins { (n : ℕ) → task ≡ Task.Begin n → HasPlace self.old }
         requires ends { (n : ℕ) (status : Status) → task ≡ Task.End n status → HasPlace self.old }
-        ensures { IsAnswered self.old (draw_row (state_of self.old) place task) result self.new }
+        ensures { IsAnswered self.old (draw_row plan.now (state_of self.old) place task) result self.new }
     {
         match task {
-            Task::Begin(node) => self.publish(place, EventKind::Started, node, None),
+            Task::Begin(node) => self.publish(place, first_kind(plan, node), node, None),
             Task::End(node, status) => self.publish(place, EventKind::Finished, node, Some(status)),
             _ => return Err(NotEnabled),
         }
@@ -190,18 +193,24 @@ impl Machine {
     {
         match action {
             Action::Claim(node) => self.claim(place, node, task),
-            Action::Draw => self.draw(place, task),
+            Action::Draw => self.draw(plan, place, task),
             Action::Show => self.show(place, task),
             Action::Admit => self.admit(plan, place, task),
             Action::Done => self.done(plan, place, task),
             Action::Settle => self.settle(place, task),
             Action::Look if matches!(task, Task::Free) => Ok(()),
-            Action::Look => Err(NotEnabled),
+            _ => Err(NotEnabled),
         }
     }
 
     /// One step of the worker with this number, from 1.
-    fn work(&mut self, plan: &Plan, answers: &Answers, worker: u8, action: Action) -> Result<(), NotEnabled>
+    fn work(
+        &mut self,
+        plan: &Plan,
+        answers: &Answers,
+        worker: u8,
+        action: Action,
+    ) -> Result<(), NotEnabled>
         requires { IsSound plan.now answers.now self.old }
         ensures { IsAnswered self.old (worker_step plan.now answers.now (state_of self.old) worker action) result self.new }
     {
@@ -227,8 +236,13 @@ impl Machine {
         Ok(())
     }
 
-    /// One step: an `Err` says that it is not possible now, and changes nothing.
-    pub(crate) fn step(&mut self, plan: &Plan, answers: &Answers, step: Step) -> Result<(), NotEnabled>
+    /// One step. Where it is not possible now it is refused, and nothing changes.
+    pub(crate) fn step(
+        &mut self,
+        plan: &Plan,
+        answers: &Answers,
+        step: Step,
+    ) -> Result<(), NotEnabled>
         requires { IsSound plan.now answers.now self.old }
         ensures answered { IsAnswered self.old (after plan.now answers.now (state_of self.old) step) result self.new }
         ensures sound { IsSound plan.now answers.now self.new }

@@ -4,7 +4,7 @@ ghost use Rattle.std.specs.Prelude.{◌≡◌, ◌≢◌, Some, None, IfOk, IfEr
 ghost use Rattle.sched_core.specs.Machine.{opening};
 ghost use Rattle.sched_core.specs.Snapshot.{workers_refusal};
 ghost use Rattle.sched_core.specs.Runs.{run, passed_over};
-ghost use Rattle.sched_core.specs.Traces.{IsTraceOf, IsRightTrace, IsDriven, IsWhole};
+ghost use Rattle.sched_core.specs.Traces.{IsTraceOf, IsRightTrace, IsDriven, IsOnlyDriven, IsWhole};
 ghost use Rattle.sched_core.specs.Fields.{state_of, IsSound};
 
 use crate::answers::Answers;
@@ -35,8 +35,15 @@ impl Machine {
     }
 }
 
-/// Runs the steps in order with so many workers, from 1 to 64. A step that is not possible is passed over and counted.
-pub fn run_steps(alloc: Global, plan: &Plan, answers: &Answers, workers: u32, steps: &[Step]) -> Result<Trace, CoreFault>
+/// Runs the steps in order with so many workers. A step that is not possible when its turn comes is passed over and
+/// counted. No workers are refusal 60, more than 64 are refusal 61, want of memory is refusal 0.
+pub fn run_steps(
+    alloc: Global,
+    plan: &Plan,
+    answers: &Answers,
+    workers: u32,
+    steps: &[Step],
+) -> Result<Trace, CoreFault>
     ensures exact { IfOk result (λ trace. IsTraceOf (run plan.now answers.now (opening plan.now workers) steps.now) (passed_over plan.now answers.now (opening plan.now workers) steps.now) trace) }
     ensures right { IfOk result (λ trace. IsRightTrace plan.now answers.now workers trace) }
     ensures accepted { IfOk result (λ _. workers_refusal workers ≡ None) }
@@ -49,9 +56,11 @@ pub fn run_steps(alloc: Global, plan: &Plan, answers: &Answers, workers: u32, st
     Ok(machine.trace(alloc, missed)?)
 }
 
-/// Runs the plan to its end with one worker, by the fixed schedule.
+/// Runs the plan to its end with one worker, by the fixed schedule: the dispatcher reads whatever is shown, and else the
+/// worker takes the one step that it has to take, or claims the least numbered node that is ready.
 pub fn drive(alloc: Global, plan: &Plan, answers: &Answers) -> Result<Trace, AllocError>
     ensures driven { IfOk result (λ trace. IsDriven plan.now answers.now trace) }
+    ensures only { IfOk result (λ trace. IsOnlyDriven plan.now answers.now trace) }
     ensures right { IfOk result (λ trace. IsRightTrace plan.now answers.now 1 trace) }
     ensures whole { IfOk result (λ trace. IsWhole plan.now trace) }
 {

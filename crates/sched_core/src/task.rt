@@ -8,7 +8,7 @@ use plan_events::{Event, Status};
 pub enum Task {
     /// Nothing: it may claim a node.
     Free,
-    /// The node's start is to be drawn.
+    /// The node's first event is to be drawn: that it is skipped, where it is disabled, and else its start.
     Begin(NodeId),
     /// The event that it drew is to be shown at its place, from 0.
     Drawn(usize, Event),
@@ -20,7 +20,7 @@ pub enum Task {
     Guard(NodeId),
     /// The node's finish is to be drawn, with this status.
     End(NodeId, Status),
-    /// The node's finish is shown: the node is to be settled.
+    /// The node's finish, or that it is skipped, is shown: the node is to be settled.
     Settle(NodeId),
     /// The node is settled: it is to be counted off at its parent.
     Up(NodeId),

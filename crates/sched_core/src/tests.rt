@@ -1,6 +1,8 @@
 //! Runs of small plans, step by step and by the fixed schedule, with events from outside.
 
-use crate::{Action, Answers, Core, CoreFault, NotEnabled, Step, Trace, drive, run_steps, texts_of};
+use crate::{
+    Action, Answers, Core, CoreFault, NotEnabled, Step, Trace, drive, run_steps, texts_of,
+};
 use descriptor::{BodyId, Kind, Node, NodeId, TreeBuilder};
 use plan_events::{Event, EventKind, Outcome, Reply, Status};
 use resource_locks::Plan;
@@ -16,6 +18,7 @@ fn node(alloc: Global, name: &str, kind: Kind, body: Option<u16>) -> Result<Node
         name: Text::new(alloc, name)?,
         kind,
         body: body.map(BodyId::new),
+        disabled: None,
     })
 }
 
@@ -34,6 +37,22 @@ fn plan(rt: &impl Abort, alloc: Global, class: Option<u16>, tests: &[&str]) -> R
         assert!(rt; builder.may_take(class));
         builder.add(alloc, class, test)?;
     }
+    Ok(Plan::plain(builder.finish()))
+}
+
+/// Node 1 is an engine, 2 its class, disabled for this reason, and 3 the class's test, with body 3.
+fn disabled_plan(rt: &impl Abort, alloc: Global, reason: &str) -> Result<Plan, Fail> {
+    let mut builder = TreeBuilder::new(alloc)?;
+    let engine = node(alloc, "engine", Kind::Container, None)?;
+    assert!(rt; builder.may_take(NodeId::ROOT));
+    let engine = builder.add(alloc, NodeId::ROOT, engine)?;
+    let mut class = node(alloc, "class", Kind::Container, None)?;
+    class.disabled = Some(Text::new(alloc, reason)?);
+    assert!(rt; builder.may_take(engine));
+    let class = builder.add(alloc, engine, class)?;
+    let test = node(alloc, "adds", Kind::Test, Some(3))?;
+    assert!(rt; builder.may_take(class));
+    builder.add(alloc, class, test)?;
     Ok(Plan::plain(builder.finish()))
 }
 
@@ -72,6 +91,14 @@ fn finished(node: u16, status: Status) -> Event {
         node: NodeId::new(node),
         status: Some(status),
         worker: 1,
+    }
+}
+
+/// That a node is skipped, by worker 1.
+fn skipped(node: u16) -> Event {
+    Event {
+        kind: EventKind::Skipped,
+        ..started(1, node)
     }
 }
 
@@ -161,7 +188,8 @@ fn gives_no_further_than_what_is_shown(rt: HostRuntime) -> Result<(), Fail> {
         started(1, 3),
         started(2, 4),
     ];
-    assert_eq!(rt; trace.published.as_slice(), &want[..]);
+    let want = want.as_slice();
+    assert_eq!(rt; trace.published.as_slice(), want);
     assert_eq!(rt; trace.given.as_slice(), &want[..3]);
     assert_eq!(rt; trace.mine.len(), 64);
     assert_eq!(rt; trace.mine[0].as_slice(), &want[..4]);
@@ -175,7 +203,10 @@ fn passes_over_what_is_not_possible(rt: HostRuntime) -> Result<(), Fail> {
     let alloc = rt.alloc();
     let plan = plan(&rt, alloc, None, &["adds", "takes"])?;
     let answers = answers(alloc, &[])?;
-    let steps = six_steps().map(|(step, _)| step);
+    let mut steps = Vec::new(alloc);
+    for (step, _) in six_steps() {
+        steps.push(step)?;
+    }
     let trace = run_steps(alloc, &plan, &answers, 64, &steps)?;
     assert_six(&rt, &trace, 3);
     let mut core = Core::new(alloc, plan, answers, 64)?;
@@ -229,7 +260,10 @@ fn refuses_what_no_worker_can_do(rt: HostRuntime) -> Result<(), Fail> {
 fn stops_a_class_whose_body_fails(rt: HostRuntime) -> Result<(), Fail> {
     let alloc = rt.alloc();
     let plan = plan(&rt, alloc, Some(2), &["adds", "takes"])?;
-    let answers = answers(alloc, &[(2, Status::Failed, "boom"), (3, Status::Successful, "fine")])?;
+    let answers = answers(
+        alloc,
+        &[(2, Status::Failed, "boom"), (3, Status::Successful, "fine")],
+    )?;
     let trace = drive(alloc, &plan, &answers)?;
     let want = [
         started(1, 0),
@@ -241,7 +275,13 @@ fn stops_a_class_whose_body_fails(rt: HostRuntime) -> Result<(), Fail> {
     ];
     assert_eq!(rt; trace.published.as_slice(), &want[..]);
     let texts = texts_of(alloc, &plan, &answers, &trace.published)?;
-    for (node, text) in [(0, None), (1, None), (2, Some("boom")), (3, None), (4, None)] {
+    for (node, text) in [
+        (0, None),
+        (1, None),
+        (2, Some("boom")),
+        (3, None),
+        (4, None),
+    ] {
         assert_eq!(rt; texts.of(NodeId::new(node)), text, "of {node}");
     }
     Ok(())
@@ -254,11 +294,44 @@ fn takes_the_first_reply_or_none(rt: HostRuntime) -> Result<(), Fail> {
     let replies = [(4, Status::Aborted, "no disk"), (4, Status::Failed, "late")];
     let answers = answers(alloc, &replies)?;
     let trace = drive(alloc, &plan, &answers)?;
-    assert_eq!(rt; trace.published.len(), 10);
-    assert!(rt; trace.published.as_slice().contains(&finished(3, Status::Successful)));
-    assert!(rt; trace.published.as_slice().contains(&finished(4, Status::Aborted)));
+    let passed = Status::Successful;
+    let want = [
+        started(1, 0),
+        started(1, 1),
+        started(1, 2),
+        started(1, 3),
+        finished(3, passed),
+        started(1, 4),
+        finished(4, Status::Aborted),
+        finished(2, passed),
+        finished(1, passed),
+        finished(0, passed),
+    ];
+    assert_eq!(rt; trace.published.as_slice(), &want[..]);
     let texts = texts_of(alloc, &plan, &answers, &trace.published)?;
     assert_eq!(rt; texts.of(NodeId::new(3)), Some(""));
     assert_eq!(rt; texts.of(NodeId::new(4)), Some("no disk"));
+    Ok(())
+}
+
+#[test]
+fn skips_a_disabled_class(rt: HostRuntime) -> Result<(), Fail> {
+    let alloc = rt.alloc();
+    let plan = disabled_plan(&rt, alloc, "later")?;
+    let answers = answers(alloc, &[(3, Status::Failed, "never run")])?;
+    let trace = drive(alloc, &plan, &answers)?;
+    let want = [
+        started(1, 0),
+        started(1, 1),
+        skipped(2),
+        finished(1, Status::Successful),
+        finished(0, Status::Successful),
+    ];
+    assert_eq!(rt; trace.published.as_slice(), &want[..]);
+    assert_eq!(rt; trace.given.as_slice(), &want[..]);
+    let texts = texts_of(alloc, &plan, &answers, &trace.published)?;
+    for (node, text) in [(0, None), (1, None), (2, Some("later")), (3, None)] {
+        assert_eq!(rt; texts.of(NodeId::new(node)), text, "of {node}");
+    }
     Ok(())
 }

@@ -9,13 +9,16 @@ use crate::machine::Machine;
 use plan_events::Event;
 use std::alloc::{AllocError, Global};
 
-/// What a run leaves: the published events, those of them that were given, the list of each worker, from worker 1
-/// on, and how many steps were passed over.
+/// What a run leaves.
 #[derive(Drop)]
 pub struct Trace {
+    /// Every event that was drawn, in the order of their places from 0.
     pub published: Vec<Event>,
+    /// The first of them, which the dispatcher gave.
     pub given: Vec<Event>,
+    /// The published events of each worker: those of worker k at place k - 1.
     pub mine: Vec<Vec<Event>>,
+    /// How many steps were not possible when their turn came.
     pub passed_over: usize,
 }
 
@@ -23,7 +26,11 @@ pub struct Trace {
 fn part(alloc: Global, events: &[Event], worker: u8) -> Result<Vec<Event>, AllocError>
     ensures { IfOk result (λ v. v.items ≡ part_of worker events.now) }
 {
-    events.iter().filter(|event| event.worker == worker).copied().collect(alloc)
+    events
+        .iter()
+        .filter(|event| event.worker == worker)
+        .copied()
+        .collect(alloc)
 }
 
 /// The lists of so many workers.

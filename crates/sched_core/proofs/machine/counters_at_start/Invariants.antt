@@ -1,3 +1,4 @@
+-- The counters so far are those of the nodes so far.
 use Rattle.std.proofs.Common.{◌≡◌}
 use Rattle.sched_core.specs.Machine.{counters_upto}
 use Rattle.sched_core.proofs.machine.counters_at_start.Given as goal

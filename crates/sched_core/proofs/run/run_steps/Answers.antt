@@ -1,3 +1,4 @@
+-- What the trace of a list of steps tells.
 use Rattle.std.proofs.Common.{◌∙◌}
 use Rattle.sched_core.proofs.Running.{right_trace}
 use Rattle.sched_core.proofs.run.run_steps.Goals as goal

@@ -1,3 +1,4 @@
+-- One more event gone through.
 use Rattle.std.proofs.Common.{◌≡◌, ◌<◌, ◌+◌, ◌++◌, ◌∷◌, [], ◌∙◌, arith, ap, sym, List, take, length, subst}
 use Rattle.std.proofs.lemmas.List.{take_more}
 use Rattle.plan_events.specs.declared.event.Event.{Event}

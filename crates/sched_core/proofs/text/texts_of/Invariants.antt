@@ -1,3 +1,4 @@
+-- The notes are those of the events gone through.
 use Rattle.std.proofs.Common.{take}
 use Rattle.sched_core.specs.Texts.{AreTexts}
 use Rattle.sched_core.proofs.text.texts_of.Given as goal

@@ -1,3 +1,4 @@
+-- The lists so far are those of the workers so far.
 use Rattle.std.proofs.Common.{◌≡◌}
 use Rattle.sched_core.specs.Fields.{parts_upto}
 use Rattle.sched_core.specs.Traces.{lists_of}

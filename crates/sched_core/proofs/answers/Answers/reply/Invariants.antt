@@ -1,3 +1,4 @@
+-- The first reply of the whole list is the first of those not looked at yet.
 use Rattle.std.proofs.Common.{◌≡◌, drop}
 use Rattle.sched_core.specs.Replies.{reply_to}
 use Rattle.sched_core.proofs.answers.Answers.reply.Given as goal

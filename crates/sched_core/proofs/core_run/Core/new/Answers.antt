@@ -1,3 +1,4 @@
+-- The core at the start is sound.
 use Rattle.sched_core.proofs.core_run.Core.new.Goals as goal
 
 pub invariant_of-result : goal.invariant_of-result

@@ -1,6 +1,6 @@
-use Rattle.std.proofs.Common.{◌≡◌, ◌<◌, arith, ap, subst, sym, length}
+-- The child that is admitted stands in the list.
+use Rattle.std.proofs.Common.{arith}
 use Rattle.std.proofs.lemmas.Grind.{common_steps}
-use Rattle.descriptor.specs.Nodes.{size}
 use Rattle.sched_core.proofs.machine.Machine.admit.Goals as goal
 
 pub children-requires : goal.children-requires

@@ -1,9 +1,5 @@
-use Rattle.std.proofs.Common.{◌≡◌, ◌∙◌, ◌<◌, ℕ, arith, sym, ap, length, get_or, slice_get, Some, refl}
-use Rattle.std.proofs.lemmas.Option.{slice_get-get_or}
-use Rattle.std.proofs.lemmas.List.{get_or_default}
-use Rattle.sched_core.specs.declared.machine.Machine.{Machine}
-use Rattle.sched_core.specs.declared.task.Task.{Task}
-use Rattle.sched_core.specs.declared.task.Task.TheVariants.{Free}
+-- The worker's next step is the schedule's, and less is left to do.
+use Rattle.std.proofs.Common.{◌∙◌, arith, ap, Some}
 use Rattle.sched_core.specs.Replies.{replies_of}
 use Rattle.sched_core.specs.Fields.{state_of}
 use Rattle.sched_core.proofs.Driving.{only_task}

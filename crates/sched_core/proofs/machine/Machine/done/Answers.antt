@@ -1,4 +1,5 @@
-use Rattle.std.proofs.Common.{◌≡◌, ◌<◌, arith, ap, subst, sym, length}
+-- The node that is counted off is one of the plan.
+use Rattle.std.proofs.Common.{arith}
 use Rattle.std.proofs.lemmas.Grind.{common_steps}
 use Rattle.sched_core.proofs.machine.Machine.done.Goals as goal
 

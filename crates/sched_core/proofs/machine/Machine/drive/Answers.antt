@@ -1,3 +1,4 @@
+-- Where nothing goes on, the schedule has ended.
 use Rattle.sched_core.specs.Fields.{state_of}
 use Rattle.sched_core.proofs.Driving.{leads_end}
 use Rattle.sched_core.proofs.machine.Machine.drive.Goals as goal

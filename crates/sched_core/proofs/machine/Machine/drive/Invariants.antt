@@ -1,3 +1,4 @@
+-- Wherever the schedule ends from here, it ends from the start; and what is left to do falls.
 use Rattle.std.proofs.Common.{◌≡◌}
 use Rattle.sched_core.specs.Drives.{LeadsTo}
 use Rattle.sched_core.specs.Fields.{state_of, IsSound}

@@ -1,3 +1,4 @@
+-- No node gone through is ready.
 use Rattle.std.proofs.Common.{◌≡◌, ◌<◌, ℕ, false, get_or}
 use Rattle.sched_core.specs.declared.status.NodeStatus.TheVariants.{Hidden}
 use Rattle.sched_core.specs.Machine.{is_ready}

@@ -1,3 +1,4 @@
+-- A read that was possible is a step of the schedule.
 use Rattle.std.proofs.Common.{sym}
 use Rattle.sched_core.proofs.Running.{leads_by_read}
 use Rattle.sched_core.proofs.machine.Machine.goes_on.Goals as goal

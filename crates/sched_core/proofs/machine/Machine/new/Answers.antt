@@ -1,11 +1,11 @@
-use Rattle.std.proofs.Common.{◌≡◌, ◌∙◌, ap, arith, set, replicate, refl, length}
+-- The machine at the start is the opening state, and sound.
+use Rattle.std.proofs.Common.{◌∙◌, ap, arith, set, replicate, refl, length}
 use Rattle.std.proofs.lemmas.List.{length-replicate}
 use Rattle.std.proofs.lemmas.Grind.{common_steps}
 use Rattle.descriptor.specs.Nodes.{Nodes, size}
 use Rattle.sched_core.specs.declared.status.NodeStatus.TheVariants.{Hidden, Ready}
 use Rattle.sched_core.specs.declared.task.Task.TheVariants.{Free}
 use Rattle.sched_core.specs.Machine.{counters_upto}
-use Rattle.sched_core.specs.Fields.{IsSound}
 use Rattle.sched_core.proofs.Start.{opening_is}
 use Rattle.sched_core.proofs.Sound.{sound_start}
 use Rattle.sched_core.proofs.machine.Machine.new.Goals as goal

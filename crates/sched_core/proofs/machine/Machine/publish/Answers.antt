@@ -1,4 +1,5 @@
-use Rattle.std.proofs.Common.{◌≡◌, ◌+◌, ◌++◌, ◌∷◌, [], arith, refl, set, get_or}
+-- One more event, last in its worker's list.
+use Rattle.std.proofs.Common.{◌+◌, arith, refl}
 use Rattle.std.proofs.lemmas.Grind.{common_steps}
 use Rattle.plan_events.specs.declared.event.Event.{Event}
 use Rattle.sched_core.proofs.Parts.{parts_more}

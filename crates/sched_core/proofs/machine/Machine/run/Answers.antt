@@ -1,4 +1,5 @@
-use Rattle.std.proofs.Common.{◌≡◌, ◌∙◌, ◌≤◌, ◌<◌, ◌+◌, ℕ, List, ◌∷◌, arith, sym, ap, length, drop, refl}
+-- One more step, taken or passed over.
+use Rattle.std.proofs.Common.{◌≡◌, ◌∙◌, ◌<◌, ◌+◌, List, ◌∷◌, arith, sym, ap, length, drop}
 use Rattle.std.proofs.lemmas.List.{drop_more}
 use Rattle.sched_core.specs.declared.step.Step.{Step}
 use Rattle.sched_core.specs.Fields.{state_of}
@@ -16,14 +17,13 @@ loop-step-preserved c =
     let old = c.loop-step.self in
     let new = c.step.new.self in
     let here = ap (run c.args.plan.now c.args.answers.now (state_of old)) split ∙ run_step c.args.plan.now c.args.answers.now old new c.step-item.result rest c.step.result c.step.ensures.answered in
-    let count = ap (passed_over c.args.plan.now c.args.answers.now (state_of old)) split in
-    (
+    let count = ap (passed_over c.args.plan.now c.args.answers.now (state_of old)) split in (
       elim c.if-is_err.branch [ then-is_err w ↦ omega (arith, c.loop-step.invariant.0, w.missed-is) | else-is_err w ↦ omega (arith, c.loop-step.invariant.0, w.missed-is) ],
       c.step.ensures.sound,
       c.step.ensures.workers ∙ c.loop-step.invariant.2,
       sym here ∙ c.loop-step.invariant.3,
       elim c.if-is_err.branch [
-        then-is_err w ↦ (let more = passed_err c.args.plan.now c.args.answers.now old new c.step-item.result rest c.step.result c.step.ensures.answered (sym w.if-is_err.ensures.value) in omega (arith, more, count, c.loop-step.invariant.4, w.missed-is))
-      | else-is_err w ↦ (let more = passed_ok c.args.plan.now c.args.answers.now old new c.step-item.result rest c.step.result c.step.ensures.answered w.if-is_err.ensures.negation in omega (arith, more, count, c.loop-step.invariant.4, w.missed-is))
-      ]
+        | then-is_err w ↦ (let more = passed_err c.args.plan.now c.args.answers.now old new c.step-item.result rest c.step.result c.step.ensures.answered (sym w.if-is_err.ensures.value) in omega (arith, more, count, c.loop-step.invariant.4, w.missed-is))
+        | else-is_err w ↦ (let more = passed_ok c.args.plan.now c.args.answers.now old new c.step-item.result rest c.step.result c.step.ensures.answered w.if-is_err.ensures.negation in omega (arith, more, count, c.loop-step.invariant.4, w.missed-is))
+      ],
     )

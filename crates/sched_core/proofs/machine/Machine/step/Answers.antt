@@ -1,3 +1,4 @@
+-- A step leaves the machine sound, with the same workers.
 use Rattle.sched_core.specs.declared.step.Step.TheVariants.{Worker, Read}
 use Rattle.sched_core.specs.Machine.{after}
 use Rattle.sched_core.specs.Fields.{state_of}

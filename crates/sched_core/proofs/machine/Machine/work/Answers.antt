@@ -1,5 +1,5 @@
-use Rattle.std.proofs.Common.{◌≡◌, ◌≢◌, ◌<◌, ◌∙◌, ◌-◌, ap, sym, subst, arith, slice_get, Some, Option}
-use Rattle.std.proofs.lemmas.Grind.{common_steps}
+-- The worker's task as the answers decide it, and what its step finds in range.
+use Rattle.std.proofs.Common.{◌≡◌, ◌≢◌, ◌∙◌, ◌-◌, ap, sym, subst, arith, slice_get, Some, Option}
 use Rattle.sched_core.specs.declared.task.Task.{Task}
 use Rattle.sched_core.specs.Machine.{State, status_awaited, row}
 use Rattle.sched_core.specs.Fields.{state_of, InBounds, IsAnswered}
