@@ -1,4 +1,4 @@
--- One more write of what is left, and what a front is of all that a reader has.
+-- One more write of what is left.
 use Rattle.std.proofs.Common.{ℕ, List, Option, ◌-◌, ◌+◌, ◌≤◌, ◌++◌, length, take, drop, sym, ap, subst, ◌∙◌, arith, length-take}
 use Rattle.std.specs.Io.KnownBytes.{Appends}
 use Rattle.std.proofs.KnownBytes.{Appends-trans}

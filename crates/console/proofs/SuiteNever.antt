@@ -2,18 +2,20 @@
 use Rattle.std.proofs.Common.{◌≢◌, ℕ, ◌+◌, List, ◌∷◌, [], Option, Some, None, Result, Ok, Err, Bool, true, false}
 use Rattle.std.specs.Prelude.{nat_lt, ◌||◌, not, ◌==◌, ◌%◌, ◌/◌, if◌then◌else◌, length}
 use Rattle.std.specs.Str.Lines.{lines}
-use Rattle.std.specs.Str.{bytes_eq}
-use Rattle.std.specs.Prelude.{codes}
 use Rattle.descriptor.specs.declared.fault.TreeFault.{TreeFault}
 use Rattle.console.specs.declared.suite_words.Word.{Word}
 use Rattle.console.specs.declared.suite_words.Word.TheVariants.{Engine, Class, Test}
+use Rattle.console.specs.declared.suite_verdicts.Verdict.{Verdict}
+use Rattle.console.specs.declared.suite_verdicts.Verdict.TheVariants.{Pass, Fail, Abort, Disabled}
 use Rattle.console.specs.declared.suite_fault.SuiteFault.{SuiteFault}
 use Rattle.console.specs.declared.suite_fault.SuiteFault.TheVariants.{NoMemory}
 use Rattle.console.specs.SuiteFaults.{◌>>=◌}
-use Rattle.console.specs.SuiteLines.{says_nothing, words_of, level_of, indentation_of}
+use Rattle.console.specs.SuiteLines.{says_nothing, first_word, after_word, text_after_word, level_of, indentation_of}
 use Rattle.console.specs.SuiteNodes.{word_on, refusal_on, grown, unless_refused}
 use Rattle.console.specs.SuiteParts.{LinesRead, no_lines}
-use Rattle.console.specs.SuiteWords.{may_stand, verdict_of, word_of, declared_as, declared_by}
+use Rattle.console.specs.SuiteSpins.{key_of, value_of, is_spin, number_up_to, or_bad_line, spin_of}
+use Rattle.console.specs.SuiteVerdicts.{verdict_spelled, no_verdict, verdict_with, verdict_of}
+use Rattle.console.specs.SuiteWords.{word_of, may_stand, placed, with_verdict, with_spin, with_name, declared_by}
 use Rattle.console.specs.Suites.{with_declared, with_declaration, with_line, suite_from, suite_of}
 
 abbrev Never : {A : Type 0} → Result A SuiteFault → Type 0
@@ -33,24 +35,53 @@ ok_never x = λ e. cc
 level_never : (number deepest : ℕ) (line : List ℕ) → Never (level_of number deepest line)
 level_never number deepest line = if_never (not (indentation_of line % 2 == 0) || nat_lt deepest (indentation_of line / 2)) _ _ (λ e. cc) (λ e. cc)
 
-verdict_never : (number : ℕ) (word : Word) (words : List (List ℕ)) → Never (verdict_of number word words)
-verdict_never number Engine [] = λ e. cc
-verdict_never number Engine (w ∷ ws) = λ e. cc
-verdict_never number Class [] = λ e. cc
-verdict_never number Class (w ∷ ws) = λ e. cc
-verdict_never number Test [] = λ e. cc
-verdict_never number Test (w ∷ []) = if_never (bytes_eq w (codes "pass")) _ _ (λ e. cc) (λ e. cc)
-verdict_never number Test (w ∷ v ∷ ws) = λ e. cc
+spin_never : (number : ℕ) (n : Option ℕ) → Never (or_bad_line number n)
+spin_never number None = λ e. cc
+spin_never number (Some n) = λ e. cc
 
-as_never : (number : ℕ) (above word : Option Word) (name : List ℕ) (rest : List (List ℕ)) → Never (declared_as number above word name rest)
-as_never number above None name rest = λ e. cc
-as_never number above (Some word) name rest =
-    if_never (may_stand above word) _ _ (then_never (verdict_of number word rest) _ (verdict_never number word rest) (λ x. λ e. cc)) (λ e. cc)
+none_never : (number : ℕ) (word : Word) → Never (no_verdict number word)
+none_never number Engine = λ e. cc
+none_never number Class = λ e. cc
+none_never number Test = λ e. cc
 
-by_never : (number : ℕ) (above : Option Word) (words : List (List ℕ)) → Never (declared_by number above words)
-by_never number above [] = λ e. cc
-by_never number above (w ∷ []) = λ e. cc
-by_never number above (first ∷ name ∷ rest) = as_never number above (word_of first) name rest
+some_never : (number : ℕ) (word : Word) (verdict : Option Verdict) (text : List ℕ) → Never (verdict_with number word verdict text)
+some_never number Engine verdict text = λ e. cc
+some_never number Class None text = λ e. cc
+some_never number Test None text = λ e. cc
+some_never number Class (Some Pass) text = if_never (length text == 0) _ _ (λ e. cc) (λ e. cc)
+some_never number Test (Some Pass) text = if_never (length text == 0) _ _ (λ e. cc) (λ e. cc)
+some_never number Class (Some Fail) text = λ e. cc
+some_never number Test (Some Fail) text = λ e. cc
+some_never number Class (Some Abort) text = λ e. cc
+some_never number Test (Some Abort) text = λ e. cc
+some_never number Class (Some Disabled) text = λ e. cc
+some_never number Test (Some Disabled) text = λ e. cc
+
+verdict_never : (number : ℕ) (word : Word) (first text : List ℕ) → Never (verdict_of number word first text)
+verdict_never number word first text = if_never (length first == 0) _ _ (none_never number word) (some_never number word (verdict_spelled first) text)
+
+placed_never : (number : ℕ) (above word : Option Word) → Never (placed number above word)
+placed_never number above None = λ e. cc
+placed_never number above (Some word) = if_never (may_stand above word) _ _ (λ e. cc) (λ e. cc)
+
+with_verdict_never : (number : ℕ) (word : Word) (name : List ℕ) (spin : ℕ) (rest : List ℕ) → Never (with_verdict number word name spin rest)
+with_verdict_never number word name spin rest =
+    then_never (verdict_of number word (first_word rest) (text_after_word rest)) _ (verdict_never number word (first_word rest) (text_after_word rest)) (λ verdict. λ e. cc)
+
+with_spin_never : (number : ℕ) (word : Word) (name rest : List ℕ) → Never (with_spin number word name rest)
+with_spin_never number word name rest =
+    if_never (is_spin word (key_of (first_word rest))) _ _
+    (then_never (spin_of number (value_of (first_word rest))) (λ spin. with_verdict number word name spin (after_word rest)) (spin_never number (number_up_to 1000000 (value_of (first_word rest))))
+    (λ spin. with_verdict_never number word name spin (after_word rest)))
+    (with_verdict_never number word name 0 rest)
+
+with_name_never : (number : ℕ) (word : Word) (rest : List ℕ) → Never (with_name number word rest)
+with_name_never number word rest = if_never (length (first_word rest) == 0) _ _ (λ e. cc) (with_spin_never number word (first_word rest) (after_word rest))
+
+by_never : (number : ℕ) (above : Option Word) (line : List ℕ) → Never (declared_by number above line)
+by_never number above line =
+    then_never (placed number above (word_of (first_word line))) (λ word. with_name number word (after_word line)) (placed_never number above (word_of (first_word line)))
+    (λ word. with_name_never number word (after_word line))
 
 refused_never : (number : ℕ) (why : Option TreeFault) (read : LinesRead) → Never (unless_refused number why read)
 refused_never number None read = λ e. cc
@@ -58,8 +89,8 @@ refused_never number (Some why) read = λ e. cc
 
 line_never : (number : ℕ) (read : LinesRead) (line : List ℕ) → Never (with_line number read line)
 line_never number read line = if_never (says_nothing line) _ _ (λ e. cc)
-    (then_never (level_of number (length read.path) line) (λ level. with_declaration number read level (words_of line)) (level_never number (length read.path) line)
-    (λ level. then_never (declared_by number (word_on read level) (words_of line)) (λ d. with_declared number read level d) (by_never number (word_on read level) (words_of line))
+    (then_never (level_of number (length read.path) line) (λ level. with_declaration number read level line) (level_never number (length read.path) line)
+    (λ level. then_never (declared_by number (word_on read level) line) (λ d. with_declared number read level d) (by_never number (word_on read level) line)
     (λ d. refused_never number (refusal_on read level d) (grown read level d))))
 
 from_never : (number : ℕ) (read : LinesRead) (ls : List (List ℕ)) → Never (suite_from number read ls)

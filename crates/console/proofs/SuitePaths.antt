@@ -1,5 +1,5 @@
 -- The path of open nodes, and the tree that grows at its end.
-use Rattle.std.proofs.Common.{length-append, ◌≡◌, ℕ, zero, suc, ◌+◌, ◌-◌, ◌<◌, ◌≤◌, List, [], ◌∷◌, ◌++◌, length, take, get_or, refl, ap, sym, ◌∙◌, subst, arith, inl, inr, Some}
+use Rattle.std.proofs.Common.{length-append, ◌≡◌, ℕ, zero, suc, ◌+◌, ◌-◌, ◌<◌, ◌≤◌, List, [], ◌∷◌, ◌++◌, length, take, get_or, refl, ap, sym, ◌∙◌, subst, arith, inl, inr, Some, Option, None}
 use Rattle.std.specs.Prelude.{slice_get, slice_index_or}
 use Rattle.descriptor.specs.declared.node.Node.{Node}
 use Rattle.descriptor.specs.Nodes.{Nodes, IsChild, Below, child, under, MayTake, size, appended}
@@ -62,12 +62,12 @@ plan_takes t path p = takes_from t 0 path (plan_inside t 0 path p) p
 length_more : (xs : List ℕ) (x : ℕ) → length (xs ++ x ∷ []) ≡ length xs + 1
 length_more xs x = simp length-append
 
-get_before : (xs : List ℕ) (x c : ℕ) → c < length xs → slice_index_or (xs ++ x ∷ []) c 0 ≡ slice_index_or xs c 0
+pub get_before : (xs : List ℕ) (x c : ℕ) → c < length xs → slice_index_or (xs ++ x ∷ []) c 0 ≡ slice_index_or xs c 0
 get_before [] x c h = absurd (omega arith)
 get_before (y ∷ xs) x zero h = refl
 get_before (y ∷ xs) x (suc c) h = get_before xs x c (omega arith)
 
-get_last : (xs : List ℕ) (x : ℕ) → slice_index_or (xs ++ x ∷ []) (length xs) 0 ≡ x
+pub get_last : (xs : List ℕ) (x : ℕ) → slice_index_or (xs ++ x ∷ []) (length xs) 0 ≡ x
 get_last [] x = refl
 get_last (y ∷ xs) x = get_last xs x
 
@@ -112,3 +112,11 @@ path_grown t node o a (x ∷ rest) (suc l) p some new h fits e = (child_grown t 
 pub path_next : (t : Nodes) (path : List Opened) (level : ℕ) (node : Node) (o : Opened) → IsPath t 0 path → level ≤ length path → o.node ≡ size t
     → IsPath (appended t (node_of_opened (above path level)) node) 0 (take level path ++ o ∷ [])
 path_next t path level node o h fits new = path_grown t node o 0 path level (node_of_opened (above path level)) (plan_inside t 0 path h) new h fits (sym (from_plan path level fits))
+
+above_inside : (t : Nodes) (path : List Opened) (o : Option Opened) → 0 < size t → ((x : Opened) → o ≡ Some x → x.node < size t) → node_of_opened o < size t
+above_inside t path None h k = h
+above_inside t path (Some x) h k = k x refl
+
+-- the node that a line hangs below is in the tree
+pub parent_inside : (t : Nodes) (path : List Opened) (level : ℕ) → IsPath t 0 path → level ≤ length path → node_of_opened (above path level) < size t
+parent_inside t path level h fits = above_inside t path (above path level) (plan_inside t 0 path h) (λ x e. (is_open t path level x h e).inside)

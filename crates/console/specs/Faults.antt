@@ -8,20 +8,24 @@ use Rattle.console.specs.declared.suite_fault.SuiteFault.{SuiteFault}
 use Rattle.console.specs.declared.suite_fault.SuiteFault.TheVariants as suites
 use Rattle.console.specs.declared.bytes.ReadFault.{ReadFault}
 use Rattle.console.specs.declared.bytes.ReadFault.TheVariants as reads
+use Rattle.console.specs.declared.steps.StepsFault.{StepsFault}
+use Rattle.console.specs.declared.steps.StepsFault.TheVariants as steps
 use Rattle.console.specs.declared.fault.ConsoleFault.{ConsoleFault}
-use Rattle.console.specs.declared.fault.ConsoleFault.TheVariants.{NoMemory, Suite, BadWords, Reading, Writing}
+use Rattle.console.specs.declared.fault.ConsoleFault.TheVariants.{NoMemory, Suite, BadWords, BadStep, Reading, Writing}
 
 -- the number that is printed behind `error`
 abbrev pub number_of : ConsoleFault → ℕ
 number_of NoMemory = 0
 number_of (Suite fault) = suite_faults.number_of fault
 number_of BadWords = 105
+number_of (BadStep number) = 104
 number_of Reading = 106
 number_of (Writing fault) = 81
 
 -- the place that is printed behind `at`, if there is one
 abbrev pub place_of : ConsoleFault → Option ℕ
 place_of (Suite fault) = suite_faults.place_of fault
+place_of (BadStep number) = Some number
 place_of (Writing fault) = Some fault.sent
 place_of _ = None
 
@@ -46,3 +50,8 @@ IsReadFault reads.Failed fault = fault ≡ Reading
 abbrev pub IsWordsFault : ErrorKind → ConsoleFault → Type 0
 IsWordsFault kinds.OutOfMemory fault = fault ≡ NoMemory
 IsWordsFault _ fault = fault ≡ BadWords
+
+-- want of memory is the program's own, and a word that names no step keeps its number
+abbrev pub IsStepsFault : StepsFault → ConsoleFault → Type 0
+IsStepsFault steps.NoMemory fault = fault ≡ NoMemory
+IsStepsFault (steps.BadStep number) fault = fault ≡ BadStep number

@@ -7,8 +7,7 @@ use Rattle.descriptor.specs.Nodes.{node_at}
 use Rattle.descriptor.specs.declared.node.Node.{Node}
 use Rattle.resource_locks.specs.Plans.{PlanParts}
 use Rattle.plan_events.specs.Statuses.{status_text}
-use Rattle.plan_events.specs.Texts.{text_at}
-use Rattle.plan_events.specs.declared.note.Note.{Note}
+use Rattle.plan_events.specs.Texts.{TextParts, text_at}
 use Rattle.plan_events.specs.declared.event.Event.{Event}
 use Rattle.plan_events.specs.declared.event.EventKind.{EventKind}
 use Rattle.plan_events.specs.declared.event.EventKind.TheVariants.{Started, Finished, Skipped, Registered}
@@ -55,5 +54,5 @@ text_or None = []
 text_or (Some text) = text
 
 -- the whole text: the lines of the events, in their order
-abbrev pub feed_of : PlanParts → List (Option Note) → List Event → List ℕ
+abbrev pub feed_of : PlanParts → TextParts → List Event → List ℕ
 feed_of plan texts events = flat_map (λ e. event_line e (id_at plan e.node) (text_or (text_at texts e.node))) events

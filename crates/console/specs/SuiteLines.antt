@@ -1,6 +1,6 @@
--- The lines of a suite text, and the indentation and the words of one.
-use Rattle.std.specs.Prelude.{ℕ, ◌/◌, ◌%◌, ◌==◌, ◌||◌, nat_lt, List, [], ◌∷◌, map, length, filter, not, Bool, false, if◌then◌else◌, Result, Ok, Err}
-use Rattle.std.specs.List.{prefix_len, slice_split}
+-- The lines of a suite text, and the indentation, the words and the end of one.
+use Rattle.std.specs.Prelude.{ℕ, ◌-◌, ◌/◌, ◌%◌, ◌==◌, ◌||◌, nat_lt, List, [], ◌∷◌, map, length, take, drop, not, Bool, false, if◌then◌else◌, Result, Ok, Err}
+use Rattle.std.specs.List.{prefix_len, suffix_len, before_first, after_first}
 use denote.Ref.{Bor}
 use Rattle.console.specs.declared.suite_fault.SuiteFault.{SuiteFault}
 use Rattle.console.specs.declared.suite_fault.SuiteFault.TheVariants.{BadIndent}
@@ -12,9 +12,25 @@ texts xs = map (λ x. x.now) xs
 abbrev pub is_space : ℕ → Bool
 is_space byte = byte == 32
 
--- the words of a line: what stands between its spaces
-abbrev pub words_of : List ℕ → List (List ℕ)
-words_of line = filter (λ word. not (length word == 0)) (slice_split is_space line)
+-- a text without the spaces in front
+abbrev pub without_front : List ℕ → List ℕ
+without_front text = drop (prefix_len is_space text) text
+
+-- a text without the spaces at its end
+abbrev pub without_end : List ℕ → List ℕ
+without_end text = take (length text - suffix_len is_space text) text
+
+-- the first word of a text, up to the next space; empty where there is none
+abbrev pub first_word : List ℕ → List ℕ
+first_word text = before_first is_space (without_front text)
+
+-- what follows the first word of a text
+abbrev pub after_word : List ℕ → List ℕ
+after_word text = after_first is_space (without_front text)
+
+-- what follows it, without the spaces at its ends
+abbrev pub text_after_word : List ℕ → List ℕ
+text_after_word text = without_end (without_front (after_word text))
 
 -- the number of spaces that a line begins with
 abbrev pub indentation_of : List ℕ → ℕ
@@ -27,7 +43,7 @@ is_comment (byte ∷ bytes) = byte == 35
 
 -- whether a line is passed over: a comment, or spaces only
 abbrev pub says_nothing : List ℕ → Bool
-says_nothing line = is_comment line || (length (words_of line) == 0)
+says_nothing line = is_comment line || (length (without_front line) == 0)
 
 -- the level of a line, two spaces each; a deeper one than this may not stand there
 abbrev pub level_of : ℕ → ℕ → List ℕ → Result ℕ SuiteFault

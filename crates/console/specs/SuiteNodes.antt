@@ -1,5 +1,5 @@
 -- What a line that declares a node adds.
-use Rattle.std.specs.Prelude.{ℕ, Bool, List, [], ◌∷◌, ◌++◌, take, codes, cond, Option, Some, None, option_to_list, Result, Ok, Err}
+use Rattle.std.specs.Prelude.{ℕ, Bool, List, [], ◌∷◌, ◌++◌, take, codes, cond, Option, Some, None, option_map, option_to_list, Result, Ok, Err}
 use Rattle.std.specs.Option.{is_some}
 use Rattle.unique_id.specs.declared.unique_id.Segment.{Segment}
 use Rattle.unique_id.specs.Spelling as ids
@@ -13,10 +13,12 @@ use Rattle.descriptor.specs.Refusals as trees
 use Rattle.console.specs.declared.script.Script.{Script}
 use Rattle.console.specs.declared.suite_words.Word.{Word}
 use Rattle.console.specs.declared.suite_words.Word.TheVariants.{Engine, Class, Test}
+use Rattle.console.specs.declared.suite_verdicts.Verdict.{Verdict}
 use Rattle.console.specs.declared.suite_fault.SuiteFault.{SuiteFault}
 use Rattle.console.specs.declared.suite_fault.SuiteFault.TheVariants.{Refused}
 use Rattle.console.specs.SuiteParts.{LinesRead, above, word_of_opened, node_of_opened}
-use Rattle.console.specs.SuiteScripts.{passing}
+use Rattle.console.specs.SuiteScripts.{ending}
+use Rattle.console.specs.SuiteVerdicts.{status_declared, reason_declared}
 use Rattle.console.specs.SuiteWords.{Declaration}
 
 -- the unique id of a node that may be missing: no segments
@@ -41,17 +43,13 @@ kind_declared Engine = kinds.Container
 kind_declared Class = kinds.Container
 kind_declared Test = kinds.Test
 
--- a test's body has the number of its node; an engine and a class without verdict have none
-abbrev pub body_declared : Word → ℕ → Option ℕ
-body_declared Engine n = None
-body_declared Class n = None
-body_declared Test n = Some n
+-- a body, which a node has by its verdict, has the number of the node
+abbrev pub body_declared : Option Verdict → ℕ → Option ℕ
+body_declared verdict n = option_map (λ status. n) (status_declared verdict)
 
--- the script of the test's body
-abbrev pub script_declared : Word → ℕ → Option Script
-script_declared Engine n = None
-script_declared Class n = None
-script_declared Test n = Some (passing n)
+-- its script: the verdict's status, and the text that follows the verdict
+abbrev pub script_declared : Declaration → ℕ → Option Script
+script_declared d n = option_map (λ status. ending n d.spin status d.text) (status_declared d.verdict)
 
 -- the node of number n that is declared below one with this word and these segments
 abbrev pub node_declared : ℕ → Option Word → List Segment → Declaration → Node
@@ -59,7 +57,8 @@ node_declared n parent segments d = record {
   id = segments ++ record { kind = segment_kind parent d.word; value = d.name } ∷ [];
   name = d.name;
   kind = kind_declared d.word;
-  body = body_declared d.word n;
+  body = body_declared d.verdict n;
+  disabled = reason_declared d.verdict d.text;
 }
 
 -- whether the unique id of a node below these segments is over its limits; no word is empty, so nothing else refuses it
@@ -91,7 +90,7 @@ abbrev pub grown : LinesRead → ℕ → Declaration → LinesRead
 grown read level d = record {
   tree = appended read.tree (parent_on read level) (node_on read level d);
   path = take level read.path ++ record { node = size read.tree; word = d.word } ∷ [];
-  scripts = read.scripts ++ option_to_list (script_declared d.word (size read.tree));
+  scripts = read.scripts ++ option_to_list (script_declared d (size read.tree));
 }
 
 -- what is made, unless it is refused at this line

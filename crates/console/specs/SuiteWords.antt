@@ -1,21 +1,28 @@
 -- What the words of a line declare.
-use Rattle.std.specs.Prelude.{ℕ, List, [], ◌∷◌, codes, Bool, true, false, if◌then◌else◌, Option, Some, None, Result, Ok, Err}
+use Rattle.std.specs.Prelude.{ℕ, List, length, ◌==◌, codes, Bool, true, false, if◌then◌else◌, Option, Some, None, Result, Ok, Err}
 use Rattle.std.specs.Str.{bytes_eq}
 use Rattle.console.specs.declared.suite_words.Word.{Word}
 use Rattle.console.specs.declared.suite_words.Word.TheVariants.{Engine, Class, Test}
 use Rattle.console.specs.declared.suite_words.Declared.{Declared}
+use Rattle.console.specs.declared.suite_verdicts.Verdict.{Verdict}
 use Rattle.console.specs.declared.suite_fault.SuiteFault.{SuiteFault}
-use Rattle.console.specs.declared.suite_fault.SuiteFault.TheVariants.{BadLine, MissingVerdict}
+use Rattle.console.specs.declared.suite_fault.SuiteFault.TheVariants.{BadLine}
 use Rattle.console.specs.SuiteFaults.{◌>>=◌}
+use Rattle.console.specs.SuiteLines.{first_word, after_word, text_after_word}
+use Rattle.console.specs.SuiteSpins.{key_of, value_of, is_spin, spin_of}
+use Rattle.console.specs.SuiteVerdicts.{verdict_of}
 
--- the node that a line declares
+-- the node that a line declares; `text` is what follows its verdict
 pub record Declaration : Type 0 where
   pub word : Word
   pub name : List ℕ
+  pub spin : ℕ
+  pub verdict : Option Verdict
+  pub text : List ℕ
 
--- the same, without where its name lies in memory
+-- the same, without where its texts lie in memory
 abbrev pub declaration_of : Declared → Declaration
-declaration_of d = record { word = d.word; name = d.name.now }
+declaration_of d = record { word = d.word; name = d.name.now; spin = d.spin; verdict = d.verdict; text = d.text.now }
 
 -- the word with this spelling
 abbrev pub word_of : List ℕ → Option Word
@@ -31,21 +38,27 @@ may_stand (Some Class) Class = true
 may_stand (Some Class) Test = true
 may_stand above word = false
 
--- what stands after a name: the verdict `pass` of a test, and nothing else
-abbrev pub verdict_of : ℕ → Word → List (List ℕ) → Result (Unit {0}) SuiteFault
-verdict_of number Engine [] = Ok tt
-verdict_of number Class [] = Ok tt
-verdict_of number Test [] = Err (MissingVerdict number)
-verdict_of number Test (verdict ∷ []) = if bytes_eq verdict (codes "pass") then Ok tt else Err (BadLine number)
-verdict_of number word words = Err (BadLine number)
+-- a word that may stand right below a node of the first word
+abbrev pub placed : ℕ → Option Word → Option Word → Result Word SuiteFault
+placed number above None = Err (BadLine number)
+placed number above (Some word) = if may_stand above word then Ok word else Err (BadLine number)
 
--- what a word with a name and what follows declares
-abbrev pub declared_as : ℕ → Option Word → Option Word → List ℕ → List (List ℕ) → Result Declaration SuiteFault
-declared_as number above None name rest = Err (BadLine number)
-declared_as number above (Some word) name rest =
-    if may_stand above word then verdict_of number word rest >>= (λ nothing. Ok (record { word = word; name = name })) else Err (BadLine number)
+-- what a node of this word, name and `spin` is declared as by what is left of its line
+abbrev pub with_verdict : ℕ → Word → List ℕ → ℕ → List ℕ → Result Declaration SuiteFault
+with_verdict number word name spin rest =
+    verdict_of number word (first_word rest) (text_after_word rest)
+    >>= (λ verdict. Ok (record { word = word; name = name; spin = spin; verdict = verdict; text = text_after_word rest }))
 
--- what the words of a line declare right below a node of this word
-abbrev pub declared_by : ℕ → Option Word → List (List ℕ) → Result Declaration SuiteFault
-declared_by number above (first ∷ name ∷ rest) = declared_as number above (word_of first) name rest
-declared_by number above words = Err (BadLine number)
+-- the same before its `spin`, which is 0 where none is given
+abbrev pub with_spin : ℕ → Word → List ℕ → List ℕ → Result Declaration SuiteFault
+with_spin number word name rest =
+    if is_spin word (key_of (first_word rest)) then spin_of number (value_of (first_word rest)) >>= (λ spin. with_verdict number word name spin (after_word rest))
+    else with_verdict number word name 0 rest
+
+-- the same before its name
+abbrev pub with_name : ℕ → Word → List ℕ → Result Declaration SuiteFault
+with_name number word rest = if length (first_word rest) == 0 then Err (BadLine number) else with_spin number word (first_word rest) (after_word rest)
+
+-- what a line declares right below a node of this word
+abbrev pub declared_by : ℕ → Option Word → List ℕ → Result Declaration SuiteFault
+declared_by number above line = placed number above (word_of (first_word line)) >>= (λ word. with_name number word (after_word line))

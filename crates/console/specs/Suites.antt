@@ -5,7 +5,7 @@ use Rattle.console.specs.declared.suite_fault.SuiteFault.{SuiteFault}
 use Rattle.console.specs.declared.suite_fault.SuiteFault.TheVariants.{TooLarge}
 use Rattle.console.specs.declared.suite.Suite.{Suite}
 use Rattle.console.specs.SuiteFaults.{◌>>=◌}
-use Rattle.console.specs.SuiteLines.{says_nothing, words_of, level_of}
+use Rattle.console.specs.SuiteLines.{says_nothing, level_of}
 use Rattle.console.specs.SuiteWords.{Declaration, declared_by}
 use Rattle.console.specs.SuiteParts.{SuiteParts, LinesRead, no_lines, parts_of}
 use Rattle.console.specs.SuiteNodes.{word_on, refusal_on, grown, unless_refused}
@@ -14,17 +14,17 @@ use Rattle.console.specs.SuiteNodes.{word_on, refusal_on, grown, unless_refused}
 abbrev pub with_declared : ℕ → LinesRead → ℕ → Declaration → Result LinesRead SuiteFault
 with_declared number read level d = unless_refused number (refusal_on read level d) (grown read level d)
 
--- with what the words of a line declare on its level
-abbrev pub with_declaration : ℕ → LinesRead → ℕ → List (List ℕ) → Result LinesRead SuiteFault
-with_declaration number read level words = declared_by number (word_on read level) words >>= (λ d. with_declared number read level d)
+-- with what a line declares on its level
+abbrev pub with_declaration : ℕ → LinesRead → ℕ → List ℕ → Result LinesRead SuiteFault
+with_declaration number read level line = declared_by number (word_on read level) line >>= (λ d. with_declared number read level d)
 
--- with what a line of these words declares
-abbrev pub with_words : ℕ → LinesRead → List ℕ → List (List ℕ) → Result LinesRead SuiteFault
-with_words number read line words = level_of number (length read.path) line >>= (λ level. with_declaration number read level words)
+-- with what a line of words declares
+abbrev pub with_words : ℕ → LinesRead → List ℕ → Result LinesRead SuiteFault
+with_words number read line = level_of number (length read.path) line >>= (λ level. with_declaration number read level line)
 
 -- with one more line, of this number
 abbrev pub with_line : ℕ → LinesRead → List ℕ → Result LinesRead SuiteFault
-with_line number read line = if says_nothing line then Ok read else with_words number read line (words_of line)
+with_line number read line = if says_nothing line then Ok read else with_words number read line
 
 -- with all lines, the first of which has this number
 abbrev pub suite_from : ℕ → LinesRead → List (List ℕ) → Result LinesRead SuiteFault

@@ -2,6 +2,7 @@
 
 ghost use Rattle.std.specs.Prelude.{◌≡◌, take, IfOk, IfSome};
 ghost use Rattle.console.specs.Bytes.{SendsExactly, ReadsFront};
+ghost use Rattle.console.specs.declared.bytes.ReadFault.TheVariants.{NoMemory};
 
 use std::alloc::{AllocError, Global};
 use std::io::{Read, Write};
@@ -24,6 +25,8 @@ pub enum ReadFault {
 }
 
 impl From<AllocError> for ReadFault {
+    ghost from_gives = { λ _ fault. fault ≡ NoMemory };
+
     fn from(_error: AllocError) -> ReadFault {
         ReadFault::NoMemory
     }

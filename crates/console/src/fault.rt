@@ -2,10 +2,11 @@
 
 ghost use Rattle.std.specs.Prelude.{◌≡◌};
 ghost use Rattle.clap.specs.Words.{kind_of};
-ghost use Rattle.console.specs.Faults.{number_of, place_of, IsReadFault, IsSuiteFault, IsWordsFault};
+ghost use Rattle.console.specs.Faults.{number_of, place_of, IsReadFault, IsStepsFault, IsSuiteFault, IsWordsFault};
 ghost use Rattle.console.specs.declared.fault.ConsoleFault.TheVariants.{NoMemory, Writing};
 
 use crate::bytes::{ReadFault, WriteFault};
+use crate::steps::StepsFault;
 use crate::suite_fault::SuiteFault;
 use clap::error::ErrorKind;
 use std::alloc::AllocError;
@@ -22,6 +23,8 @@ pub enum ConsoleFault {
     Suite(SuiteFault),
     /// Refusal 105: words that give no options.
     BadWords,
+    /// Refusal 104: the word of this number, from 1, in the text of a replay names no step.
+    BadStep(usize),
     /// Refusal 106: the reader failed.
     Reading,
     /// Refusal 81, at the number of bytes that the writer took.
@@ -43,6 +46,17 @@ impl From<SuiteFault> for ConsoleFault {
         match fault {
             SuiteFault::NoMemory => ConsoleFault::NoMemory,
             _ => ConsoleFault::Suite(fault),
+        }
+    }
+}
+
+impl From<StepsFault> for ConsoleFault {
+    ghost from_gives = { IsStepsFault };
+
+    fn from(fault: StepsFault) -> ConsoleFault {
+        match fault {
+            StepsFault::NoMemory => ConsoleFault::NoMemory,
+            StepsFault::BadStep(number) => ConsoleFault::BadStep(number),
         }
     }
 }
@@ -103,17 +117,19 @@ impl ConsoleFault {
             ConsoleFault::NoMemory => 0,
             ConsoleFault::Suite(fault) => fault.number(),
             ConsoleFault::BadWords => 105,
+            ConsoleFault::BadStep(_) => 104,
             ConsoleFault::Reading => 106,
             ConsoleFault::Writing(_) => 81,
         }
     }
 
-    /// The line of the suite, from 1, or the number of bytes that went out.
+    /// The line of the suite or the number of the word, from 1, or how many bytes went out.
     pub fn place(&self) -> Option<u64>
         ensures { result ≡ place_of self.now }
     {
         match self {
             ConsoleFault::Suite(fault) => fault.place(),
+            ConsoleFault::BadStep(number) => Some(*number as u64),
             ConsoleFault::Writing(fault) => Some(fault.sent as u64),
             _ => None,
         }

@@ -1,22 +1,32 @@
 //! The program: a suite from standard input, and what became of it on standard output.
 #![tactic(auto)]
 
+ghost use Rattle.std.specs.Prelude.{◌≡◌, ◌⊎◌, IfErr};
+
 mod bytes;
 mod details;
 mod fault;
 mod feed;
+mod output;
 mod printed;
 mod program;
 #[cfg(test)]
 mod program_tests;
+mod replay;
 mod run;
 mod script;
+mod step_words;
+mod steps;
+#[cfg(test)]
+mod steps_tests;
 mod suite;
 mod suite_builder;
 mod suite_fault;
 mod suite_lines;
+mod suite_spins;
 #[cfg(test)]
 mod suite_tests;
+mod suite_verdicts;
 mod suite_words;
 mod words;
 
@@ -32,7 +42,9 @@ const REFUSED: u8 = 255;
 
 /// The words that the program was given, its own name first. Words that are not UTF-8 are refusal
 /// 105.
-fn words_given<R: Env + Alloc<A = Global>>(rt: &R) -> Result<Vec<String>, ConsoleFault> {
+fn words_given<R: Env + Alloc<A = Global>>(rt: &R) -> Result<Vec<String>, ConsoleFault>
+    ensures { IfErr result (λ fault. (fault ≡ ConsoleFault.NoMemory) ⊎ (fault ≡ ConsoleFault.BadWords)) }
+{
     match std::env::args(rt) {
         Ok(words) => Ok(words.collect(rt.alloc())?),
         Err(error) if error.kind() == ErrorKind::OutOfMemory => Err(ConsoleFault::NoMemory),

@@ -13,8 +13,8 @@ use std::alloc::Global;
 use std::io::{Read, Write};
 
 /// Runs the suite that the reader holds, with the options that the words give; the first word is
-/// the program's name. Words that give no options are refused (105), and then nothing is read and
-/// nothing is written. Everything else is as `run_options` says.
+/// the program's name. Words that give no options are refused (105, then 104), and then nothing is
+/// read and nothing is written. Everything else is as `run_options` says.
 pub fn run_console<R: Read, W: Write>(
     alloc: Global,
     words: &[String],

@@ -6,6 +6,7 @@ use crate::bytes::{ReadFault, print_to, read_front};
 use crate::details::Details;
 use crate::fault::ConsoleFault;
 use crate::feed::feed_text;
+use crate::output::status_of;
 use crate::program::run_console;
 use crate::words::read_options;
 use descriptor::{Kind, Node, NodeId, TreeBuilder};
@@ -215,6 +216,146 @@ fn a_passing_test_has_eight_events(rt: HostRuntime) -> Result<(), Fail> {
     Ok(())
 }
 
+/// What is published before and after the events of a class.
+const BEFORE: &str = "w1 plan started\nw1 started [engine:e]\n";
+
+const AFTER: &str = "w1 finished [engine:e] SUCCESSFUL\nw1 plan finished\n";
+
+#[test]
+fn verdicts_and_reasons_are_told(rt: HostRuntime) -> Result<(), Fail> {
+    let rows = [
+        (
+            "engine e\n  class a.B fail boom\n    test t() pass\n    test u() pass\n",
+            1,
+            "w1 started [engine:e]/[class:a.B]\nw1 finished [engine:e]/[class:a.B] FAILED boom\n",
+        ),
+        (
+            "engine e\n  class a.B abort later\n    test t() pass\n    test u() pass\n",
+            0,
+            "w1 started [engine:e]/[class:a.B]\nw1 finished [engine:e]/[class:a.B] ABORTED later\n",
+        ),
+        (
+            "engine e\n  class a.B disabled later\n    test t() fail x\n",
+            0,
+            "w1 skipped [engine:e]/[class:a.B] later\n",
+        ),
+        (
+            "engine e\n  class a.B\n    test t() fail\n",
+            1,
+            "w1 started [engine:e]/[class:a.B]\nw1 started [engine:e]/[class:a.B]/[method:t()]\nw1 finished [engine:e]/[class:a.B]/[method:t()] FAILED\nw1 finished [engine:e]/[class:a.B] SUCCESSFUL\n",
+        ),
+    ];
+    for (suite, status, events) in rows {
+        let (answer, written) = run(&rt, "console --details testfeed", suite.as_bytes())?;
+        assert_eq!(rt; answer, Ok(status), "{suite}");
+        let feed = format!(in rt.alloc(); "{BEFORE}{events}{AFTER}")?;
+        assert_eq!(rt; written.as_slice(), feed.as_bytes(), "{suite}");
+    }
+    Ok(())
+}
+
+/// Two passing tests of a class.
+const TWO: &str = "engine e\n  class a.B\n    test t() pass\n    test u() pass\n";
+
+/// What the program answers and writes for a replay of these steps on the two tests.
+fn replay(rt: &HostRuntime, steps: &str) -> Result<(Result<u8, ConsoleFault>, Vec<u8>), Fail> {
+    let mut words = words_of(rt.alloc(), "console --details testfeed --replay")?;
+    words.push(String::from_str(rt.alloc(), steps)?)?;
+    let mut input = TWO.as_bytes();
+    let mut written = Vec::new(rt.alloc());
+    let answer = run_console(rt.alloc(), words.as_slice(), &mut input, &mut written);
+    Ok((answer, written))
+}
+
+#[test]
+fn a_replay_prints_what_is_given_and_counts(rt: HostRuntime) -> Result<(), Fail> {
+    let (answer, written) = replay(
+        &rt,
+        "w1:claim:0 w1:draw w1:show w1:admit w1:done w1:claim:1 w1:draw w1:show w1:admit w1:done w1:claim:2 w1:draw w1:show w1:admit w1:admit w1:done w1:claim:3 w1:draw w2:claim:4 w2:draw w2:show d:read d:read d:read d:read",
+    )?;
+    assert_eq!(rt; answer, Ok(0));
+    let text = "w1 plan started
+w1 started [engine:e]
+w1 started [engine:e]/[class:a.B]
+steps 25 passed-over 1 published 5 given 3
+";
+    assert_eq!(rt; written.as_slice(), text.as_bytes());
+    let (answer, written) = replay(
+        &rt,
+        "w1:claim:0 w1:claim:0 w2:claim:0 w1:draw w1:settle w1:show",
+    )?;
+    assert_eq!(rt; answer, Ok(0));
+    assert_eq!(rt;
+        written.as_slice(),
+        b"steps 6 passed-over 3 published 1 given 0\n".as_slice()
+    );
+    // the last of the workers, and none
+    let (_, written) = replay(&rt, "w64:claim:0 w64:draw w64:show d:read")?;
+    assert_eq!(rt;
+        written.as_slice(),
+        b"w64 plan started\nsteps 4 passed-over 0 published 1 given 1\n".as_slice()
+    );
+    let (_, written) = replay(&rt, "")?;
+    assert_eq!(rt;
+        written.as_slice(),
+        b"steps 0 passed-over 0 published 0 given 0\n".as_slice()
+    );
+    Ok(())
+}
+
+#[test]
+fn a_replay_prints_nothing_else(rt: HostRuntime) -> Result<(), Fail> {
+    let (answer, written) = run(&rt, "console --replay= --details none", SUITE.as_bytes())?;
+    assert_eq!(rt; answer, Ok(0));
+    assert_eq!(rt;
+        written.as_slice(),
+        b"steps 0 passed-over 0 published 0 given 0\n".as_slice()
+    );
+    Ok(())
+}
+
+#[test]
+fn a_bad_step_is_refused_at_its_number(rt: HostRuntime) -> Result<(), Fail> {
+    let (answer, written) = replay(&rt, "w1:claim:0 w1:drew d:reed")?;
+    let fault = answer.err().ok_or("no fault")?;
+    assert_eq!(rt;
+        format!(in rt.alloc(); "{fault}")?.as_str(),
+        "error 104 at 2"
+    );
+    assert!(rt; written.is_empty());
+    let lines = [
+        ("console --details none --replay x", "error 104 at 1"),
+        ("console --details flat --replay x", "error 105"),
+        ("console --replay d:read", "error 105"),
+        (
+            "console --details none --replay d:read --replay x",
+            "error 105",
+        ),
+    ];
+    for (line, text) in lines {
+        let (answer, _) = run(&rt, line, b"suite")?;
+        let fault = answer.err().ok_or("no fault")?;
+        assert_eq!(rt; format!(in rt.alloc(); "{fault}")?.as_str(), text, "{line}");
+    }
+    Ok(())
+}
+
+#[test]
+fn a_failure_of_a_node_is_status_1(rt: HostRuntime) {
+    let failing = [
+        event_of(EventKind::Started, 1, None),
+        event_of(EventKind::Finished, 1, Some(Status::Failed)),
+        event_of(EventKind::Finished, 2, Some(Status::Aborted)),
+    ];
+    let passing = [
+        event_of(EventKind::Started, 1, Some(Status::Failed)),
+        event_of(EventKind::Finished, 2, Some(Status::Aborted)),
+        event_of(EventKind::Finished, 0, Some(Status::Failed)),
+    ];
+    assert_eq!(rt; status_of(failing.as_slice()), 1);
+    assert_eq!(rt; status_of(passing.as_slice()), 0);
+}
+
 #[test]
 fn an_output_that_is_cut_short_is_refused(rt: HostRuntime) -> Result<(), Fail> {
     let words = words_of(rt.alloc(), "console --details testfeed")?;
@@ -297,6 +438,7 @@ fn plan_of_one(alloc: Global) -> Result<Plan, Fail> {
         name: Text::new(alloc, "a")?,
         kind: Kind::Container,
         body: None,
+        disabled: None,
     };
     if !builder.may_take(NodeId::ROOT) {
         return Err("not taken".into());

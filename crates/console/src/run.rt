@@ -2,21 +2,20 @@
 
 ghost use Rattle.std.specs.Prelude.{◌≡◌, ◌+◌, ◌==◌, ℕ, IfOk, IfErr, IfSome, false, take, map, count_by, string_bytes};
 ghost use Rattle.std.specs.Io.KnownBytes.{Keeps};
-ghost use Rattle.plan_events.specs.declared.event.Event.{Event};
 ghost use Rattle.console.specs.SuiteFaults.{Gives};
 ghost use Rattle.console.specs.Suites.{suite_parts};
-ghost use Rattle.console.specs.Runs.{IsRun, IsOutput, ReadsSuite, suite_read, answers_of as answers_in, is_writing, Prints};
+ghost use Rattle.console.specs.Runs.{IsRun, IsSuiteOutput, ReadsSuite, suite_read, answers_of as answers_in, is_writing};
+ghost use Rattle.console.specs.Words.{asked_by};
 
 use crate::bytes::{ReadFault, print_to, read_front};
-use crate::details::{Details, Options};
+use crate::details::Options;
 use crate::fault::ConsoleFault;
-use crate::feed::feed_text;
+use crate::output::{Output, output_of};
 use crate::script::Script;
 use crate::suite::Suite;
 use crate::suite_fault::SuiteFault;
-use plan_events::Event;
 use resource_locks::Plan;
-use sched_core::{Answers, drive, texts_of};
+use sched_core::Answers;
 use std::alloc::{AllocError, Global};
 use std::io::{Read, Write};
 
@@ -71,56 +70,31 @@ fn answers_of(alloc: Global, scripts: Vec<Script>) -> Result<Answers, AllocError
     Ok(Answers::of(replies))
 }
 
-/// What is printed of a history.
-fn details_text(
-    alloc: Global,
-    details: Details,
-    plan: &Plan,
-    answers: &Answers,
-    history: &[Event],
-) -> Result<String, AllocError>
-    ensures { IfOk result (λ text. Prints details plan.now answers.now history.now (string_bytes text)) }
-{
-    match details {
-        Details::None => Ok(String::new(alloc)),
-        Details::Testfeed => {
-            let texts = texts_of(alloc, plan, answers, history)?;
-            feed_text(alloc, plan, history, &texts)
-        }
-    }
-}
-
-/// What is printed of the run of a suite.
-fn output_of(alloc: Global, options: &Options, suite: Suite) -> Result<String, AllocError>
-    ensures { IfOk result (λ text. IsOutput options.now.details (suite_parts suite) (string_bytes text)) }
+/// What the options print of a suite, and the program's status.
+fn suite_output(alloc: Global, options: &Options, suite: Suite) -> Result<Output, AllocError>
+    ensures { IfOk result (λ output. IsSuiteOutput (asked_by options.now) (suite_parts suite) (string_bytes output.text) output.status) }
 {
     let answers = answers_of(alloc, suite.scripts)?;
     let plan = Plan::plain(suite.tree);
-    let trace = drive(alloc, &plan, &answers)?;
-    details_text(
-        alloc,
-        options.details,
-        &plan,
-        &answers,
-        trace.published.as_slice(),
-    )
+    output_of(alloc, options, &plan, &answers)
 }
 
-/// Reads a suite, runs it, and writes what the options ask for. Answers the program's status: 0,
-/// since no test of a suite can fail. Refused are a reader that fails (106), a suite (10 to 17 and
-/// 100 to 103), and a writer that fails (81, when the first bytes of the output are written); on
-/// any other refusal nothing is written.
+/// Reads a suite, runs it by the fixed schedule, or by the steps of a replay, and writes what the
+/// options ask for. Answers the program's status: 1 where a node other than the plan failed, else
+/// 0; 0 for a replay. Refused are a reader that fails (106), a suite (10 to 17 and 100 to 103), and
+/// a writer that fails (81, when the first bytes of the output are written); on any other refusal
+/// nothing is written.
 pub fn run_options<R: Read, W: Write>(
     alloc: Global,
     options: &Options,
     reader: &mut R,
     writer: &mut W,
 ) -> Result<u8, ConsoleFault>
-    ensures exact { IfSome (R.remaining reader.old) (λ bytes. IsRun options.now.details (suite_read (take MOST_READ bytes)) (W.contents writer.old) (W.contents writer.new) result) }
+    ensures exact { IfSome (R.remaining reader.old) (λ bytes. IsRun (asked_by options.now) (suite_read (take MOST_READ bytes)) (W.contents writer.old) (W.contents writer.new) result) }
     ensures quiet { IfErr result (λ fault. is_writing fault ≡ false → Keeps (W.contents writer.old) (W.contents writer.new)) }
 {
     let suite = read_suite(alloc, reader)?;
-    let text = output_of(alloc, options, suite)?;
-    print_to(writer, text.as_bytes())?;
-    Ok(0)
+    let output = suite_output(alloc, options, suite)?;
+    print_to(writer, output.text.as_bytes())?;
+    Ok(output.status)
 }

@@ -11,22 +11,31 @@ use unique_id::Text;
 #[derive(Debug, Drop)]
 pub struct Script {
     pub body: BodyId,
+    /// How far the body counts before it answers.
+    pub spin: u32,
     pub reply: Reply,
 }
 
 impl Script {
-    ghost use Rattle.console.specs.SuiteScripts.{passing};
+    ghost use Rattle.console.specs.SuiteScripts.{ending};
 
-    /// The script of a body that passes: no pulls, SUCCESSFUL, and no text.
-    pub(crate) fn passing(alloc: Global, body: BodyId) -> Result<Script, AllocError>
-        ensures { IfOk result (λ script. script ≡ passing body) }
+    /// The script of a body that counts as far as `spin`, and ends with this status and text.
+    pub(crate) fn ending(
+        alloc: Global,
+        body: BodyId,
+        spin: u32,
+        status: Status,
+        text: &str,
+    ) -> Result<Script, AllocError>
+        ensures { IfOk result (λ script. script ≡ ending body spin status text.now) }
     {
         let outcome = Outcome {
-            status: Status::Successful,
-            text: Text::new(alloc, "")?,
+            status,
+            text: Text::new(alloc, text)?,
         };
         Ok(Script {
             body,
+            spin,
             reply: Reply { pulls: 0, outcome },
         })
     }

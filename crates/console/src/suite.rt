@@ -2,6 +2,7 @@
 
 ghost use Rattle.std.specs.Prelude.{◌≡◌, ◌≢◌, ◌≤◌, length, IfOk, IfErr, Err};
 ghost use Rattle.console.specs.SuiteFaults.{Gives};
+ghost use Rattle.console.specs.SuiteIds.{IdsFollow};
 ghost use Rattle.console.specs.SuiteParts.{bodies_of, bodies_answered};
 ghost use Rattle.console.specs.Suites.{suite_of, suite_parts};
 
@@ -25,12 +26,14 @@ pub struct Suite {
 impl Suite {
     /// The suite of a text. Lines end at a line feed, before which a carriage return is dropped;
     /// the last may go without. Refusals: 103 for more than 1,048,576 bytes, else the first
-    /// faulty line's: 101, 100, 102, 17, 10 and 12, in this order.
+    /// faulty line's: 101, 100, 102, 17 (its id), 10, 12 and 17 (its reason), in this order.
     #[tactic(auto, using(crate::proofs::SuiteNever::never_no_memory))]
     pub fn parse(alloc: Global, text: &str) -> Result<Suite, SuiteFault>
         ensures exact { Gives suite_parts result (suite_of text.now) }
         // Want of memory is no property of a text.
         ensures never { suite_of text.now ≢ Err SuiteFault.NoMemory }
+        // Each node's unique id is its parent's with one more segment, whose value is its name.
+        ensures ids { IfOk result (λ suite. IdsFollow suite.tree) }
         // Each body of the tree has one script, in the order of the nodes.
         ensures answered { IfOk result (λ suite. bodies_answered suite.scripts.items ≡ bodies_of suite.tree.nodes) }
         // Memory is taken only for a text that is not too large.

@@ -5,7 +5,7 @@ ghost use Rattle.std.specs.Prelude.{◌≡◌, ◌≢◌, ◌≤◌, ◌<◌, �
 use crate::script::Script;
 use crate::suite::Suite;
 use crate::suite_fault::SuiteFault;
-use crate::suite_lines::{level_at, words_in};
+use crate::suite_lines::{level_at, without_front};
 use crate::suite_words::{Declared, Word, declared_in};
 use descriptor::{Node, NodeId, Tree, TreeBuilder, TreeFault};
 use std::alloc::{AllocError, Global};
@@ -39,8 +39,9 @@ impl Model for SuiteBuilder {
 }
 
 ghost use Rattle.unique_id.specs.Spelling.{refusal};
-ghost use Rattle.descriptor.specs.Nodes.{size, MayTake};
+ghost use Rattle.descriptor.specs.Nodes.{size, IsTree, MayTake};
 ghost use Rattle.console.specs.SuiteParts.{above, word_of_opened, node_of_opened};
+ghost use Rattle.console.specs.SuiteWords.{declaration_of};
 ghost use Rattle.console.specs.SuiteNodes.{id_at, node_declared, is_over_limit, refusal_on, grown};
 
 /// The unique id of a node below this one, or at level 0.
@@ -68,25 +69,25 @@ fn node_below(
     tree: &Tree,
     parent: Option<Opened>,
     number: u16,
-    word: Word,
-    name: &str,
+    declared: &Declared<'_>,
 ) -> Result<Node, TreeFault>
     requires { IfSome parent (λ opened. (0 < opened.node) × (opened.node < size tree.now)) }
-    ensures ok { IfOk result (λ node. node ≡ node_declared number (word_of_opened parent) (id_at tree.now (node_of_opened parent)) (record { word = word; name = name.now })) }
-    ensures accepted { IfOk result (λ _. is_over_limit (id_at tree.now (node_of_opened parent)) (word_of_opened parent) (record { word = word; name = name.now }) ≡ false) }
-    ensures refused { IfErr result (λ fault. fault ≢ TreeFault.NoMemory → (fault ≡ TreeFault.OverLimit) × (is_over_limit (id_at tree.now (node_of_opened parent)) (word_of_opened parent) (record { word = word; name = name.now }) ≡ true)) }
+    ensures ok { IfOk result (λ node. node ≡ node_declared number (word_of_opened parent) (id_at tree.now (node_of_opened parent)) (declaration_of declared.now)) }
+    ensures accepted { IfOk result (λ _. is_over_limit (id_at tree.now (node_of_opened parent)) (word_of_opened parent) (declaration_of declared.now) ≡ false) }
+    ensures refused { IfErr result (λ fault. fault ≢ TreeFault.NoMemory → (fault ≡ TreeFault.OverLimit) × (is_over_limit (id_at tree.now (node_of_opened parent)) (word_of_opened parent) (declaration_of declared.now) ≡ true)) }
 {
-    let kind = word.segment_type(parent.map(|opened| opened.word));
-    let id = match id_below(alloc, tree, parent, kind, name) {
+    let kind = declared.word.segment_type(parent.map(|opened| opened.word));
+    let id = match id_below(alloc, tree, parent, kind, declared.name) {
         Ok(id) => id,
         Err(UidFault::NoMemory) => return Err(TreeFault::NoMemory),
         Err(_) => return Err(TreeFault::OverLimit),
     };
     Ok(Node {
         id,
-        name: Text::new(alloc, name)?,
-        kind: word.kind(),
-        body: word.body(number),
+        name: Text::new(alloc, declared.name)?,
+        kind: declared.word.kind(),
+        body: declared.body(number),
+        disabled: declared.reason(alloc)?,
     })
 }
 
@@ -111,9 +112,9 @@ fn node_or_plan(opened: Option<Opened>) -> NodeId
 
 impl SuiteBuilder {
     ghost use Rattle.console.specs.SuiteParts.{no_lines};
+    ghost use Rattle.console.specs.SuiteIds.{IdsFollow};
     ghost use Rattle.console.specs.SuiteNodes.{node_on, is_over_limit_on};
     ghost use Rattle.console.specs.SuiteFaults.{Fails};
-    ghost use Rattle.console.specs.SuiteLines.{texts};
     ghost use Rattle.console.specs.Suites.{with_declared, with_words, with_line, suite_parts};
     ghost use Rattle.console.specs.SuiteParts.{parts_of, bodies_of, bodies_answered};
 
@@ -144,7 +145,8 @@ impl SuiteBuilder {
 
     /// The number of the next node.
     fn next_number(&self) -> u16
-        ensures { result ≡ size self.now.tree }
+        ensures number { result ≡ size self.now.tree }
+        ensures tree { IsTree self.now.tree }
     {
         self.tree.tree().len() as u16
     }
@@ -154,33 +156,33 @@ impl SuiteBuilder {
         &self,
         alloc: Global,
         level: usize,
-        word: Word,
-        name: &str,
+        declared: &Declared<'_>,
     ) -> Result<Node, TreeFault>
         requires { level ≤ length self.now.path }
-        ensures ok { IfOk result (λ node. node ≡ node_on self.now level (record { word = word; name = name.now })) }
-        ensures accepted { IfOk result (λ _. is_over_limit_on self.now level (record { word = word; name = name.now }) ≡ false) }
-        ensures refused { IfErr result (λ fault. fault ≢ TreeFault.NoMemory → (fault ≡ TreeFault.OverLimit) × (is_over_limit_on self.now level (record { word = word; name = name.now }) ≡ true)) }
+        ensures ok { IfOk result (λ node. node ≡ node_on self.now level (declaration_of declared.now)) }
+        ensures accepted { IfOk result (λ _. is_over_limit_on self.now level (declaration_of declared.now) ≡ false) }
+        ensures refused { IfErr result (λ fault. fault ≢ TreeFault.NoMemory → (fault ≡ TreeFault.OverLimit) × (is_over_limit_on self.now level (declaration_of declared.now) ≡ true)) }
     {
         let parent = self.above(level);
         let number = self.next_number();
-        node_below(alloc, self.tree.tree(), parent, number, word, name)
+        node_below(alloc, self.tree.tree(), parent, number, declared)
     }
 
     /// Adds the node that a line of this level declares.
-    fn add(&mut self, alloc: Global, level: usize, word: Word, name: &str) -> Result<(), TreeFault>
+    fn add(&mut self, alloc: Global, level: usize, declared: &Declared<'_>) -> Result<(), TreeFault>
         requires { level ≤ length self.old.path }
-        ensures accepted { OnOk result (refusal_on self.old level (record { word = word; name = name.now }) ≡ None) }
-        ensures added { OnOk result (self.new ≡ grown self.old level (record { word = word; name = name.now })) }
-        ensures refused { IfErr result (λ fault. fault ≢ TreeFault.NoMemory → refusal_on self.old level (record { word = word; name = name.now }) ≡ Some fault) }
+        ensures accepted { OnOk result (refusal_on self.old level (declaration_of declared.now) ≡ None) }
+        ensures added { OnOk result (self.new ≡ grown self.old level (declaration_of declared.now)) }
+        ensures refused { IfErr result (λ fault. fault ≢ TreeFault.NoMemory → refusal_on self.old level (declaration_of declared.now) ≡ Some fault) }
         ensures err { OnErr result (self.new ≡ self.old) }
     {
-        let node = self.node_on(alloc, level, word, name)?;
-        let script = word.script(alloc, self.next_number())?;
+        let node = self.node_on(alloc, level, declared)?;
+        let script = declared.script(alloc, self.next_number())?;
         let parent = node_or_plan(self.above(level));
         self.path.reserve(1)?;
         self.scripts.reserve(1)?;
         let node = self.tree.add(alloc, parent, node)?;
+        let word = declared.word;
         open_on(&mut self.path, level, Opened { node, word });
         if let Some(script) = script {
             self.scripts.push(script).unwrap();
@@ -194,14 +196,13 @@ impl SuiteBuilder {
         alloc: Global,
         number: usize,
         level: usize,
-        word: Word,
-        name: &str,
+        declared: &Declared<'_>,
     ) -> Result<(), SuiteFault>
         requires { level ≤ length self.old.path }
-        ensures added { OnOk result (with_declared number self.old level (record { word = word; name = name.now }) ≡ Ok self.new) }
-        ensures refused { IfErr result (λ fault. Fails fault (with_declared number self.old level (record { word = word; name = name.now }))) }
+        ensures added { OnOk result (with_declared number self.old level (declaration_of declared.now) ≡ Ok self.new) }
+        ensures refused { IfErr result (λ fault. Fails fault (with_declared number self.old level (declaration_of declared.now))) }
     {
-        match self.add(alloc, level, word, name) {
+        match self.add(alloc, level, declared) {
             Ok(()) => Ok(()),
             Err(TreeFault::NoMemory) => Err(SuiteFault::NoMemory),
             Err(fault) => Err(SuiteFault::Refused {
@@ -212,20 +213,14 @@ impl SuiteBuilder {
     }
 
     /// Reads a line that declares a node.
-    fn read_words(
-        &mut self,
-        alloc: Global,
-        number: usize,
-        line: &str,
-        words: &[&str],
-    ) -> Result<(), SuiteFault>
-        ensures added { OnOk result (with_words number self.old line.now (texts words.now) ≡ Ok self.new) }
-        ensures refused { IfErr result (λ fault. Fails fault (with_words number self.old line.now (texts words.now))) }
+    fn read_words(&mut self, alloc: Global, number: usize, line: &str) -> Result<(), SuiteFault>
+        ensures added { OnOk result (with_words number self.old line.now ≡ Ok self.new) }
+        ensures refused { IfErr result (λ fault. Fails fault (with_words number self.old line.now)) }
     {
         let level = level_at(number, self.levels(), line)?;
         let above = self.above(level).map(|opened| opened.word);
-        let declared = declared_in(number, above, words)?;
-        self.declare(alloc, number, level, declared.word, declared.name)
+        let declared = declared_in(number, above, line)?;
+        self.declare(alloc, number, level, &declared)
     }
 
     /// The number of levels on which a line may stand next.
@@ -245,19 +240,16 @@ impl SuiteBuilder {
         ensures added { OnOk result (with_line number self.old line.now ≡ Ok self.new) }
         ensures refused { IfErr result (λ fault. Fails fault (with_line number self.old line.now)) }
     {
-        if line.starts_with('#') {
+        if line.starts_with('#') || without_front(line).is_empty() {
             return Ok(());
         }
-        let words = words_in(alloc, line)?;
-        if words.is_empty() {
-            return Ok(());
-        }
-        self.read_words(alloc, number, line, words.as_slice())
+        self.read_words(alloc, number, line)
     }
 
     /// What the lines have made.
     pub(crate) fn finish(self) -> Suite
         ensures parts { suite_parts result ≡ parts_of self }
+        ensures ids { IdsFollow result.tree }
         ensures answered { bodies_answered result.scripts.items ≡ bodies_of result.tree.nodes }
     {
         Suite {

@@ -153,7 +153,14 @@ fn reads_and_refuses_lines(rt: HostRuntime) {
         ("Engine e", Err(SuiteFault::BadLine(1))),
         ("engine", Err(SuiteFault::BadLine(1))),
         ("engine e x", Err(SuiteFault::BadLine(1))),
-        ("engine e\n  class A pass", Err(SuiteFault::BadLine(2))),
+        ("engine e pass", Err(SuiteFault::BadLine(1))),
+        ("engine e spin=1", Err(SuiteFault::BadLine(1))),
+        ("engine e\n  class A pass", Ok(3)),
+        ("engine e\n  class A pass x", Err(SuiteFault::BadLine(2))),
+        (
+            "engine e\n  class A spin=1 pass",
+            Err(SuiteFault::BadLine(2)),
+        ),
         ("engine e\n  class A\n    test", Err(SuiteFault::BadLine(3))),
         (
             "engine e\n  class A\n    test t",
@@ -178,6 +185,110 @@ fn reads_and_refuses_lines(rt: HostRuntime) {
     for (text, answer) in texts {
         assert_eq!(rt; nodes_of(rt.alloc(), text), answer, "{text:?}");
     }
+}
+
+/// A text with one test line, which ends like this.
+fn test_of(alloc: Global, end: &str) -> Result<String, AllocError> {
+    format!(in alloc; "engine e\n  class A\n    test t {end}")
+}
+
+/// A text with one test line, with this verdict and a text of this many bytes.
+fn verdict_of(alloc: Global, verdict: &str, len: usize) -> Result<String, AllocError> {
+    let mut text = test_of(alloc, verdict)?;
+    text.push(' ')?;
+    for _ in 0..len {
+        text.push('r')?;
+    }
+    Ok(text)
+}
+
+#[test]
+fn reads_verdicts(rt: HostRuntime) -> Result<(), Fail> {
+    let text =
+        "engine e\n  class C fail boom\n    test t pass\n    test u abort  not  now  \r\n  class D disabled later\n    test v spin=007 fail\n    test w spin=1 disabled \n";
+    let suite = Suite::parse(rt.alloc(), text)?;
+    let nodes = [
+        (1, None, None),
+        (2, Some(BodyId::new(2)), None),
+        (3, Some(BodyId::new(3)), None),
+        (4, Some(BodyId::new(4)), None),
+        (5, None, Some("later")),
+        (6, Some(BodyId::new(6)), None),
+        (7, None, Some("")),
+    ];
+    assert_eq!(rt; suite.tree.len(), 8);
+    for (number, body, reason) in nodes {
+        let node = NodeId::new(number);
+        assert!(rt; node.index() > 0 && node.index() < suite.tree.len());
+        assert_eq!(rt; suite.tree.body(node), body, "{number}");
+        assert_eq!(rt; suite.tree.reason(node), reason, "{number}");
+    }
+    let scripts = [
+        (2, 0, Status::Failed, "boom"),
+        (3, 0, Status::Successful, ""),
+        (4, 0, Status::Aborted, "not  now"),
+        (6, 7, Status::Failed, ""),
+    ];
+    assert_eq!(rt; suite.scripts.len(), 4);
+    for (script, (body, spin, status, text)) in suite.scripts.iter().zip(scripts) {
+        assert_eq!(rt; script.body, BodyId::new(body));
+        assert_eq!(rt; script.spin, spin, "{body}");
+        assert_eq!(rt; script.reply.pulls, 0);
+        assert_eq!(rt; script.reply.outcome.status, status, "{body}");
+        assert_eq!(rt; script.reply.outcome.text.as_str(), text, "{body}");
+    }
+    Ok(())
+}
+
+#[test]
+fn judges_the_words_of_a_test(rt: HostRuntime) -> Result<(), Fail> {
+    let faulty = Err(SuiteFault::BadLine(3));
+    let ends = [
+        ("pass  ", Ok(4)),
+        ("pass x", faulty),
+        ("pass spin=1", faulty),
+        ("fail spin=1", Ok(4)),
+        ("Pass", faulty),
+        ("fail\tx", faulty),
+        ("#tag pass", faulty),
+        ("isolated pass", faulty),
+        ("spin=1000000 pass", Ok(4)),
+        ("spin=0000000001 pass", Ok(4)),
+        ("spin=1000001 pass", faulty),
+        ("spin=4294967297 pass", faulty),
+        ("spin=1 spin=2 pass", faulty),
+        ("spin= pass", faulty),
+        ("spin pass", faulty),
+        ("spin=+1 pass", faulty),
+        ("spin=-1 pass", faulty),
+        ("spin=1=1 pass", faulty),
+        ("spin=x", faulty),
+        ("spin=1", Err(SuiteFault::MissingVerdict(3))),
+    ];
+    for (end, answer) in ends {
+        let text = test_of(rt.alloc(), end)?;
+        assert_eq!(rt; nodes_of(rt.alloc(), text.as_str()), answer, "{end:?}");
+    }
+    Ok(())
+}
+
+#[test]
+fn limits_reasons(rt: HostRuntime) -> Result<(), Fail> {
+    let alloc = rt.alloc();
+    let too_long = SuiteFault::Refused {
+        fault: TreeFault::OverLimit,
+        line: 3,
+    };
+    let texts = [
+        ("disabled", 1024, Ok(4)),
+        ("disabled", 1025, Err(too_long)),
+        ("fail", 1025, Ok(4)),
+    ];
+    for (verdict, len, answer) in texts {
+        let text = verdict_of(alloc, verdict, len)?;
+        assert_eq!(rt; nodes_of(alloc, text.as_str()), answer, "{verdict} {len}");
+    }
+    Ok(())
 }
 
 #[test]

@@ -1,0 +1,44 @@
+-- How steps are written.
+use Rattle.std.specs.Prelude.{ℕ, ◌≤◌, List, [], ◌∷◌, ◌++◌, codes}
+use Rattle.std.specs.Fmt.{decimal}
+use Rattle.sched_core.specs.declared.step.Action.{Action}
+use Rattle.sched_core.specs.declared.step.Action.TheVariants.{Claim, Own, Draw, Show, Admit, Done, Settle, Look, Weigh, Take, Give, GiveUp, AddChild}
+use Rattle.sched_core.specs.declared.step.Step.{Step}
+use Rattle.sched_core.specs.declared.step.Step.TheVariants.{Worker, Read}
+
+-- what a worker does
+abbrev pub spelled_action : Action → List ℕ
+spelled_action (Claim n) = codes "claim:" ++ decimal n
+spelled_action (Own n) = codes "own:" ++ decimal n
+spelled_action Draw = codes "draw"
+spelled_action Show = codes "show"
+spelled_action Admit = codes "admit"
+spelled_action Done = codes "done"
+spelled_action Settle = codes "settle"
+spelled_action Look = codes "look"
+spelled_action Weigh = codes "weigh"
+spelled_action Take = codes "take"
+spelled_action Give = codes "give"
+spelled_action GiveUp = codes "give_up"
+spelled_action AddChild = codes "add_child"
+
+-- a step: the dispatcher's reading, or a worker's number and what it does
+abbrev pub spelled_step : Step → List ℕ
+spelled_step Read = codes "d:read"
+spelled_step (Worker k a) = codes "w" ++ (decimal k ++ (codes ":" ++ spelled_action a))
+
+-- the node that a step names, if any, is one that a text can name
+abbrev pub NamesNode : Action → Type 0
+NamesNode (Claim n) = n ≤ 65535
+NamesNode (Own n) = n ≤ 65535
+NamesNode _ = Unit {0}
+
+-- a step that a text can name: the worker's number is from 1 to 64
+abbrev pub IsNamable : Step → Type 0
+IsNamable Read = Unit {0}
+IsNamable (Worker k a) = (1 ≤ k) × (k ≤ 64) × NamesNode a
+
+-- all of these steps
+abbrev pub AreNamable : List Step → Type 0
+AreNamable [] = Unit {0}
+AreNamable (s ∷ more) = IsNamable s × AreNamable more
