@@ -3,7 +3,9 @@ mod ReadBack
 mod Spelled
 mod SpelledWords
 pub mod Cleaning
+pub mod FoundValues
 pub mod Given
+pub mod Options
 pub mod Reading
 pub mod Refused
 pub mod Sending

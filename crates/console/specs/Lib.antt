@@ -19,4 +19,5 @@ pub mod SuiteSpins
 pub mod SuiteVerdicts
 pub mod SuiteWords
 pub mod Suites
+pub mod Values
 pub mod Words

@@ -28,6 +28,7 @@ mod suite_spins;
 mod suite_tests;
 mod suite_verdicts;
 mod suite_words;
+mod values;
 mod words;
 
 use crate::fault::ConsoleFault;
