@@ -2,11 +2,9 @@ mod Numbers
 mod ReadBack
 mod Spelled
 mod SpelledWords
-pub mod Cleaning
 pub mod Given
 pub mod Reading
 pub mod Refused
-pub mod Sending
 pub mod SuiteAnswers
 pub mod SuiteIds
 pub mod SuiteNever
