@@ -2,13 +2,11 @@ mod Numbers
 mod ReadBack
 mod Spelled
 mod SpelledWords
-pub mod Cleaning
 pub mod FoundValues
 pub mod Given
 pub mod Options
 pub mod Reading
 pub mod Refused
-pub mod Sending
 pub mod SuiteAnswers
 pub mod SuiteIds
 pub mod SuiteNever

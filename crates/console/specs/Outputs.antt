@@ -14,10 +14,10 @@ use Rattle.sched_core.specs.Machine.{State, opening, given_list}
 use Rattle.sched_core.specs.Runs.{run, passed_over}
 use Rattle.sched_core.specs.Drives.{Drives}
 use Rattle.sched_core.specs.Texts.{AreTexts}
+use Rattle.listeners.specs.Feed.{feed_of}
 use Rattle.console.specs.declared.details.Details.{Details}
 use Rattle.console.specs.declared.details.Details.TheVariants as details
 use Rattle.console.specs.declared.replay.ReplayCounts.{ReplayCounts}
-use Rattle.console.specs.Feed.{feed_of}
 use Rattle.console.specs.ReplayTexts.{replay_line}
 use Rattle.console.specs.Words.{Asked}
 

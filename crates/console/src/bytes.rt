@@ -1,20 +1,14 @@
-//! Bytes out to a writer, and bytes in from a reader.
+//! Bytes in from a reader.
 
 ghost use Rattle.std.specs.Prelude.{◌≡◌, take, IfOk, IfSome};
-ghost use Rattle.console.specs.Bytes.{SendsExactly, ReadsFront};
+ghost use Rattle.console.specs.Bytes.{ReadsFront};
 ghost use Rattle.console.specs.declared.bytes.ReadFault.TheVariants.{NoMemory};
 
 use std::alloc::{AllocError, Global};
-use std::io::{Read, Write};
+use std::io::Read;
 
 /// How many bytes one read asks for at most.
 const BUFFER_SIZE: usize = 4096;
-
-/// The writer failed, or took nothing, when it had taken this many bytes (refusal 81).
-#[derive(Clone, Copy, Debug, PartialEq, Eq)]
-pub struct WriteFault {
-    pub sent: usize,
-}
 
 /// Why the front of a reader was not read.
 #[derive(Clone, Copy, Debug, PartialEq, Eq)]
@@ -30,22 +24,6 @@ impl From<AllocError> for ReadFault {
     fn from(_error: AllocError) -> ReadFault {
         ReadFault::NoMemory
     }
-}
-
-/// Writes all the bytes, in order. The first error ends it, an interruption too, and so does a
-/// writer that takes nothing (refusal 81, at the number of bytes that it has taken).
-pub fn print_to<W: Write>(writer: &mut W, bytes: &[u8]) -> Result<(), WriteFault>
-    ensures { SendsExactly (W.contents writer.old) (W.contents writer.new) bytes.now result }
-{
-    let mut sent = 0;
-    while sent < bytes.len() {
-        match writer.write(&bytes[sent..]) {
-            Ok(0) => return Err(WriteFault { sent }),
-            Ok(count) => sent += count,
-            Err(_) => return Err(WriteFault { sent }),
-        }
-    }
-    Ok(())
 }
 
 /// The reader's next bytes, at most `most`: fewer only where it ends. The first error of the

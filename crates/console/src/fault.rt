@@ -5,10 +5,11 @@ ghost use Rattle.clap.specs.Words.{kind_of};
 ghost use Rattle.console.specs.Faults.{number_of, place_of, IsReadFault, IsStepsFault, IsSuiteFault, IsWordsFault};
 ghost use Rattle.console.specs.declared.fault.ConsoleFault.TheVariants.{NoMemory, Writing};
 
-use crate::bytes::{ReadFault, WriteFault};
+use crate::bytes::ReadFault;
 use crate::steps::StepsFault;
 use crate::suite_fault::SuiteFault;
 use clap::error::ErrorKind;
+use listeners::WriteFault;
 use std::alloc::AllocError;
 use std::error::Error;
 use std::fmt;

@@ -6,9 +6,7 @@ ghost use Rattle.std.specs.Prelude.{◌≡◌, ◌⊎◌, IfErr};
 mod bytes;
 mod details;
 mod fault;
-mod feed;
 mod output;
-mod printed;
 mod program;
 #[cfg(test)]
 mod program_tests;

@@ -7,9 +7,9 @@ ghost use Rattle.console.specs.Outputs.{is_failure, status_of as status_in, Prin
 
 use crate::details::{Details, Options};
 use crate::fault::ConsoleFault;
-use crate::feed::feed_text;
 use crate::replay::{ReplayCounts, push_replay_line};
 use descriptor::NodeId;
+use listeners::feed_text;
 use plan_events::{Event, EventKind, Status};
 use resource_locks::Plan;
 use sched_core::{Answers, Step, drive, run_steps, texts_of};

@@ -7,13 +7,14 @@ ghost use Rattle.console.specs.Suites.{suite_parts};
 ghost use Rattle.console.specs.Runs.{IsRun, IsSuiteOutput, ReadsSuite, suite_read, answers_of as answers_in, is_writing};
 ghost use Rattle.console.specs.Words.{asked_by};
 
-use crate::bytes::{ReadFault, print_to, read_front};
+use crate::bytes::{ReadFault, read_front};
 use crate::details::Options;
 use crate::fault::ConsoleFault;
 use crate::output::{Output, output_of};
 use crate::script::Script;
 use crate::suite::Suite;
 use crate::suite_fault::SuiteFault;
+use listeners::print_to;
 use resource_locks::Plan;
 use sched_core::Answers;
 use std::alloc::{AllocError, Global};

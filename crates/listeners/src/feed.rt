@@ -2,7 +2,7 @@
 
 ghost use Rattle.std.specs.Prelude.{◌≡◌, ◌++◌, OnOk, IfOk, string_bytes};
 ghost use Rattle.plan_events.specs.Texts.{text_at};
-ghost use Rattle.console.specs.Feed.{kind_word, ending, event_line, id_at, text_or, feed_of};
+ghost use Rattle.listeners.specs.Feed.{kind_word, ending, event_line, id_at, text_or, feed_of};
 
 use crate::printed::push_text;
 use descriptor::NodeId;

@@ -1,7 +1,7 @@
 -- A control character is a space, and another is kept.
 use Rattle.std.proofs.Common.{arith}
-use Rattle.console.proofs.Cleaning.{blanked_char, kept_char}
-use Rattle.console.proofs.printed.printed_char.Goals as goal
+use Rattle.listeners.proofs.Cleaning.{blanked_char, kept_char}
+use Rattle.listeners.proofs.printed.printed_char.Goals as goal
 
 pub returns-then-is_ascii_control : goal.returns-then-is_ascii_control
 returns-then-is_ascii_control c = blanked_char c.args.c c.if-is_ascii_control.ensures.cases

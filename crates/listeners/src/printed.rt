@@ -1,7 +1,7 @@
 //! How texts are printed.
 
 ghost use Rattle.std.specs.Prelude.{◌≡◌, ◌++◌, OnOk, string_bytes, encode_utf8};
-ghost use Rattle.console.specs.Printed.{cleaned, text_after};
+ghost use Rattle.listeners.specs.Printed.{cleaned, text_after};
 
 use std::alloc::AllocError;
 

@@ -6,7 +6,7 @@ use Rattle.std.specs.Char.{IsAsciiControl}
 use Rattle.std.proofs.lemmas.Bool.Decides.{nat_tests}
 use Rattle.std.proofs.lemmas.List.{map-append}
 use Rattle.std.proofs.lemmas.Str.{encodes-append, encode_ascii}
-use Rattle.console.specs.Printed.{printed_byte, cleaned}
+use Rattle.listeners.specs.Printed.{printed_byte, cleaned}
 
 -- a byte that is printed as it is
 record IsKept (b : ℕ) : Type 0 where

@@ -2,9 +2,9 @@
 use Rattle.std.proofs.Common.{◌≡◌, ◌++◌, ◌∙◌, ◌∷◌, [], ap, arith, append_assoc, string_bytes, encode_utf8}
 use Rattle.std.proofs.lemmas.Grind.{common_steps}
 use Rattle.std.specs.Prelude.{encode_utf8_all}
-use Rattle.console.specs.Printed.{cleaned}
-use Rattle.console.proofs.Cleaning.{cleaned_more}
-use Rattle.console.proofs.printed.push_cleaned.Goals as goal
+use Rattle.listeners.specs.Printed.{cleaned}
+use Rattle.listeners.proofs.Cleaning.{cleaned_more}
+use Rattle.listeners.proofs.printed.push_cleaned.Goals as goal
 
 pub loop-c-preserved : goal.loop-c-preserved
 loop-c-preserved c =

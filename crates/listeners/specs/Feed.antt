@@ -13,7 +13,7 @@ use Rattle.plan_events.specs.declared.event.EventKind.{EventKind}
 use Rattle.plan_events.specs.declared.event.EventKind.TheVariants.{Started, Finished, Skipped, Registered}
 use Rattle.plan_events.specs.declared.status.Status.{Status}
 use Rattle.plan_events.specs.declared.status.Status.TheVariants.{Successful}
-use Rattle.console.specs.Printed.{text_after}
+use Rattle.listeners.specs.Printed.{text_after}
 
 -- what happened, in a word
 abbrev pub kind_word : EventKind → List ℕ

@@ -1,0 +1,4 @@
+-- The definitions that contracts cite.
+pub mod Feed
+pub mod Printed
+pub mod Sending
