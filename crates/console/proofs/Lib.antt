@@ -2,9 +2,8 @@ mod Numbers
 mod ReadBack
 mod Spelled
 mod SpelledWords
-pub mod FoundValues
 pub mod Given
-pub mod Options
+pub mod Growing
 pub mod Reading
 pub mod Refused
 pub mod SuiteAnswers

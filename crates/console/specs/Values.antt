@@ -3,7 +3,6 @@ use Rattle.std.specs.Prelude.{ℕ, Bool, true, false, List, [], ◌∷◌, codes
 use Rattle.std.specs.Str.{bytes_eq}
 use Rattle.clap.specs.Words.{App, Row, Rule, Text, all_of, first_of, new_app, new_rule, with_rule}
 use Rattle.clap.specs.declared.builder.action.ArgAction.TheVariants.{Append, SetTrue}
-use Rattle.console.specs.declared.values.Values.{Values}
 
 -- an option with one value, that is given once
 abbrev pub single : List ℕ → Rule
@@ -50,21 +49,6 @@ pub record Given : Type 0 where
   pub theme : Option Text
   pub replay : Option Text
   pub fail_if_no_tests : Bool
-
--- the values, without where they lie in memory
-abbrev pub given_by : Values → Given
-given_by values = record {
-  unique_ids = map (λ text. text.now) values.unique_ids.now;
-  classes = map (λ text. text.now) values.classes.now;
-  methods = map (λ text. text.now) values.methods.now;
-  packages = map (λ text. text.now) values.packages.now;
-  include_tags = map (λ text. text.now) values.include_tags.now;
-  exclude_tags = map (λ text. text.now) values.exclude_tags.now;
-  details = option_map (λ text. text.now) values.details;
-  theme = option_map (λ text. text.now) values.theme;
-  replay = option_map (λ text. text.now) values.replay;
-  fail_if_no_tests = values.fail_if_no_tests;
-}
 
 -- the values of an option that may be missing: none
 abbrev pub texts_or_none : Option (List Text) → List Text

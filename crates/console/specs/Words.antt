@@ -1,73 +1,95 @@
--- The options that the words of the command line give, as clap reads them.
-use Rattle.std.specs.Prelude.{◌≡◌, ℕ, List, [], ◌∷◌, codes, if◌then◌else◌, true, Option, Some, None, option_map, Result, Ok, Err}
+-- What the words of the command line ask for, and why they ask for nothing.
+use Rattle.std.specs.Prelude.{◌≡◌, ℕ, Bool, List, [], ◌∷◌, codes, if◌then◌else◌, Option, Some, None, option_map, Result, Ok, Err}
+use Rattle.std.specs.Option.{option_or, is_none}
 use Rattle.std.specs.Str.{bytes_eq}
-use Rattle.clap.specs.Words.{App, Kinds, Rule, Text, fault_of, first_of, matches_of, new_app, new_rule, with_rule}
+use Rattle.clap.specs.Words.{Kinds, Text, fault_of, matches_of}
+use Rattle.listeners.specs.declared.theme.Theme.{Theme}
+use Rattle.listeners.specs.declared.theme.Theme.TheVariants as themes
 use Rattle.sched_core.specs.declared.step.Step.{Step}
 use Rattle.console.specs.declared.details.Details.{Details}
 use Rattle.console.specs.declared.details.Details.TheVariants as details
-use Rattle.console.specs.declared.details.Options.{Options}
+use Rattle.console.specs.declared.options.Options.{Options}
 use Rattle.console.specs.declared.fault.ConsoleFault.{ConsoleFault}
 use Rattle.console.specs.declared.fault.ConsoleFault.TheVariants.{NoMemory, BadWords, BadStep}
 use Rattle.console.specs.StepTexts.{steps_of}
+use Rattle.console.specs.Values.{Given, given_in, program}
 
--- the option `--details`, with one value, and not to be left out
-abbrev pub details_rule : Rule
-details_rule = record (new_rule (codes "details")) { long = Some (codes "details"); required = true }
-
--- the option `--replay`, with one value
-abbrev pub replay_rule : Rule
-replay_rule = record (new_rule (codes "replay")) { long = Some (codes "replay") }
-
--- the program and its options
-abbrev pub program : App
-program = with_rule (with_rule (new_app (codes "console")) details_rule) replay_rule
-
--- what is asked for: what is printed, and the steps that are to be replayed, if any are
+-- what is asked for: what is printed and how, whether there have to be tests, and the steps that are to be replayed, if any are
 pub record Asked : Type 0 where
   pub details : Details
+  pub theme : Theme
+  pub fail_if_no_tests : Bool
   pub replay : Option (List Step)
 
 -- options, without where they lie in memory
 abbrev pub asked_by : Options → Asked
-asked_by options = record { details = options.details; replay = option_map (λ steps. steps.items) options.replay }
+asked_by options = record {
+  details = options.details;
+  theme = options.theme;
+  fail_if_no_tests = options.fail_if_no_tests;
+  replay = option_map (λ steps. steps.items) options.replay;
+}
 
--- what a value of `--details` asks for: there are two
-abbrev pub details_named : Option (List ℕ) → Option Details
-details_named None = None
+-- what `--details` asks for: there are four, and it is the tree where it is not given
+abbrev pub details_named : Option Text → Option Details
+details_named None = Some details.Tree
 details_named (Some name) =
     if bytes_eq name (codes "none") then Some details.None
-    else (if bytes_eq name (codes "testfeed") then Some details.Testfeed else None)
+    else (if bytes_eq name (codes "summary") then Some details.Summary
+    else (if bytes_eq name (codes "tree") then Some details.Tree
+    else (if bytes_eq name (codes "testfeed") then Some details.Testfeed else None)))
 
--- with the steps that a text names, or the number of the first word that names none
-abbrev pub with_steps : Details → Result (List Step) ℕ → Result Asked ConsoleFault
-with_steps asked (Ok steps) = Ok (record { details = asked; replay = Some steps })
-with_steps asked (Err number) = Err (BadStep number)
+-- what `--details-theme` asks for: there are two, and it is Unicode where it is not given
+abbrev pub theme_named : Option Text → Option Theme
+theme_named None = Some themes.Unicode
+theme_named (Some name) =
+    if bytes_eq name (codes "unicode") then Some themes.Unicode
+    else (if bytes_eq name (codes "ascii") then Some themes.Ascii else None)
 
--- with the value of `--replay`, if it is given
-abbrev pub with_replay : Details → Option (List ℕ) → Result Asked ConsoleFault
-with_replay asked None = Ok (record { details = asked; replay = None })
-with_replay asked (Some text) = with_steps asked (steps_of text)
+-- refused where the words name nothing
+abbrev pub unless_named : {A : Type 0} → Option A → Option ConsoleFault
+unless_named None = Some BadWords
+unless_named (Some named) = None
 
--- what the values ask for: other details are refused first, and then a text that is none of steps
-abbrev pub options_with : Option Details → Option (List ℕ) → Result Asked ConsoleFault
-options_with None replay = Err BadWords
-options_with (Some asked) replay = with_replay asked replay
+-- refused at the first word that names no step
+abbrev pub unless_steps : Result (List Step) ℕ → Option ConsoleFault
+unless_steps (Ok steps) = None
+unless_steps (Err number) = Some (BadStep number)
 
--- something where clap finds no fault, and else a refusal
-abbrev pub where_faultless : Kinds → Result Asked ConsoleFault → Result Asked ConsoleFault
-where_faultless [] asked = asked
-where_faultless (fault ∷ more) asked = Err BadWords
+-- why the text of a replay is refused, if one is given
+abbrev pub replay_refusal : Option Text → Option ConsoleFault
+replay_refusal None = None
+replay_refusal (Some text) = unless_steps (steps_of text)
 
--- the value of an option, as clap finds it
-abbrev pub value_of : List ℕ → List Text → Option (List ℕ)
-value_of name words = first_of name (matches_of program words)
+-- the steps that are to be replayed are those that the text names
+abbrev pub IsReplay : Option Text → Option (List Step) → Type 0
+IsReplay None steps = steps ≡ None
+IsReplay (Some text) None = ⊥
+IsReplay (Some text) (Some steps) = steps_of text ≡ Ok steps
 
--- the options that the words give, of which the first is the program's name, or why they give none
-abbrev pub options_of : List Text → Result Asked ConsoleFault
-options_of words = where_faultless (fault_of program words) (options_with (details_named (value_of (codes "details") words)) (value_of (codes "replay") words))
+-- why the values are refused: other details, other themes, and then what names no step
+abbrev pub refusal_of : Given → Option ConsoleFault
+refusal_of given =
+    option_or (unless_named (details_named given.details)) (
+    option_or (unless_named (theme_named given.theme)) (
+    replay_refusal given.replay))
 
--- the options are those that the words give, and a refusal is theirs; of memory nothing is known
-abbrev pub IsReading : Result Asked ConsoleFault → Result Options ConsoleFault → Type 0
-IsReading given (Ok options) = given ≡ Ok (asked_by options)
-IsReading given (Err NoMemory) = Unit {0}
-IsReading given (Err fault) = given ≡ Err fault
+-- the values ask for this
+pub record AreAsked (given : Given) (asked : Asked) : Type 0 where
+  pub details : details_named given.details ≡ Some asked.details
+  pub theme : theme_named given.theme ≡ Some asked.theme
+  pub tests : asked.fail_if_no_tests ≡ given.fail_if_no_tests
+  pub replay : IsReplay given.replay asked.replay
+
+-- what clap refuses is refused, and else what there is to refuse
+abbrev pub where_faultless : Kinds → Option ConsoleFault → Option ConsoleFault
+where_faultless [] refusal = refusal
+where_faultless (fault ∷ more) refusal = Some BadWords
+
+-- what the words give the options, of which the first is the program's name
+abbrev pub given_of : List Text → Given
+given_of words = given_in (matches_of program words)
+
+-- why the words are refused, if they are
+abbrev pub words_refusal : List Text → Option ConsoleFault
+words_refusal words = where_faultless (fault_of program words) (refusal_of (given_of words))

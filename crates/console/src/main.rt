@@ -6,6 +6,7 @@ ghost use Rattle.std.specs.Prelude.{◌≡◌, ◌⊎◌, IfErr};
 mod bytes;
 mod details;
 mod fault;
+mod options;
 mod output;
 mod program;
 #[cfg(test)]

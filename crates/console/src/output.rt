@@ -5,7 +5,8 @@ ghost use Rattle.std.specs.List.{list_any};
 ghost use Rattle.console.specs.Words.{asked_by};
 ghost use Rattle.console.specs.Outputs.{is_failure, status_of as status_in, Prints, IsRunOutput, IsReplayOutput, IsOutput};
 
-use crate::details::{Details, Options};
+use crate::details::Details;
+use crate::options::Options;
 use crate::fault::ConsoleFault;
 use crate::replay::{ReplayCounts, push_replay_line};
 use descriptor::NodeId;
@@ -59,7 +60,7 @@ fn details_text(
     ensures { IfOk result (λ text. Prints details plan.now answers.now history.now (string_bytes text)) }
 {
     match details {
-        Details::None => Ok(String::new(alloc)),
+        Details::None | Details::Summary | Details::Tree => Ok(String::new(alloc)),
         Details::Testfeed => {
             let texts = texts_of(alloc, plan, answers, history)?;
             feed_text(alloc, plan, history, &texts)

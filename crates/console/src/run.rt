@@ -8,7 +8,7 @@ ghost use Rattle.console.specs.Runs.{IsRun, IsSuiteOutput, ReadsSuite, suite_rea
 ghost use Rattle.console.specs.Words.{asked_by};
 
 use crate::bytes::{ReadFault, read_front};
-use crate::details::Options;
+use crate::options::Options;
 use crate::fault::ConsoleFault;
 use crate::output::{Output, output_of};
 use crate::script::Script;

@@ -1,37 +1,22 @@
-//! The program's options, and the values that the words give them.
+//! The program's options, and what clap finds for one of them.
 
 ghost use Rattle.std.specs.Prelude.{◌≡◌, IfOk, false, map, option_map};
-ghost use Rattle.clap.specs.Words.{app_of, found_of, first_of, rows_of, rule_of, with_rule};
-ghost use Rattle.console.specs.Values.{program, selecting, single, repeated, flag, given_by, given_in, all_found, is_found};
+ghost use Rattle.clap.specs.Words.{app_of, found_of, first_of, all_of, rows_of, rule_of, with_rule};
+ghost use Rattle.console.specs.Values.{program, selecting, single, repeated, flag, is_found};
 
 use clap::{Arg, ArgAction, ArgMatches, Command};
 use std::alloc::{AllocError, Global};
 
-const SELECT_UNIQUE_ID: &str = "select-unique-id";
-const SELECT_CLASS: &str = "select-class";
-const SELECT_METHOD: &str = "select-method";
-const SELECT_PACKAGE: &str = "select-package";
-const INCLUDE_TAG: &str = "include-tag";
-const EXCLUDE_TAG: &str = "exclude-tag";
-const DETAILS: &str = "details";
-const DETAILS_THEME: &str = "details-theme";
-const FAIL_IF_NO_TESTS: &str = "fail-if-no-tests";
-const REPLAY: &str = "replay";
-
-/// The values that the words give the options, each option's in the order of the words.
-#[derive(Clone, Copy, Debug)]
-pub(crate) struct Values<'a> {
-    pub(crate) unique_ids: &'a [&'a str],
-    pub(crate) classes: &'a [&'a str],
-    pub(crate) methods: &'a [&'a str],
-    pub(crate) packages: &'a [&'a str],
-    pub(crate) include_tags: &'a [&'a str],
-    pub(crate) exclude_tags: &'a [&'a str],
-    pub(crate) details: Option<&'a str>,
-    pub(crate) theme: Option<&'a str>,
-    pub(crate) replay: Option<&'a str>,
-    pub(crate) fail_if_no_tests: bool,
-}
+pub(crate) const SELECT_UNIQUE_ID: &str = "select-unique-id";
+pub(crate) const SELECT_CLASS: &str = "select-class";
+pub(crate) const SELECT_METHOD: &str = "select-method";
+pub(crate) const SELECT_PACKAGE: &str = "select-package";
+pub(crate) const INCLUDE_TAG: &str = "include-tag";
+pub(crate) const EXCLUDE_TAG: &str = "exclude-tag";
+pub(crate) const DETAILS: &str = "details";
+pub(crate) const DETAILS_THEME: &str = "details-theme";
+pub(crate) const FAIL_IF_NO_TESTS: &str = "fail-if-no-tests";
+pub(crate) const REPLAY: &str = "replay";
 
 fn single<'a>(alloc: Global, name: &'a str) -> Arg<'a>
     ensures rule { rule_of result ≡ single name.now }
@@ -86,44 +71,26 @@ pub(crate) fn command<'a>(alloc: Global) -> Result<Command<'a>, AllocError>
     with(command, single(alloc, REPLAY))
 }
 
-/// The values of an option that may be given again.
-fn all_found<'m>(matches: &'m ArgMatches<'m>, name: &str) -> &'m [&'m str]
-    ensures { map (λ text. text.now) result.now ≡ all_found name.now (rows_of (found_of matches.now)) }
+/// The values of an option that may be given again, if it is given.
+pub(crate) fn all_found<'m, 'a>(matches: &'m ArgMatches<'a>, name: &str) -> Option<&'m [&'a str]>
+    ensures { option_map (λ texts. map (λ text. text.now) texts.now) result ≡ all_of name.now (rows_of (found_of matches.now)) }
 {
-    matches.get_strs(name).unwrap_or(&[])
+    matches.get_strs(name)
 }
 
 /// The value of an option, if it is given.
-fn found<'m>(matches: &'m ArgMatches<'m>, name: &str) -> Option<&'m str>
+pub(crate) fn found<'a>(matches: &ArgMatches<'a>, name: &str) -> Option<&'a str>
     ensures { option_map (λ text. text.now) result ≡ first_of name.now (rows_of (found_of matches.now)) }
 {
     matches.get_str(name)
 }
 
 /// Whether a flag is given.
-fn is_found<'m>(matches: &'m ArgMatches<'m>, name: &str) -> bool
+pub(crate) fn is_found(matches: &ArgMatches<'_>, name: &str) -> bool
     ensures { result ≡ is_found name.now (rows_of (found_of matches.now)) }
 {
     match found(matches, name) {
         Some(text) => text == "true",
         None => false,
-    }
-}
-
-/// What clap found for the options.
-pub(crate) fn values_in<'m>(matches: &'m ArgMatches<'m>) -> Values<'m>
-    ensures { given_by result ≡ given_in (rows_of (found_of matches.now)) }
-{
-    Values {
-        unique_ids: all_found(matches, SELECT_UNIQUE_ID),
-        classes: all_found(matches, SELECT_CLASS),
-        methods: all_found(matches, SELECT_METHOD),
-        packages: all_found(matches, SELECT_PACKAGE),
-        include_tags: all_found(matches, INCLUDE_TAG),
-        exclude_tags: all_found(matches, EXCLUDE_TAG),
-        details: found(matches, DETAILS),
-        theme: found(matches, DETAILS_THEME),
-        replay: found(matches, REPLAY),
-        fail_if_no_tests: is_found(matches, FAIL_IF_NO_TESTS),
     }
 }

@@ -2,3 +2,4 @@
 pub mod Feed
 pub mod Printed
 pub mod Sending
+pub mod TreeSigns

@@ -6,6 +6,8 @@ mod feed;
 mod feed_tests;
 mod output;
 mod printed;
+mod theme;
 
 pub use feed::feed_text;
 pub use output::{WriteFault, print_to};
+pub use theme::Theme;

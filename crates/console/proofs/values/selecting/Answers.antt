@@ -2,7 +2,7 @@
 use Rattle.std.proofs.Common.{codes, IfOk}
 use Rattle.clap.specs.Words.{app_of}
 use Rattle.console.specs.Values.{selecting}
-use Rattle.console.proofs.Options.{one_more, last_one}
+use Rattle.console.proofs.Growing.{one_more, last_one}
 use Rattle.console.proofs.values.selecting.Goals as goal
 
 pub returns : goal.returns
