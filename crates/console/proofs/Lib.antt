@@ -1,16 +1,5 @@
-mod Numbers
-mod ReadBack
-mod Spelled
-mod SpelledWords
 pub mod Cleaning
 pub mod Given
 pub mod Reading
 pub mod Refused
 pub mod Sending
-pub mod SuiteAnswers
-pub mod SuiteIds
-pub mod SuiteNever
-pub mod SuiteNumbers
-pub mod SuitePaths
-pub mod SuiteSpaces
-pub mod SuiteSteps

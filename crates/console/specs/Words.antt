@@ -8,7 +8,7 @@ use Rattle.console.specs.declared.details.Details.TheVariants as details
 use Rattle.console.specs.declared.details.Options.{Options}
 use Rattle.console.specs.declared.fault.ConsoleFault.{ConsoleFault}
 use Rattle.console.specs.declared.fault.ConsoleFault.TheVariants.{NoMemory, BadWords, BadStep}
-use Rattle.console.specs.StepTexts.{steps_of}
+use Rattle.suite_text.specs.StepTexts.{steps_of}
 
 -- the option `--details`, with one value, and not to be left out
 abbrev pub details_rule : Rule

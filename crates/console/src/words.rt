@@ -6,9 +6,9 @@ ghost use Rattle.console.specs.Words.{program, details_named as details_of_name,
 
 use crate::details::{Details, Options};
 use crate::fault::ConsoleFault;
-use crate::steps::parse_steps;
 use clap::{Arg, Command};
 use std::alloc::{AllocError, Global};
+use suite_text::parse_steps;
 
 /// The option that says what is printed.
 const DETAILS: &str = "details";
