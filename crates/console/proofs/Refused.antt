@@ -3,10 +3,11 @@ use Rattle.std.proofs.Common.{◌≡◌, ℕ, List, inl, inr, Option, Some, None
 use Rattle.std.specs.Result.{IsErrAnd}
 use Rattle.console.specs.declared.fault.ConsoleFault.{ConsoleFault}
 use Rattle.console.specs.declared.fault.ConsoleFault.TheVariants.{NoMemory}
-use Rattle.console.specs.declared.suite_fault.SuiteFault.{SuiteFault}
-use Rattle.console.specs.SuiteParts.{SuiteParts}
+use Rattle.suite_text.specs.declared.suite_fault.SuiteFault.{SuiteFault}
+use Rattle.suite_text.specs.SuiteParts.{SuiteParts}
 use Rattle.console.specs.Words.{Asked, IsReading}
-use Rattle.console.specs.Runs.{IsRunBy, suite_read}
+use Rattle.console.specs.Runs.{IsRunBy}
+use Rattle.suite_text.specs.SuiteBytes.{suite_read}
 
 module _ (read : Result SuiteParts SuiteFault) (old new : Option (List ℕ)) where
   short_of_memory : (given : Result Asked ConsoleFault) → IsRunBy given read old new (Err NoMemory)

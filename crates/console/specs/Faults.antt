@@ -3,13 +3,13 @@ use Rattle.std.specs.Prelude.{◌≡◌, ℕ, List, [], ◌++◌, codes, Option,
 use Rattle.std.specs.Fmt.{decimal}
 use Rattle.clap.specs.declared.error.kind.ErrorKind.{ErrorKind}
 use Rattle.clap.specs.declared.error.kind.ErrorKind.TheVariants as kinds
-use Rattle.console.specs.SuiteFaults as suite_faults
-use Rattle.console.specs.declared.suite_fault.SuiteFault.{SuiteFault}
-use Rattle.console.specs.declared.suite_fault.SuiteFault.TheVariants as suites
+use Rattle.suite_text.specs.SuiteFaults as suite_faults
+use Rattle.suite_text.specs.declared.suite_fault.SuiteFault.{SuiteFault}
+use Rattle.suite_text.specs.declared.suite_fault.SuiteFault.TheVariants as suites
 use Rattle.console.specs.declared.bytes.ReadFault.{ReadFault}
 use Rattle.console.specs.declared.bytes.ReadFault.TheVariants as reads
-use Rattle.console.specs.declared.steps.StepsFault.{StepsFault}
-use Rattle.console.specs.declared.steps.StepsFault.TheVariants as steps
+use Rattle.suite_text.specs.declared.steps.StepsFault.{StepsFault}
+use Rattle.suite_text.specs.declared.steps.StepsFault.TheVariants as steps
 use Rattle.console.specs.declared.fault.ConsoleFault.{ConsoleFault}
 use Rattle.console.specs.declared.fault.ConsoleFault.TheVariants.{NoMemory, Suite, BadWords, BadStep, Reading, Writing}
 

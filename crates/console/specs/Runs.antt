@@ -1,30 +1,17 @@
 -- What a run reads and what it writes.
-use Rattle.std.specs.Prelude.{◌≡◌, ℕ, ◌+◌, ◌<◌, ◌==◌, nat_lt, List, length, take, map, count_by, Bool, true, false, if◌then◌else◌, Option, Result, Ok, Err, ◌⊎◌}
-use Rattle.std.specs.Str.{is_utf8}
-use Rattle.std.specs.Str.Lossy.{utf8_valid_len}
+use Rattle.std.specs.Prelude.{◌≡◌, ℕ, ◌<◌, List, length, take, map, Bool, true, false, Option, Result, Ok, Err, ◌⊎◌}
 use Rattle.std.specs.Io.KnownBytes.{Appends}
 use Rattle.plan_events.specs.declared.outcome.Reply.{Reply}
 use Rattle.resource_locks.specs.Plans.{PlanParts}
 use Rattle.console.specs.declared.fault.ConsoleFault.{ConsoleFault}
 use Rattle.console.specs.declared.fault.ConsoleFault.TheVariants.{NoMemory, Suite, BadWords, BadStep, Reading, Writing}
-use Rattle.console.specs.declared.script.Script.{Script}
-use Rattle.console.specs.declared.suite_fault.SuiteFault.{SuiteFault}
-use Rattle.console.specs.declared.suite_fault.SuiteFault.TheVariants.{TooLarge, BadLine}
-use Rattle.console.specs.SuiteParts.{SuiteParts}
-use Rattle.console.specs.Suites.{suite_of, suite_parts}
-use Rattle.console.specs.declared.suite.Suite as suites
+use Rattle.suite_text.specs.declared.script.Script.{Script}
+use Rattle.suite_text.specs.declared.suite_fault.SuiteFault.{SuiteFault}
+use Rattle.suite_text.specs.SuiteParts.{SuiteParts}
+use Rattle.suite_text.specs.Suites.{suite_parts}
+use Rattle.suite_text.specs.declared.suite.Suite as suites
 use Rattle.console.specs.Words.{Asked}
 use Rattle.console.specs.Outputs.{IsOutput}
-
--- the number of the line, from 1, of the first byte that is not UTF-8
-abbrev pub line_of_fault : List ℕ → ℕ
-line_of_fault bytes = 1 + count_by (λ byte. byte == 10) (take (utf8_valid_len bytes) bytes)
-
--- the suite that the bytes of a standard input are: too many bytes first, then bytes that are no text
-abbrev pub suite_read : List ℕ → Result SuiteParts SuiteFault
-suite_read bytes =
-    if nat_lt 1048576 (length bytes) then Err TooLarge
-    else (if is_utf8 bytes then suite_of bytes else Err (BadLine (line_of_fault bytes)))
 
 -- the plan of a suite
 abbrev pub plan_of : SuiteParts → PlanParts

@@ -11,7 +11,7 @@ use Rattle.console.specs.declared.details.Details.TheVariants as details
 use Rattle.console.specs.declared.options.Options.{Options}
 use Rattle.console.specs.declared.fault.ConsoleFault.{ConsoleFault}
 use Rattle.console.specs.declared.fault.ConsoleFault.TheVariants.{NoMemory, BadWords, BadStep}
-use Rattle.console.specs.StepTexts.{steps_of}
+use Rattle.suite_text.specs.StepTexts.{steps_of}
 use Rattle.console.specs.Values.{Given, given_in, program}
 
 -- what is asked for: what is printed and how, whether there have to be tests, and the steps that are to be replayed, if any are

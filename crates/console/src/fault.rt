@@ -6,13 +6,12 @@ ghost use Rattle.console.specs.Faults.{number_of, place_of, IsReadFault, IsSteps
 ghost use Rattle.console.specs.declared.fault.ConsoleFault.TheVariants.{NoMemory, Writing};
 
 use crate::bytes::ReadFault;
-use crate::steps::StepsFault;
-use crate::suite_fault::SuiteFault;
 use clap::error::ErrorKind;
 use listeners::WriteFault;
 use std::alloc::AllocError;
 use std::error::Error;
 use std::fmt;
+use suite_text::{StepsFault, SuiteFault};
 
 /// Why the program refused to run, or broke off. `{}` writes `error`, the number, and behind `at`
 /// the place where there is one.

@@ -12,21 +12,9 @@ mod program;
 #[cfg(test)]
 mod program_tests;
 mod replay;
+#[cfg(test)]
+mod replay_tests;
 mod run;
-mod script;
-mod step_words;
-mod steps;
-#[cfg(test)]
-mod steps_tests;
-mod suite;
-mod suite_builder;
-mod suite_fault;
-mod suite_lines;
-mod suite_spins;
-#[cfg(test)]
-mod suite_tests;
-mod suite_verdicts;
-mod suite_words;
 mod values;
 mod words;
 

@@ -9,12 +9,12 @@ ghost use Rattle.console.specs.Words.{asked_by, details_named as details_of_name
 
 use crate::details::Details;
 use crate::fault::ConsoleFault;
-use crate::steps::parse_steps;
 use crate::values::{DETAILS, DETAILS_THEME, FAIL_IF_NO_TESTS, REPLAY, found, is_found};
 use clap::ArgMatches;
 use listeners::Theme;
 use sched_core::Step;
 use std::alloc::Global;
+use suite_text::parse_steps;
 
 /// The options of a run.
 #[derive(Debug, Drop)]

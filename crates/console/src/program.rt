@@ -2,7 +2,8 @@
 
 ghost use Rattle.std.specs.Prelude.{◌≡◌, IfErr, IfSome, false, take, map, string_bytes};
 ghost use Rattle.std.specs.Io.KnownBytes.{Keeps};
-ghost use Rattle.console.specs.Runs.{IsRunBy, suite_read, is_writing};
+ghost use Rattle.console.specs.Runs.{IsRunBy, is_writing};
+ghost use Rattle.suite_text.specs.SuiteBytes.{suite_read};
 ghost use Rattle.console.specs.Words.{options_of};
 ghost use Rattle.console.specs.declared.run.TheConstants.{MOST_READ};
 

@@ -1,63 +1,32 @@
 //! A run: from the bytes of a reader to the bytes of a writer.
 
-ghost use Rattle.std.specs.Prelude.{◌≡◌, ◌+◌, ◌==◌, ℕ, IfOk, IfErr, IfSome, false, take, map, count_by, string_bytes};
+ghost use Rattle.std.specs.Prelude.{◌≡◌, IfOk, IfErr, IfSome, false, take, string_bytes};
 ghost use Rattle.std.specs.Io.KnownBytes.{Keeps};
-ghost use Rattle.console.specs.SuiteFaults.{Gives};
-ghost use Rattle.console.specs.Suites.{suite_parts};
-ghost use Rattle.console.specs.Runs.{IsRun, IsSuiteOutput, ReadsSuite, suite_read, answers_of as answers_in, is_writing};
+ghost use Rattle.suite_text.specs.SuiteBytes.{suite_read};
+ghost use Rattle.suite_text.specs.Suites.{suite_parts};
+ghost use Rattle.console.specs.Runs.{IsRun, IsSuiteOutput, ReadsSuite, answers_of as answers_in, is_writing};
 ghost use Rattle.console.specs.Words.{asked_by};
 
 use crate::bytes::{ReadFault, read_front};
 use crate::options::Options;
 use crate::fault::ConsoleFault;
 use crate::output::{Output, output_of};
-use crate::script::Script;
-use crate::suite::Suite;
-use crate::suite_fault::SuiteFault;
 use listeners::print_to;
 use resource_locks::Plan;
 use sched_core::Answers;
 use std::alloc::{AllocError, Global};
 use std::io::{Read, Write};
+use suite_text::{Script, Suite};
 
-/// The greatest number of bytes of a suite.
-const LONGEST_SUITE: usize = 1_048_576;
-
-/// How many bytes are read at most: one more tells that there are too many.
+/// How many bytes are read at most: one more than a suite may have tells that there are too many.
 pub const MOST_READ: usize = 1_048_577;
-
-/// The number of the line that follows these bytes, from 1.
-fn line_after(bytes: &[u8]) -> usize
-    ensures { result ≡ 1 + count_by (λ byte. byte == 10) bytes.now }
-{
-    let mut line = 1;
-    for byte in bytes {
-        if *byte == b'\n' {
-            line += 1;
-        }
-    }
-    line
-}
-
-/// The suite that these bytes are.
-fn suite_of_bytes(alloc: Global, bytes: &[u8]) -> Result<Suite, SuiteFault>
-    ensures { Gives suite_parts result (suite_read bytes.now) }
-{
-    if bytes.len() > LONGEST_SUITE {
-        return Err(SuiteFault::TooLarge);
-    }
-    match std::str::from_utf8(bytes) {
-        Ok(text) => Suite::parse(alloc, text),
-        Err(fault) => Err(SuiteFault::BadLine(line_after(&bytes[..fault.valid_up_to()]))),
-    }
-}
 
 /// The suite that a reader holds.
 fn read_suite<R: Read>(alloc: Global, reader: &mut R) -> Result<Suite, ConsoleFault>
     ensures { IfSome (R.remaining reader.old) (λ bytes. ReadsSuite (suite_read (take MOST_READ bytes)) result) }
 {
     let bytes = read_front(alloc, reader, MOST_READ)?;
-    Ok(suite_of_bytes(alloc, bytes.as_slice())?)
+    Ok(Suite::read(alloc, bytes.as_slice())?)
 }
 
 /// The answers that the scripts give.

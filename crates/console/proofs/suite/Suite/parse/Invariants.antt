@@ -1,9 +1,0 @@
-use Rattle.std.proofs.Common.{◌≡◌, ◌+◌, drop}
-use Rattle.console.specs.SuiteLines.{texts}
-use Rattle.console.specs.SuiteParts.{no_lines}
-use Rattle.console.specs.Suites.{suite_from}
-use Rattle.console.proofs.suite.Suite.parse.Given as goal
-
--- the lines that are left, from this number and these nodes on, give what all give
-abbrev pub invariant-loop-index : goal.invariant-loop-index
-invariant-loop-index l = suite_from (l.index + 1) l.builder (drop l.index (texts l.line-items)) ≡ suite_from 1 no_lines (texts l.line-items)

@@ -1,0 +1,12 @@
+mod Numbers
+mod ReadBack
+mod Spelled
+mod SpelledWords
+pub mod SuiteAnswers
+pub mod SuiteIds
+pub mod SuiteNever
+pub mod SuiteNumbers
+pub mod SuitePaths
+pub mod SuiteReading
+pub mod SuiteSpaces
+pub mod SuiteSteps

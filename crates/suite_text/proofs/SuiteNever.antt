@@ -1,0 +1,101 @@
+-- No text makes the definition answer want of memory.
+use Rattle.std.proofs.Common.{◌≢◌, ℕ, ◌+◌, List, ◌∷◌, [], Option, Some, None, Result, Ok, Err, Bool, true, false}
+use Rattle.std.specs.Prelude.{nat_lt, ◌||◌, not, ◌==◌, ◌%◌, ◌/◌, if◌then◌else◌, length}
+use Rattle.std.specs.Str.Lines.{lines}
+use Rattle.descriptor.specs.declared.fault.TreeFault.{TreeFault}
+use Rattle.suite_text.specs.declared.suite_words.Word.{Word}
+use Rattle.suite_text.specs.declared.suite_words.Word.TheVariants.{Engine, Class, Test}
+use Rattle.suite_text.specs.declared.suite_verdicts.Verdict.{Verdict}
+use Rattle.suite_text.specs.declared.suite_verdicts.Verdict.TheVariants.{Pass, Fail, Abort, Disabled}
+use Rattle.suite_text.specs.declared.suite_fault.SuiteFault.{SuiteFault}
+use Rattle.suite_text.specs.declared.suite_fault.SuiteFault.TheVariants.{NoMemory}
+use Rattle.suite_text.specs.SuiteFaults.{◌>>=◌}
+use Rattle.suite_text.specs.SuiteLines.{says_nothing, first_word, after_word, text_after_word, level_of, indentation_of}
+use Rattle.suite_text.specs.SuiteNodes.{word_on, refusal_on, grown, unless_refused}
+use Rattle.suite_text.specs.SuiteParts.{LinesRead, no_lines}
+use Rattle.suite_text.specs.SuiteSpins.{key_of, value_of, is_spin, number_up_to, or_bad_line, spin_of}
+use Rattle.suite_text.specs.SuiteVerdicts.{verdict_spelled, no_verdict, verdict_with, verdict_of}
+use Rattle.suite_text.specs.SuiteWords.{word_of, may_stand, placed, with_verdict, with_spin, with_name, declared_by}
+use Rattle.suite_text.specs.Suites.{with_declared, with_declaration, with_line, suite_from, suite_of}
+
+abbrev Never : {A : Type 0} → Result A SuiteFault → Type 0
+Never r = r ≢ Err NoMemory
+
+then_never : {A B : Type 0} (r : Result A SuiteFault) (f : A → Result B SuiteFault) → Never r → ((x : A) → Never (f x)) → Never (r >>= f)
+then_never (Ok x) f h g = g x
+then_never (Err fault) f h g = λ e. h (cc)
+
+if_never : {A : Type 0} (b : Bool) (r s : Result A SuiteFault) → Never r → Never s → Never (if b then r else s)
+if_never true r s h k = h
+if_never false r s h k = k
+
+ok_never : {A : Type 0} (x : A) → Never (Ok x)
+ok_never x = λ e. cc
+
+level_never : (number deepest : ℕ) (line : List ℕ) → Never (level_of number deepest line)
+level_never number deepest line = if_never (not (indentation_of line % 2 == 0) || nat_lt deepest (indentation_of line / 2)) _ _ (λ e. cc) (λ e. cc)
+
+spin_never : (number : ℕ) (n : Option ℕ) → Never (or_bad_line number n)
+spin_never number None = λ e. cc
+spin_never number (Some n) = λ e. cc
+
+none_never : (number : ℕ) (word : Word) → Never (no_verdict number word)
+none_never number Engine = λ e. cc
+none_never number Class = λ e. cc
+none_never number Test = λ e. cc
+
+some_never : (number : ℕ) (word : Word) (verdict : Option Verdict) (text : List ℕ) → Never (verdict_with number word verdict text)
+some_never number Engine verdict text = λ e. cc
+some_never number Class None text = λ e. cc
+some_never number Test None text = λ e. cc
+some_never number Class (Some Pass) text = if_never (length text == 0) _ _ (λ e. cc) (λ e. cc)
+some_never number Test (Some Pass) text = if_never (length text == 0) _ _ (λ e. cc) (λ e. cc)
+some_never number Class (Some Fail) text = λ e. cc
+some_never number Test (Some Fail) text = λ e. cc
+some_never number Class (Some Abort) text = λ e. cc
+some_never number Test (Some Abort) text = λ e. cc
+some_never number Class (Some Disabled) text = λ e. cc
+some_never number Test (Some Disabled) text = λ e. cc
+
+verdict_never : (number : ℕ) (word : Word) (first text : List ℕ) → Never (verdict_of number word first text)
+verdict_never number word first text = if_never (length first == 0) _ _ (none_never number word) (some_never number word (verdict_spelled first) text)
+
+placed_never : (number : ℕ) (above word : Option Word) → Never (placed number above word)
+placed_never number above None = λ e. cc
+placed_never number above (Some word) = if_never (may_stand above word) _ _ (λ e. cc) (λ e. cc)
+
+with_verdict_never : (number : ℕ) (word : Word) (name : List ℕ) (spin : ℕ) (rest : List ℕ) → Never (with_verdict number word name spin rest)
+with_verdict_never number word name spin rest =
+    then_never (verdict_of number word (first_word rest) (text_after_word rest)) _ (verdict_never number word (first_word rest) (text_after_word rest)) (λ verdict. λ e. cc)
+
+with_spin_never : (number : ℕ) (word : Word) (name rest : List ℕ) → Never (with_spin number word name rest)
+with_spin_never number word name rest =
+    if_never (is_spin word (key_of (first_word rest))) _ _
+    (then_never (spin_of number (value_of (first_word rest))) (λ spin. with_verdict number word name spin (after_word rest)) (spin_never number (number_up_to 1000000 (value_of (first_word rest))))
+    (λ spin. with_verdict_never number word name spin (after_word rest)))
+    (with_verdict_never number word name 0 rest)
+
+with_name_never : (number : ℕ) (word : Word) (rest : List ℕ) → Never (with_name number word rest)
+with_name_never number word rest = if_never (length (first_word rest) == 0) _ _ (λ e. cc) (with_spin_never number word (first_word rest) (after_word rest))
+
+by_never : (number : ℕ) (above : Option Word) (line : List ℕ) → Never (declared_by number above line)
+by_never number above line =
+    then_never (placed number above (word_of (first_word line))) (λ word. with_name number word (after_word line)) (placed_never number above (word_of (first_word line)))
+    (λ word. with_name_never number word (after_word line))
+
+refused_never : (number : ℕ) (why : Option TreeFault) (read : LinesRead) → Never (unless_refused number why read)
+refused_never number None read = λ e. cc
+refused_never number (Some why) read = λ e. cc
+
+line_never : (number : ℕ) (read : LinesRead) (line : List ℕ) → Never (with_line number read line)
+line_never number read line = if_never (says_nothing line) _ _ (λ e. cc)
+    (then_never (level_of number (length read.path) line) (λ level. with_declaration number read level line) (level_never number (length read.path) line)
+    (λ level. then_never (declared_by number (word_on read level) line) (λ d. with_declared number read level d) (by_never number (word_on read level) line)
+    (λ d. refused_never number (refusal_on read level d) (grown read level d))))
+
+from_never : (number : ℕ) (read : LinesRead) (ls : List (List ℕ)) → Never (suite_from number read ls)
+from_never number read [] = λ e. cc
+from_never number read (line ∷ more) = then_never (with_line number read line) (λ next. suite_from (number + 1) next more) (line_never number read line) (λ next. from_never (number + 1) next more)
+
+pub never_no_memory : (text : List ℕ) → suite_of text ≢ Err NoMemory
+never_no_memory text = if_never (nat_lt 1048576 (length text)) _ _ (λ e. cc) (then_never (suite_from 1 no_lines (lines text)) _ (from_never 1 no_lines (lines text)) (λ read. λ e. cc))

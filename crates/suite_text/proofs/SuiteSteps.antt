@@ -1,0 +1,59 @@
+-- One more line of a suite.
+use Rattle.std.proofs.Common.{rules, ◌≤◌, ◌≡◌, ℕ, ◌+◌, ◌<◌, List, ◌∷◌, map, drop, length, get_or, Result, Ok, sym, ap, ◌∙◌, refl}
+use Rattle.std.specs.Prelude.{nat_lt, Bool, false}
+use Rattle.std.proofs.lemmas.List.{drop-map, drop_more}
+use borrow.Author.Tests.{tests}
+use Rattle.std.specs.Str.Lines.{lines}
+use denote.Ref.{Bor}
+use Rattle.suite_text.specs.declared.suite_fault.SuiteFault.{SuiteFault}
+use Rattle.suite_text.specs.declared.suite_fault.SuiteFault.TheVariants.{NoMemory, BadLine, BadIndent, MissingVerdict, TooLarge, Refused}
+use Rattle.suite_text.specs.SuiteFaults.{Fails, ◌>>=◌}
+use Rattle.suite_text.specs.SuiteLines.{texts}
+use Rattle.suite_text.specs.SuiteParts.{LinesRead, no_lines, parts_of}
+use Rattle.suite_text.specs.Suites.{with_line, suite_from, suite_of}
+
+-- a fault of the first step is one of both
+pub fails_then : {A B : Type 0} (fault : SuiteFault) (r : Result A SuiteFault) (f : A → Result B SuiteFault) → Fails fault r → Fails fault (r >>= f)
+fails_then NoMemory r f h = tt
+fails_then (BadLine line) r f h = ap (λ x. x >>= f) h
+fails_then (BadIndent line) r f h = ap (λ x. x >>= f) h
+fails_then (MissingVerdict line) r f h = ap (λ x. x >>= f) h
+fails_then TooLarge r f h = ap (λ x. x >>= f) h
+fails_then (Refused why line) r f h = ap (λ x. x >>= f) h
+
+-- and of what equals them
+pub fails_as : {A : Type 0} (fault : SuiteFault) (r s : Result A SuiteFault) → r ≡ s → Fails fault r → Fails fault s
+fails_as NoMemory r s e h = tt
+fails_as (BadLine line) r s e h = sym e ∙ h
+fails_as (BadIndent line) r s e h = sym e ∙ h
+fails_as (MissingVerdict line) r s e h = sym e ∙ h
+fails_as TooLarge r s e h = sym e ∙ h
+fails_as (Refused why line) r s e h = sym e ∙ h
+
+texts_drop : (xs : List (Bor (List ℕ))) (i : ℕ) (d : Bor (List ℕ)) → i < length xs → drop i (texts xs) ≡ (get_or xs i d).now ∷ drop (i + 1) (texts xs)
+texts_drop xs i d h =
+    let now : Bor (List ℕ) → List ℕ = λ x. x.now in
+    drop-map now i xs ∙ ap (map now) (drop_more xs i d h) ∙ ap (λ t. now (get_or xs i d) ∷ t) (sym (drop-map now (i + 1) xs))
+
+module _ (xs : List (Bor (List ℕ))) (i : ℕ) (d : Bor (List ℕ)) (old : LinesRead) (all : Result LinesRead SuiteFault)
+    (inside : i < length xs) (so_far : suite_from (i + 1) old (drop i (texts xs)) ≡ all) where
+  line_read : (with_line (i + 1) old (get_or xs i d).now >>= (λ next. suite_from (i + 1 + 1) next (drop (i + 1) (texts xs)))) ≡ all
+  line_read = sym (ap (suite_from (i + 1) old) (texts_drop xs i d inside)) ∙ so_far
+
+  pub line_next : (new : LinesRead) → with_line (i + 1) old (get_or xs i d).now ≡ Ok new → suite_from (i + 1 + 1) new (drop (i + 1) (texts xs)) ≡ all
+  line_next new read = sym (ap (λ r. r >>= (λ next. suite_from (i + 1 + 1) next (drop (i + 1) (texts xs)))) read) ∙ line_read
+
+  pub line_fails : (fault : SuiteFault) → Fails fault (with_line (i + 1) old (get_or xs i d).now) → Fails fault all
+  line_fails fault h = fails_as fault _ all line_read (fails_then fault (with_line (i + 1) old (get_or xs i d).now) (λ next. suite_from (i + 1 + 1) next (drop (i + 1) (texts xs))) h)
+
+-- the suite of a text that is not too large
+small : (text : List ℕ) (b : Bool) → nat_lt 1048576 (length text) ≡ b → b ≡ false → suite_of text ≡ (suite_from 1 no_lines (lines text) >>= (λ read. Ok (parts_of read)))
+small text b is e = rw (is ∙ e) refl
+
+pub suite_small : (text : List ℕ) → length text ≤ 1048576 → suite_of text ≡ (suite_from 1 no_lines (lines text) >>= (λ read. Ok (parts_of read)))
+suite_small text h = small text (nat_lt 1048576 (length text)) refl (search (rules, tests))
+
+pub suite_fails : (text : List ℕ) (ls : List (List ℕ)) (fault : SuiteFault) → length text ≤ 1048576 → ls ≡ lines text → Fails fault (suite_from 1 no_lines ls) → Fails fault (suite_of text)
+suite_fails text ls fault h e fails =
+    fails_as fault _ (suite_of text) (ap (λ l. suite_from 1 no_lines l >>= (λ read. Ok (parts_of read))) e ∙ sym (suite_small text h))
+    (fails_then fault (suite_from 1 no_lines ls) (λ read. Ok (parts_of read)) fails)

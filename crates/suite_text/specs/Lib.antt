@@ -1,0 +1,16 @@
+pub mod StepAnswers
+pub mod StepSpelling
+pub mod StepTexts
+pub mod SuiteBytes
+pub mod SuiteFaults
+pub mod SuiteIds
+pub mod SuiteLines
+pub mod SuiteNodes
+pub mod SuiteParts
+pub mod SuitePaths
+pub mod SuiteScripts
+pub mod SuiteSpins
+pub mod SuiteVerdicts
+pub mod SuiteWords
+pub mod Suites
+pub mod Words

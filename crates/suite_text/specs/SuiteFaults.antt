@@ -1,0 +1,43 @@
+-- The refusals of a suite text: their numbers and lines, and what it says of a call that it refused.
+use Rattle.std.specs.Prelude.{◌≡◌, ℕ, Option, Some, None, Result, Ok, Err}
+use Rattle.suite_text.specs.declared.suite_fault.SuiteFault.{SuiteFault}
+use Rattle.suite_text.specs.declared.suite_fault.SuiteFault.TheVariants.{NoMemory, BadLine, BadIndent, MissingVerdict, TooLarge, Refused}
+use Rattle.descriptor.specs.Refusals as trees
+
+-- the number of a refusal
+abbrev pub number_of : SuiteFault → ℕ
+number_of NoMemory = 0
+number_of (BadLine line) = 100
+number_of (BadIndent line) = 101
+number_of (MissingVerdict line) = 102
+number_of TooLarge = 103
+number_of (Refused fault line) = trees.number_of fault
+
+-- the line of a refusal
+abbrev pub place_of : SuiteFault → Option ℕ
+place_of NoMemory = None
+place_of (BadLine line) = Some line
+place_of (BadIndent line) = Some line
+place_of (MissingVerdict line) = Some line
+place_of TooLarge = None
+place_of (Refused fault line) = Some line
+
+-- the refusal is the one that the definition gives, unless memory ran out
+abbrev pub Fails : {Y : Type 0} → SuiteFault → Result Y SuiteFault → Type 0
+Fails NoMemory read = Unit {0}
+Fails (BadLine line) read = read ≡ Err (BadLine line)
+Fails (BadIndent line) read = read ≡ Err (BadIndent line)
+Fails (MissingVerdict line) read = read ≡ Err (MissingVerdict line)
+Fails TooLarge read = read ≡ Err TooLarge
+Fails (Refused fault line) read = read ≡ Err (Refused fault line)
+
+-- the answer, as `view` sees it, is the one that the definition gives, unless memory ran out
+abbrev pub Gives : {X Y : Type 0} → (X → Y) → Result X SuiteFault → Result Y SuiteFault → Type 0
+Gives view (Ok x) read = read ≡ Ok (view x)
+Gives view (Err fault) read = Fails fault read
+
+-- a second step after a first that succeeded
+infixl 10 ◌>>=◌
+abbrev pub ◌>>=◌ : {A B : Type 0} → Result A SuiteFault → (A → Result B SuiteFault) → Result B SuiteFault
+(Ok x) >>= f = f x
+(Err fault) >>= f = Err fault

@@ -1,0 +1,99 @@
+-- What a line that declares a node adds.
+use Rattle.std.specs.Prelude.{ℕ, Bool, List, [], ◌∷◌, ◌++◌, take, codes, cond, Option, Some, None, option_map, option_to_list, Result, Ok, Err}
+use Rattle.std.specs.Option.{is_some}
+use Rattle.unique_id.specs.declared.unique_id.Segment.{Segment}
+use Rattle.unique_id.specs.Spelling as ids
+use Rattle.descriptor.specs.declared.kind.Kind.{Kind}
+use Rattle.descriptor.specs.declared.kind.Kind.TheVariants as kinds
+use Rattle.descriptor.specs.declared.node.Node.{Node}
+use Rattle.descriptor.specs.declared.fault.TreeFault.{TreeFault}
+use Rattle.descriptor.specs.declared.fault.TreeFault.TheVariants.{OverLimit}
+use Rattle.descriptor.specs.Nodes.{Nodes, size, node_at, appended}
+use Rattle.descriptor.specs.Refusals as trees
+use Rattle.suite_text.specs.declared.script.Script.{Script}
+use Rattle.suite_text.specs.declared.suite_words.Word.{Word}
+use Rattle.suite_text.specs.declared.suite_words.Word.TheVariants.{Engine, Class, Test}
+use Rattle.suite_text.specs.declared.suite_verdicts.Verdict.{Verdict}
+use Rattle.suite_text.specs.declared.suite_fault.SuiteFault.{SuiteFault}
+use Rattle.suite_text.specs.declared.suite_fault.SuiteFault.TheVariants.{Refused}
+use Rattle.suite_text.specs.SuiteParts.{LinesRead, above, word_of_opened, node_of_opened}
+use Rattle.suite_text.specs.SuiteScripts.{ending}
+use Rattle.suite_text.specs.SuiteVerdicts.{status_declared, reason_declared}
+use Rattle.suite_text.specs.SuiteWords.{Declaration}
+
+-- the unique id of a node that may be missing: no segments
+abbrev pub id_or_none : Option Node → List Segment
+id_or_none None = []
+id_or_none (Some node) = node.id
+
+-- the segments of a node's unique id; the plan has none
+abbrev pub id_at : Nodes → ℕ → List Segment
+id_at t n = id_or_none (node_at t n)
+
+-- the type of a node's segment: `class` right in an engine, `nested-class` in a class
+abbrev pub segment_kind : Option Word → Word → List ℕ
+segment_kind parent Engine = codes "engine"
+segment_kind (Some Engine) Class = codes "class"
+segment_kind parent Class = codes "nested-class"
+segment_kind parent Test = codes "method"
+
+-- engines and classes hold other nodes, a test is a test
+abbrev pub kind_declared : Word → Kind
+kind_declared Engine = kinds.Container
+kind_declared Class = kinds.Container
+kind_declared Test = kinds.Test
+
+-- a body, which a node has by its verdict, has the number of the node
+abbrev pub body_declared : Option Verdict → ℕ → Option ℕ
+body_declared verdict n = option_map (λ status. n) (status_declared verdict)
+
+-- its script: the verdict's status, and the text that follows the verdict
+abbrev pub script_declared : Declaration → ℕ → Option Script
+script_declared d n = option_map (λ status. ending n d.spin status d.text) (status_declared d.verdict)
+
+-- the node of number n that is declared below one with this word and these segments
+abbrev pub node_declared : ℕ → Option Word → List Segment → Declaration → Node
+node_declared n parent segments d = record {
+  id = segments ++ record { kind = segment_kind parent d.word; value = d.name } ∷ [];
+  name = d.name;
+  kind = kind_declared d.word;
+  body = body_declared d.verdict n;
+  disabled = reason_declared d.verdict d.text;
+}
+
+-- whether the unique id of a node below these segments is over its limits; no word is empty, so nothing else refuses it
+abbrev pub is_over_limit : List Segment → Option Word → Declaration → Bool
+is_over_limit segments parent d = is_some (ids.refusal segments (segment_kind parent d.word) d.name)
+
+-- the node that a line of this level hangs below
+abbrev pub parent_on : LinesRead → ℕ → ℕ
+parent_on read level = node_of_opened (above read.path level)
+
+-- its word
+abbrev pub word_on : LinesRead → ℕ → Option Word
+word_on read level = word_of_opened (above read.path level)
+
+-- the node that is declared on a level
+abbrev pub node_on : LinesRead → ℕ → Declaration → Node
+node_on read level d = node_declared (size read.tree) (word_on read level) (id_at read.tree (parent_on read level)) d
+
+-- whether its id is over its limits
+abbrev pub is_over_limit_on : LinesRead → ℕ → Declaration → Bool
+is_over_limit_on read level d = is_over_limit (id_at read.tree (parent_on read level)) (word_on read level) d
+
+-- why it is refused: an id over its limits first, then what the tree refuses
+abbrev pub refusal_on : LinesRead → ℕ → Declaration → Option TreeFault
+refusal_on read level d = cond (is_over_limit_on read level d) (Some OverLimit) (trees.refusal read.tree (parent_on read level) (node_on read level d))
+
+-- with the node that is declared on a level
+abbrev pub grown : LinesRead → ℕ → Declaration → LinesRead
+grown read level d = record {
+  tree = appended read.tree (parent_on read level) (node_on read level d);
+  path = take level read.path ++ record { node = size read.tree; word = d.word } ∷ [];
+  scripts = read.scripts ++ option_to_list (script_declared d (size read.tree));
+}
+
+-- what is made, unless it is refused at this line
+abbrev pub unless_refused : ℕ → Option TreeFault → LinesRead → Result LinesRead SuiteFault
+unless_refused number None read = Ok read
+unless_refused number (Some fault) read = Err (Refused fault number)

@@ -1,0 +1,40 @@
+-- The suite of a text, line by line, or its first fault.
+use Rattle.std.specs.Prelude.{ℕ, ◌+◌, nat_lt, List, [], ◌∷◌, length, if◌then◌else◌, Result, Ok, Err}
+use Rattle.std.specs.Str.Lines.{lines}
+use Rattle.suite_text.specs.declared.suite_fault.SuiteFault.{SuiteFault}
+use Rattle.suite_text.specs.declared.suite_fault.SuiteFault.TheVariants.{TooLarge}
+use Rattle.suite_text.specs.declared.suite.Suite.{Suite}
+use Rattle.suite_text.specs.SuiteFaults.{◌>>=◌}
+use Rattle.suite_text.specs.SuiteLines.{says_nothing, level_of}
+use Rattle.suite_text.specs.SuiteWords.{Declaration, declared_by}
+use Rattle.suite_text.specs.SuiteParts.{SuiteParts, LinesRead, no_lines, parts_of}
+use Rattle.suite_text.specs.SuiteNodes.{word_on, refusal_on, grown, unless_refused}
+
+-- with the node that a line declares on its level
+abbrev pub with_declared : ℕ → LinesRead → ℕ → Declaration → Result LinesRead SuiteFault
+with_declared number read level d = unless_refused number (refusal_on read level d) (grown read level d)
+
+-- with what a line declares on its level
+abbrev pub with_declaration : ℕ → LinesRead → ℕ → List ℕ → Result LinesRead SuiteFault
+with_declaration number read level line = declared_by number (word_on read level) line >>= (λ d. with_declared number read level d)
+
+-- with what a line of words declares
+abbrev pub with_words : ℕ → LinesRead → List ℕ → Result LinesRead SuiteFault
+with_words number read line = level_of number (length read.path) line >>= (λ level. with_declaration number read level line)
+
+-- with one more line, of this number
+abbrev pub with_line : ℕ → LinesRead → List ℕ → Result LinesRead SuiteFault
+with_line number read line = if says_nothing line then Ok read else with_words number read line
+
+-- with all lines, the first of which has this number
+abbrev pub suite_from : ℕ → LinesRead → List (List ℕ) → Result LinesRead SuiteFault
+suite_from number read [] = Ok read
+suite_from number read (line ∷ more) = with_line number read line >>= (λ next. suite_from (number + 1) next more)
+
+-- the suite of a text
+abbrev pub suite_of : List ℕ → Result SuiteParts SuiteFault
+suite_of text = if nat_lt 1048576 (length text) then Err TooLarge else (suite_from 1 no_lines (lines text) >>= (λ read. Ok (parts_of read)))
+
+-- a suite, without where it lies in memory
+abbrev pub suite_parts : Suite → SuiteParts
+suite_parts suite = record { tree = suite.tree; scripts = suite.scripts.items }

@@ -1,0 +1,24 @@
+//! What texts say: the suite that is run, and the steps of a replay.
+
+#![tactic(auto)]
+
+mod digits;
+mod script;
+mod step_words;
+mod steps;
+#[cfg(test)]
+mod steps_tests;
+mod suite;
+mod suite_builder;
+mod suite_fault;
+mod suite_lines;
+mod suite_spins;
+#[cfg(test)]
+mod suite_tests;
+mod suite_verdicts;
+mod suite_words;
+
+pub use script::Script;
+pub use steps::{StepsFault, parse_steps};
+pub use suite::Suite;
+pub use suite_fault::SuiteFault;

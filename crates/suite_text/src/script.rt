@@ -1,0 +1,42 @@
+//! What a suite has a body answer.
+
+ghost use Rattle.std.specs.Prelude.{◌≡◌, IfOk};
+
+use descriptor::BodyId;
+use plan_events::{Outcome, Reply, Status};
+use std::alloc::{AllocError, Global};
+use unique_id::Text;
+
+/// What a suite has a body answer.
+#[derive(Debug, Drop)]
+pub struct Script {
+    pub body: BodyId,
+    /// How far the body counts before it answers.
+    pub spin: u32,
+    pub reply: Reply,
+}
+
+impl Script {
+    ghost use Rattle.suite_text.specs.SuiteScripts.{ending};
+
+    /// The script of a body that counts as far as `spin`, and ends with this status and text.
+    pub(crate) fn ending(
+        alloc: Global,
+        body: BodyId,
+        spin: u32,
+        status: Status,
+        text: &str,
+    ) -> Result<Script, AllocError>
+        ensures { IfOk result (λ script. script ≡ ending body spin status text.now) }
+    {
+        let outcome = Outcome {
+            status,
+            text: Text::new(alloc, text)?,
+        };
+        Ok(Script {
+            body,
+            spin,
+            reply: Reply { pulls: 0, outcome },
+        })
+    }
+}

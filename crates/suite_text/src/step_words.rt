@@ -1,0 +1,115 @@
+//! One word of a text of steps.
+
+ghost use Rattle.std.specs.Prelude.{◌≡◌};
+ghost use Rattle.suite_text.specs.StepTexts.{is_decimal, number_within, worker_of, node_of, node_action, plain_action, action_of, worker_step, step_of};
+
+use crate::digits::are_digits;
+use descriptor::NodeId;
+use sched_core::{Action, Step};
+
+/// Whether a text is digits, with no zero before others.
+fn is_decimal(text: &str) -> bool
+    ensures { result ≡ is_decimal text.now }
+{
+    let digits = text.as_bytes();
+    if digits.len() > 1 && digits[0] == b'0' {
+        return false;
+    }
+    !digits.is_empty() && are_digits(digits)
+}
+
+/// The number that a text has in decimal, from `least` to `most`.
+fn number_within(text: &str, least: u16, most: u16) -> Option<u16>
+    ensures { result ≡ number_within least most text.now }
+{
+    if !is_decimal(text) {
+        return None;
+    }
+    let Ok(number) = text.parse::<u16>() else {
+        return None;
+    };
+    if least <= number && number <= most {
+        Some(number)
+    } else {
+        None
+    }
+}
+
+/// A worker's number.
+fn worker_of(text: &str) -> Option<u8>
+    ensures { result ≡ worker_of text.now }
+{
+    let number = number_within(text, 1, 64)?;
+    Some(number as u8)
+}
+
+/// A node's number.
+fn node_of(text: &str) -> Option<NodeId>
+    ensures { result ≡ node_of text.now }
+{
+    let number = number_within(text, 0, 65535)?;
+    Some(NodeId::new(number))
+}
+
+/// A step that names a node.
+fn node_action(name: &str, number: &str) -> Option<Action>
+    ensures { result ≡ node_action name.now number.now }
+{
+    match name {
+        "claim" => Some(Action::Claim(node_of(number)?)),
+        "own" => Some(Action::Own(node_of(number)?)),
+        _ => None,
+    }
+}
+
+/// A step that names no node.
+fn plain_action(name: &str) -> Option<Action>
+    ensures { result ≡ plain_action name.now }
+{
+    match name {
+        "draw" => Some(Action::Draw),
+        "show" => Some(Action::Show),
+        "admit" => Some(Action::Admit),
+        "done" => Some(Action::Done),
+        "settle" => Some(Action::Settle),
+        "look" => Some(Action::Look),
+        "weigh" => Some(Action::Weigh),
+        "take" => Some(Action::Take),
+        "give" => Some(Action::Give),
+        "give_up" => Some(Action::GiveUp),
+        "add_child" => Some(Action::AddChild),
+        _ => None,
+    }
+}
+
+/// What a worker does.
+fn action_of(text: &str) -> Option<Action>
+    ensures { result ≡ action_of text.now }
+{
+    match text.split_once(':') {
+        Some((name, number)) => node_action(name, number),
+        None => plain_action(text),
+    }
+}
+
+/// A worker's step, of what follows the letter `w`.
+fn worker_step(text: &str) -> Option<Step>
+    ensures { result ≡ worker_step text.now }
+{
+    let (worker, action) = text.split_once(':')?;
+    Some(Step::Worker(worker_of(worker)?, action_of(action)?))
+}
+
+/// The step that a word names.
+#[tactic(auto, unfolding(crate::specs::StepTexts::step_of))]
+pub fn step_of(word: &str) -> Option<Step>
+    ensures { result ≡ step_of word.now }
+{
+    if word == "d:read" {
+        return Some(Step::Read);
+    }
+    match word.strip_prefix('w') {
+        Some(text) => worker_step(text),
+        None => None,
+    }
+}

@@ -1,0 +1,75 @@
+//! The steps of a replay, by their text.
+
+ghost use Rattle.std.specs.Prelude.{◌≡◌, ◌≤◌, ◌≢◌, List, IfOk, IfErr, IfSome, length, map};
+ghost use Rattle.std.specs.List.{position, filter_map};
+ghost use Rattle.suite_text.specs.Words.{words_in};
+ghost use Rattle.suite_text.specs.StepTexts.{step_of, is_bad_word, steps_of};
+ghost use Rattle.suite_text.specs.StepSpelling.{spelled_step, AreNamable};
+ghost use Rattle.sched_core.specs.declared.step.Step.{Step};
+ghost use Rattle.suite_text.specs.StepAnswers.{GivesSteps};
+ghost use Rattle.suite_text.specs.declared.steps.StepsFault.TheVariants.{NoMemory};
+
+use crate::step_words::step_of;
+use sched_core::Step;
+use std::alloc::{AllocError, AllocFailed, Global};
+use thiserror::Error;
+
+/// Why a text of steps was not read.
+#[derive(Clone, Copy, PartialEq, Eq, Debug, Error)]
+pub enum StepsFault {
+    /// Refusal 0.
+    #[error("no memory")]
+    NoMemory,
+    /// Refusal 104: the word of this number, from 1, names no step.
+    #[error("no step at {0}")]
+    BadStep(usize),
+}
+
+impl From<AllocError> for StepsFault {
+    ghost from_gives = { λ _ e. e ≡ NoMemory };
+
+    fn from(_error: AllocError) -> StepsFault {
+        StepsFault::NoMemory
+    }
+}
+
+impl<T: Drop> From<AllocFailed<T>> for StepsFault {
+    ghost from_gives = { λ _ e. e ≡ NoMemory };
+
+    fn from(_error: AllocFailed<T>) -> StepsFault {
+        StepsFault::NoMemory
+    }
+}
+
+/// The place, from 0, of the first word that names no step.
+fn bad_word(text: &str) -> Option<usize>
+    ensures first { result ≡ position is_bad_word (words_in text.now) }
+    ensures few { IfSome result (λ place. place ≤ length text.now) }
+{
+    text.split(' ')
+        .filter(|word| !word.is_empty())
+        .position(|word| step_of(word).is_none())
+}
+
+/// The steps of the words that name one.
+fn named_steps(alloc: Global, text: &str) -> Result<Vec<Step>, AllocError>
+    ensures { IfOk result (λ steps. steps.items ≡ filter_map step_of (words_in text.now)) }
+{
+    text.split(' ')
+        .filter(|word| !word.is_empty())
+        .filter_map(|word| step_of(word))
+        .collect(alloc)
+}
+
+/// The steps of a text, in order. Errors: the number, from 1, of the first word that names no step.
+pub fn parse_steps(alloc: Global, text: &str) -> Result<Vec<Step>, StepsFault>
+    ensures exact { GivesSteps result (steps_of text.now) }
+    ensures spelled { IfOk result (λ steps. map spelled_step steps.items ≡ words_in text.now) }
+    // What spells steps is not refused.
+    ensures refused { IfErr result (λ fault. fault ≢ NoMemory → (steps : List Step) → AreNamable steps → map spelled_step steps ≢ words_in text.now) }
+{
+    if let Some(place) = bad_word(text) {
+        return Err(StepsFault::BadStep(place + 1));
+    }
+    Ok(named_steps(alloc, text)?)
+}

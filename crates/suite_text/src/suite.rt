@@ -1,0 +1,83 @@
+//! The suite of a text.
+
+ghost use Rattle.std.specs.Prelude.{◌≡◌, ◌≢◌, ◌≤◌, ◌+◌, ◌==◌, length, count_by, IfOk, IfErr, Err};
+ghost use Rattle.suite_text.specs.SuiteBytes.{suite_read};
+ghost use Rattle.suite_text.specs.SuiteFaults.{Gives};
+ghost use Rattle.suite_text.specs.SuiteIds.{IdsFollow};
+ghost use Rattle.suite_text.specs.SuiteParts.{bodies_of, bodies_answered};
+ghost use Rattle.suite_text.specs.Suites.{suite_of, suite_parts};
+
+use crate::script::Script;
+use crate::suite_builder::SuiteBuilder;
+use crate::suite_fault::SuiteFault;
+use crate::suite_lines::lines_in;
+use descriptor::Tree;
+use std::alloc::Global;
+
+/// The greatest number of bytes of a suite text.
+const LONGEST_SUITE: usize = 1_048_576;
+
+/// The number of the line that follows these bytes, from 1.
+fn line_after(bytes: &[u8]) -> usize
+    ensures { result ≡ 1 + count_by (λ byte. byte == 10) bytes.now }
+{
+    let mut line = 1;
+    for byte in bytes {
+        if *byte == b'\n' {
+            line += 1;
+        }
+    }
+    line
+}
+
+/// A tree of tests, and what its bodies answer.
+#[derive(Drop)]
+pub struct Suite {
+    pub tree: Tree,
+    pub scripts: Vec<Script>,
+}
+
+impl Suite {
+    /// The suite of a text. Lines end at a line feed, before which a carriage return is dropped;
+    /// the last may go without. Refusals: 103 for more than 1,048,576 bytes, else the first
+    /// faulty line's: 101, 100, 102, 17 (its id), 10, 12 and 17 (its reason), in this order.
+    #[tactic(auto, using(crate::proofs::SuiteNever::never_no_memory))]
+    pub fn parse(alloc: Global, text: &str) -> Result<Suite, SuiteFault>
+        ensures exact { Gives suite_parts result (suite_of text.now) }
+        // Want of memory is no property of a text.
+        ensures never { suite_of text.now ≢ Err SuiteFault.NoMemory }
+        // Each node's unique id is its parent's with one more segment, whose value is its name.
+        ensures ids { IfOk result (λ suite. IdsFollow suite.tree) }
+        // Each body of the tree has one script, in the order of the nodes.
+        ensures answered { IfOk result (λ suite. bodies_answered suite.scripts.items ≡ bodies_of suite.tree.nodes) }
+        // Memory is taken only for a text that is not too large.
+        ensures no_memory { IfErr result (λ fault. fault ≡ SuiteFault.NoMemory → length text.now ≤ 1048576) }
+    {
+        if text.len() > LONGEST_SUITE {
+            return Err(SuiteFault::TooLarge);
+        }
+        let lines = lines_in(alloc, text)?;
+        let mut builder = SuiteBuilder::new(alloc)?;
+        for (index, line) in lines.iter().enumerate() {
+            builder.read_line(alloc, index + 1, line)?;
+        }
+        Ok(builder.finish())
+    }
+
+    /// The suite that these bytes are. Refusals: 103 for more than 1,048,576 of them, then 100 at
+    /// the line of the first byte that is not UTF-8, else those of `parse`.
+    pub fn read(alloc: Global, bytes: &[u8]) -> Result<Suite, SuiteFault>
+        ensures { Gives suite_parts result (suite_read bytes.now) }
+    {
+        if bytes.len() > LONGEST_SUITE {
+            return Err(SuiteFault::TooLarge);
+        }
+        match std::str::from_utf8(bytes) {
+            Ok(text) => Suite::parse(alloc, text),
+            Err(fault) => {
+                let line = line_after(&bytes[..fault.valid_up_to()]);
+                Err(SuiteFault::BadLine(line))
+            }
+        }
+    }
+}

@@ -1,0 +1,260 @@
+//! A suite that grows line by line.
+
+ghost use Rattle.std.specs.Prelude.{◌≡◌, ◌≢◌, ◌≤◌, ◌<◌, ◌+◌, length, OnOk, OnErr, IfOk, IfErr, IfSome, Some, None, Ok, false, true, [], ◌∷◌, ◌++◌, take, vec_len, vec_capacity};
+
+use crate::script::Script;
+use crate::suite::Suite;
+use crate::suite_fault::SuiteFault;
+use crate::suite_lines::{level_at, without_front};
+use crate::suite_words::{Declared, Word, declared_in};
+use descriptor::{Node, NodeId, Tree, TreeBuilder, TreeFault};
+use std::alloc::{AllocError, Global};
+use std::marker::Model;
+use unique_id::{Text, UidFault, UniqueId};
+
+/// A node that the next line may hang below, and the word of its line.
+#[derive(Clone, Copy, Debug)]
+pub(crate) struct Opened {
+    pub(crate) node: NodeId,
+    pub(crate) word: Word,
+}
+
+/// The tree and the scripts of the lines so far, and the last node with those above it.
+#[derive(Drop)]
+pub(crate) struct SuiteBuilder {
+    tree: TreeBuilder,
+    path: Vec<Opened>,
+    scripts: Vec<Script>,
+}
+
+impl Model for SuiteBuilder {
+    ghost use Rattle.suite_text.specs.SuiteParts.{LinesRead};
+    ghost use Rattle.suite_text.specs.SuitePaths.{IsSound};
+
+    ghost Value = { LinesRead };
+
+    ghost view = { λ b. record { tree = b.tree; path = b.path.items; scripts = b.scripts.items } };
+
+    ghost invariant = { λ b. IsSound (record { tree = b.tree; path = b.path.items; scripts = b.scripts.items }) };
+}
+
+ghost use Rattle.unique_id.specs.Spelling.{refusal};
+ghost use Rattle.descriptor.specs.Nodes.{size, IsTree, MayTake};
+ghost use Rattle.suite_text.specs.SuiteParts.{above, word_of_opened, node_of_opened};
+ghost use Rattle.suite_text.specs.SuiteWords.{declaration_of};
+ghost use Rattle.suite_text.specs.SuiteNodes.{id_at, node_declared, is_over_limit, refusal_on, grown};
+
+/// The unique id of a node below this one, or at level 0.
+fn id_below(
+    alloc: Global,
+    tree: &Tree,
+    parent: Option<Opened>,
+    kind: &str,
+    name: &str,
+) -> Result<UniqueId, UidFault>
+    requires { IfSome parent (λ opened. (0 < opened.node) × (opened.node < size tree.now)) }
+    ensures ok { IfOk result (λ id. id ≡ id_at tree.now (node_of_opened parent) ++ record { kind = kind.now; value = name.now } ∷ []) }
+    ensures accepted { IfOk result (λ _. refusal (id_at tree.now (node_of_opened parent)) kind.now name.now ≡ None) }
+    ensures refused { IfErr result (λ fault. fault ≢ UidFault.NoMemory → refusal (id_at tree.now (node_of_opened parent)) kind.now name.now ≡ Some fault) }
+{
+    match parent {
+        None => UniqueId::of(alloc, kind, name),
+        Some(opened) => tree.node(opened.node).id.append(alloc, kind, name),
+    }
+}
+
+/// The node of this number that a line declares below this one, or at level 0.
+fn node_below(
+    alloc: Global,
+    tree: &Tree,
+    parent: Option<Opened>,
+    number: u16,
+    declared: &Declared<'_>,
+) -> Result<Node, TreeFault>
+    requires { IfSome parent (λ opened. (0 < opened.node) × (opened.node < size tree.now)) }
+    ensures ok { IfOk result (λ node. node ≡ node_declared number (word_of_opened parent) (id_at tree.now (node_of_opened parent)) (declaration_of declared.now)) }
+    ensures accepted { IfOk result (λ _. is_over_limit (id_at tree.now (node_of_opened parent)) (word_of_opened parent) (declaration_of declared.now) ≡ false) }
+    ensures refused { IfErr result (λ fault. fault ≢ TreeFault.NoMemory → (fault ≡ TreeFault.OverLimit) × (is_over_limit (id_at tree.now (node_of_opened parent)) (word_of_opened parent) (declaration_of declared.now) ≡ true)) }
+{
+    let kind = declared.word.segment_type(parent.map(|opened| opened.word));
+    let id = match id_below(alloc, tree, parent, kind, declared.name) {
+        Ok(id) => id,
+        Err(UidFault::NoMemory) => return Err(TreeFault::NoMemory),
+        Err(_) => return Err(TreeFault::OverLimit),
+    };
+    Ok(Node {
+        id,
+        name: Text::new(alloc, declared.name)?,
+        kind: declared.word.kind(),
+        body: declared.body(number),
+        disabled: declared.reason(alloc)?,
+    })
+}
+
+/// Makes a node the last of a path, on this level.
+fn open_on(path: &mut Vec<Opened>, level: usize, opened: Opened)
+    requires { vec_len path.old < vec_capacity path.old }
+    ensures { path.new.items ≡ take level path.old.items ++ opened ∷ [] }
+{
+    path.truncate(level);
+    path.push(opened).unwrap();
+}
+
+/// The node, or the plan where there is none.
+fn node_or_plan(opened: Option<Opened>) -> NodeId
+    ensures { result ≡ node_of_opened opened }
+{
+    match opened {
+        None => NodeId::ROOT,
+        Some(opened) => opened.node,
+    }
+}
+
+impl SuiteBuilder {
+    ghost use Rattle.suite_text.specs.SuiteParts.{no_lines};
+    ghost use Rattle.suite_text.specs.SuiteIds.{IdsFollow};
+    ghost use Rattle.suite_text.specs.SuiteNodes.{node_on, is_over_limit_on};
+    ghost use Rattle.suite_text.specs.SuiteFaults.{Fails};
+    ghost use Rattle.suite_text.specs.Suites.{with_declared, with_words, with_line, suite_parts};
+    ghost use Rattle.suite_text.specs.SuiteParts.{parts_of, bodies_of, bodies_answered};
+
+    /// Before the first line.
+    pub(crate) fn new(alloc: Global) -> Result<SuiteBuilder, AllocError>
+        ensures { IfOk result (λ b. b ≡ no_lines) }
+    {
+        Ok(SuiteBuilder {
+            tree: TreeBuilder::new(alloc)?,
+            path: Vec::new(alloc),
+            scripts: Vec::new(alloc),
+        })
+    }
+
+    /// The open node that a line of this level hangs below; none at level 0.
+    fn above(&self, level: usize) -> Option<Opened>
+        requires { level ≤ length self.now.path }
+        ensures above { result ≡ above self.now.path level }
+        ensures inside { IfSome result (λ opened. (0 < opened.node) × (opened.node < size self.now.tree)) }
+        ensures may_take { MayTake self.now.tree (node_of_opened result) }
+    {
+        if level == 0 {
+            None
+        } else {
+            Some(self.path[level - 1])
+        }
+    }
+
+    /// The number of the next node.
+    fn next_number(&self) -> u16
+        ensures number { result ≡ size self.now.tree }
+        ensures tree { IsTree self.now.tree }
+    {
+        self.tree.tree().len() as u16
+    }
+
+    /// The node that a line of this level declares.
+    fn node_on(
+        &self,
+        alloc: Global,
+        level: usize,
+        declared: &Declared<'_>,
+    ) -> Result<Node, TreeFault>
+        requires { level ≤ length self.now.path }
+        ensures ok { IfOk result (λ node. node ≡ node_on self.now level (declaration_of declared.now)) }
+        ensures accepted { IfOk result (λ _. is_over_limit_on self.now level (declaration_of declared.now) ≡ false) }
+        ensures refused { IfErr result (λ fault. fault ≢ TreeFault.NoMemory → (fault ≡ TreeFault.OverLimit) × (is_over_limit_on self.now level (declaration_of declared.now) ≡ true)) }
+    {
+        let parent = self.above(level);
+        let number = self.next_number();
+        node_below(alloc, self.tree.tree(), parent, number, declared)
+    }
+
+    /// Adds the node that a line of this level declares.
+    fn add(&mut self, alloc: Global, level: usize, declared: &Declared<'_>) -> Result<(), TreeFault>
+        requires { level ≤ length self.old.path }
+        ensures accepted { OnOk result (refusal_on self.old level (declaration_of declared.now) ≡ None) }
+        ensures added { OnOk result (self.new ≡ grown self.old level (declaration_of declared.now)) }
+        ensures refused { IfErr result (λ fault. fault ≢ TreeFault.NoMemory → refusal_on self.old level (declaration_of declared.now) ≡ Some fault) }
+        ensures err { OnErr result (self.new ≡ self.old) }
+    {
+        let node = self.node_on(alloc, level, declared)?;
+        let script = declared.script(alloc, self.next_number())?;
+        let parent = node_or_plan(self.above(level));
+        self.path.reserve(1)?;
+        self.scripts.reserve(1)?;
+        let node = self.tree.add(alloc, parent, node)?;
+        let word = declared.word;
+        open_on(&mut self.path, level, Opened { node, word });
+        if let Some(script) = script {
+            self.scripts.push(script).unwrap();
+        }
+        Ok(())
+    }
+
+    /// The same at the line of this number, which a refusal names.
+    fn declare(
+        &mut self,
+        alloc: Global,
+        number: usize,
+        level: usize,
+        declared: &Declared<'_>,
+    ) -> Result<(), SuiteFault>
+        requires { level ≤ length self.old.path }
+        ensures added { OnOk result (with_declared number self.old level (declaration_of declared.now) ≡ Ok self.new) }
+        ensures refused { IfErr result (λ fault. Fails fault (with_declared number self.old level (declaration_of declared.now))) }
+    {
+        match self.add(alloc, level, declared) {
+            Ok(()) => Ok(()),
+            Err(TreeFault::NoMemory) => Err(SuiteFault::NoMemory),
+            Err(fault) => Err(SuiteFault::Refused {
+                fault,
+                line: number,
+            }),
+        }
+    }
+
+    /// Reads a line that declares a node.
+    fn read_words(&mut self, alloc: Global, number: usize, line: &str) -> Result<(), SuiteFault>
+        ensures added { OnOk result (with_words number self.old line.now ≡ Ok self.new) }
+        ensures refused { IfErr result (λ fault. Fails fault (with_words number self.old line.now)) }
+    {
+        let level = level_at(number, self.levels(), line)?;
+        let above = self.above(level).map(|opened| opened.word);
+        let declared = declared_in(number, above, line)?;
+        self.declare(alloc, number, level, &declared)
+    }
+
+    /// The number of levels on which a line may stand next.
+    fn levels(&self) -> usize
+        ensures { result ≡ length self.now.path }
+    {
+        self.path.len()
+    }
+
+    /// Reads the line of this number.
+    pub(crate) fn read_line(
+        &mut self,
+        alloc: Global,
+        number: usize,
+        line: &str,
+    ) -> Result<(), SuiteFault>
+        ensures added { OnOk result (with_line number self.old line.now ≡ Ok self.new) }
+        ensures refused { IfErr result (λ fault. Fails fault (with_line number self.old line.now)) }
+    {
+        if line.starts_with('#') || without_front(line).is_empty() {
+            return Ok(());
+        }
+        self.read_words(alloc, number, line)
+    }
+
+    /// What the lines have made.
+    pub(crate) fn finish(self) -> Suite
+        ensures parts { suite_parts result ≡ parts_of self }
+        ensures ids { IdsFollow result.tree }
+        ensures answered { bodies_answered result.scripts.items ≡ bodies_of result.tree.nodes }
+    {
+        Suite {
+            tree: self.tree.finish(),
+            scripts: self.scripts,
+        }
+    }
+}

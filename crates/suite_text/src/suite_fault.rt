@@ -1,0 +1,71 @@
+//! Why a text is no suite.
+
+ghost use Rattle.std.specs.Prelude.{◌≡◌};
+ghost use Rattle.suite_text.specs.SuiteFaults.{number_of, place_of};
+ghost use Rattle.suite_text.specs.declared.suite_fault.SuiteFault.TheVariants.{NoMemory};
+
+use descriptor::TreeFault;
+use std::alloc::{AllocError, AllocFailed};
+use thiserror::Error;
+
+/// Why a text is no suite. Lines are counted from 1.
+#[derive(Clone, Copy, PartialEq, Eq, Debug, Error)]
+pub enum SuiteFault {
+    #[error("no memory")]
+    NoMemory,
+    #[error("line {0}: a word that may not stand there")]
+    BadLine(usize),
+    #[error("line {0}: an indentation that no line above can take")]
+    BadIndent(usize),
+    #[error("line {0}: no verdict")]
+    MissingVerdict(usize),
+    #[error("more than 1048576 bytes")]
+    TooLarge,
+    #[error("line {line}: {fault}")]
+    Refused { fault: TreeFault, line: usize },
+}
+
+impl From<AllocError> for SuiteFault {
+    ghost from_gives = { λ _ e. e ≡ NoMemory };
+
+    fn from(_error: AllocError) -> SuiteFault {
+        SuiteFault::NoMemory
+    }
+}
+
+impl<T: Drop> From<AllocFailed<T>> for SuiteFault {
+    ghost from_gives = { λ _ e. e ≡ NoMemory };
+
+    fn from(_error: AllocFailed<T>) -> SuiteFault {
+        SuiteFault::NoMemory
+    }
+}
+
+impl SuiteFault {
+    /// The refusal's number.
+    pub fn number(&self) -> u8
+        ensures { result ≡ number_of self.now }
+    {
+        match self {
+            SuiteFault::NoMemory => 0,
+            SuiteFault::BadLine(_) => 100,
+            SuiteFault::BadIndent(_) => 101,
+            SuiteFault::MissingVerdict(_) => 102,
+            SuiteFault::TooLarge => 103,
+            SuiteFault::Refused { fault, .. } => fault.number(),
+        }
+    }
+
+    /// The line that the refusal is about, where it is about one.
+    pub fn place(&self) -> Option<u64>
+        ensures { result ≡ place_of self.now }
+    {
+        match self {
+            SuiteFault::NoMemory | SuiteFault::TooLarge => None,
+            SuiteFault::BadLine(line)
+            | SuiteFault::BadIndent(line)
+            | SuiteFault::MissingVerdict(line)
+            | SuiteFault::Refused { line, .. } => Some(*line as u64),
+        }
+    }
+}

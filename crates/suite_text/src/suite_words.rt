@@ -1,0 +1,209 @@
+//! What the words of a line declare.
+
+ghost use Rattle.std.specs.Prelude.{◌≡◌, IfOk};
+ghost use Rattle.suite_text.specs.SuiteWords.{word_of, may_stand, placed, with_verdict, with_spin, with_name, declared_by, declaration_of};
+ghost use Rattle.suite_text.specs.SuiteFaults.{Gives};
+
+use crate::script::Script;
+use crate::suite_fault::SuiteFault;
+use crate::suite_lines::{next_word, word_and_text};
+use crate::suite_spins::{key_and_value, spin_in};
+use crate::suite_verdicts::{Verdict, status_of, verdict_in};
+use descriptor::{BodyId, Kind};
+use std::alloc::{AllocError, Global};
+use unique_id::Text;
+
+/// The first word of a line that declares a node.
+#[derive(Clone, Copy, PartialEq, Eq, Debug)]
+pub(crate) enum Word {
+    Engine,
+    Class,
+    Test,
+}
+
+/// The node that a line declares.
+#[derive(Clone, Copy, Debug)]
+pub(crate) struct Declared<'a> {
+    pub(crate) word: Word,
+    pub(crate) name: &'a str,
+    /// How far the node's body counts first.
+    pub(crate) spin: u32,
+    pub(crate) verdict: Option<Verdict>,
+    /// What follows the verdict.
+    pub(crate) text: &'a str,
+}
+
+impl Word {
+    ghost use Rattle.suite_text.specs.SuiteNodes.{segment_kind, kind_declared};
+    ghost use Rattle.suite_text.specs.SuiteSpins.{is_spin};
+
+    /// The word with this spelling.
+    fn spelled(text: &str) -> Option<Word>
+        ensures { result ≡ word_of text.now }
+    {
+        match text {
+            "engine" => Some(Word::Engine),
+            "class" => Some(Word::Class),
+            "test" => Some(Word::Test),
+            _ => None,
+        }
+    }
+
+    /// Whether the word may stand right below a node of this word, or at level 0 where there is
+    /// none.
+    fn stands_below(self, above: Option<Word>) -> bool
+        ensures { result ≡ may_stand above self }
+    {
+        match (above, self) {
+            (None, Word::Engine) => true,
+            (Some(Word::Engine), Word::Class) => true,
+            (Some(Word::Class), Word::Class) => true,
+            (Some(Word::Class), Word::Test) => true,
+            _ => false,
+        }
+    }
+
+    /// The type of a node's segment, right below a node of this word or at level 0.
+    pub(crate) fn segment_type(self, above: Option<Word>) -> &'static str
+        ensures { result.now ≡ segment_kind above self }
+    {
+        match (above, self) {
+            (_, Word::Engine) => "engine",
+            (Some(Word::Engine), Word::Class) => "class",
+            (_, Word::Class) => "nested-class",
+            (_, Word::Test) => "method",
+        }
+    }
+
+    /// What the node may hold.
+    pub(crate) fn kind(self) -> Kind
+        ensures { result ≡ kind_declared self }
+    {
+        match self {
+            Word::Engine | Word::Class => Kind::Container,
+            Word::Test => Kind::Test,
+        }
+    }
+
+    /// Whether a word with this key is the attribute `spin` of a node of this word.
+    fn takes_spin(self, key: &str) -> bool
+        ensures { result ≡ is_spin self key.now }
+    {
+        match self {
+            Word::Engine | Word::Class => false,
+            Word::Test => key == "spin",
+        }
+    }
+}
+
+impl<'a> Declared<'a> {
+    ghost use Rattle.suite_text.specs.SuiteNodes.{body_declared, script_declared};
+    ghost use Rattle.suite_text.specs.SuiteVerdicts.{reason_declared};
+
+    /// What runs for the node of this number.
+    pub(crate) fn body(&self, number: u16) -> Option<BodyId>
+        ensures { result ≡ body_declared self.now.verdict number }
+    {
+        match status_of(self.verdict) {
+            Some(_) => Some(BodyId::new(number)),
+            None => None,
+        }
+    }
+
+    /// Why the node is disabled, where it is.
+    pub(crate) fn reason(&self, alloc: Global) -> Result<Option<Text>, AllocError>
+        ensures { IfOk result (λ reason. reason ≡ reason_declared self.now.verdict self.now.text.now) }
+    {
+        match self.verdict {
+            Some(Verdict::Disabled) => Ok(Some(Text::new(alloc, self.text)?)),
+            _ => Ok(None),
+        }
+    }
+
+    /// What the body of the node of this number answers.
+    pub(crate) fn script(&self, alloc: Global, number: u16) -> Result<Option<Script>, AllocError>
+        ensures { IfOk result (λ script. script ≡ script_declared (declaration_of self.now) number) }
+    {
+        match status_of(self.verdict) {
+            Some(status) => {
+                let body = BodyId::new(number);
+                let script = Script::ending(alloc, body, self.spin, status, self.text)?;
+                Ok(Some(script))
+            }
+            None => Ok(None),
+        }
+    }
+}
+
+/// The word, where it may stand right below a node of the word above.
+fn placed(number: usize, above: Option<Word>, word: Option<Word>) -> Result<Word, SuiteFault>
+    ensures { Gives (λ word. word) result (placed number above word) }
+{
+    match word {
+        Some(word) if word.stands_below(above) => Ok(word),
+        _ => Err(SuiteFault::BadLine(number)),
+    }
+}
+
+/// The node of this word, name and `spin`, with the verdict that is left of its line.
+fn with_verdict<'a>(
+    number: usize,
+    word: Word,
+    name: &'a str,
+    spin: u32,
+    rest: &'a str,
+) -> Result<Declared<'a>, SuiteFault>
+    ensures { Gives declaration_of result (with_verdict number word name.now spin rest.now) }
+{
+    let (first, text) = word_and_text(rest);
+    let verdict = verdict_in(number, word, first, text)?;
+    Ok(Declared {
+        word,
+        name,
+        spin,
+        verdict,
+        text,
+    })
+}
+
+/// The node of this word and name, with the attribute and the verdict that are left of its line.
+fn with_spin<'a>(
+    number: usize,
+    word: Word,
+    name: &'a str,
+    rest: &'a str,
+) -> Result<Declared<'a>, SuiteFault>
+    ensures { Gives declaration_of result (with_spin number word name.now rest.now) }
+{
+    let (first, after) = next_word(rest);
+    let (key, value) = key_and_value(first);
+    if !word.takes_spin(key) {
+        return with_verdict(number, word, name, 0, rest);
+    }
+    let spin = spin_in(number, value)?;
+    with_verdict(number, word, name, spin, after)
+}
+
+/// The node of this word, with the name and all else that is left of its line.
+fn with_name<'a>(number: usize, word: Word, rest: &'a str) -> Result<Declared<'a>, SuiteFault>
+    ensures { Gives declaration_of result (with_name number word rest.now) }
+{
+    let (name, rest) = next_word(rest);
+    if name.is_empty() {
+        return Err(SuiteFault::BadLine(number));
+    }
+    with_spin(number, word, name, rest)
+}
+
+/// The node that a line declares below a node of this word.
+pub(crate) fn declared_in<'a>(
+    number: usize,
+    above: Option<Word>,
+    line: &'a str,
+) -> Result<Declared<'a>, SuiteFault>
+    ensures { Gives declaration_of result (declared_by number above line.now) }
+{
+    let (first, rest) = next_word(line);
+    let word = placed(number, above, Word::spelled(first))?;
+    with_name(number, word, rest)
+}
