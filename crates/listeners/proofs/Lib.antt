@@ -1,0 +1,2 @@
+-- Lemmas on the lists of an audience.
+pub mod Hearing
