@@ -1,5 +1,6 @@
 -- The definitions that contracts cite.
 pub mod Feed
+pub mod Listeners
 pub mod Printed
 pub mod Sending
 pub mod TreeSigns

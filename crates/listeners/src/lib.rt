@@ -1,13 +1,20 @@
-//! What is told of a run, and to whom: the feed, the tree, and the writer that takes them.
+//! Who is told of the events of a run, and what is written of them: the feed, the tree and the summary.
 #![tactic(auto)]
 
+mod audience;
+mod event_list;
 mod feed;
 #[cfg(test)]
 mod feed_tests;
+mod listener;
 mod output;
 mod printed;
+mod recorder;
 mod theme;
 
+pub use audience::{Audience, TooManyListeners};
 pub use feed::feed_text;
+pub use listener::Listener;
 pub use output::{WriteFault, print_to};
+pub use recorder::Recorder;
 pub use theme::Theme;

@@ -1,0 +1,14 @@
+-- The next listener has what it was told, and room.
+use Rattle.std.proofs.Common.{◌≡◌, ◌<◌, ◌≤◌, length, refl, rules, arith}
+use Rattle.std.proofs.lemmas.Grind.{common_steps}
+use Rattle.resource_locks.specs.Plans.{most_events}
+use Rattle.listeners.proofs.Hearing.{ready_same, ready_more}
+use Rattle.listeners.proofs.audience.Audience.prepare.Goals as goal
+
+pub returns-in_err-prepare_one-clause-got : goal.returns-in_err-prepare_one-clause-got
+returns-in_err-prepare_one-clause-got g c =
+    ready_same _ _ c.loop-index.index c.args.self.now.listeners.items c.loop-index.self.listeners.items c.index_mut.result.now c.prepare_one.new.listener c.loop-index.invariant c.index_mut.ensures.value c.prepare_one.ensures.got
+
+pub loop-index-preserved : goal.loop-index-preserved
+loop-index-preserved g c =
+    ready_more _ _ c.loop-index.index c.args.self.now.listeners.items c.loop-index.self.listeners.items c.index_mut.result.now c.prepare_one.new.listener c.loop-index.invariant (grind (arith, common_steps)) c.index_mut.ensures.value c.prepare_one.ensures.got c.in_ok-prepare_one.ensures.room

@@ -1,0 +1,8 @@
+-- What each was told stays, and so far each has room for the events of the plan.
+use Rattle.std.proofs.Common.{◌≤◌}
+use Rattle.resource_locks.specs.Plans.{most_events}
+use Rattle.listeners.proofs.Hearing.{AreReady}
+use Rattle.listeners.proofs.audience.Audience.prepare.Given as goal
+
+abbrev pub invariant-loop-index : goal.invariant-loop-index
+invariant-loop-index g l = AreReady (λ b. (goal.Listener-dyn g (b.vtable, b.value)).got b.value) (λ b. most_events l.plan ≤ (goal.Listener-dyn g (b.vtable, b.value)).room b.value) l.index l.fn.self.listeners.items l.self.listeners.items

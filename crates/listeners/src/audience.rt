@@ -1,0 +1,149 @@
+//! All who are told of the events of a run.
+
+ghost use Rattle.std.specs.Prelude.{◌≡◌, ◌<◌, ◌≤◌, ◌+◌, ◌-◌, ◌↔◌, ◌++◌, ◌∷◌, [], List, map, length, slice_get, IsTrue, IsNone, IfSome, Some, IfOk, IfErr, OnOk};
+ghost use Rattle.std.specs.List.{All};
+ghost use Rattle.resource_locks.specs.Plans.{most_events};
+ghost use Rattle.plan_events.specs.declared.event.Event.{Event};
+
+use crate::listener::Listener;
+use plan_events::Event;
+use resource_locks::Plan;
+use std::alloc::AllocError;
+
+/// The greatest number of listeners.
+const MOST_LISTENERS: usize = 16;
+
+/// Refusal 80: there are more than 16 listeners. They are handed back.
+#[derive(Drop)]
+pub struct TooManyListeners {
+    pub listeners: Vec<Box<dyn Listener>>,
+}
+
+impl TooManyListeners {
+    /// The number of the refusal.
+    pub fn number(&self) -> u8
+        ensures { result ≡ 80 }
+    {
+        80
+    }
+}
+
+/// The listeners of a run, of whom there may be none.
+#[derive(Drop)]
+pub struct Audience {
+    listeners: Vec<Box<dyn Listener>>,
+    ghost few: { length listeners.items ≤ 16 },
+}
+
+impl Audience {
+    /// The audience of these listeners, of whom there may be 16.
+    pub fn new(listeners: Vec<Box<dyn Listener>>) -> Result<Audience, TooManyListeners>
+        ensures ok { IfOk result (λ audience. audience.listeners ≡ listeners) }
+        ensures accepted { IfOk result (λ _. length listeners.items ≤ 16) }
+        ensures refused { IfErr result (λ _. 16 < length listeners.items) }
+        ensures handed_back { IfErr result (λ fault. fault.listeners ≡ listeners) }
+    {
+        if listeners.len() > MOST_LISTENERS {
+            Err(TooManyListeners { listeners })
+        } else {
+            Ok(Audience { listeners })
+        }
+    }
+
+    /// Lets each listener make room for the events of an execution of the plan. After want of memory some may have more
+    /// room than before.
+    pub fn prepare(&mut self, plan: &Plan) -> Result<(), AllocError>
+        ensures got { map got self.new.listeners.items ≡ map got self.old.listeners.items }
+        ensures room { OnOk result (All (λ l. most_events plan.now ≤ room l) self.new.listeners.items) }
+    {
+        for index in 0..self.listeners.len() {
+            prepare_one(&mut self.listeners[index], plan)?;
+        }
+        Ok(())
+    }
+
+    /// Whether none was told anything.
+    pub fn fresh(&self) -> bool
+        ensures { IsTrue result ↔ All (λ l. got l ≡ []) self.now.listeners.items }
+    {
+        for listener in self.listeners.iter() {
+            if !is_fresh(listener) {
+                return false;
+            }
+        }
+        true
+    }
+
+    /// Whether each can be told so many more events.
+    pub fn has_room(&self, wanted: usize) -> bool
+        ensures { IsTrue result ↔ All (λ l. wanted ≤ room l) self.now.listeners.items }
+    {
+        for listener in self.listeners.iter() {
+            if room_of(listener) < wanted {
+                return false;
+            }
+        }
+        true
+    }
+
+    /// Tells each the next event. The text is the reason of a skipped node, and what the job of a finished node said.
+    pub fn tell(&mut self, event: Event, text: Option<&str>)
+        requires { All (λ l. 1 ≤ room l) self.old.listeners.items }
+        ensures got { map got self.new.listeners.items ≡ map (λ (heard : List Event). heard ++ event ∷ []) (map got self.old.listeners.items) }
+        ensures room { map room self.new.listeners.items ≡ map (λ n. n - 1) (map room self.old.listeners.items) }
+    {
+        let event = &event;
+        for index in 0..self.listeners.len() {
+            tell_one(&mut self.listeners[index], *event, text);
+        }
+    }
+
+    /// What the listener at this place was told, from place 0.
+    pub fn got(&self, place: usize) -> Option<&[Event]>
+        ensures some { IfSome result (λ events. slice_get (map got self.now.listeners.items) place ≡ Some events.now) }
+        ensures none { IsNone result ↔ (length self.now.listeners.items ≤ place) }
+    {
+        let listener = self.listeners.get(place)?;
+        Some(got_by(listener))
+    }
+
+    /// The listeners, with what they were told.
+    pub fn into_listeners(self) -> Vec<Box<dyn Listener>>
+        ensures { result ≡ self.listeners }
+    {
+        self.listeners
+    }
+}
+
+fn prepare_one(listener: &mut Box<dyn Listener>, plan: &Plan) -> Result<(), AllocError>
+    ensures got { got listener.new ≡ got listener.old }
+    ensures room { OnOk result (most_events plan.now ≤ room listener.new) }
+{
+    listener.prepare(plan)
+}
+
+fn tell_one(listener: &mut Box<dyn Listener>, event: Event, text: Option<&str>)
+    requires { 0 < room listener.old }
+    ensures got { got listener.new ≡ got listener.old ++ event ∷ [] }
+    ensures room { room listener.new ≡ room listener.old - 1 }
+{
+    listener.told(event, text)
+}
+
+fn got_by(listener: &Box<dyn Listener>) -> &[Event]
+    ensures { result.now ≡ got listener.now }
+{
+    listener.got()
+}
+
+fn is_fresh(listener: &Box<dyn Listener>) -> bool
+    ensures { IsTrue result ↔ (got listener.now ≡ []) }
+{
+    got_by(listener).is_empty()
+}
+
+fn room_of(listener: &Box<dyn Listener>) -> usize
+    ensures { result ≡ room listener.now }
+{
+    listener.room()
+}
