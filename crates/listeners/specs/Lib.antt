@@ -1,2 +1,3 @@
 -- The definitions that contracts cite.
 pub mod Listeners
+pub mod Counts

@@ -2,8 +2,11 @@
 #![tactic(auto)]
 
 mod audience;
+mod counts;
 mod event_list;
 mod listener;
+mod marks;
+mod outline;
 mod recorder;
 
 pub use audience::{Audience, TooManyListeners};
