@@ -15,6 +15,7 @@ mod replay;
 #[cfg(test)]
 mod replay_tests;
 mod run;
+mod telling;
 mod values;
 mod words;
 

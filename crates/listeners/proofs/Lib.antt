@@ -1,4 +1,7 @@
 -- Lemmas on the lists of an audience.
 pub mod Cleaning
+pub mod Counting
 pub mod Hearing
+pub mod Marking
+pub mod Retelling
 pub mod Sending

@@ -1,4 +1,5 @@
 -- The definitions that contracts cite.
+pub mod Counts
 pub mod Feed
 pub mod Listeners
 pub mod Printed

@@ -1,12 +1,13 @@
 //! All who are told of the events of a run.
 
-ghost use Rattle.std.specs.Prelude.{◌≡◌, ◌<◌, ◌≤◌, ◌+◌, ◌-◌, ◌↔◌, ◌++◌, ◌∷◌, [], List, map, length, slice_get, IsTrue, IsNone, IfSome, Some, IfOk, IfErr, OnOk};
+ghost use Rattle.std.specs.Prelude.{◌≡◌, ◌<◌, ◌≤◌, ◌+◌, ◌-◌, ◌↔◌, ◌++◌, ◌∷◌, [], List, map, length, slice_get, IsTrue, IsNone, IfSome, Some, None, IfOk, IfErr, OnOk};
 ghost use Rattle.std.specs.List.{All};
 ghost use Rattle.resource_locks.specs.Plans.{most_events};
 ghost use Rattle.plan_events.specs.declared.event.Event.{Event};
+ghost use Rattle.listeners.specs.Listeners.{text_told};
 
 use crate::listener::Listener;
-use plan_events::Event;
+use plan_events::{Event, EventKind, Texts};
 use resource_locks::Plan;
 use std::alloc::AllocError;
 
@@ -98,6 +99,16 @@ impl Audience {
         }
     }
 
+    /// Tells each these events in their order, with the texts of their nodes.
+    pub fn tell_all(&mut self, texts: &Texts, events: &[Event])
+        requires { All (λ l. length events.now ≤ room l) self.old.listeners.items }
+        ensures { map got self.new.listeners.items ≡ map (λ (heard : List Event). heard ++ events.now) (map got self.old.listeners.items) }
+    {
+        for event in events {
+            self.tell(*event, text_with(texts, *event));
+        }
+    }
+
     /// What the listener at this place was told, from place 0.
     pub fn got(&self, place: usize) -> Option<&[Event]>
         ensures some { IfSome result (λ events. slice_get (map got self.now.listeners.items) place ≡ Some events.now) }
@@ -112,6 +123,17 @@ impl Audience {
         ensures { result ≡ self.listeners }
     {
         self.listeners
+    }
+}
+
+/// What is told with an event: the reason of a skipped node, and what the job of a finished one said.
+fn text_with(texts: &Texts, event: Event) -> Option<&str>
+    ensures some { IfSome result (λ text. text_told texts.now event ≡ Some text.now) }
+    ensures none { IsNone result ↔ (text_told texts.now event ≡ None) }
+{
+    match event.kind {
+        EventKind::Skipped | EventKind::Finished => texts.of(event.node),
+        EventKind::Started | EventKind::Registered => None,
     }
 }
 

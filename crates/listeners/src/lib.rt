@@ -2,11 +2,14 @@
 #![tactic(auto)]
 
 mod audience;
+mod counts;
 mod event_list;
 mod feed;
 #[cfg(test)]
 mod feed_tests;
 mod listener;
+mod marks;
+mod outline;
 mod output;
 mod printed;
 mod recorder;

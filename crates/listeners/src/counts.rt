@@ -1,0 +1,125 @@
+//! How many containers and tests there are, and what became of them.
+
+ghost use Rattle.std.specs.Prelude.{◌≡◌, ◌<◌, ◌≤◌, ◌++◌, length};
+ghost use Rattle.descriptor.specs.Nodes.{bit};
+ghost use Rattle.listeners.specs.Counts.{is_container, is_test, is_counted, is_lost, six, counts_in, FollowParents};
+
+use crate::marks::Marks;
+use crate::outline::Place;
+use descriptor::Kind;
+
+/// The counts of containers, or those of tests.
+#[derive(Clone, Copy, PartialEq, Eq, Debug)]
+pub struct SortCounts {
+    pub found: u32,
+    /// Those that were skipped, and all below them.
+    pub skipped: u32,
+    pub started: u32,
+    pub aborted: u32,
+    pub successful: u32,
+    pub failed: u32,
+}
+
+impl SortCounts {
+    ghost use Rattle.listeners.specs.Counts.{counts_with, AreAtMost};
+
+    /// Those of no nodes.
+    const NONE: SortCounts = SortCounts {
+        found: 0,
+        skipped: 0,
+        started: 0,
+        aborted: 0,
+        successful: 0,
+        failed: 0,
+    };
+
+    /// Adds a node, if it is counted.
+    fn add(&mut self, counted: bool, marks: Marks, lost: bool)
+        requires { AreAtMost self.old 4096 }
+        ensures { self.new ≡ counts_with self.old counted marks lost }
+    {
+        self.found += one_if(counted);
+        self.skipped += one_if(counted && lost);
+        self.started += one_if(counted && marks.started);
+        self.aborted += one_if(counted && marks.aborted);
+        self.successful += one_if(counted && marks.successful);
+        self.failed += one_if(counted && marks.failed);
+    }
+}
+
+fn one_if(passes: bool) -> u32
+    ensures { result ≡ bit passes }
+{
+    if passes { 1 } else { 0 }
+}
+
+/// Whether the node counts as a container; node 0 does not.
+fn counts_as_container(outline: &[Place], node: usize) -> bool
+    requires { node < length outline.now }
+    ensures { result ≡ is_counted is_container outline.now node }
+{
+    node > 0 && matches!(outline[node].kind, Kind::Container | Kind::ContainerAndTest)
+}
+
+/// Whether the node counts as a test; node 0 does not.
+fn counts_as_test(outline: &[Place], node: usize) -> bool
+    requires { node < length outline.now }
+    ensures { result ≡ is_counted is_test outline.now node }
+{
+    node > 0 && matches!(outline[node].kind, Kind::Test | Kind::ContainerAndTest)
+}
+
+/// Whether the node was skipped, or a node that it is below.
+fn is_lost(outline: &[Place], marks: &[Marks], node: usize) -> bool
+    requires node { node < length outline.now }
+    requires marks { length marks.now ≡ length outline.now }
+    requires parents { FollowParents outline.now }
+    ensures { result ≡ is_lost outline.now marks.now node }
+{
+    let mut current = node;
+    while !marks[current].skipped {
+        if current == 0 {
+            return false;
+        }
+        current = outline[current].parent.index();
+    }
+    true
+}
+
+/// Twelve counts: of containers those that were found, skipped, started, aborted, successful and failed, then the same
+/// of tests. It takes no memory.
+pub(crate) fn counts(outline: &[Place], marks: &[Marks]) -> [u32; 12]
+    requires few { length outline.now ≤ 4096 }
+    requires marks { length marks.now ≡ length outline.now }
+    requires parents { FollowParents outline.now }
+    ensures { result ≡ counts_in outline.now marks.now }
+{
+    let mut containers = SortCounts::NONE;
+    let mut tests = SortCounts::NONE;
+    for index in 0..outline.len() {
+        let lost = is_lost(outline, marks, index);
+        containers.add(counts_as_container(outline, index), marks[index], lost);
+        tests.add(counts_as_test(outline, index), marks[index], lost);
+    }
+    twelve(containers, tests)
+}
+
+/// The counts of both, in the order in which they are told.
+fn twelve(containers: SortCounts, tests: SortCounts) -> [u32; 12]
+    ensures { result ≡ six containers ++ six tests }
+{
+    [
+        containers.found,
+        containers.skipped,
+        containers.started,
+        containers.aborted,
+        containers.successful,
+        containers.failed,
+        tests.found,
+        tests.skipped,
+        tests.started,
+        tests.aborted,
+        tests.successful,
+        tests.failed,
+    ]
+}

@@ -1,0 +1,42 @@
+//! What is kept of a plan to count its nodes.
+
+ghost use Rattle.std.specs.Prelude.{◌≡◌, ◌<◌, ◌≤◌, length, IfOk};
+ghost use Rattle.descriptor.specs.Nodes.{size};
+ghost use Rattle.listeners.specs.Counts.{place_of, outline_of, FollowParents};
+
+use descriptor::{Kind, NodeId, Tree};
+use resource_locks::Plan;
+use std::alloc::{AllocError, Global};
+
+/// What is kept of a node to count it.
+#[derive(Clone, Copy, PartialEq, Eq, Debug)]
+pub struct Place {
+    /// For node 0, node 0 itself.
+    pub parent: NodeId,
+    pub kind: Kind,
+}
+
+/// What is kept of this node.
+fn place_of(tree: &Tree, node: NodeId) -> Place
+    requires { node < size tree.now }
+    ensures { result ≡ place_of tree.now node }
+{
+    Place {
+        parent: tree.parent(node).unwrap_or(NodeId::ROOT),
+        kind: tree.kind(node),
+    }
+}
+
+/// What is kept of the nodes of a plan, from node 0.
+pub(crate) fn outline_of(alloc: Global, plan: &Plan) -> Result<Vec<Place>, AllocError>
+    ensures places { IfOk result (λ outline. outline.items ≡ outline_of plan.now.tree) }
+    ensures parents { IfOk result (λ outline. FollowParents outline.items) }
+    ensures few { IfOk result (λ outline. length outline.items ≤ 4096) }
+{
+    let tree = plan.tree();
+    let mut outline = Vec::new(alloc);
+    for number in 0..tree.len() {
+        outline.push(place_of(tree, NodeId::new(number as u16)))?;
+    }
+    Ok(outline)
+}
