@@ -1,2 +1,5 @@
 pub mod Cleaning
 pub mod Sending
+pub mod SameTold
+pub mod Siblings
+pub mod ToldMore

@@ -1,4 +1,9 @@
 -- The definitions that contracts cite.
+pub mod Drawings
 pub mod Feed
+pub mod Notes
 pub mod Printed
 pub mod Sending
+pub mod Told
+pub mod TreeSigns
+pub mod TreeTexts
