@@ -4,4 +4,7 @@ pub mod Counting
 pub mod Hearing
 pub mod Marking
 pub mod Retelling
+pub mod SameTold
 pub mod Sending
+pub mod Siblings
+pub mod ToldMore

@@ -1,7 +1,11 @@
 -- The definitions that contracts cite.
 pub mod Counts
+pub mod Drawings
 pub mod Feed
 pub mod Listeners
+pub mod Notes
 pub mod Printed
 pub mod Sending
+pub mod Told
 pub mod TreeSigns
+pub mod TreeTexts

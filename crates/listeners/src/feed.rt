@@ -31,7 +31,7 @@ fn id_of(plan: &Plan, node: NodeId) -> &str
     plan.tree().node(node).id.text()
 }
 
-fn text_of(texts: &Texts, node: NodeId) -> &str
+pub(crate) fn text_of(texts: &Texts, node: NodeId) -> &str
     ensures { result.now ≡ text_or (text_at texts.now node) }
 {
     match texts.of(node) {

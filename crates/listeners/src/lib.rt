@@ -3,6 +3,7 @@
 
 mod audience;
 mod counts;
+mod drawing;
 mod event_list;
 mod feed;
 #[cfg(test)]
@@ -14,8 +15,12 @@ mod output;
 mod printed;
 mod recorder;
 mod theme;
+mod told;
+#[cfg(test)]
+mod tree_tests;
 
 pub use audience::{Audience, TooManyListeners};
+pub use drawing::tree_text;
 pub use feed::feed_text;
 pub use listener::Listener;
 pub use output::{WriteFault, print_to};

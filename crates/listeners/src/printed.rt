@@ -13,7 +13,7 @@ fn printed_char(c: char) -> char
 }
 
 /// Appends a text with each control byte as a space.
-fn push_cleaned(printed: &mut String, text: &str) -> Result<(), AllocError>
+pub(crate) fn push_cleaned(printed: &mut String, text: &str) -> Result<(), AllocError>
     ensures { OnOk result (string_bytes printed.new ≡ string_bytes printed.old ++ cleaned text.now) }
 {
     for c in text.chars() {

@@ -1,0 +1,150 @@
+//! The tree of a run, as text.
+
+ghost use Rattle.std.specs.Prelude.{◌≡◌, ℕ, ◌<◌, ◌≤◌, ◌-◌, ◌++◌, [], OnOk, IfOk, IfSome, string_bytes};
+ghost use Rattle.descriptor.specs.Nodes.{size, IsTree};
+ghost use Rattle.plan_events.specs.Texts.{text_at};
+ghost use Rattle.listeners.specs.Feed.{text_or};
+ghost use Rattle.listeners.specs.Notes.{told_at};
+ghost use Rattle.listeners.specs.Drawings.{drawn_by};
+ghost use Rattle.listeners.specs.TreeTexts.{end_of, ending, name_at, line, children_drawn, drawn_of, lines_below, tree_of};
+
+use crate::feed::text_of;
+use crate::printed::{push_cleaned, push_text};
+use crate::theme::Theme;
+use crate::told::{NOTHING, Told, told_of};
+use descriptor::{NodeId, Tree};
+use plan_events::{Event, Status, Texts};
+use resource_locks::Plan;
+use std::alloc::{AllocError, Global};
+
+/// What a tree is drawn from.
+#[derive(Drop)]
+struct Drawing<'a> {
+    theme: Theme,
+    tree: &'a Tree,
+    texts: &'a Texts,
+    told: &'a [Told],
+}
+
+/// Appends how a node ended that was not skipped.
+fn push_end(
+    text: &mut String,
+    theme: Theme,
+    status: Option<Status>,
+    said: &str,
+) -> Result<(), AllocError>
+    ensures { OnOk result (string_bytes text.new ≡ string_bytes text.old ++ end_of theme status said.now) }
+{
+    let Some(status) = status else {
+        return Ok(());
+    };
+    text.push_str(" ")?;
+    text.push_str(theme.mark(status))?;
+    match status {
+        Status::Successful => Ok(()),
+        _ => push_text(text, said),
+    }
+}
+
+/// Appends what stands behind a name.
+fn push_ending(text: &mut String, theme: Theme, told: Told, said: &str) -> Result<(), AllocError>
+    ensures { OnOk result (string_bytes text.new ≡ string_bytes text.old ++ ending theme told.is_skipped told.status said.now) }
+{
+    if !told.is_skipped {
+        return push_end(text, theme, told.status, said);
+    }
+    text.push_str(" ")?;
+    text.push_str(theme.skip_mark())?;
+    push_text(text, said)
+}
+
+impl Drawing<'_> {
+    fn told(&self, node: NodeId) -> Told
+        ensures { result ≡ told_at self.now.told.now node }
+    {
+        self.told.get(node.index()).copied().unwrap_or(NOTHING)
+    }
+
+    /// The children of a node that have lines.
+    fn children(&self, alloc: Global, node: NodeId) -> Result<Vec<NodeId>, AllocError>
+        requires { node < size self.now.tree.now }
+        ensures { IfOk result (λ children. children.items ≡ children_drawn (drawn_by self.now) node) }
+    {
+        self.tree
+            .children(node)
+            .iter()
+            .copied()
+            .filter(|child| self.told(*child).has_line)
+            .collect(alloc)
+    }
+
+    /// Appends the line of a node behind the items of its ancestors.
+    fn push_line(
+        &self,
+        text: &mut String,
+        items: &str,
+        node: NodeId,
+        is_last: bool,
+    ) -> Result<(), AllocError>
+        requires above_zero { 0 < node }
+        requires inside { node < size self.now.tree.now }
+        ensures { OnOk result (string_bytes text.new ≡ string_bytes text.old ++ line (drawn_by self.now) items.now node is_last) }
+    {
+        let told = self.told(node);
+        text.push_str(items)?;
+        text.push_str(self.theme.branch(is_last))?;
+        push_cleaned(text, self.tree.node(node).name.as_str())?;
+        push_ending(text, self.theme, told, text_of(self.texts, node))?;
+        text.push_str("\n")
+    }
+
+    /// Appends the lines below a node behind the items of its ancestors and its own.
+    fn push_below(
+        &self,
+        alloc: Global,
+        text: &mut String,
+        items: &str,
+        node: NodeId,
+    ) -> Result<(), AllocError>
+        requires tree { IsTree self.now.tree.now }
+        requires inside { node < size self.now.tree.now }
+        ensures { OnOk result ((levels : ℕ) → size self.now.tree.now - node ≤ levels → string_bytes text.new ≡ string_bytes text.old ++ lines_below (drawn_by self.now) levels items.now node) }
+    {
+        let children = self.children(alloc, node)?;
+        let mut left = children.as_slice();
+        while let Some((child, rest)) = left.split_first() {
+            let is_last = rest.is_empty();
+            self.push_line(text, items, *child, is_last)?;
+            let mut below = String::from_str(alloc, items)?;
+            below.push_str(self.theme.item(is_last))?;
+            self.push_below(alloc, text, below.as_str(), *child)?;
+            left = rest;
+        }
+        Ok(())
+    }
+}
+
+/// The tree of these events: a line for each node that started or was skipped, below the line of
+/// its parent; a node whose parent has none has no line either. In Unicode or in ASCII.
+pub fn tree_text(
+    alloc: Global,
+    plan: &Plan,
+    events: &[Event],
+    texts: &Texts,
+    theme: Theme,
+) -> Result<String, AllocError>
+    ensures text { IfOk result (λ text. string_bytes text ≡ tree_of theme plan.now texts.now events.now) }
+    ensures levels { IfOk result (λ text. (levels : ℕ) → size plan.now.tree ≤ levels → string_bytes text ≡ lines_below (drawn_of theme plan.now texts.now events.now) levels [] 0) }
+{
+    let tree = plan.tree();
+    let told = told_of(alloc, tree.len(), events)?;
+    let drawing = Drawing {
+        theme,
+        tree,
+        texts,
+        told: told.as_slice(),
+    };
+    let mut text = String::new(alloc);
+    drawing.push_below(alloc, &mut text, "", NodeId::ROOT)?;
+    Ok(text)
+}
