@@ -3,6 +3,8 @@ use Rattle.std.specs.Prelude.{◌≡◌, ℕ, List, [], ◌++◌, codes, Option,
 use Rattle.std.specs.Fmt.{decimal}
 use Rattle.clap.specs.declared.error.kind.ErrorKind.{ErrorKind}
 use Rattle.clap.specs.declared.error.kind.ErrorKind.TheVariants as kinds
+use Rattle.selectors.specs.declared.select_fault.SelectFault.{SelectFault}
+use Rattle.selectors.specs.declared.select_fault.SelectFault.TheVariants as selections
 use Rattle.suite_text.specs.SuiteFaults as suite_faults
 use Rattle.suite_text.specs.declared.suite_fault.SuiteFault.{SuiteFault}
 use Rattle.suite_text.specs.declared.suite_fault.SuiteFault.TheVariants as suites
@@ -10,8 +12,11 @@ use Rattle.console.specs.declared.bytes.ReadFault.{ReadFault}
 use Rattle.console.specs.declared.bytes.ReadFault.TheVariants as reads
 use Rattle.suite_text.specs.declared.steps.StepsFault.{StepsFault}
 use Rattle.suite_text.specs.declared.steps.StepsFault.TheVariants as steps
+use Rattle.tag_expr.specs.Faults as tag_faults
+use Rattle.tag_expr.specs.declared.fault.TagFault.{TagFault}
+use Rattle.tag_expr.specs.declared.fault.TagFault.TheVariants as tags
 use Rattle.console.specs.declared.fault.ConsoleFault.{ConsoleFault}
-use Rattle.console.specs.declared.fault.ConsoleFault.TheVariants.{NoMemory, Suite, BadWords, BadStep, Reading, Writing}
+use Rattle.console.specs.declared.fault.ConsoleFault.TheVariants.{NoMemory, Suite, BadWords, BadStep, BadSelector, BadTags, NothingMatches, Reading, Writing}
 
 -- the number that is printed behind `error`
 abbrev pub number_of : ConsoleFault → ℕ
@@ -19,6 +24,9 @@ number_of NoMemory = 0
 number_of (Suite fault) = suite_faults.number_of fault
 number_of BadWords = 105
 number_of (BadStep number) = 104
+number_of (BadSelector number) = 40
+number_of (BadTags fault) = tag_faults.number fault
+number_of (NothingMatches number) = 41
 number_of Reading = 106
 number_of (Writing fault) = 81
 
@@ -26,6 +34,9 @@ number_of (Writing fault) = 81
 abbrev pub place_of : ConsoleFault → Option ℕ
 place_of (Suite fault) = suite_faults.place_of fault
 place_of (BadStep number) = Some number
+place_of (BadSelector number) = Some number
+place_of (BadTags fault) = tag_faults.place fault
+place_of (NothingMatches number) = Some number
 place_of (Writing fault) = Some fault.sent
 place_of _ = None
 
@@ -55,3 +66,13 @@ IsWordsFault _ fault = fault ≡ BadWords
 abbrev pub IsStepsFault : StepsFault → ConsoleFault → Type 0
 IsStepsFault steps.NoMemory fault = fault ≡ NoMemory
 IsStepsFault (steps.BadStep number) fault = fault ≡ BadStep number
+
+-- want of memory is the program's own, and any other fault is one of a tag expression
+abbrev pub IsTagFault : TagFault → ConsoleFault → Type 0
+IsTagFault tags.NoMemory fault = fault ≡ NoMemory
+IsTagFault cause fault = fault ≡ BadTags cause
+
+-- want of memory is the program's own, and a selector that covers nothing keeps its number
+abbrev pub IsSelectFault : SelectFault → ConsoleFault → Type 0
+IsSelectFault selections.NoMemory fault = fault ≡ NoMemory
+IsSelectFault (selections.NothingMatches number) fault = fault ≡ NothingMatches number

@@ -1,5 +1,6 @@
 -- What a run prints, and its status.
 use Rattle.std.specs.Prelude.{◌≡◌, ℕ, ◌==◌, ◌&&◌, not, List, [], ◌++◌, length, Bool, true, false, if◌then◌else◌, Option, Some, None}
+use Rattle.descriptor.specs.Nodes.{size, kind_of, count_below}
 use Rattle.std.specs.List.{list_any}
 use Rattle.plan_events.specs.declared.event.Event.{Event}
 use Rattle.plan_events.specs.declared.event.EventKind.{EventKind}
@@ -14,7 +15,11 @@ use Rattle.sched_core.specs.Machine.{State, opening, given_list}
 use Rattle.sched_core.specs.Runs.{run, passed_over}
 use Rattle.sched_core.specs.Drives.{Drives}
 use Rattle.sched_core.specs.Texts.{AreTexts}
+use Rattle.listeners.specs.declared.theme.Theme.{Theme}
+use Rattle.listeners.specs.Counts.{counts_of, is_test}
 use Rattle.listeners.specs.Feed.{feed_of}
+use Rattle.listeners.specs.SummaryTexts.{summary_of}
+use Rattle.listeners.specs.TreeTexts.{tree_of}
 use Rattle.console.specs.declared.details.Details.{Details}
 use Rattle.console.specs.declared.details.Details.TheVariants as details
 use Rattle.console.specs.declared.replay.ReplayCounts.{ReplayCounts}
@@ -27,16 +32,18 @@ pub record IsHistory (p : PlanParts) (answers : List (ℕ × Reply)) (history : 
   pub drives : Drives p answers (opening p 1) final
   pub published : history ≡ final.published
 
--- the text is the feed of a history, with the texts of its nodes
-pub record IsFeed (p : PlanParts) (answers : List (ℕ × Reply)) (history : List Event) (text : List ℕ) : Type 0 where
+-- what is printed of these events with these texts: nothing; the summary; the tree, and then the summary; or the feed
+abbrev pub details_of : Details → Theme → PlanParts → TextParts → List Event → List ℕ
+details_of details.None theme p texts events = []
+details_of details.Summary theme p texts events = summary_of (counts_of p events)
+details_of details.Tree theme p texts events = tree_of theme p texts events ++ summary_of (counts_of p events)
+details_of details.Testfeed theme p texts events = feed_of p texts events
+
+-- the text is what is printed of a history, with the texts of its nodes
+pub record ArePrinted (details : Details) (theme : Theme) (p : PlanParts) (answers : List (ℕ × Reply)) (history : List Event) (text : List ℕ) : Type 0 where
   pub texts : TextParts
   pub are : AreTexts p answers history texts
-  pub printed : text ≡ feed_of p texts history
-
--- what is printed of a history: nothing, or its feed
-abbrev pub Prints : Details → PlanParts → List (ℕ × Reply) → List Event → List ℕ → Type 0
-Prints details.None p answers history text = text ≡ []
-Prints details.Testfeed p answers history text = IsFeed p answers history text
+  pub printed : text ≡ details_of details theme p texts history
 
 -- whether what happened is a finish that failed
 abbrev pub is_failed : EventKind → Option Status → Bool
@@ -47,16 +54,20 @@ is_failed _ _ = false
 abbrev pub is_failure : Event → Bool
 is_failure e = not (e.node == 0) && is_failed e.kind e.status
 
--- the status of the program: 1 where a node failed, else 0
-abbrev pub status_of : List Event → ℕ
-status_of history = if list_any is_failure history then 1 else 0
+-- how many tests a plan has, one that may hold other nodes counted
+abbrev pub tests_found : PlanParts → ℕ
+tests_found p = count_below (λ n. is_test (kind_of p.tree n)) (size p.tree)
 
--- the fixed schedule runs the suite: its history is printed as the details say, and its failures make the status
-pub record IsRunOutput (asked : Details) (p : PlanParts) (answers : List (ℕ × Reply)) (text : List ℕ) (status : ℕ) : Type 0 where
+-- the status of the program: 2 where there have to be tests and none is there, else 1 where a node failed, else 0
+abbrev pub status_of : Bool → ℕ → List Event → ℕ
+status_of needs_tests tests history = if needs_tests && (tests == 0) then 2 else (if list_any is_failure history then 1 else 0)
+
+-- the fixed schedule runs the plan: its history is printed as the options say, and its failures make the status
+pub record IsRunOutput (asked : Asked) (p : PlanParts) (answers : List (ℕ × Reply)) (text : List ℕ) (status : ℕ) : Type 0 where
   pub history : List Event
   pub published : IsHistory p answers history
-  pub printed : Prints asked p answers history text
-  pub exits : status ≡ status_of history
+  pub printed : ArePrinted asked.details asked.theme p answers history text
+  pub exits : status ≡ status_of asked.fail_if_no_tests (tests_found p) history
 
 -- the state in which a replay of these steps ends: there are 64 workers
 abbrev pub replayed : PlanParts → List (ℕ × Reply) → List Step → State
@@ -71,17 +82,16 @@ abbrev pub replay_counts : PlanParts → List (ℕ × Reply) → List Step → R
 replay_counts p answers steps = counts_of steps (replayed p answers steps) (passed_over p answers (opening p 64) steps)
 
 -- the steps are replayed: the feed of what they gave is printed, then the line of counts, and the status is 0
-pub record IsReplayOutput (steps : List Step) (p : PlanParts) (answers : List (ℕ × Reply)) (text : List ℕ) (status : ℕ) : Type 0 where
+pub record IsReplayOutput (theme : Theme) (steps : List Step) (p : PlanParts) (answers : List (ℕ × Reply)) (text : List ℕ) (status : ℕ) : Type 0 where
   pub feed : List ℕ
-  pub fed : IsFeed p answers (given_list (replayed p answers steps)) feed
+  pub fed : ArePrinted details.Testfeed theme p answers (given_list (replayed p answers steps)) feed
   pub printed : text ≡ feed ++ replay_line (replay_counts p answers steps)
   pub exits : status ≡ 0
 
--- what is printed with these details and this replay, if there is one
-abbrev pub IsOutputOf : Details → Option (List Step) → PlanParts → List (ℕ × Reply) → List ℕ → ℕ → Type 0
-IsOutputOf asked None p answers text status = IsRunOutput asked p answers text status
-IsOutputOf asked (Some steps) p answers text status = IsReplayOutput steps p answers text status
+-- what is printed of a plan, and the status: where there are steps to be replayed, nothing else counts
+abbrev pub IsOutputWith : Option (List Step) → Asked → PlanParts → List (ℕ × Reply) → List ℕ → ℕ → Type 0
+IsOutputWith None asked p answers text status = IsRunOutput asked p answers text status
+IsOutputWith (Some steps) asked p answers text status = IsReplayOutput asked.theme steps p answers text status
 
--- what is printed of a plan, and the status: where steps are to be replayed, the details count for nothing
 abbrev pub IsOutput : Asked → PlanParts → List (ℕ × Reply) → List ℕ → ℕ → Type 0
-IsOutput asked p answers text status = IsOutputOf asked.details asked.replay p answers text status
+IsOutput asked p answers text status = IsOutputWith asked.replay asked p answers text status

@@ -1,29 +1,45 @@
 -- What a run reads and what it writes.
-use Rattle.std.specs.Prelude.{◌≡◌, ℕ, ◌<◌, List, length, take, map, Bool, true, false, Option, Result, Ok, Err, ◌⊎◌}
+use Rattle.std.specs.Prelude.{◌≡◌, ℕ, ◌<◌, List, length, take, map, Bool, true, false, Option, Some, None, Result, Ok, Err, ◌⊎◌}
 use Rattle.std.specs.Io.KnownBytes.{Appends}
+use Rattle.clap.specs.Words.{Text}
+use Rattle.descriptor.specs.Nodes.{Nodes}
 use Rattle.plan_events.specs.declared.outcome.Reply.{Reply}
 use Rattle.resource_locks.specs.Plans.{PlanParts}
 use Rattle.console.specs.declared.fault.ConsoleFault.{ConsoleFault}
-use Rattle.console.specs.declared.fault.ConsoleFault.TheVariants.{NoMemory, Suite, BadWords, BadStep, Reading, Writing}
+use Rattle.console.specs.declared.fault.ConsoleFault.TheVariants.{NoMemory, Suite, BadWords, BadStep, BadSelector, BadTags, NothingMatches, Reading, Writing}
+use Rattle.selectors.specs.declared.select_fault.SelectFault.TheVariants as selections
+use Rattle.selectors.specs.Selections.{answer, refusal}
 use Rattle.suite_text.specs.declared.script.Script.{Script}
 use Rattle.suite_text.specs.declared.suite_fault.SuiteFault.{SuiteFault}
 use Rattle.suite_text.specs.SuiteParts.{SuiteParts}
 use Rattle.suite_text.specs.Suites.{suite_parts}
 use Rattle.suite_text.specs.declared.suite.Suite as suites
-use Rattle.console.specs.Words.{Asked}
+use Rattle.console.specs.Words.{Asked, AreAsked, given_of}
 use Rattle.console.specs.Outputs.{IsOutput}
 
--- the plan of a suite
-abbrev pub plan_of : SuiteParts → PlanParts
-plan_of suite = record { tree = suite.tree }
+-- the plan of a tree
+abbrev pub plan_of : Nodes → PlanParts
+plan_of tree = record { tree = tree }
 
 -- what its bodies answer
 abbrev pub answers_of : List Script → List (ℕ × Reply)
 answers_of scripts = map (λ script. (script.body, script.reply)) scripts
 
--- the text is what is printed of the suite, and the status is its
-abbrev pub IsSuiteOutput : Asked → SuiteParts → List ℕ → ℕ → Type 0
-IsSuiteOutput asked suite text status = IsOutput asked (plan_of suite) (answers_of suite.scripts) text status
+-- each selector covers something of the suite, and what the request selects of it is run: the text is what is printed of
+-- that, and the status is its
+pub record IsSuiteOutput (asked : Asked) (suite : SuiteParts) (text : List ℕ) (status : ℕ) : Type 0 where
+  pub accepted : refusal suite.tree asked.request ≡ None
+  pub output : IsOutput asked (plan_of (answer suite.tree asked.request)) (answers_of suite.scripts) text status
+
+-- the selector of this number covers nothing of the suite
+abbrev pub LeavesNothing : Asked → SuiteParts → ℕ → Type 0
+LeavesNothing asked suite number = refusal suite.tree asked.request ≡ Some (selections.NothingMatches number)
+
+-- the output of a suite is refused where a selector covers nothing
+abbrev pub FailsSuite : Asked → SuiteParts → ConsoleFault → Type 0
+FailsSuite asked suite NoMemory = Unit {0}
+FailsSuite asked suite (NothingMatches number) = LeavesNothing asked suite number
+FailsSuite asked suite _ = ⊥
 
 -- a suite was read, and the writer took all of its output
 pub record IsWhole (asked : Asked) (read : Result SuiteParts SuiteFault) (old new : Option (List ℕ)) (status : ℕ) : Type 0 where
@@ -43,12 +59,21 @@ pub record IsCutShort (asked : Asked) (read : Result SuiteParts SuiteFault) (old
   pub short : sent < length text
   pub written : Appends old new (take sent text)
 
+-- a suite was read, and a selector covers nothing of it
+pub record IsUnmatched (asked : Asked) (read : Result SuiteParts SuiteFault) (number : ℕ) : Type 0 where
+  pub suite : SuiteParts
+  pub is_read : read ≡ Ok suite
+  pub unmatched : LeavesNothing asked suite number
+
 -- The refusal of a run: the suite's is the one that the definition gives. Of memory and of the reader nothing is known
 abbrev pub FailsRun : Asked → Result SuiteParts SuiteFault → Option (List ℕ) → Option (List ℕ) → ConsoleFault → Type 0
 FailsRun asked read old new NoMemory = Unit {0}
 FailsRun asked read old new (Suite fault) = read ≡ Err fault
 FailsRun asked read old new BadWords = ⊥
 FailsRun asked read old new (BadStep number) = ⊥
+FailsRun asked read old new (BadSelector number) = ⊥
+FailsRun asked read old new (BadTags fault) = ⊥
+FailsRun asked read old new (NothingMatches number) = IsUnmatched asked read number
 FailsRun asked read old new Reading = Unit {0}
 FailsRun asked read old new (Writing fault) = IsCutShort asked read old new fault.sent
 
@@ -62,10 +87,21 @@ abbrev pub RefusesWords : ConsoleFault → Result ℕ ConsoleFault → Type 0
 RefusesWords refusal (Ok status) = ⊥
 RefusesWords refusal (Err fault) = (fault ≡ NoMemory) ⊎ (fault ≡ refusal)
 
--- the answer of a run with the options that the words give, if they give any
-abbrev pub IsRunBy : Result Asked ConsoleFault → Result SuiteParts SuiteFault → Option (List ℕ) → Option (List ℕ) → Result ℕ ConsoleFault → Type 0
-IsRunBy (Ok asked) read old new result = IsRun asked read old new result
-IsRunBy (Err refusal) read old new result = RefusesWords refusal result
+-- the words ask for something, and this is the answer of its run
+pub record IsRunAsAsked (words : List Text) (read : Result SuiteParts SuiteFault) (old new : Option (List ℕ)) (result : Result ℕ ConsoleFault) : Type 0 where
+  pub asked : Asked
+  pub are : AreAsked (given_of words) asked
+  pub run : IsRun asked read old new result
+
+-- the same unless memory ran out
+abbrev pub RunsAsAsked : List Text → Result SuiteParts SuiteFault → Option (List ℕ) → Option (List ℕ) → Result ℕ ConsoleFault → Type 0
+RunsAsAsked words read old new (Err NoMemory) = Unit {0}
+RunsAsAsked words read old new result = IsRunAsAsked words read old new result
+
+-- the answer of a run by these words, by why they are refused, if they are
+abbrev pub IsRunBy : Option ConsoleFault → List Text → Result SuiteParts SuiteFault → Option (List ℕ) → Option (List ℕ) → Result ℕ ConsoleFault → Type 0
+IsRunBy (Some refusal) words read old new result = RefusesWords refusal result
+IsRunBy None words read old new result = RunsAsAsked words read old new result
 
 -- what the reading of a suite refuses: the suite's own refusal is the one that the definition gives
 abbrev pub FailsToRead : Result SuiteParts SuiteFault → ConsoleFault → Type 0
@@ -73,6 +109,9 @@ FailsToRead read NoMemory = Unit {0}
 FailsToRead read (Suite fault) = read ≡ Err fault
 FailsToRead read BadWords = ⊥
 FailsToRead read (BadStep number) = ⊥
+FailsToRead read (BadSelector number) = ⊥
+FailsToRead read (BadTags fault) = ⊥
+FailsToRead read (NothingMatches number) = ⊥
 FailsToRead read Reading = Unit {0}
 FailsToRead read (Writing fault) = ⊥
 

@@ -1,21 +1,33 @@
 -- What the words of the command line ask for, and why they ask for nothing.
-use Rattle.std.specs.Prelude.{◌≡◌, ℕ, Bool, List, [], ◌∷◌, codes, if◌then◌else◌, Option, Some, None, option_map, Result, Ok, Err}
-use Rattle.std.specs.Option.{option_or, is_none}
+use Rattle.std.specs.Prelude.{◌≡◌, ℕ, ◌+◌, Bool, List, [], ◌∷◌, ◌++◌, codes, map, if◌then◌else◌, Option, Some, None, option_map, is_none, slice_get, Result, Ok, Err}
+use Rattle.std.specs.List.{filter_map, position}
+use Rattle.std.specs.Option.{option_or}
 use Rattle.std.specs.Str.{bytes_eq}
 use Rattle.clap.specs.Words.{Kinds, Text, fault_of, matches_of}
 use Rattle.listeners.specs.declared.theme.Theme.{Theme}
 use Rattle.listeners.specs.declared.theme.Theme.TheVariants as themes
 use Rattle.sched_core.specs.declared.step.Step.{Step}
+use Rattle.selectors.specs.declared.request.Request.{Request}
+use Rattle.selectors.specs.declared.selector.Selector.{Selector}
+use Rattle.selectors.specs.declared.selector.SelectorKind.{SelectorKind}
+use Rattle.selectors.specs.declared.selector.SelectorKind.TheVariants as selector_kinds
+use Rattle.selectors.specs.Selectors.{selector_of}
+use Rattle.tag_expr.specs.Expressions.{Expression}
+use Rattle.tag_expr.specs.Grammar.{or_phrase, Spells}
+use Rattle.tag_expr.specs.Tokens.{tokens, token_of}
+use Rattle.tag_expr.specs.ExpressionFaults.{expression_refusal}
 use Rattle.console.specs.declared.details.Details.{Details}
 use Rattle.console.specs.declared.details.Details.TheVariants as details
 use Rattle.console.specs.declared.options.Options.{Options}
 use Rattle.console.specs.declared.fault.ConsoleFault.{ConsoleFault}
-use Rattle.console.specs.declared.fault.ConsoleFault.TheVariants.{NoMemory, BadWords, BadStep}
+use Rattle.console.specs.declared.fault.ConsoleFault.TheVariants.{NoMemory, BadWords, BadStep, BadSelector, BadTags}
 use Rattle.suite_text.specs.StepTexts.{steps_of}
 use Rattle.console.specs.Values.{Given, given_in, program}
 
--- what is asked for: what is printed and how, whether there have to be tests, and the steps that are to be replayed, if any are
+-- what is asked for: what is to run, what is printed and how, whether there have to be tests, and the steps that are to be
+-- replayed, if any are
 pub record Asked : Type 0 where
+  pub request : Request
   pub details : Details
   pub theme : Theme
   pub fail_if_no_tests : Bool
@@ -24,6 +36,7 @@ pub record Asked : Type 0 where
 -- options, without where they lie in memory
 abbrev pub asked_by : Options → Asked
 asked_by options = record {
+  request = options.request;
   details = options.details;
   theme = options.theme;
   fail_if_no_tests = options.fail_if_no_tests;
@@ -67,12 +80,50 @@ IsReplay None steps = steps ≡ None
 IsReplay (Some text) None = ⊥
 IsReplay (Some text) (Some steps) = steps_of text ≡ Ok steps
 
--- why the values are refused: other details, other themes, and then what names no step
+-- the texts of the selectors, each with its kind, in the order of their numbers
+abbrev pub selector_texts : Given → List (SelectorKind × Text)
+selector_texts given =
+    map (λ text. (selector_kinds.UniqueId, text)) given.unique_ids
+    ++ map (λ text. (selector_kinds.Class, text)) given.classes
+    ++ map (λ text. (selector_kinds.Method, text)) given.methods
+    ++ map (λ text. (selector_kinds.Package, text)) given.packages
+
+-- the selector that such a text spells, if it spells one
+abbrev pub spelled : SelectorKind × Text → Option Selector
+spelled text = selector_of text.0 text.1
+
+-- whether it spells none
+abbrev pub spells_none : SelectorKind × Text → Bool
+spells_none text = is_none (spelled text)
+
+-- why texts of selectors are refused: the number, from 1, of the first that spells none
+abbrev pub selectors_refusal : List (SelectorKind × Text) → Option ConsoleFault
+selectors_refusal texts = option_map (λ place. BadSelector (place + 1)) (position spells_none texts)
+
+-- why texts of tag expressions are refused: what is the matter with the first that is none
+abbrev pub tags_refusal : List Text → Option ConsoleFault
+tags_refusal texts = option_map BadTags (slice_get (filter_map expression_refusal texts) 0)
+
+-- a text spells an expression
+abbrev pub IsExpression : Text → Expression → Type 0
+IsExpression text e = Spells or_phrase (map token_of (tokens text)) e
+
+-- each text spells the expression at its place, and there are no others
+abbrev pub AreExpressions : List Text → List Expression → Type 0
+AreExpressions [] [] = Unit {0}
+AreExpressions (text ∷ texts) (e ∷ expressions) = IsExpression text e × AreExpressions texts expressions
+AreExpressions texts expressions = ⊥
+
+-- why the values are refused: other details, other themes, what names no step, what spells no selector, and what is the
+-- matter with a tag expression
 abbrev pub refusal_of : Given → Option ConsoleFault
 refusal_of given =
     option_or (unless_named (details_named given.details)) (
     option_or (unless_named (theme_named given.theme)) (
-    replay_refusal given.replay))
+    option_or (replay_refusal given.replay) (
+    option_or (selectors_refusal (selector_texts given)) (
+    option_or (tags_refusal given.include_tags) (
+    tags_refusal given.exclude_tags)))))
 
 -- the values ask for this
 pub record AreAsked (given : Given) (asked : Asked) : Type 0 where
@@ -80,6 +131,9 @@ pub record AreAsked (given : Given) (asked : Asked) : Type 0 where
   pub theme : theme_named given.theme ≡ Some asked.theme
   pub tests : asked.fail_if_no_tests ≡ given.fail_if_no_tests
   pub replay : IsReplay given.replay asked.replay
+  pub selectors : asked.request.selectors.items ≡ filter_map spelled (selector_texts given)
+  pub include : AreExpressions given.include_tags asked.request.include.items
+  pub exclude : AreExpressions given.exclude_tags asked.request.exclude.items
 
 -- what clap refuses is refused, and else what there is to refuse
 abbrev pub where_faultless : Kinds → Option ConsoleFault → Option ConsoleFault

@@ -14,8 +14,8 @@ mod program_tests;
 mod replay;
 #[cfg(test)]
 mod replay_tests;
+mod request;
 mod run;
-mod telling;
 mod values;
 mod words;
 

@@ -9,16 +9,23 @@ ghost use Rattle.console.specs.Words.{asked_by, details_named as details_of_name
 
 use crate::details::Details;
 use crate::fault::ConsoleFault;
-use crate::values::{DETAILS, DETAILS_THEME, FAIL_IF_NO_TESTS, REPLAY, found, is_found};
+use crate::request::{expressions_of, selectors_found};
+use crate::values::{
+    DETAILS, DETAILS_THEME, EXCLUDE_TAG, FAIL_IF_NO_TESTS, INCLUDE_TAG, REPLAY, all_found, found,
+    is_found,
+};
 use clap::ArgMatches;
 use listeners::Theme;
 use sched_core::Step;
+use selectors::Request;
 use std::alloc::Global;
 use suite_text::parse_steps;
 
 /// The options of a run.
 #[derive(Debug, Drop)]
 pub struct Options {
+    /// What is to run.
+    pub request: Request,
     pub details: Details,
     /// The signs of the tree.
     pub theme: Theme,
@@ -79,7 +86,15 @@ pub(crate) fn options_with(
     let details = details_named(found(matches, DETAILS))?;
     let theme = theme_named(found(matches, DETAILS_THEME))?;
     let replay = replay_named(alloc, found(matches, REPLAY))?;
+    let selectors = selectors_found(alloc, matches)?;
+    let include = expressions_of(alloc, all_found(matches, INCLUDE_TAG))?;
+    let exclude = expressions_of(alloc, all_found(matches, EXCLUDE_TAG))?;
     Ok(Options {
+        request: Request {
+            selectors,
+            include,
+            exclude,
+        },
         details,
         theme,
         fail_if_no_tests: is_found(matches, FAIL_IF_NO_TESTS),

@@ -1,23 +1,28 @@
 //! What a run prints, and its status.
 
-ghost use Rattle.std.specs.Prelude.{◌≡◌, IfOk, IfErr, string_bytes};
+ghost use Rattle.std.specs.Prelude.{◌≡◌, ◌≤◌, IfOk, length, string_bytes};
 ghost use Rattle.std.specs.List.{list_any};
+ghost use Rattle.descriptor.specs.Nodes.{size, count_below, kind_of};
+ghost use Rattle.listeners.specs.Counts.{is_test as is_test_kind};
+ghost use Rattle.resource_locks.specs.Plans.{most_events};
 ghost use Rattle.console.specs.Words.{asked_by};
-ghost use Rattle.console.specs.Outputs.{is_failure, status_of as status_in, Prints, IsRunOutput, IsReplayOutput, IsOutput};
+ghost use Rattle.console.specs.Outputs.{is_failure, status_of as status_in, tests_found as tests_in, details_of, ArePrinted, IsRunOutput, IsReplayOutput, IsOutput};
 
 use crate::details::Details;
 use crate::options::Options;
-use crate::fault::ConsoleFault;
 use crate::replay::{ReplayCounts, push_replay_line};
-use descriptor::NodeId;
-use listeners::feed_text;
-use plan_events::{Event, EventKind, Status};
+use descriptor::{Kind, NodeId, Tree};
+use listeners::{Audience, Listener, Recorder, Theme, feed_text, summary_text, tree_text};
+use plan_events::{Event, EventKind, Status, Texts};
 use resource_locks::Plan;
 use sched_core::{Answers, Step, drive, run_steps, texts_of};
 use std::alloc::{AllocError, Global};
 
 /// How many workers a replay has.
 const REPLAY_WORKERS: u32 = 64;
+
+/// The status of a run without tests, where there have to be some.
+const NO_TESTS: u8 = 2;
 
 /// What is printed, and the program's status.
 #[derive(Debug, Drop)]
@@ -42,63 +47,128 @@ fn has_failure(history: &[Event]) -> bool
     history.iter().any(|event| is_failure(*event))
 }
 
-/// The program's status after this history: 1 where a node other than the plan failed, else 0.
-pub fn status_of(history: &[Event]) -> u8
-    ensures { result ≡ status_in history.now }
+/// Whether a node of this kind counts as a test.
+fn is_test(kind: Kind) -> bool
+    ensures { result ≡ is_test_kind kind }
 {
-    if has_failure(history) { 1 } else { 0 }
+    match kind {
+        Kind::Test | Kind::ContainerAndTest => true,
+        Kind::Container => false,
+    }
 }
 
-/// What is printed of a history.
+/// How many tests the plan has.
+fn tests_found(plan: &Plan) -> usize
+    ensures { result ≡ tests_in plan.now }
+{
+    let tree = plan.tree();
+    let mut found = 0;
+    for number in 0..tree.len() {
+        if is_test(tree.kind(NodeId::new(number as u16))) {
+            found += 1;
+        }
+    }
+    found
+}
+
+/// The program's status after this history: 2 where there have to be tests and none was found, else
+/// 1 where a node other than the plan failed, else 0.
+pub fn status_of(needs_tests: bool, tests: usize, history: &[Event]) -> u8
+    ensures { result ≡ status_in needs_tests tests history.now }
+{
+    if needs_tests && tests == 0 {
+        NO_TESTS
+    } else if has_failure(history) {
+        1
+    } else {
+        0
+    }
+}
+
+/// What is printed of these events.
 fn details_text(
     alloc: Global,
     details: Details,
+    theme: Theme,
     plan: &Plan,
-    answers: &Answers,
-    history: &[Event],
+    texts: &Texts,
+    events: &[Event],
 ) -> Result<String, AllocError>
-    ensures { IfOk result (λ text. Prints details plan.now answers.now history.now (string_bytes text)) }
+    ensures { IfOk result (λ text. string_bytes text ≡ details_of details theme plan.now texts.now events.now) }
 {
     match details {
-        Details::None | Details::Summary | Details::Tree => Ok(String::new(alloc)),
-        Details::Testfeed => {
-            let texts = texts_of(alloc, plan, answers, history)?;
-            feed_text(alloc, plan, history, &texts)
+        Details::None => Ok(String::new(alloc)),
+        Details::Summary => summary_text(alloc, plan, events),
+        Details::Tree => {
+            let mut text = tree_text(alloc, plan, events, texts, theme)?;
+            let summary = summary_text(alloc, plan, events)?;
+            text.push_str(summary.as_str())?;
+            Ok(text)
         }
+        Details::Testfeed => feed_text(alloc, plan, events, texts),
     }
+}
+
+/// What is printed of what a recorder was told of this history.
+fn told_text(
+    alloc: Global,
+    details: Details,
+    theme: Theme,
+    plan: &Plan,
+    texts: &Texts,
+    history: &[Event],
+) -> Result<String, AllocError>
+    requires { length history.now ≤ most_events plan.now }
+    ensures { IfOk result (λ text. string_bytes text ≡ details_of details theme plan.now texts.now history.now) }
+{
+    let recorder: Box<dyn Listener> = Box::new(alloc, Recorder::new(alloc))?;
+    let mut listeners = Vec::new(alloc);
+    listeners.push(recorder)?;
+    let Ok(mut audience) = Audience::new(listeners) else {
+        unreachable!()
+    };
+    audience.prepare(plan)?;
+    audience.tell_all(texts, history);
+    let Some(events) = audience.got(0) else {
+        unreachable!()
+    };
+    details_text(alloc, details, theme, plan, texts, events)
 }
 
 /// The output of the fixed schedule.
 fn run_output(
     alloc: Global,
-    details: Details,
+    options: &Options,
     plan: &Plan,
     answers: &Answers,
 ) -> Result<Output, AllocError>
-    ensures { IfOk result (λ output. IsRunOutput details plan.now answers.now (string_bytes output.text) output.status) }
+    ensures { IfOk result (λ output. IsRunOutput (asked_by options.now) plan.now answers.now (string_bytes output.text) output.status) }
 {
     let trace = drive(alloc, plan, answers)?;
     let history = trace.published.as_slice();
-    let text = details_text(alloc, details, plan, answers, history)?;
-    let status = status_of(history);
+    let texts = texts_of(alloc, plan, answers, history)?;
+    let text = told_text(alloc, options.details, options.theme, plan, &texts, history)?;
+    let status = status_of(options.fail_if_no_tests, tests_found(plan), history);
     Ok(Output { text, status })
 }
 
 /// The output of these steps.
 fn replay_output(
     alloc: Global,
+    theme: Theme,
     steps: &[Step],
     plan: &Plan,
     answers: &Answers,
 ) -> Result<Output, AllocError>
-    ensures { IfOk result (λ output. IsReplayOutput steps.now plan.now answers.now (string_bytes output.text) output.status) }
+    ensures { IfOk result (λ output. IsReplayOutput theme steps.now plan.now answers.now (string_bytes output.text) output.status) }
 {
     // So many workers are never refused.
     let Ok(trace) = run_steps(alloc, plan, answers, REPLAY_WORKERS, steps) else {
         return Err(AllocError);
     };
     let given = trace.given.as_slice();
-    let mut text = details_text(alloc, Details::Testfeed, plan, answers, given)?;
+    let texts = texts_of(alloc, plan, answers, given)?;
+    let mut text = details_text(alloc, Details::Testfeed, theme, plan, &texts, given)?;
     let counts = ReplayCounts {
         steps: steps.len(),
         passed_over: trace.passed_over,
@@ -119,7 +189,7 @@ pub fn output_of(
     ensures { IfOk result (λ output. IsOutput (asked_by options.now) plan.now answers.now (string_bytes output.text) output.status) }
 {
     match &options.replay {
-        Some(steps) => replay_output(alloc, steps.as_slice(), plan, answers),
-        None => run_output(alloc, options.details, plan, answers),
+        Some(steps) => replay_output(alloc, options.theme, steps.as_slice(), plan, answers),
+        None => run_output(alloc, options, plan, answers),
     }
 }

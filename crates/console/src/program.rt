@@ -4,7 +4,7 @@ ghost use Rattle.std.specs.Prelude.{◌≡◌, IfErr, IfSome, false, take, map, 
 ghost use Rattle.std.specs.Io.KnownBytes.{Keeps};
 ghost use Rattle.console.specs.Runs.{IsRunBy, is_writing};
 ghost use Rattle.suite_text.specs.SuiteBytes.{suite_read};
-ghost use Rattle.console.specs.Words.{options_of};
+ghost use Rattle.console.specs.Words.{words_refusal};
 ghost use Rattle.console.specs.declared.run.TheConstants.{MOST_READ};
 
 use crate::fault::ConsoleFault;
@@ -14,15 +14,15 @@ use std::alloc::Global;
 use std::io::{Read, Write};
 
 /// Runs the suite that the reader holds, with the options that the words give; the first word is
-/// the program's name. Words that give no options are refused (105, then 104), and then nothing is
-/// read and nothing is written. Everything else is as `run_options` says.
+/// the program's name. Words that give no options are refused as `read_options` says, and then
+/// nothing is read and nothing is written. Everything else is as `run_options` says.
 pub fn run_console<R: Read, W: Write>(
     alloc: Global,
     words: &[String],
     reader: &mut R,
     writer: &mut W,
 ) -> Result<u8, ConsoleFault>
-    ensures exact { IfSome (R.remaining reader.old) (λ bytes. IsRunBy (options_of (map string_bytes words.now)) (suite_read (take MOST_READ bytes)) (W.contents writer.old) (W.contents writer.new) result) }
+    ensures exact { IfSome (R.remaining reader.old) (λ bytes. IsRunBy (words_refusal (map string_bytes words.now)) (map string_bytes words.now) (suite_read (take MOST_READ bytes)) (W.contents writer.old) (W.contents writer.new) result) }
     ensures quiet { IfErr result (λ fault. is_writing fault ≡ false → Keeps (W.contents writer.old) (W.contents writer.new)) }
 {
     let options = read_options(alloc, words)?;

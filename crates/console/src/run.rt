@@ -4,7 +4,7 @@ ghost use Rattle.std.specs.Prelude.{◌≡◌, IfOk, IfErr, IfSome, false, take,
 ghost use Rattle.std.specs.Io.KnownBytes.{Keeps};
 ghost use Rattle.suite_text.specs.SuiteBytes.{suite_read};
 ghost use Rattle.suite_text.specs.Suites.{suite_parts};
-ghost use Rattle.console.specs.Runs.{IsRun, IsSuiteOutput, ReadsSuite, answers_of as answers_in, is_writing};
+ghost use Rattle.console.specs.Runs.{IsRun, IsSuiteOutput, FailsSuite, ReadsSuite, answers_of as answers_in, is_writing};
 ghost use Rattle.console.specs.Words.{asked_by};
 
 use crate::bytes::{ReadFault, read_front};
@@ -14,6 +14,7 @@ use crate::output::{Output, output_of};
 use listeners::print_to;
 use resource_locks::Plan;
 use sched_core::Answers;
+use selectors::discover;
 use std::alloc::{AllocError, Global};
 use std::io::{Read, Write};
 use suite_text::{Script, Suite};
@@ -41,19 +42,22 @@ fn answers_of(alloc: Global, scripts: Vec<Script>) -> Result<Answers, AllocError
 }
 
 /// What the options print of a suite, and the program's status.
-fn suite_output(alloc: Global, options: &Options, suite: Suite) -> Result<Output, AllocError>
-    ensures { IfOk result (λ output. IsSuiteOutput (asked_by options.now) (suite_parts suite) (string_bytes output.text) output.status) }
+fn suite_output(alloc: Global, options: &Options, suite: Suite) -> Result<Output, ConsoleFault>
+    ensures output { IfOk result (λ output. IsSuiteOutput (asked_by options.now) (suite_parts suite) (string_bytes output.text) output.status) }
+    ensures refused { IfErr result (λ fault. FailsSuite (asked_by options.now) (suite_parts suite) fault) }
 {
+    let tree = discover(alloc, &suite.tree, &options.request)?;
     let answers = answers_of(alloc, suite.scripts)?;
-    let plan = Plan::plain(suite.tree);
-    output_of(alloc, options, &plan, &answers)
+    let plan = Plan::plain(tree);
+    Ok(output_of(alloc, options, &plan, &answers)?)
 }
 
-/// Reads a suite, runs it by the fixed schedule, or by the steps of a replay, and writes what the
-/// options ask for. Answers the program's status: 1 where a node other than the plan failed, else
-/// 0; 0 for a replay. Refused are a reader that fails (106), a suite (10 to 17 and 100 to 103), and
-/// a writer that fails (81, when the first bytes of the output are written); on any other refusal
-/// nothing is written.
+/// Reads a suite, runs what the request selects of it by the fixed schedule, or by the steps of a
+/// replay, and writes what the options ask for. Answers the program's status: 2 where there have to
+/// be tests and none was found, else 1 where a node other than the plan failed, else 0; 0 for a
+/// replay. Refused are a reader that fails (106), a suite (10 to 17 and 100 to 103), a selector that
+/// covers nothing (41), and a writer that fails (81, when the first bytes of the output are written);
+/// on any other refusal nothing is written.
 pub fn run_options<R: Read, W: Write>(
     alloc: Global,
     options: &Options,

@@ -11,7 +11,11 @@ use std::alloc::Global;
 
 /// The options that the words give. The first word is the program's name, whatever it is. Words
 /// that clap refuses, and details and themes that are none of ours, are refusal 105; then a word in
-/// the text of `--replay` that names no step is refusal 104, at its number.
+/// the text of `--replay` that names no step is refusal 104, at its number; then a text that spells
+/// no selector is refusal 40, at the selector's number; then an expression of `--include-tag`, and
+/// then of `--exclude-tag`, is one of 20 to 26, at a place in it. Selectors are numbered from 1 in
+/// the order of unique ids, classes, methods and packages, those of one option in the order of the
+/// words.
 pub fn read_options(alloc: Global, words: &[String]) -> Result<Options, ConsoleFault>
     ensures asked { IfOk result (λ options. AreAsked (given_of (map string_bytes words.now)) (asked_by options)) }
     ensures accepted { IfOk result (λ _. words_refusal (map string_bytes words.now) ≡ None) }
