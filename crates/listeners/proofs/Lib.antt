@@ -1,4 +1,5 @@
--- Lemmas on the lists of an audience, on marks and on counts.
+-- Lemmas on the lists of an audience, on marks, on counts and on what is printed of them.
 pub mod Counting
 pub mod Hearing
 pub mod Marking
+pub mod Printing

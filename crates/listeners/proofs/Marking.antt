@@ -55,7 +55,7 @@ module _ (events : List Event) (e : Event) where
       stands_other (is_end is_failed) events e n other,
     ) refl
 
-marks_len : (nodes : ℕ) (events : List Event) → length (marks_of nodes events) ≡ nodes
+pub marks_len : (nodes : ℕ) (events : List Event) → length (marks_of nodes events) ≡ nodes
 marks_len nodes events = length-map-range_with_len (marks_at events) 0 nodes
 
 marks_get : (nodes : ℕ) (events : List Event) (n : ℕ) (d : Marks) → n < nodes → get_or (marks_of nodes events) n d ≡ marks_at events n
@@ -101,3 +101,13 @@ module _ (t : Nodes) (tree : IsTree t) where
   places_few outline is =
       let len : length outline ≡ length (outline_of t) = ap length is in
       omega (arith, len, places_len, tree.few)
+
+-- as many marks as places
+pub same_len : (outline : List Place) (marks : List Marks) (events : List Event) → marks ≡ marks_of (length outline) events → length marks ≡ length outline
+same_len outline marks events is = ap length is ∙ marks_len (length outline) events
+
+-- the marks with one more event told
+pub marks_told : (outline : List Place) (old new : List Marks) (got told : List Event) (e : Event) → old ≡ marks_of (length outline) got → ((events : List Event) → old ≡ marks_of (length old) events → new ≡ marks_of (length old) (events ++ e ∷ [])) → told ≡ got ++ e ∷ [] → new ≡ marks_of (length outline) told
+marks_told outline old new got told e is more grown =
+    let len : length old ≡ length outline = same_len outline old got is in
+    more got (is ∙ ap (λ (n : ℕ). marks_of n got) (sym len)) ∙ ap (λ (n : ℕ). marks_of n (got ++ e ∷ [])) len ∙ ap (marks_of (length outline)) (sym grown)

@@ -3,7 +3,7 @@ use Rattle.std.proofs.Common.{◌≡◌, ◌<◌, ◌≤◌, length, refl, arith
 use Rattle.std.proofs.lemmas.Grind.{common_steps}
 use Rattle.listeners.specs.Counts.{is_container, is_test}
 use Rattle.listeners.proofs.Counting.{counts_small, counts_more}
-use Rattle.listeners.proofs.counts.counts.Goals as goal
+use Rattle.listeners.proofs.counts.count.Goals as goal
 
 pub add-requires : goal.add-requires
 add-requires c = counts_small is_container c.args.outline.now c.args.marks.now c.loop-index.index 4096 c.loop-index.containers (grind (arith, common_steps)) c.loop-index.invariant.0
