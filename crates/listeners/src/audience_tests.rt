@@ -102,13 +102,13 @@ fn takes_16_listeners_and_hands_17_back(rt: HostRuntime) -> Result<(), Fail> {
         listeners.push(Box::new(alloc, Recorder::new(alloc))?)?;
     }
     let Ok(audience) = Audience::new(listeners) else {
-        return Err(Fail);
+        panic!(rt; "not as it should be");
     };
     let mut listeners = audience.into_listeners();
     assert_eq!(rt; listeners.len(), 16);
     listeners.push(Box::new(alloc, Summary::new(alloc))?)?;
     let Err(fault) = Audience::new(listeners) else {
-        return Err(Fail);
+        panic!(rt; "not as it should be");
     };
     assert_eq!(rt; fault.number(), 80);
     assert_eq!(rt; fault.listeners.len(), 17);
@@ -118,7 +118,7 @@ fn takes_16_listeners_and_hands_17_back(rt: HostRuntime) -> Result<(), Fail> {
 #[test]
 fn an_empty_audience_is_fresh_and_has_room(rt: HostRuntime) -> Result<(), Fail> {
     let Ok(audience) = Audience::new(Vec::new(rt.alloc())) else {
-        return Err(Fail);
+        panic!(rt; "not as it should be");
     };
     assert!(rt; audience.fresh());
     assert!(rt; audience.has_room(1_000_000));
@@ -134,14 +134,14 @@ fn tells_every_listener_each_event_and_its_text(rt: HostRuntime) -> Result<(), F
     let gauge = Gauge {
         events: Vec::new(alloc),
         room: 0,
-        bytes: Rc::clone(&bytes),
+        bytes: Rc::clone(&bytes)?,
     };
     let mut listeners: Vec<Box<dyn Listener>> = Vec::new(alloc);
     listeners.push(Box::new(alloc, Recorder::new(alloc))?)?;
     listeners.push(Box::new(alloc, Summary::new(alloc))?)?;
     listeners.push(Box::new(alloc, gauge)?)?;
     let Ok(mut audience) = Audience::new(listeners) else {
-        return Err(Fail);
+        panic!(rt; "not as it should be");
     };
     assert!(rt; !audience.has_room(1));
     audience.prepare(&plan)?;
@@ -155,7 +155,11 @@ fn tells_every_listener_each_event_and_its_text(rt: HostRuntime) -> Result<(), F
     audience.tell(failure(2), Some("no luck"));
     let told = [start(2), failure(2)];
     for place in 0..3 {
-        assert!(rt; audience.got(place).is_some_and(|events| events == told.as_slice()));
+        assert!(rt;
+            audience
+                .got(place)
+                .is_some_and(|events| events == told.as_slice())
+        );
     }
     assert!(rt; audience.got(3).is_none());
     assert_eq!(rt; bytes.get(), 7);

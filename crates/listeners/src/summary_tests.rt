@@ -16,7 +16,11 @@ fn node(alloc: Global, name: &str, kind: Kind, disabled: bool) -> Result<Node, F
         name: Text::new(alloc, name)?,
         kind,
         body: None,
-        disabled: if disabled { Some(Text::new(alloc, "later")?) } else { None },
+        disabled: if disabled {
+            Some(Text::new(alloc, "later")?)
+        } else {
+            None
+        },
     })
 }
 
@@ -119,7 +123,9 @@ fn counts_a_run_of_two_tests(rt: HostRuntime) -> Result<(), Fail> {
     tell_all(&rt, &mut summary, events.as_slice());
     assert_eq!(rt; summary.counts(), [2, 0, 2, 0, 2, 0, 2, 0, 2, 0, 1, 1]);
     let text = summary_text(alloc, &plan, events.as_slice())?;
-    assert_eq!(rt; text.as_str(), "Test run finished
+    assert_eq!(rt;
+        text.as_str(),
+        "Test run finished
 [         2 containers found      ]
 [         0 containers skipped    ]
 [         2 containers started    ]
@@ -132,7 +138,8 @@ fn counts_a_run_of_two_tests(rt: HostRuntime) -> Result<(), Fail> {
 [         0 tests aborted         ]
 [         1 tests successful      ]
 [         1 tests failed          ]
-");
+"
+    );
     Ok(())
 }
 

@@ -21,8 +21,8 @@ returns c =
     let containers = c.count-counts.result.containers in
     let tests = c.count-counts.result.tests in
     summary_joined (string_bytes c.in_ok-text.text) (string_bytes c.push_containers.new.text) (string_bytes c.push_tests.new.text) (codes "Test run finished\n") (six containers) (six tests) (phrases_of (codes "containers")) (phrases_of (codes "tests"))
-      refl c.in_ok-text.ensures.ok c.in_ok-push_containers.ensures c.in_ok-push_tests.ensures
+    refl c.in_ok-text.ensures.ok c.in_ok-push_containers.ensures c.in_ok-push_tests.ensures
     ∙ ap summary_of (
-      twelve_are c.in_ok-outline.outline.items c.as_slice.result.now c.in_ok-marks.marks.items c.as_slice-2.result.now c.args.events.now containers tests (six containers ++ six tests)
-        (c.in_ok-marks.ensures ∙ ap (λ n. marks_of n c.args.events.now) len) c.as_slice.ensures.value c.as_slice-2.ensures.value c.count-counts.ensures.containers c.count-counts.ensures.tests refl
-      ∙ ap (λ (places : List Place). counts_on places c.args.events.now) c.in_ok-outline.ensures.places)
+    twelve_are c.in_ok-outline.outline.items c.as_slice.result.now c.in_ok-marks.marks.items c.as_slice-2.result.now c.args.events.now containers tests (six containers ++ six tests)
+    (c.in_ok-marks.ensures ∙ ap (λ n. marks_of n c.args.events.now) len) c.as_slice.ensures.value c.as_slice-2.ensures.value c.count-counts.ensures.containers c.count-counts.ensures.tests refl
+    ∙ ap (λ (places : List Place). counts_on places c.args.events.now) c.in_ok-outline.ensures.places)
