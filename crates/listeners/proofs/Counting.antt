@@ -1,12 +1,13 @@
 -- Counts of one node more, and what holds of a node as of its parent.
-use Rattle.std.proofs.Common.{◌≡◌, ℕ, zero, suc, ◌+◌, ◌<◌, ◌≤◌, ◌||◌, Bool, true, false, List, length, get_or, refl, sym, ap, ◌∙◌, arith}
+use Rattle.std.proofs.Common.{◌≡◌, ℕ, zero, suc, ◌+◌, ◌<◌, ◌≤◌, ◌||◌, ◌++◌, Bool, true, false, List, length, get_or, refl, sym, ap, ◌∙◌, arith}
 use Rattle.std.proofs.lemmas.List.{get_or_default}
 use Rattle.descriptor.specs.declared.kind.Kind.{Kind}
 use Rattle.descriptor.specs.Nodes.{bit, count_below}
+use Rattle.plan_events.specs.declared.event.Event.{Event}
 use Rattle.listeners.specs.declared.outline.Place.{Place}
 use Rattle.listeners.specs.declared.marks.Marks.{Marks}
 use Rattle.listeners.specs.declared.counts.SortCounts.{SortCounts}
-use Rattle.listeners.specs.Counts.{place_in, marks_in, FollowParents, is_lost_within, is_lost, is_counted, counts_below, counts_with, AreAtMost}
+use Rattle.listeners.specs.Counts.{place_in, marks_in, FollowParents, is_lost_within, is_lost, is_counted, is_container, is_test, marks_of, six, counts_in, counts_on, counts_below, counts_with, AreAtMost}
 
 module _ (outline : List Place) (marks : List Marks) (follow : FollowParents outline) where
   -- so many steps up as the node's number are enough
@@ -67,3 +68,9 @@ module _ (sort : Kind → Bool) (outline : List Place) (marks : List Marks) wher
       is ∙ ap (λ (x : SortCounts). counts_with x counted (marks_in marks k) lost) so ∙ ap (λ (x : Bool). counts_with (counts_below sort outline marks k) x (marks_in marks k) lost) of_sort
       ∙ ap (λ (x : Bool). counts_with (counts_below sort outline marks k) (is_counted sort outline k) (marks_in marks k) x) up
       ∙ ap (counts_below sort outline marks) next
+
+-- the twelve counts, where the marks are those of the events
+pub twelve_are : (outline seen : List Place) (marks looked : List Marks) (events : List Event) (c t : SortCounts) (r : List ℕ) → marks ≡ marks_of (length outline) events → seen ≡ outline → looked ≡ marks → c ≡ counts_below is_container seen looked (length seen) → t ≡ counts_below is_test seen looked (length seen) → r ≡ six c ++ six t → r ≡ counts_on outline events
+twelve_are outline seen marks looked events c t r are o m containers tests is =
+    is ∙ ap (λ (x : SortCounts). six x ++ six t) containers ∙ ap (λ (x : SortCounts). six (counts_below is_container seen looked (length seen)) ++ six x) tests
+    ∙ ap (λ (x : List Place). counts_in x looked) o ∙ ap (counts_in outline) (m ∙ are)

@@ -3,6 +3,7 @@ pub mod Cleaning
 pub mod Counting
 pub mod Hearing
 pub mod Marking
+pub mod Printing
 pub mod Retelling
 pub mod SameTold
 pub mod Sending

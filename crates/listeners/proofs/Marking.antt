@@ -39,23 +39,23 @@ module _ (says : EventKind → Option Status → Bool) (events : List Event) (e 
 module _ (events : List Event) (e : Event) where
   marks_here : (n : ℕ) → e.node ≡ n → marks_at (events ++ e ∷ []) n ≡ marked (marks_at events n) e.kind e.status
   marks_here n here = rw (
-      stands_here (λ kind _. is_skip kind) events e n here,
-      stands_here (λ kind _. is_start kind) events e n here,
-      stands_here (is_end is_aborted) events e n here,
-      stands_here (is_end is_successful) events e n here,
-      stands_here (is_end is_failed) events e n here,
-    ) refl
+    stands_here (λ kind _. is_skip kind) events e n here,
+    stands_here (λ kind _. is_start kind) events e n here,
+    stands_here (is_end is_aborted) events e n here,
+    stands_here (is_end is_successful) events e n here,
+    stands_here (is_end is_failed) events e n here,
+  ) refl
 
   marks_other : (n : ℕ) → e.node ≢ n → marks_at (events ++ e ∷ []) n ≡ marks_at events n
   marks_other n other = rw (
-      stands_other (λ kind _. is_skip kind) events e n other,
-      stands_other (λ kind _. is_start kind) events e n other,
-      stands_other (is_end is_aborted) events e n other,
-      stands_other (is_end is_successful) events e n other,
-      stands_other (is_end is_failed) events e n other,
-    ) refl
+    stands_other (λ kind _. is_skip kind) events e n other,
+    stands_other (λ kind _. is_start kind) events e n other,
+    stands_other (is_end is_aborted) events e n other,
+    stands_other (is_end is_successful) events e n other,
+    stands_other (is_end is_failed) events e n other,
+  ) refl
 
-marks_len : (nodes : ℕ) (events : List Event) → length (marks_of nodes events) ≡ nodes
+pub marks_len : (nodes : ℕ) (events : List Event) → length (marks_of nodes events) ≡ nodes
 marks_len nodes events = length-map-range_with_len (marks_at events) 0 nodes
 
 marks_get : (nodes : ℕ) (events : List Event) (n : ℕ) (d : Marks) → n < nodes → get_or (marks_of nodes events) n d ≡ marks_at events n
@@ -68,18 +68,18 @@ marks_more nodes events e old at m m' place inside len so mark is =
     let long : length (set old at m') ≡ length all = length-set old at m' ∙ len ∙ sym (marks_len nodes (events ++ e ∷ [])) in
     let was : m ≡ marks_at events at = mark ∙ ap (λ (ms : List Marks). get_or ms at m) so ∙ marks_get nodes events at m (omega (arith, inside, len)) in
     same_lists (set old at m') all long (λ k d lt.
-      let within : k < nodes = omega (arith, lt, length-set old at m', len) in
-      elim (cases_eq k at) [
-        | inl q ↦ get_or-set_at old at k m' d q inside ∙ is ∙ ap (λ (x : Marks). marked x e.kind e.status) (was ∙ ap (marks_at events) (sym q)) ∙ sym (marks_here events e k (sym (q ∙ place)))
-        | inr ne ↦ get_or-set_other old at k m' d ne ∙ ap (λ (ms : List Marks). get_or ms k d) so ∙ marks_get nodes events k d within ∙ sym (marks_other events e k (λ q. ne (sym (place ∙ q))))
-      ] ∙ sym (marks_get nodes (events ++ e ∷ []) k d within))
+    let within : k < nodes = omega (arith, lt, length-set old at m', len) in
+    elim (cases_eq k at) [
+      | inl q ↦ get_or-set_at old at k m' d q inside ∙ is ∙ ap (λ (x : Marks). marked x e.kind e.status) (was ∙ ap (marks_at events) (sym q)) ∙ sym (marks_here events e k (sym (q ∙ place)))
+      | inr ne ↦ get_or-set_other old at k m' d ne ∙ ap (λ (ms : List Marks). get_or ms k d) so ∙ marks_get nodes events k d within ∙ sym (marks_other events e k (λ q. ne (sym (place ∙ q))))
+    ] ∙ sym (marks_get nodes (events ++ e ∷ []) k d within))
 
 -- one of a node past the end marks nothing
 pub marks_past : (nodes : ℕ) (events : List Event) (e : Event) (old : List Marks) → nodes ≤ e.node → old ≡ marks_of nodes events → old ≡ marks_of nodes (events ++ e ∷ [])
 marks_past nodes events e old past so =
     so ∙ same_lists (marks_of nodes events) (marks_of nodes (events ++ e ∷ [])) (marks_len nodes events ∙ sym (marks_len nodes (events ++ e ∷ []))) (λ k d lt.
-      let within : k < nodes = omega (arith, marks_len nodes events, lt) in
-      marks_get nodes events k d within ∙ sym (marks_other events e k (λ q. omega (arith, q, within, past))) ∙ sym (marks_get nodes (events ++ e ∷ []) k d within))
+    let within : k < nodes = omega (arith, marks_len nodes events, lt) in
+    marks_get nodes events k d within ∙ sym (marks_other events e k (λ q. omega (arith, q, within, past))) ∙ sym (marks_get nodes (events ++ e ∷ []) k d within))
 
 module _ (t : Nodes) (tree : IsTree t) where
   places_len : length (outline_of t) ≡ size t
@@ -101,3 +101,13 @@ module _ (t : Nodes) (tree : IsTree t) where
   places_few outline is =
       let len : length outline ≡ length (outline_of t) = ap length is in
       omega (arith, len, places_len, tree.few)
+
+-- as many marks as places
+pub same_len : (outline : List Place) (marks : List Marks) (events : List Event) → marks ≡ marks_of (length outline) events → length marks ≡ length outline
+same_len outline marks events is = ap length is ∙ marks_len (length outline) events
+
+-- the marks with one more event told
+pub marks_told : (outline : List Place) (old new : List Marks) (got told : List Event) (e : Event) → old ≡ marks_of (length outline) got → ((events : List Event) → old ≡ marks_of (length old) events → new ≡ marks_of (length old) (events ++ e ∷ [])) → told ≡ got ++ e ∷ [] → new ≡ marks_of (length outline) told
+marks_told outline old new got told e is more grown =
+    let len : length old ≡ length outline = same_len outline old got is in
+    more got (is ∙ ap (λ (n : ℕ). marks_of n got) (sym len)) ∙ ap (λ (n : ℕ). marks_of n (got ++ e ∷ [])) len ∙ ap (marks_of (length outline)) (sym grown)

@@ -6,6 +6,9 @@ pub mod Listeners
 pub mod Notes
 pub mod Printed
 pub mod Sending
+pub mod Summaries
+pub mod SummaryFields
+pub mod SummaryTexts
 pub mod Told
 pub mod TreeSigns
 pub mod TreeTexts

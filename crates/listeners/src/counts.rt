@@ -2,7 +2,7 @@
 
 ghost use Rattle.std.specs.Prelude.{◌≡◌, ◌<◌, ◌≤◌, ◌++◌, length};
 ghost use Rattle.descriptor.specs.Nodes.{bit};
-ghost use Rattle.listeners.specs.Counts.{is_container, is_test, is_counted, is_lost, six, counts_in, FollowParents};
+ghost use Rattle.listeners.specs.Counts.{is_container, is_test, is_counted, is_lost, six, counts_below, FollowParents};
 
 use crate::marks::Marks;
 use crate::outline::Place;
@@ -18,6 +18,36 @@ pub struct SortCounts {
     pub aborted: u32,
     pub successful: u32,
     pub failed: u32,
+}
+
+/// The counts of containers and those of tests. A node that is both counts in both.
+#[derive(Clone, Copy, PartialEq, Eq, Debug)]
+pub(crate) struct Counts {
+    pub(crate) containers: SortCounts,
+    pub(crate) tests: SortCounts,
+}
+
+impl Counts {
+    /// Those of containers, then those of tests: found, skipped, started, aborted, successful and failed.
+    pub(crate) fn twelve(self) -> [u32; 12]
+        ensures { result ≡ six self.containers ++ six self.tests }
+    {
+        let Counts { containers, tests } = self;
+        [
+            containers.found,
+            containers.skipped,
+            containers.started,
+            containers.aborted,
+            containers.successful,
+            containers.failed,
+            tests.found,
+            tests.skipped,
+            tests.started,
+            tests.aborted,
+            tests.successful,
+            tests.failed,
+        ]
+    }
 }
 
 impl SortCounts {
@@ -86,13 +116,13 @@ fn is_lost(outline: &[Place], marks: &[Marks], node: usize) -> bool
     true
 }
 
-/// Twelve counts: of containers those that were found, skipped, started, aborted, successful and failed, then the same
-/// of tests. It takes no memory.
-pub(crate) fn counts(outline: &[Place], marks: &[Marks]) -> [u32; 12]
+/// What there is of each sort, and what became of it. It takes no memory.
+pub(crate) fn count(outline: &[Place], marks: &[Marks]) -> Counts
     requires few { length outline.now ≤ 4096 }
     requires marks { length marks.now ≡ length outline.now }
     requires parents { FollowParents outline.now }
-    ensures { result ≡ counts_in outline.now marks.now }
+    ensures containers { result.containers ≡ counts_below is_container outline.now marks.now (length outline.now) }
+    ensures tests { result.tests ≡ counts_below is_test outline.now marks.now (length outline.now) }
 {
     let mut containers = SortCounts::NONE;
     let mut tests = SortCounts::NONE;
@@ -101,25 +131,5 @@ pub(crate) fn counts(outline: &[Place], marks: &[Marks]) -> [u32; 12]
         containers.add(counts_as_container(outline, index), marks[index], lost);
         tests.add(counts_as_test(outline, index), marks[index], lost);
     }
-    twelve(containers, tests)
-}
-
-/// The counts of both, in the order in which they are told.
-fn twelve(containers: SortCounts, tests: SortCounts) -> [u32; 12]
-    ensures { result ≡ six containers ++ six tests }
-{
-    [
-        containers.found,
-        containers.skipped,
-        containers.started,
-        containers.aborted,
-        containers.successful,
-        containers.failed,
-        tests.found,
-        tests.skipped,
-        tests.started,
-        tests.aborted,
-        tests.successful,
-        tests.failed,
-    ]
+    Counts { containers, tests }
 }

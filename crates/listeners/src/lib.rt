@@ -2,6 +2,8 @@
 #![tactic(auto)]
 
 mod audience;
+#[cfg(test)]
+mod audience_tests;
 mod counts;
 mod drawing;
 mod event_list;
@@ -14,6 +16,10 @@ mod outline;
 mod output;
 mod printed;
 mod recorder;
+mod summary;
+mod summary_lines;
+#[cfg(test)]
+mod summary_tests;
 mod theme;
 mod told;
 #[cfg(test)]
@@ -25,4 +31,6 @@ pub use feed::feed_text;
 pub use listener::Listener;
 pub use output::{WriteFault, print_to};
 pub use recorder::Recorder;
+pub use summary::Summary;
+pub use summary_lines::summary_text;
 pub use theme::Theme;

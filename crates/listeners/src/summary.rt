@@ -1,0 +1,101 @@
+//! A listener that counts.
+
+ghost use Rattle.std.specs.Prelude.{◌≡◌, ◌++◌, ◌∷◌, [], ◌+◌, ◌<◌, ◌≤◌, OnOk, OnErr};
+ghost use Rattle.resource_locks.specs.Plans.{most_events};
+
+use crate::counts::count;
+use crate::event_list::EventList;
+use crate::listener::Listener;
+use crate::marks::{Marks, mark, marks_of};
+use crate::outline::{Place, outline_of};
+use plan_events::Event;
+use resource_locks::Plan;
+use std::alloc::{AllocError, Global};
+use std::marker::Model;
+
+/// Counts the nodes of the plan last prepared by what it was told of them.
+#[derive(Debug, Drop)]
+pub struct Summary {
+    list: EventList,
+    // one place for each node of the plan, and none before there is a plan
+    outline: Vec<Place>,
+    marks: Vec<Marks>,
+}
+
+impl Model for Summary {
+    ghost use Rattle.listeners.specs.Summaries.{SummaryParts};
+
+    ghost Value = { SummaryParts };
+
+    ghost use Rattle.listeners.specs.SummaryFields.{parts_of, IsSound};
+
+    ghost view = { parts_of };
+
+    ghost invariant = { IsSound };
+}
+
+impl Summary {
+    ghost use Rattle.listeners.specs.Counts.{counts_on};
+
+    /// A summary that was told nothing, and was prepared for no plan.
+    pub fn new(alloc: Global) -> Summary
+        ensures { result ≡ record { got = []; room = 0; outline = [] } }
+    {
+        Summary {
+            list: EventList::new(alloc),
+            outline: Vec::new(alloc),
+            marks: Vec::new(alloc),
+        }
+    }
+
+    /// Twelve counts on the plan last prepared, zeros before: of containers those that were found, skipped, started,
+    /// aborted, successful and failed, then the same of tests. A node that is both counts in both, node 0 in none; a
+    /// node below a skipped one counts as skipped. It takes no memory.
+    pub fn counts(&self) -> [u32; 12]
+        ensures { result ≡ counts_on self.now.outline self.now.got }
+    {
+        count(self.outline.as_slice(), self.marks.as_slice()).twelve()
+    }
+}
+
+impl Listener for Summary {
+    ghost use Rattle.listeners.specs.Counts.{outline_of};
+
+    ghost got = { λ s. s.got };
+
+    ghost room = { λ s. s.room };
+
+    fn prepare(&mut self, plan: &Plan) -> Result<(), AllocError>
+        ensures got { self.new.got ≡ self.old.got }
+        ensures room { OnOk result (most_events plan.now ≤ self.new.room) }
+        ensures outline { OnOk result (self.new.outline ≡ outline_of plan.now.tree) }
+        ensures err { OnErr result (self.new ≡ self.old) }
+    {
+        let alloc = *self.outline.allocator();
+        let outline = outline_of(alloc, plan)?;
+        let marks = marks_of(alloc, outline.len(), self.list.events())?;
+        self.list.reserve(plan.most_events())?;
+        self.outline = outline;
+        self.marks = marks;
+        Ok(())
+    }
+
+    fn told(&mut self, event: Event, _text: Option<&str>)
+        requires { 0 < self.old.room }
+        ensures got { self.new.got ≡ self.old.got ++ event ∷ [] }
+        ensures room { self.new.room + 1 ≡ self.old.room }
+        ensures outline { self.new.outline ≡ self.old.outline }
+    {
+        let event = &event;
+        mark(&mut self.marks, event);
+        self.list.push(*event);
+    }
+
+    fn got(&self) -> &[Event] {
+        self.list.events()
+    }
+
+    fn room(&self) -> usize {
+        self.list.room()
+    }
+}
