@@ -16,6 +16,8 @@ pub mod Opening
 pub mod Progress
 pub mod Falls
 pub mod Driving
+pub mod Lowest
 pub mod Sound
 pub mod Running
 pub mod Notes
+pub mod Searches

@@ -1,5 +1,5 @@
 -- The machine's steps as steps of a run and of the schedule, and what a trace tells of it.
-use Rattle.std.proofs.Common.{◌≡◌, ◌≢◌, ℕ, ◌+◌, ◌<◌, List, ◌∷◌, length, get_or, Option, Some, None, Result, Ok, Err, IsOk, IsErr, IfOk, slice_index_or, refl, sym, ap, ◌∙◌, subst, arith}
+use Rattle.std.proofs.Common.{◌≡◌, ◌≢◌, ℕ, ◌+◌, ◌<◌, Bool, true, false, if◌then◌else◌, List, ◌∷◌, length, get_or, Option, Some, None, Result, Ok, Err, IsOk, IsErr, IfOk, slice_index_or, refl, sym, ap, ◌∙◌, subst, arith}
 use Rattle.std.proofs.lemmas.List.{get_or_default}
 use Rattle.plan_events.specs.declared.event.Event.{Event}
 use Rattle.plan_events.specs.declared.outcome.Reply.{Reply}
@@ -14,16 +14,18 @@ use Rattle.sched_core.specs.declared.task.Task.TheVariants.{Free}
 use Rattle.sched_core.specs.declared.trace.Trace.{Trace}
 use Rattle.sched_core.specs.Replies.{replies_of}
 use Rattle.sched_core.specs.History.{IsLegal, IsComplete, EndsInPlan}
-use Rattle.sched_core.specs.Machine.{State, after, read_row, status_at, given_list, opening}
+use Rattle.sched_core.specs.Machine.{State, decided, status_awaited, after, read_row, status_at, given_list, opening}
 use Rattle.sched_core.specs.Fields.{state_of, parts_upto, IsSound, IsAnswered}
 use Rattle.sched_core.specs.Runs.{run, passed_over, missed, state_or, IsRight}
 use Rattle.sched_core.specs.Drives.{Drives, IsNext, LeadsTo}
+use Rattle.sched_core.specs.Lowest.{NoneReadyBelow, lowest_after}
 use Rattle.sched_core.specs.Traces.{IsTraceOf, IsRightTrace, IsDriven, IsOnlyDriven, IsWhole}
 use Rattle.sched_core.specs.Work.{work_left}
 use Rattle.sched_core.proofs.Parts.{parts_len, parts_at}
 use Rattle.sched_core.proofs.Headline.{right, complete_at_finish}
 use Rattle.sched_core.proofs.Progress.{plan_finish_stands}
 use Rattle.sched_core.proofs.Driving.{next_enabled, next_falls, leads_work, leads_read, drives_end, drives_one, all_given, plan_ends}
+use Rattle.sched_core.proofs.Lowest.{none_below}
 
 -- an answer is not both
 apart : {T E : Type 0} (r : Result T E) → IsOk r → IsErr r → ⊥
@@ -63,6 +65,14 @@ leads_by_read p answers old new result first is ok leads = go (read_row (state_o
     go None q r = absurd (apart result ok r.0)
     go (Some t) q r = subst (LeadsTo p answers first) (sym r.1) (leads_read p answers first (state_of old) t leads q)
 
+-- no read makes a node ready
+pub none_below_by_read : {T E : Type 0} (old new : Machine) (result : Result T E) (lowest : ℕ) → IsAnswered old (read_row (state_of old)) result new → NoneReadyBelow (state_of old) lowest → NoneReadyBelow (state_of new) lowest
+none_below_by_read old new result lowest is none = go (slice_index_or old.shown.items old.given false) is
+  where
+    go : (shown : Bool) → IsAnswered old (if shown then Some (record (state_of old) { given = old.given + 1 }) else None) result new → NoneReadyBelow (state_of new) lowest
+    go true q = subst (λ (s : State). NoneReadyBelow s lowest) (sym q.1) none
+    go false q = subst (λ (m : Machine). NoneReadyBelow (state_of m) lowest) (sym q.1) none
+
 -- the task of the one worker there is
 module _ (p : PlanParts) (answers : List (ℕ × Reply)) (m : Machine) (sound : IsSound p answers m) (one : m.workers ≡ 1) (task : Task) (read : task ≡ get_or m.tasks.items 0 task) where
   pub only_at_zero : slice_index_or m.tasks.items 0 Free ≡ task
@@ -85,6 +95,12 @@ module _ {T E : Type 0} (p : PlanParts) (answers : List (ℕ × Reply)) (old new
       let t = next_enabled p answers (state_of old) task a alone at next in
       let here : IsAnswered old (Some t.0) result new = subst (λ (o : Option State). IsAnswered old o result new) t.1 is in
       subst (λ (s : State). work_left s < work_left (state_of old)) (sym here.1) (next_falls p answers sound.tree (state_of old) t.0 sound.kept task a alone at next t.1)
+
+  pub none_below_by_work : (lowest : ℕ) → NoneReadyBelow (state_of old) lowest → NoneReadyBelow (state_of new) (lowest_after (decided p (status_awaited p answers task) task) a lowest)
+  none_below_by_work lowest none =
+      let t = next_enabled p answers (state_of old) task a alone at next in
+      let here : IsAnswered old (Some t.0) result new = subst (λ (o : Option State). IsAnswered old o result new) t.1 is in
+      subst (λ (s : State). NoneReadyBelow s (lowest_after (decided p (status_awaited p answers task) task) a lowest)) (sym here.1) (none_below p sound.tree (state_of old) lowest none answers sound.kept t.0 a alone task at next t.1)
 
 -- the schedule ends in one state only, so what is driven is driven to each state in which it ends
 pub only_driven : (p : PlanParts) (answers : List (ℕ × Reply)) (t : Trace) → IsDriven p answers t → IsOnlyDriven p answers t

@@ -11,4 +11,6 @@ pub mod Texts
 pub mod Invariant
 pub mod Work
 pub mod Fields
+pub mod Lowest
+pub mod AnswerFields
 pub mod CoreFields

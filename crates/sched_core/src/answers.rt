@@ -1,7 +1,8 @@
 //! What the jobs of a plan answer.
 
-ghost use Rattle.std.specs.Prelude.{◌≡◌, None, Some, MatchOption};
+ghost use Rattle.std.specs.Prelude.{◌≡◌, IsTrue, None, Some, MatchOption};
 ghost use Rattle.sched_core.specs.Replies.{reply_to, status_by};
+ghost use Rattle.sched_core.specs.AnswerFields.{IsInOrder};
 
 use descriptor::BodyId;
 use plan_events::{Reply, Status};
@@ -11,6 +12,8 @@ use std::marker::Model;
 #[derive(Drop)]
 pub struct Answers {
     replies: Vec<(BodyId, Reply)>,
+    // whether the bodies are known to rise along the replies, so that no search goes over all of them
+    in_order: bool,
 }
 
 impl Model for Answers {
@@ -19,27 +22,62 @@ impl Model for Answers {
 
     ghost Value = { List (ℕ × Reply) };
 
+    ghost use Rattle.sched_core.specs.AnswerFields.{IsOrderKnown};
+
     ghost view = { λ a. a.replies.items };
+
+    ghost invariant = { IsOrderKnown };
+}
+
+/// Whether the bodies rise along the replies.
+fn is_in_order(replies: &[(BodyId, Reply)]) -> bool
+    ensures { IsTrue result → IsInOrder replies.now }
+{
+    replies.is_sorted_by(|one, next| one.0.number() < next.0.number())
+}
+
+/// The reply that stands with a body, where the bodies rise along the replies.
+fn found_by_halving(replies: &[(BodyId, Reply)], body: BodyId) -> Option<&Reply>
+    requires { IsInOrder replies.now }
+    ensures { MatchOption result (reply_to replies.now body ≡ None) (λ reply. reply_to replies.now body ≡ Some reply.now) }
+{
+    match replies.binary_search_by_key(&body.number(), |answer| answer.0.number()) {
+        Ok(place) => Some(&replies[place].1),
+        Err(_) => None,
+    }
+}
+
+/// The first reply that stands with a body.
+fn found_in_a_row(replies: &[(BodyId, Reply)], body: BodyId) -> Option<&Reply>
+    ensures { MatchOption result (reply_to replies.now body ≡ None) (λ reply. reply_to replies.now body ≡ Some reply.now) }
+{
+    for answer in replies {
+        if answer.0 == body {
+            return Some(&answer.1);
+        }
+    }
+    None
 }
 
 impl Answers {
-    /// These replies. Of two with the same body the first counts.
+    /// These replies. Of two with the same body the first counts. Where each body is greater than the one before it,
+    /// `reply` takes as many steps as the number of replies can be halved; else it may look at each of them.
     pub fn of(replies: Vec<(BodyId, Reply)>) -> Answers
         ensures { result ≡ replies.items }
     {
-        Answers { replies }
+        let in_order = is_in_order(replies.as_slice());
+        Answers { replies, in_order }
     }
 
     /// The first reply that stands with the body, if one does.
     pub fn reply(&self, body: BodyId) -> Option<&Reply>
         ensures { MatchOption result (reply_to self.now body ≡ None) (λ reply. reply_to self.now body ≡ Some reply.now) }
     {
-        for answer in self.replies.as_slice() {
-            if answer.0 == body {
-                return Some(&answer.1);
-            }
+        if self.in_order {
+            found_by_halving(self.replies.as_slice(), body)
+        } else {
+            found_in_a_row(self.replies.as_slice(), body)
         }
-        None
     }
 
     /// The status with which a job answers: successful for a node without one.
