@@ -1,9 +1,10 @@
 //! What a tree says of a node.
 
-ghost use Rattle.std.specs.Prelude.{◌≡◌};
+ghost use Rattle.std.specs.Prelude.{◌≡◌, IfOk};
 
 use crate::body_id::BodyId;
 use crate::kind::Kind;
+use std::alloc::{AllocError, Global};
 use unique_id::{Text, UniqueId};
 
 /// The greatest length of a name and of a reason, in bytes.
@@ -27,6 +28,23 @@ pub struct Node {
 
 impl Node {
     ghost use Rattle.descriptor.specs.Refusals.{is_over_limit};
+
+    /// The same node, in memory of its own.
+    pub fn copy(&self, alloc: Global) -> Result<Node, AllocError>
+        ensures { IfOk result (λ node. node ≡ self.now) }
+    {
+        let disabled = match &self.disabled {
+            Some(reason) => Some(reason.copy(alloc)?),
+            None => None,
+        };
+        Ok(Node {
+            id: self.id.copy(alloc)?,
+            name: self.name.copy(alloc)?,
+            kind: self.kind,
+            body: self.body,
+            disabled,
+        })
+    }
 
     /// Whether the name or the reason has more than 1,024 bytes.
     pub(crate) fn is_over_limit(&self) -> bool
