@@ -3,6 +3,7 @@ use Rattle.std.specs.Prelude.{◌≡◌, ℕ, zero, suc, ◌+◌, ◌-◌, ◌<�
 use Rattle.std.specs.Option.{is_some}
 use Rattle.unique_id.specs.Spelling.{spelling}
 use Rattle.descriptor.specs.declared.node.Node.{Node}
+use Rattle.descriptor.specs.Limits.{is_over_limit}
 use Rattle.descriptor.specs.declared.kind.Kind.TheVariants.{Test, Container, ContainerAndTest}
 use Rattle.descriptor.specs.declared.kind.Kind.{Kind}
 
@@ -142,6 +143,8 @@ pub record IsTree (t : Nodes) : Type 0 where
   pub ids : (m n : ℕ) (text : List ℕ) → text_of t m ≡ Some text → text_of t n ≡ Some text → m ≡ n
   -- no two nodes have one body
   pub bodies : (m n b : ℕ) → body_of t m ≡ Some b → body_of t n ≡ Some b → m ≡ n
+  -- no node's name or reason is too long
+  pub short : (n : ℕ) (node : Node) → node_at t n ≡ Some node → is_over_limit node ≡ false
 
 -- the plan alone
 abbrev pub plan_alone : Nodes

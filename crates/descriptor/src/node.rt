@@ -27,7 +27,7 @@ pub struct Node {
 }
 
 impl Node {
-    ghost use Rattle.descriptor.specs.Refusals.{is_over_limit};
+    ghost use Rattle.descriptor.specs.Limits.{is_over_limit};
 
     /// The same node, in memory of its own.
     pub fn copy(&self, alloc: Global) -> Result<Node, AllocError>
@@ -54,7 +54,7 @@ impl Node {
     }
 }
 
-ghost use Rattle.descriptor.specs.Refusals.{is_long};
+ghost use Rattle.descriptor.specs.Limits.{is_long};
 
 fn is_long(text: &Text) -> bool
     ensures { result ≡ is_long text.now }
