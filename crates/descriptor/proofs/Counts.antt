@@ -55,6 +55,17 @@ module _ (q : ℕ → Bool) where
         let at = count_reached n k (omega arith) in (at.0, (omega (arith, at.1.0), at.1.1, at.1.2))
   ]
 
+  -- from a number that passes on there is a last one
+  pub count_last : (n m : ℕ) → m < n → q m ≡ true → (last : ℕ) × ((last < n) × (q last ≡ true) × (m ≤ last) × (suc (count_below q last) ≡ count_below q n))
+  count_last zero m h e = absurd (omega arith)
+  count_last (suc n) m h e = elim (cases_bool (q n)) [
+    | inl passes ↦ (n, (omega arith, passes, omega arith, sym (count_pass n passes)))
+    | inr fails ↦ elim (last_or_before n m h) [
+      | inl before ↦ let last = count_last n m before e in (last.0, (omega (arith, last.1.0), last.1.1, last.1.2, last.1.3 ∙ sym (count_fail n fails)))
+      | inr here ↦ absurd (let one : q m ≡ false = ap q here ∙ fails in cc)
+    ]
+  ]
+
   -- with the first number passing, the others that pass are one fewer
   pub count_without_first : (n : ℕ) → q 0 ≡ true → 0 < n → count_below q n ≡ suc (count_below (λ m. ltb 0 m && q m) n)
   count_without_first zero e h = absurd (omega arith)

@@ -114,6 +114,15 @@ reason_of t n = reason_or (node_at t n)
 abbrev pub is_disabled : Nodes → ℕ → Bool
 is_disabled t n = is_some (reason_of t n)
 
+-- the tags of a node; where there is none, no tag
+abbrev pub tags_or : Option Node → List (List ℕ)
+tags_or None = []
+tags_or (Some node) = node.tags
+
+-- the tags of node n itself; the plan has none
+abbrev pub tags_of : Nodes → ℕ → List (List ℕ)
+tags_of t n = tags_or (node_at t n)
+
 -- the canonical text of a node's unique id; where there is no node, none
 abbrev pub text_or : Option Node → Option (List ℕ)
 text_or None = None

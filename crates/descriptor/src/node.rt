@@ -5,6 +5,7 @@ ghost use Rattle.std.specs.Prelude.{◌≡◌, IfOk};
 use crate::body_id::BodyId;
 use crate::kind::Kind;
 use std::alloc::{AllocError, Global};
+use tag_expr::TagSet;
 use unique_id::{Text, UniqueId};
 
 /// The greatest length of a name and of a reason, in bytes.
@@ -24,6 +25,8 @@ pub struct Node {
     /// Why the node is disabled, of at most 1,024 bytes; `None` where it is not. The reason may be
     /// empty.
     pub disabled: Option<Text>,
+    /// The tags of the node itself, not of those above.
+    pub tags: TagSet,
 }
 
 impl Node {
@@ -43,6 +46,7 @@ impl Node {
             kind: self.kind,
             body: self.body,
             disabled,
+            tags: self.tags.copy(alloc)?,
         })
     }
 
