@@ -5,3 +5,7 @@ pub mod Grown
 pub mod Accepted
 pub mod Sets
 pub mod Children
+pub mod Counts
+pub mod Between
+pub mod Pruned
+pub mod Pruning

@@ -2,5 +2,7 @@
 pub mod BuilderFields
 pub mod Children
 pub mod Fields
+pub mod Limits
 pub mod Nodes
+pub mod Pruned
 pub mod Refusals
