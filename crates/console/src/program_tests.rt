@@ -15,6 +15,7 @@ use resource_locks::Plan;
 use std::alloc::{AllocError, Global};
 use std::io::{Error, ErrorKind, Read, Result as IoResult, Write};
 use std::test::Fail;
+use tag_expr::TagSet;
 use unique_id::{Text, UniqueId};
 
 /// A suite of one passing test.
@@ -439,6 +440,7 @@ fn plan_of_one(alloc: Global) -> Result<Plan, Fail> {
         kind: Kind::Container,
         body: None,
         disabled: None,
+        tags: TagSet::new(alloc),
     };
     if !builder.may_take(NodeId::ROOT) {
         return Err("not taken".into());
