@@ -1,8 +1,10 @@
+mod FirstWords
 mod Numbers
 mod ReadBack
 mod Spelled
 mod SpelledWords
 pub mod SuiteAnswers
+pub mod SuiteAttributes
 pub mod SuiteIds
 pub mod SuiteNever
 pub mod SuiteNumbers

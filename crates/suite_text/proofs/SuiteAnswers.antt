@@ -6,6 +6,7 @@ use Rattle.descriptor.specs.declared.node.Node.{Node}
 use Rattle.plan_events.specs.declared.status.Status.{Status}
 use Rattle.suite_text.specs.declared.script.Script.{Script}
 use Rattle.descriptor.specs.Nodes.{size, IsTree}
+use Rattle.suite_text.specs.SuiteAttributes.{spin_said}
 use Rattle.suite_text.specs.SuiteNodes.{body_declared, script_declared, parent_on, word_on, segment_kind, node_on, grown}
 use Rattle.suite_text.specs.SuiteParts.{LinesRead, bodies_of, bodies_answered}
 use Rattle.suite_text.specs.SuitePaths.{IsSound}
@@ -22,7 +23,7 @@ one_status None n spin text = refl
 one_status (Some s) n spin text = refl
 
 one : (d : Declaration) (n : ℕ) → bodies_answered (option_to_list (script_declared d n)) ≡ option_to_list (body_declared d.verdict n)
-one d n = one_status (status_declared d.verdict) n d.spin d.text
+one d n = one_status (status_declared d.verdict) n (spin_said d.attributes) d.text
 
 one_body : (node : Node) → bodies_of (node ∷ []) ≡ option_to_list node.body
 one_body node = append-nil (option_to_list node.body)

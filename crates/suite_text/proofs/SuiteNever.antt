@@ -1,21 +1,28 @@
 -- No text makes the definition answer want of memory.
 use Rattle.std.proofs.Common.{◌≢◌, ℕ, ◌+◌, List, ◌∷◌, [], Option, Some, None, Result, Ok, Err, Bool, true, false}
 use Rattle.std.specs.Prelude.{nat_lt, ◌||◌, not, ◌==◌, ◌%◌, ◌/◌, if◌then◌else◌, length}
+use Rattle.std.specs.Option.{is_some, option_map_or}
 use Rattle.std.specs.Str.Lines.{lines}
+use Rattle.tag_expr.specs.Tags.{tag_refusal}
+use Rattle.suite_text.specs.Words.{words_in}
 use Rattle.descriptor.specs.declared.fault.TreeFault.{TreeFault}
 use Rattle.suite_text.specs.declared.suite_words.Word.{Word}
 use Rattle.suite_text.specs.declared.suite_words.Word.TheVariants.{Engine, Class, Test}
+use Rattle.suite_text.specs.declared.suite_attributes.Attribute.{Attribute}
+use Rattle.suite_text.specs.declared.suite_attributes.Attribute.TheVariants.{Tag, Spin}
+use Rattle.suite_text.specs.declared.suite_attributes.Attributes.{Attributes}
 use Rattle.suite_text.specs.declared.suite_verdicts.Verdict.{Verdict}
 use Rattle.suite_text.specs.declared.suite_verdicts.Verdict.TheVariants.{Pass, Fail, Abort, Disabled}
 use Rattle.suite_text.specs.declared.suite_fault.SuiteFault.{SuiteFault}
 use Rattle.suite_text.specs.declared.suite_fault.SuiteFault.TheVariants.{NoMemory}
+use Rattle.suite_text.specs.SuiteAttributes.{after_sign, attribute_of, no_attributes, with_tag_of, with_spin_of, with_attribute, attributes_from, attributes_of}
 use Rattle.suite_text.specs.SuiteFaults.{◌>>=◌}
 use Rattle.suite_text.specs.SuiteLines.{says_nothing, first_word, after_word, text_after_word, level_of, indentation_of}
 use Rattle.suite_text.specs.SuiteNodes.{word_on, refusal_on, grown, unless_refused}
 use Rattle.suite_text.specs.SuiteParts.{LinesRead, no_lines}
-use Rattle.suite_text.specs.SuiteSpins.{key_of, value_of, is_spin, number_up_to, or_bad_line, spin_of}
+use Rattle.suite_text.specs.SuiteSpins.{value_of, number_up_to, or_bad_line, spin_of}
 use Rattle.suite_text.specs.SuiteVerdicts.{verdict_spelled, no_verdict, verdict_with, verdict_of}
-use Rattle.suite_text.specs.SuiteWords.{word_of, may_stand, placed, with_verdict, with_spin, with_name, declared_by}
+use Rattle.suite_text.specs.SuiteWords.{word_of, may_stand, placed, with_verdict, with_attributes, with_name, declared_by}
 use Rattle.suite_text.specs.Suites.{with_declared, with_declaration, with_line, suite_from, suite_of}
 
 abbrev Never : {A : Type 0} → Result A SuiteFault → Type 0
@@ -64,19 +71,40 @@ placed_never : (number : ℕ) (above word : Option Word) → Never (placed numbe
 placed_never number above None = λ e. cc
 placed_never number above (Some word) = if_never (may_stand above word) _ _ (λ e. cc) (λ e. cc)
 
-with_verdict_never : (number : ℕ) (word : Word) (name : List ℕ) (spin : ℕ) (rest : List ℕ) → Never (with_verdict number word name spin rest)
-with_verdict_never number word name spin rest =
+tag_never : (number : ℕ) (said : Attributes) (text : List ℕ) → Never (with_tag_of number said text)
+tag_never number said text = if_never (is_some (tag_refusal text)) _ _ (λ e. cc) (λ e. cc)
+
+spin_set_never : (number : ℕ) (said : Attributes) (value : List ℕ) → Never (with_spin_of number said value)
+spin_set_never number said value =
+    if_never (is_some said.spin) _ _ (λ e. cc) (then_never (spin_of number value) _ (spin_never number (number_up_to 1000000 value)) (λ spin. λ e. cc))
+
+attribute_never : (number : ℕ) (said : Attributes) (text : List ℕ) (attribute : Attribute) → Never (with_attribute number said text attribute)
+attribute_never number said text Tag = tag_never number said (after_sign text)
+attribute_never number said text Spin = spin_set_never number said (value_of text)
+
+found_never : {A : Type 0} (found : Option Attribute) (f : Attribute → Result A SuiteFault) (r : Result A SuiteFault) → ((a : Attribute) → Never (f a)) → Never r → Never (option_map_or f found r)
+found_never None f r h k = k
+found_never (Some a) f r h k = h a
+
+attributes_never : (number : ℕ) (word : Word) (said : Attributes) (words : List (List ℕ)) (left : List ℕ) → Never (attributes_from number word said words left)
+attributes_never number word said [] left = λ e. cc
+attributes_never number word said (text ∷ more) left =
+    found_never (attribute_of word text) _ _
+    (λ attribute. then_never (with_attribute number said text attribute) (λ next. attributes_from number word next more (after_word left)) (attribute_never number said text attribute)
+    (λ next. attributes_never number word next more (after_word left)))
+    (λ e. cc)
+
+with_verdict_never : (number : ℕ) (word : Word) (name : List ℕ) (attributes : Attributes) (rest : List ℕ) → Never (with_verdict number word name attributes rest)
+with_verdict_never number word name attributes rest =
     then_never (verdict_of number word (first_word rest) (text_after_word rest)) _ (verdict_never number word (first_word rest) (text_after_word rest)) (λ verdict. λ e. cc)
 
-with_spin_never : (number : ℕ) (word : Word) (name rest : List ℕ) → Never (with_spin number word name rest)
-with_spin_never number word name rest =
-    if_never (is_spin word (key_of (first_word rest))) _ _
-    (then_never (spin_of number (value_of (first_word rest))) (λ spin. with_verdict number word name spin (after_word rest)) (spin_never number (number_up_to 1000000 (value_of (first_word rest))))
-    (λ spin. with_verdict_never number word name spin (after_word rest)))
-    (with_verdict_never number word name 0 rest)
+with_attributes_never : (number : ℕ) (word : Word) (name rest : List ℕ) → Never (with_attributes number word name rest)
+with_attributes_never number word name rest =
+    then_never (attributes_of number word rest) (λ read. with_verdict number word name read.0 read.1) (attributes_never number word no_attributes (words_in rest) rest)
+    (λ read. with_verdict_never number word name read.0 read.1)
 
 with_name_never : (number : ℕ) (word : Word) (rest : List ℕ) → Never (with_name number word rest)
-with_name_never number word rest = if_never (length (first_word rest) == 0) _ _ (λ e. cc) (with_spin_never number word (first_word rest) (after_word rest))
+with_name_never number word rest = if_never (length (first_word rest) == 0) _ _ (λ e. cc) (with_attributes_never number word (first_word rest) (after_word rest))
 
 by_never : (number : ℕ) (above : Option Word) (line : List ℕ) → Never (declared_by number above line)
 by_never number above line =

@@ -1,6 +1,7 @@
 pub mod StepAnswers
 pub mod StepSpelling
 pub mod StepTexts
+pub mod SuiteAttributes
 pub mod SuiteBytes
 pub mod SuiteFaults
 pub mod SuiteIds

@@ -35,13 +35,13 @@ abbrev pub indentation_of : List ℕ → ℕ
 indentation_of line = prefix_len is_space line
 
 -- whether the first character is a number sign
-abbrev pub is_comment : List ℕ → Bool
-is_comment [] = false
-is_comment (byte ∷ bytes) = byte == 35
+abbrev pub begins_with_sign : List ℕ → Bool
+begins_with_sign [] = false
+begins_with_sign (byte ∷ bytes) = byte == 35
 
 -- whether a line is passed over: a comment, or spaces only
 abbrev pub says_nothing : List ℕ → Bool
-says_nothing line = is_comment line || (length (without_front line) == 0)
+says_nothing line = begins_with_sign line || (length (without_front line) == 0)
 
 -- the level of a line, two spaces each; a deeper one than this may not stand there
 abbrev pub level_of : ℕ → ℕ → List ℕ → Result ℕ SuiteFault

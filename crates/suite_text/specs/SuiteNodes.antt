@@ -16,6 +16,7 @@ use Rattle.suite_text.specs.declared.suite_words.Word.TheVariants.{Engine, Class
 use Rattle.suite_text.specs.declared.suite_verdicts.Verdict.{Verdict}
 use Rattle.suite_text.specs.declared.suite_fault.SuiteFault.{SuiteFault}
 use Rattle.suite_text.specs.declared.suite_fault.SuiteFault.TheVariants.{Refused}
+use Rattle.suite_text.specs.SuiteAttributes.{spin_said}
 use Rattle.suite_text.specs.SuiteParts.{LinesRead, above, word_of_opened, node_of_opened}
 use Rattle.suite_text.specs.SuiteScripts.{ending}
 use Rattle.suite_text.specs.SuiteVerdicts.{status_declared, reason_declared}
@@ -49,7 +50,7 @@ body_declared verdict n = option_map (λ status. n) (status_declared verdict)
 
 -- its script: the verdict's status, and the text that follows the verdict
 abbrev pub script_declared : Declaration → ℕ → Option Script
-script_declared d n = option_map (λ status. ending n d.spin status d.text) (status_declared d.verdict)
+script_declared d n = option_map (λ status. ending n (spin_said d.attributes) status d.text) (status_declared d.verdict)
 
 -- the node of number n that is declared below one with this word and these segments
 abbrev pub node_declared : ℕ → Option Word → List Segment → Declaration → Node
@@ -59,6 +60,7 @@ node_declared n parent segments d = record {
   kind = kind_declared d.word;
   body = body_declared d.verdict n;
   disabled = reason_declared d.verdict d.text;
+  tags = d.attributes.tags;
 }
 
 -- whether the unique id of a node below these segments is over its limits; no word is empty, so nothing else refuses it

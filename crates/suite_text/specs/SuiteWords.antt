@@ -4,25 +4,26 @@ use Rattle.std.specs.Str.{bytes_eq}
 use Rattle.suite_text.specs.declared.suite_words.Word.{Word}
 use Rattle.suite_text.specs.declared.suite_words.Word.TheVariants.{Engine, Class, Test}
 use Rattle.suite_text.specs.declared.suite_words.Declared.{Declared}
+use Rattle.suite_text.specs.declared.suite_attributes.Attributes.{Attributes}
 use Rattle.suite_text.specs.declared.suite_verdicts.Verdict.{Verdict}
 use Rattle.suite_text.specs.declared.suite_fault.SuiteFault.{SuiteFault}
 use Rattle.suite_text.specs.declared.suite_fault.SuiteFault.TheVariants.{BadLine}
 use Rattle.suite_text.specs.SuiteFaults.{◌>>=◌}
+use Rattle.suite_text.specs.SuiteAttributes.{attributes_of}
 use Rattle.suite_text.specs.SuiteLines.{first_word, after_word, text_after_word}
-use Rattle.suite_text.specs.SuiteSpins.{key_of, value_of, is_spin, spin_of}
 use Rattle.suite_text.specs.SuiteVerdicts.{verdict_of}
 
 -- the node that a line declares; `text` is what follows its verdict
 pub record Declaration : Type 0 where
   pub word : Word
   pub name : List ℕ
-  pub spin : ℕ
+  pub attributes : Attributes
   pub verdict : Option Verdict
   pub text : List ℕ
 
 -- the same, without where its texts lie in memory
 abbrev pub declaration_of : Declared → Declaration
-declaration_of d = record { word = d.word; name = d.name.now; spin = d.spin; verdict = d.verdict; text = d.text.now }
+declaration_of d = record { word = d.word; name = d.name.now; attributes = d.attributes; verdict = d.verdict; text = d.text.now }
 
 -- the word with this spelling
 abbrev pub word_of : List ℕ → Option Word
@@ -43,21 +44,19 @@ abbrev pub placed : ℕ → Option Word → Option Word → Result Word SuiteFau
 placed number above None = Err (BadLine number)
 placed number above (Some word) = if may_stand above word then Ok word else Err (BadLine number)
 
--- what a node of this word, name and `spin` is declared as by what is left of its line
-abbrev pub with_verdict : ℕ → Word → List ℕ → ℕ → List ℕ → Result Declaration SuiteFault
-with_verdict number word name spin rest =
+-- what a node of this word, name and attributes is declared as by what is left of its line
+abbrev pub with_verdict : ℕ → Word → List ℕ → Attributes → List ℕ → Result Declaration SuiteFault
+with_verdict number word name attributes rest =
     verdict_of number word (first_word rest) (text_after_word rest)
-    >>= (λ verdict. Ok (record { word = word; name = name; spin = spin; verdict = verdict; text = text_after_word rest }))
+    >>= (λ verdict. Ok (record { word = word; name = name; attributes = attributes; verdict = verdict; text = text_after_word rest }))
 
--- the same before its `spin`, which is 0 where none is given
-abbrev pub with_spin : ℕ → Word → List ℕ → List ℕ → Result Declaration SuiteFault
-with_spin number word name rest =
-    if is_spin word (key_of (first_word rest)) then spin_of number (value_of (first_word rest)) >>= (λ spin. with_verdict number word name spin (after_word rest))
-    else with_verdict number word name 0 rest
+-- the same before its attributes
+abbrev pub with_attributes : ℕ → Word → List ℕ → List ℕ → Result Declaration SuiteFault
+with_attributes number word name rest = attributes_of number word rest >>= (λ read. with_verdict number word name read.0 read.1)
 
 -- the same before its name
 abbrev pub with_name : ℕ → Word → List ℕ → Result Declaration SuiteFault
-with_name number word rest = if length (first_word rest) == 0 then Err (BadLine number) else with_spin number word (first_word rest) (after_word rest)
+with_name number word rest = if length (first_word rest) == 0 then Err (BadLine number) else with_attributes number word (first_word rest) (after_word rest)
 
 -- what a line declares right below a node of this word
 abbrev pub declared_by : ℕ → Option Word → List ℕ → Result Declaration SuiteFault

@@ -9,10 +9,13 @@ mod steps;
 #[cfg(test)]
 mod steps_tests;
 mod suite;
+mod suite_attributes;
 mod suite_builder;
 mod suite_fault;
 mod suite_lines;
 mod suite_spins;
+#[cfg(test)]
+mod suite_tags_tests;
 #[cfg(test)]
 mod suite_tests;
 mod suite_verdicts;

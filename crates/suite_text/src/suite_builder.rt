@@ -69,12 +69,12 @@ fn node_below(
     tree: &Tree,
     parent: Option<Opened>,
     number: u16,
-    declared: &Declared<'_>,
+    declared: Declared<'_>,
 ) -> Result<Node, TreeFault>
     requires { IfSome parent (λ opened. (0 < opened.node) × (opened.node < size tree.now)) }
-    ensures ok { IfOk result (λ node. node ≡ node_declared number (word_of_opened parent) (id_at tree.now (node_of_opened parent)) (declaration_of declared.now)) }
-    ensures accepted { IfOk result (λ _. is_over_limit (id_at tree.now (node_of_opened parent)) (word_of_opened parent) (declaration_of declared.now) ≡ false) }
-    ensures refused { IfErr result (λ fault. fault ≢ TreeFault.NoMemory → (fault ≡ TreeFault.OverLimit) × (is_over_limit (id_at tree.now (node_of_opened parent)) (word_of_opened parent) (declaration_of declared.now) ≡ true)) }
+    ensures ok { IfOk result (λ node. node ≡ node_declared number (word_of_opened parent) (id_at tree.now (node_of_opened parent)) (declaration_of declared.entry)) }
+    ensures accepted { IfOk result (λ _. is_over_limit (id_at tree.now (node_of_opened parent)) (word_of_opened parent) (declaration_of declared.entry) ≡ false) }
+    ensures refused { IfErr result (λ fault. fault ≢ TreeFault.NoMemory → (fault ≡ TreeFault.OverLimit) × (is_over_limit (id_at tree.now (node_of_opened parent)) (word_of_opened parent) (declaration_of declared.entry) ≡ true)) }
 {
     let kind = declared.word.segment_type(parent.map(|opened| opened.word));
     let id = match id_below(alloc, tree, parent, kind, declared.name) {
@@ -88,6 +88,7 @@ fn node_below(
         kind: declared.word.kind(),
         body: declared.body(number),
         disabled: declared.reason(alloc)?,
+        tags: declared.attributes.tags,
     })
 }
 
@@ -156,12 +157,12 @@ impl SuiteBuilder {
         &self,
         alloc: Global,
         level: usize,
-        declared: &Declared<'_>,
+        declared: Declared<'_>,
     ) -> Result<Node, TreeFault>
         requires { level ≤ length self.now.path }
-        ensures ok { IfOk result (λ node. node ≡ node_on self.now level (declaration_of declared.now)) }
-        ensures accepted { IfOk result (λ _. is_over_limit_on self.now level (declaration_of declared.now) ≡ false) }
-        ensures refused { IfErr result (λ fault. fault ≢ TreeFault.NoMemory → (fault ≡ TreeFault.OverLimit) × (is_over_limit_on self.now level (declaration_of declared.now) ≡ true)) }
+        ensures ok { IfOk result (λ node. node ≡ node_on self.now level (declaration_of declared.entry)) }
+        ensures accepted { IfOk result (λ _. is_over_limit_on self.now level (declaration_of declared.entry) ≡ false) }
+        ensures refused { IfErr result (λ fault. fault ≢ TreeFault.NoMemory → (fault ≡ TreeFault.OverLimit) × (is_over_limit_on self.now level (declaration_of declared.entry) ≡ true)) }
     {
         let parent = self.above(level);
         let number = self.next_number();
@@ -169,20 +170,20 @@ impl SuiteBuilder {
     }
 
     /// Adds the node that a line of this level declares.
-    fn add(&mut self, alloc: Global, level: usize, declared: &Declared<'_>) -> Result<(), TreeFault>
+    fn add(&mut self, alloc: Global, level: usize, declared: Declared<'_>) -> Result<(), TreeFault>
         requires { level ≤ length self.old.path }
-        ensures accepted { OnOk result (refusal_on self.old level (declaration_of declared.now) ≡ None) }
-        ensures added { OnOk result (self.new ≡ grown self.old level (declaration_of declared.now)) }
-        ensures refused { IfErr result (λ fault. fault ≢ TreeFault.NoMemory → refusal_on self.old level (declaration_of declared.now) ≡ Some fault) }
+        ensures accepted { OnOk result (refusal_on self.old level (declaration_of declared.entry) ≡ None) }
+        ensures added { OnOk result (self.new ≡ grown self.old level (declaration_of declared.entry)) }
+        ensures refused { IfErr result (λ fault. fault ≢ TreeFault.NoMemory → refusal_on self.old level (declaration_of declared.entry) ≡ Some fault) }
         ensures err { OnErr result (self.new ≡ self.old) }
     {
-        let node = self.node_on(alloc, level, declared)?;
         let script = declared.script(alloc, self.next_number())?;
+        let word = declared.word;
+        let node = self.node_on(alloc, level, declared)?;
         let parent = node_or_plan(self.above(level));
         self.path.reserve(1)?;
         self.scripts.reserve(1)?;
         let node = self.tree.add(alloc, parent, node)?;
-        let word = declared.word;
         open_on(&mut self.path, level, Opened { node, word });
         if let Some(script) = script {
             self.scripts.push(script).unwrap();
@@ -196,11 +197,11 @@ impl SuiteBuilder {
         alloc: Global,
         number: usize,
         level: usize,
-        declared: &Declared<'_>,
+        declared: Declared<'_>,
     ) -> Result<(), SuiteFault>
         requires { level ≤ length self.old.path }
-        ensures added { OnOk result (with_declared number self.old level (declaration_of declared.now) ≡ Ok self.new) }
-        ensures refused { IfErr result (λ fault. Fails fault (with_declared number self.old level (declaration_of declared.now))) }
+        ensures added { OnOk result (with_declared number self.old level (declaration_of declared.entry) ≡ Ok self.new) }
+        ensures refused { IfErr result (λ fault. Fails fault (with_declared number self.old level (declaration_of declared.entry))) }
     {
         match self.add(alloc, level, declared) {
             Ok(()) => Ok(()),
@@ -219,8 +220,8 @@ impl SuiteBuilder {
     {
         let level = level_at(number, self.levels(), line)?;
         let above = self.above(level).map(|opened| opened.word);
-        let declared = declared_in(number, above, line)?;
-        self.declare(alloc, number, level, &declared)
+        let declared = declared_in(alloc, number, above, line)?;
+        self.declare(alloc, number, level, declared)
     }
 
     /// The number of levels on which a line may stand next.

@@ -1,13 +1,13 @@
 //! What the words of a line declare.
 
 ghost use Rattle.std.specs.Prelude.{◌≡◌, IfOk};
-ghost use Rattle.suite_text.specs.SuiteWords.{word_of, may_stand, placed, with_verdict, with_spin, with_name, declared_by, declaration_of};
+ghost use Rattle.suite_text.specs.SuiteWords.{word_of, may_stand, placed, with_verdict, with_attributes, with_name, declared_by, declaration_of};
 ghost use Rattle.suite_text.specs.SuiteFaults.{Gives};
 
 use crate::script::Script;
+use crate::suite_attributes::{Attributes, attributes_in};
 use crate::suite_fault::SuiteFault;
 use crate::suite_lines::{next_word, word_and_text};
-use crate::suite_spins::{key_and_value, spin_in};
 use crate::suite_verdicts::{Verdict, status_of, verdict_in};
 use descriptor::{BodyId, Kind};
 use std::alloc::{AllocError, Global};
@@ -22,12 +22,11 @@ pub(crate) enum Word {
 }
 
 /// The node that a line declares.
-#[derive(Clone, Copy, Debug)]
+#[derive(Debug, Drop)]
 pub(crate) struct Declared<'a> {
     pub(crate) word: Word,
     pub(crate) name: &'a str,
-    /// How far the node's body counts first.
-    pub(crate) spin: u32,
+    pub(crate) attributes: Attributes,
     pub(crate) verdict: Option<Verdict>,
     /// What follows the verdict.
     pub(crate) text: &'a str,
@@ -86,7 +85,7 @@ impl Word {
     }
 
     /// Whether a word with this key is the attribute `spin` of a node of this word.
-    fn takes_spin(self, key: &str) -> bool
+    pub(crate) fn takes_spin(self, key: &str) -> bool
         ensures { result ≡ is_spin self key.now }
     {
         match self {
@@ -127,7 +126,8 @@ impl<'a> Declared<'a> {
         match status_of(self.verdict) {
             Some(status) => {
                 let body = BodyId::new(number);
-                let script = Script::ending(alloc, body, self.spin, status, self.text)?;
+                let spin = self.attributes.spin();
+                let script = Script::ending(alloc, body, spin, status, self.text)?;
                 Ok(Some(script))
             }
             None => Ok(None),
@@ -145,58 +145,60 @@ fn placed(number: usize, above: Option<Word>, word: Option<Word>) -> Result<Word
     }
 }
 
-/// The node of this word, name and `spin`, with the verdict that is left of its line.
+/// The node of this word, name and attributes, with the verdict that is left of its line.
 fn with_verdict<'a>(
     number: usize,
     word: Word,
     name: &'a str,
-    spin: u32,
+    attributes: Attributes,
     rest: &'a str,
 ) -> Result<Declared<'a>, SuiteFault>
-    ensures { Gives declaration_of result (with_verdict number word name.now spin rest.now) }
+    ensures { Gives declaration_of result (with_verdict number word name.now attributes rest.now) }
 {
     let (first, text) = word_and_text(rest);
     let verdict = verdict_in(number, word, first, text)?;
     Ok(Declared {
         word,
         name,
-        spin,
+        attributes,
         verdict,
         text,
     })
 }
 
-/// The node of this word and name, with the attribute and the verdict that are left of its line.
-fn with_spin<'a>(
+/// The node of this word and name, with the attributes and the verdict that are left of its line.
+fn with_attributes<'a>(
+    alloc: Global,
     number: usize,
     word: Word,
     name: &'a str,
     rest: &'a str,
 ) -> Result<Declared<'a>, SuiteFault>
-    ensures { Gives declaration_of result (with_spin number word name.now rest.now) }
+    ensures { Gives declaration_of result (with_attributes number word name.now rest.now) }
 {
-    let (first, after) = next_word(rest);
-    let (key, value) = key_and_value(first);
-    if !word.takes_spin(key) {
-        return with_verdict(number, word, name, 0, rest);
-    }
-    let spin = spin_in(number, value)?;
-    with_verdict(number, word, name, spin, after)
+    let (attributes, rest) = attributes_in(alloc, number, word, rest)?;
+    with_verdict(number, word, name, attributes, rest)
 }
 
 /// The node of this word, with the name and all else that is left of its line.
-fn with_name<'a>(number: usize, word: Word, rest: &'a str) -> Result<Declared<'a>, SuiteFault>
+fn with_name<'a>(
+    alloc: Global,
+    number: usize,
+    word: Word,
+    rest: &'a str,
+) -> Result<Declared<'a>, SuiteFault>
     ensures { Gives declaration_of result (with_name number word rest.now) }
 {
     let (name, rest) = next_word(rest);
     if name.is_empty() {
         return Err(SuiteFault::BadLine(number));
     }
-    with_spin(number, word, name, rest)
+    with_attributes(alloc, number, word, name, rest)
 }
 
 /// The node that a line declares below a node of this word.
 pub(crate) fn declared_in<'a>(
+    alloc: Global,
     number: usize,
     above: Option<Word>,
     line: &'a str,
@@ -205,5 +207,5 @@ pub(crate) fn declared_in<'a>(
 {
     let (first, rest) = next_word(line);
     let word = placed(number, above, Word::spelled(first))?;
-    with_name(number, word, rest)
+    with_name(alloc, number, word, rest)
 }

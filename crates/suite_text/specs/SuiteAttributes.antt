@@ -1,0 +1,60 @@
+-- The attributes of a line, which stand before its verdict: `#TAG`, and on a test `spin=N`.
+use Rattle.std.specs.Prelude.{ℕ, ◌==◌, List, [], ◌∷◌, Bool, if◌then◌else◌, Option, Some, None, Result, Ok, Err}
+use Rattle.std.specs.List.{after_first}
+use Rattle.std.specs.Option.{is_some, option_map_or}
+use Rattle.std.specs.Str.{trim}
+use Rattle.tag_expr.specs.Tags.{tag_refusal}
+use Rattle.tag_expr.specs.TagSets.{with_tag}
+use Rattle.suite_text.specs.declared.suite_words.Word.{Word}
+use Rattle.suite_text.specs.declared.suite_attributes.Attribute.{Attribute}
+use Rattle.suite_text.specs.declared.suite_attributes.Attribute.TheVariants.{Tag, Spin}
+use Rattle.suite_text.specs.declared.suite_attributes.Attributes.{Attributes}
+use Rattle.suite_text.specs.declared.suite_fault.SuiteFault.{SuiteFault}
+use Rattle.suite_text.specs.declared.suite_fault.SuiteFault.TheVariants.{BadLine}
+use Rattle.suite_text.specs.Words.{words_in}
+use Rattle.suite_text.specs.SuiteFaults.{◌>>=◌}
+use Rattle.suite_text.specs.SuiteLines.{begins_with_sign, after_word}
+use Rattle.suite_text.specs.SuiteSpins.{key_of, value_of, is_spin, spin_of}
+
+abbrev pub is_sign : ℕ → Bool
+is_sign byte = byte == 35
+
+-- what follows the first number sign of a word
+abbrev pub after_sign : List ℕ → List ℕ
+after_sign text = after_first is_sign text
+
+-- the attribute that a word of a line is, if it is one that a node of this word may have
+abbrev pub attribute_of : Word → List ℕ → Option Attribute
+attribute_of word text = if begins_with_sign text then Some Tag else (if is_spin word (key_of text) then Some Spin else None)
+
+-- before the first attribute
+abbrev pub no_attributes : Attributes
+no_attributes = record { tags = []; spin = None }
+
+-- with the tag that a text is; a text that is none is a faulty line
+abbrev pub with_tag_of : ℕ → Attributes → List ℕ → Result Attributes SuiteFault
+with_tag_of number said text = if is_some (tag_refusal text) then Err (BadLine number) else Ok (record { tags = with_tag said.tags (trim text); spin = said.spin })
+
+-- with how far the body counts first, which a line may say once
+abbrev pub with_spin_of : ℕ → Attributes → List ℕ → Result Attributes SuiteFault
+with_spin_of number said value =
+    if is_some said.spin then Err (BadLine number) else (spin_of number value >>= (λ spin. Ok (record { tags = said.tags; spin = Some spin })))
+
+-- with what an attribute says, which is this word of the line
+abbrev pub with_attribute : ℕ → Attributes → List ℕ → Attribute → Result Attributes SuiteFault
+with_attribute number said text Tag = with_tag_of number said (after_sign text)
+with_attribute number said text Spin = with_spin_of number said (value_of text)
+
+-- the attributes at the front of these words, after those that were read, and what then follows in the text of the words
+abbrev pub attributes_from : ℕ → Word → Attributes → List (List ℕ) → List ℕ → Result (Attributes × List ℕ) SuiteFault
+attributes_from number word said [] left = Ok (said, left)
+attributes_from number word said (text ∷ more) left =
+    option_map_or (λ attribute. with_attribute number said text attribute >>= (λ next. attributes_from number word next more (after_word left))) (attribute_of word text) (Ok (said, left))
+
+-- the attributes at the front of a text, and what follows them
+abbrev pub attributes_of : ℕ → Word → List ℕ → Result (Attributes × List ℕ) SuiteFault
+attributes_of number word text = attributes_from number word no_attributes (words_in text) text
+
+-- how far the body counts first: where nothing is said, not at all
+abbrev pub spin_said : Attributes → ℕ
+spin_said said = option_map_or (λ spin. spin) said.spin 0

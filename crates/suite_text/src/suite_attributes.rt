@@ -1,0 +1,148 @@
+//! The attributes of a line, which stand before its verdict.
+
+ghost use Rattle.std.specs.Prelude.{◌≡◌, OnOk, IfErr, Ok};
+ghost use Rattle.suite_text.specs.SuiteAttributes.{after_sign, attribute_of, no_attributes, with_tag_of, with_spin_of, with_attribute, attributes_of, spin_said};
+ghost use Rattle.suite_text.specs.SuiteFaults.{Fails, Gives};
+ghost use Rattle.suite_text.specs.SuiteLines.{first_word};
+
+use crate::suite_fault::SuiteFault;
+use crate::suite_lines::next_word;
+use crate::suite_spins::{key_and_value, spin_in};
+use crate::suite_words::Word;
+use std::alloc::Global;
+use tag_expr::{TagFault, TagSet, tag_of};
+
+/// What an attribute is about.
+#[derive(Clone, Copy, PartialEq, Eq, Debug)]
+pub(crate) enum Attribute {
+    /// `#TAG`
+    Tag,
+    /// `spin=N`
+    Spin,
+}
+
+impl Attribute {
+    /// The attribute that a word of a line is, where a node of this word may have it.
+    fn of(word: Word, text: &str) -> Option<Attribute>
+        ensures { result ≡ attribute_of word text.now }
+    {
+        if text.starts_with('#') {
+            return Some(Attribute::Tag);
+        }
+        let (key, _) = key_and_value(text);
+        if word.takes_spin(key) {
+            Some(Attribute::Spin)
+        } else {
+            None
+        }
+    }
+}
+
+/// What the attributes of a line say.
+#[derive(Debug, Drop)]
+pub(crate) struct Attributes {
+    /// Each tag once, in the order of the line.
+    pub(crate) tags: TagSet,
+    /// How far the node's body counts first.
+    pub(crate) spin: Option<u32>,
+}
+
+impl Attributes {
+    /// Before the first attribute.
+    fn none(alloc: Global) -> Attributes
+        ensures { result ≡ no_attributes }
+    {
+        Attributes {
+            tags: TagSet::new(alloc),
+            spin: None,
+        }
+    }
+
+    /// How far the node's body counts first, 0 where the line does not say it.
+    pub(crate) fn spin(&self) -> u32
+        ensures { result ≡ spin_said self.now }
+    {
+        match self.spin {
+            Some(spin) => spin,
+            None => 0,
+        }
+    }
+
+    /// Adds the tag that a text is.
+    fn add_tag(&mut self, alloc: Global, number: usize, text: &str) -> Result<(), SuiteFault>
+        ensures added { OnOk result (with_tag_of number self.old text.now ≡ Ok self.new) }
+        ensures refused { IfErr result (λ fault. Fails fault (with_tag_of number self.old text.now)) }
+    {
+        match tag_of(alloc, text) {
+            Ok(tag) => Ok(self.tags.add(tag)?),
+            Err(TagFault::NoMemory) => Err(SuiteFault::NoMemory),
+            Err(_) => Err(SuiteFault::BadLine(number)),
+        }
+    }
+
+    /// Sets how far the body counts first, which a line may say once.
+    fn set_spin(&mut self, number: usize, value: &str) -> Result<(), SuiteFault>
+        ensures added { OnOk result (with_spin_of number self.old value.now ≡ Ok self.new) }
+        ensures refused { IfErr result (λ fault. Fails fault (with_spin_of number self.old value.now)) }
+    {
+        if self.spin.is_some() {
+            return Err(SuiteFault::BadLine(number));
+        }
+        self.spin = Some(spin_in(number, value)?);
+        Ok(())
+    }
+
+    /// Adds what an attribute says, which is this word of the line.
+    fn add(
+        &mut self,
+        alloc: Global,
+        number: usize,
+        attribute: Attribute,
+        text: &str,
+    ) -> Result<(), SuiteFault>
+        ensures added { OnOk result (with_attribute number self.old text.now attribute ≡ Ok self.new) }
+        ensures refused { IfErr result (λ fault. Fails fault (with_attribute number self.old text.now attribute)) }
+    {
+        match attribute {
+            Attribute::Tag => self.add_tag(alloc, number, after_sign(text)),
+            Attribute::Spin => self.set_spin(number, key_and_value(text).1),
+        }
+    }
+}
+
+/// What follows the first number sign of a word.
+fn after_sign(text: &str) -> &str
+    ensures { result.now ≡ after_sign text.now }
+{
+    match text.split_once('#') {
+        Some((_, rest)) => rest,
+        None => "",
+    }
+}
+
+/// The attribute that the first word of a text is, where a node of this word may have it.
+fn first_attribute(word: Word, text: &str) -> Option<Attribute>
+    ensures { result ≡ attribute_of word (first_word text.now) }
+{
+    let (first, _) = next_word(text);
+    Attribute::of(word, first)
+}
+
+/// What the attributes at the front of a text say, and what follows them.
+pub(crate) fn attributes_in<'a>(
+    alloc: Global,
+    number: usize,
+    word: Word,
+    text: &'a str,
+) -> Result<(Attributes, &'a str), SuiteFault>
+    ensures { Gives (λ read. (read.0, read.1.now)) result (attributes_of number word text.now) }
+{
+    let mut said = Attributes::none(alloc);
+    let mut left = text;
+    while let Some(attribute) = first_attribute(word, left) {
+        let (first, after) = next_word(left);
+        said.add(alloc, number, attribute, first)?;
+        left = after;
+    }
+    Ok((said, left))
+}
