@@ -60,20 +60,9 @@ fn event_of(kind: EventKind, node: u16, status: Option<Status>) -> Event {
     }
 }
 
-/// The texts of a plan's nodes, with these notes.
-fn texts_of(
-    rt: &impl Abort,
-    alloc: Global,
-    plan: &Plan,
-    notes: &[(u16, &str)],
-) -> Result<Texts, Fail> {
-    let mut texts = Texts::new(alloc, plan.tree())?;
-    for (number, text) in notes {
-        let node = NodeId::new(*number);
-        assert!(rt; node.index() < plan.tree().len());
-        texts.set(node, Note::Own(Text::new(alloc, text)?));
-    }
-    Ok(texts)
+/// What a body said.
+fn said(alloc: Global, text: &str) -> Result<Note, Fail> {
+    Ok(Note::Own(Text::new(alloc, text)?))
 }
 
 #[test]
@@ -86,8 +75,10 @@ fn a_suite_is_drawn_in_both_themes(rt: HostRuntime) -> Result<(), Fail> {
         (2, "u()", None),
     ];
     let plan = plan_of(&rt, alloc, nodes.as_slice())?;
-    let notes = [(1, "fine"), (4, "no")];
-    let texts = texts_of(&rt, alloc, &plan, notes.as_slice())?;
+    let mut texts = Texts::new(alloc, plan.tree())?;
+    assert_eq!(rt; plan.tree().len(), 5);
+    texts.set(NodeId::new(1), said(alloc, "fine")?);
+    texts.set(NodeId::new(4), said(alloc, "no")?);
     let events = [
         started(0),
         started(1),
@@ -132,8 +123,9 @@ fn bars_lead_to_later_siblings(rt: HostRuntime) -> Result<(), Fail> {
         (7, "a.F", None),
     ];
     let plan = plan_of(&rt, alloc, nodes.as_slice())?;
-    let mut texts = texts_of(&rt, alloc, &plan, [(2, "no service")].as_slice())?;
+    let mut texts = Texts::new(alloc, plan.tree())?;
     assert_eq!(rt; plan.tree().len(), 10);
+    texts.set(NodeId::new(2), said(alloc, "no service")?);
     texts.set(NodeId::new(4), Note::Reason);
     texts.set(NodeId::new(8), Note::Reason);
     // node 6 has no event, and the finish of node 9 none before it
@@ -174,12 +166,9 @@ fn control_characters_are_spaces_and_others_stay(rt: HostRuntime) -> Result<(), 
     let alloc = rt.alloc();
     let nodes = [(0, "a\tb\u{7f}\u{e9}\u{6f22}e\u{301}", None)];
     let plan = plan_of(&rt, alloc, nodes.as_slice())?;
-    let texts = texts_of(
-        &rt,
-        alloc,
-        &plan,
-        [(1, "no\nfile\u{1f600}\u{0}")].as_slice(),
-    )?;
+    let mut texts = Texts::new(alloc, plan.tree())?;
+    assert_eq!(rt; plan.tree().len(), 2);
+    texts.set(NodeId::new(1), said(alloc, "no\nfile\u{1f600}\u{0}")?);
     let events = [started(1), finished(1, Status::Failed)];
     let text = tree_text(alloc, &plan, events.as_slice(), &texts, Theme::Ascii)?;
     assert_eq!(rt;
@@ -194,7 +183,9 @@ fn lists_of_events_that_no_run_makes_have_trees(rt: HostRuntime) -> Result<(), F
     let alloc = rt.alloc();
     let nodes = [(0, "e", None), (1, "a.B", None), (0, "f", None)];
     let plan = plan_of(&rt, alloc, nodes.as_slice())?;
-    let texts = texts_of(&rt, alloc, &plan, [(3, "so")].as_slice())?;
+    let mut texts = Texts::new(alloc, plan.tree())?;
+    assert_eq!(rt; plan.tree().len(), 4);
+    texts.set(NodeId::new(3), said(alloc, "so")?);
     let none = tree_text(alloc, &plan, &[], &texts, Theme::Ascii)?;
     assert_eq!(rt; none.as_str(), "");
     // a line below none is left out, of two finishes the first counts, a skip before each of them,
