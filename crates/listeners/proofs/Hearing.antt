@@ -2,7 +2,7 @@
 use Rattle.std.proofs.Common.{◌≡◌, ℕ, zero, suc, ◌+◌, ◌-◌, ◌<◌, ◌≤◌, List, [], ◌∷◌, ◌++◌, length, map, take, drop, set, get_or, refl, sym, ap, subst, ◌∙◌, arith}
 use Rattle.std.specs.List.{All, AllWithin}
 use Rattle.std.proofs.Math.Seq.{map-set_same}
-use Rattle.std.proofs.lemmas.List.{length-map, length-set, map-set, get_or-map, get_or-drop, get_or-append_right, length-take-le, take_all, append-nil}
+use Rattle.std.proofs.lemmas.List.{length-map, length-set, map-set, get_or-map, get_or-drop, get_or-append_right, length-take-le, take_all, append-nil, map-id}
 use Rattle.std.proofs.lemmas.List.Edits.{map_over_more}
 use Rattle.std.proofs.lemmas.List.Elements.{AllWithin-more_set, All-more, All-same}
 use Rattle.plan_events.specs.declared.event.Event.{Event}
@@ -82,3 +82,32 @@ next_has_room old items m f i b are inside is all =
     let first : 1 ≤ m (get_or old i b) = all i b (rw (← are.same) inside) in
     let same : m b ≡ m (get_or items i b) = ap m is in
     omega (arith, here, first, same)
+
+-- lists of the same m, changed alike, have as many elements
+same_len : {L X : Type 0} (m : L → X) (f : X → X) (old new : List L) → map m new ≡ map f (map m old) → length new ≡ length old
+same_len m f old new same = sym (length-map new m) ∙ ap length same ∙ length-map (map m old) f ∙ length-map old m
+
+-- m of each of the new is that of the old, changed
+each_changed : {L X : Type 0} (m : L → X) (f : X → X) (old new : List L) (k : ℕ) (d : L) → map m new ≡ map f (map m old) → k < length new → m (get_or new k d) ≡ f (m (get_or old k d))
+each_changed m f old new k d same lt =
+    let inside : k < length old = rw (← same_len m f old new same) lt in
+    let within : k < length (map m old) = rw (length-map old m) inside in
+    sym (get_or-map m new k d (m d) lt) ∙ ap (λ xs. get_or xs k (m d)) same ∙ get_or-map f (map m old) k (m d) (m d) within ∙ ap f (get_or-map m old k d (m d) inside)
+
+-- where m of all was the same, it is the same changed
+pub all_changed : {L X : Type 0} (old new : List L) (m : L → X) (f : X → X) (x : X) → map m new ≡ map f (map m old) → All (λ l. m l ≡ x) old → All (λ l. m l ≡ f x) new
+all_changed old new m f x same all k d lt = each_changed m f old new k d same lt ∙ ap f (all k d (rw (← same_len m f old new same) lt))
+
+-- where all had room for one more, all have room for the others
+pub all_with_room : {L : Type 0} (old new : List L) (m : L → ℕ) (n : ℕ) → map m new ≡ map (λ r. r - 1) (map m old) → All (λ l. n + 1 ≤ m l) old → All (λ l. n ≤ m l) new
+all_with_room old new m n same all k d lt =
+    let now : m (get_or new k d) ≡ m (get_or old k d) - 1 = each_changed m (λ r. r - 1) old new k d same lt in
+    let was : n + 1 ≤ m (get_or old k d) = all k d (rw (← same_len m (λ r. r - 1) old new same) lt) in
+    omega (arith, now, was)
+
+-- m of each is as it was
+pub all_kept : {L X : Type 0} (old new : List L) (m : L → X) (x : X) → map m new ≡ map m old → All (λ l. m l ≡ x) old → All (λ l. m l ≡ x) new
+all_kept old new m x same all = all_changed old new m (λ y. y) x (same ∙ sym (map-id (map m old))) all
+
+pub kept_len : {L X : Type 0} (old new : List L) (m : L → X) → map m new ≡ map m old → length new ≡ length old
+kept_len old new m same = sym (length-map new m) ∙ ap length same ∙ length-map old m

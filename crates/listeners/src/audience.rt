@@ -1,6 +1,6 @@
 //! All who are told of the events of a run.
 
-ghost use Rattle.std.specs.Prelude.{◌≡◌, ◌<◌, ◌≤◌, ◌+◌, ◌-◌, ◌↔◌, ◌++◌, ◌∷◌, [], List, map, length, slice_get, IsTrue, IsNone, IfSome, Some, None, IfOk, IfErr, OnOk};
+ghost use Rattle.std.specs.Prelude.{◌≡◌, ℕ, ◌<◌, ◌≤◌, ◌+◌, ◌-◌, ◌↔◌, ◌++◌, ◌∷◌, [], List, map, length, slice_get, IsTrue, IsNone, IfSome, Some, None, IfOk, IfErr, OnOk};
 ghost use Rattle.std.specs.List.{All};
 ghost use Rattle.resource_locks.specs.Plans.{most_events};
 ghost use Rattle.plan_events.specs.declared.event.Event.{Event};
@@ -54,7 +54,9 @@ impl Audience {
     /// Lets each listener make room for the events of an execution of the plan. After want of memory some may have more
     /// room than before.
     pub fn prepare(&mut self, plan: &Plan) -> Result<(), AllocError>
+        ensures len { length self.new.listeners.items ≡ length self.old.listeners.items }
         ensures got { map got self.new.listeners.items ≡ map got self.old.listeners.items }
+        ensures all_got { (heard : List Event) → All (λ l. got l ≡ heard) self.old.listeners.items → All (λ l. got l ≡ heard) self.new.listeners.items }
         ensures room { OnOk result (All (λ l. most_events plan.now ≤ room l) self.new.listeners.items) }
     {
         for index in 0..self.listeners.len() {
@@ -90,8 +92,11 @@ impl Audience {
     /// Tells each the next event. The text is the reason of a skipped node, and what the job of a finished node said.
     pub fn tell(&mut self, event: Event, text: Option<&str>)
         requires { All (λ l. 1 ≤ room l) self.old.listeners.items }
+        ensures len { length self.new.listeners.items ≡ length self.old.listeners.items }
         ensures got { map got self.new.listeners.items ≡ map (λ (heard : List Event). heard ++ event ∷ []) (map got self.old.listeners.items) }
         ensures room { map room self.new.listeners.items ≡ map (λ n. n - 1) (map room self.old.listeners.items) }
+        ensures all_got { (heard : List Event) → All (λ l. got l ≡ heard) self.old.listeners.items → All (λ l. got l ≡ heard ++ event ∷ []) self.new.listeners.items }
+        ensures all_room { (n : ℕ) → All (λ l. n + 1 ≤ room l) self.old.listeners.items → All (λ l. n ≤ room l) self.new.listeners.items }
     {
         let event = &event;
         for index in 0..self.listeners.len() {
@@ -102,7 +107,8 @@ impl Audience {
     /// Tells each these events in their order, with the texts of their nodes.
     pub fn tell_all(&mut self, texts: &Texts, events: &[Event])
         requires { All (λ l. length events.now ≤ room l) self.old.listeners.items }
-        ensures { map got self.new.listeners.items ≡ map (λ (heard : List Event). heard ++ events.now) (map got self.old.listeners.items) }
+        ensures len { length self.new.listeners.items ≡ length self.old.listeners.items }
+        ensures got { map got self.new.listeners.items ≡ map (λ (heard : List Event). heard ++ events.now) (map got self.old.listeners.items) }
     {
         for event in events {
             self.tell(*event, text_with(texts, *event));

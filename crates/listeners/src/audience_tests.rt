@@ -11,6 +11,7 @@ use std::cell::Cell;
 use std::process::Abort;
 use std::rc::Rc;
 use std::test::Fail;
+use tag_expr::TagSet;
 use unique_id::{Text, UniqueId};
 
 /// Keeps events, and adds up how many bytes of text came with them.
@@ -69,6 +70,7 @@ fn node(alloc: Global, name: &str, kind: Kind) -> Result<Node, Fail> {
         id: UniqueId::of(alloc, "k", name)?,
         name: Text::new(alloc, name)?,
         kind,
+        tags: TagSet::new(alloc),
         body: None,
         disabled: None,
     })

@@ -9,6 +9,7 @@ use resource_locks::Plan;
 use std::alloc::Global;
 use std::io::{Error, ErrorKind, Result as IoResult, Write};
 use std::test::Fail;
+use tag_expr::TagSet;
 use unique_id::{Text, UniqueId};
 
 /// Takes so many bytes, a few at a time, and then fails.
@@ -81,6 +82,7 @@ fn plan_of_one(alloc: Global) -> Result<Plan, Fail> {
         id: UniqueId::of(alloc, "engine", "a\tb").ok().ok_or("no id")?,
         name: Text::new(alloc, "a")?,
         kind: Kind::Container,
+        tags: TagSet::new(alloc),
         body: None,
         disabled: None,
     };

@@ -7,6 +7,7 @@ use resource_locks::Plan;
 use std::alloc::Global;
 use std::process::Abort;
 use std::test::Fail;
+use tag_expr::TagSet;
 use unique_id::{Text, UniqueId};
 
 /// A node whose unique id has the one segment `[k:NAME]`.
@@ -15,6 +16,7 @@ fn node(alloc: Global, name: &str, kind: Kind, disabled: bool) -> Result<Node, F
         id: UniqueId::of(alloc, "k", name)?,
         name: Text::new(alloc, name)?,
         kind,
+        tags: TagSet::new(alloc),
         body: None,
         disabled: if disabled {
             Some(Text::new(alloc, "later")?)

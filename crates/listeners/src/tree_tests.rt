@@ -7,6 +7,7 @@ use resource_locks::Plan;
 use std::alloc::Global;
 use std::process::Abort;
 use std::test::Fail;
+use tag_expr::TagSet;
 use unique_id::{Text, UniqueId};
 
 /// A node that is shown by this name, disabled where there is a reason.
@@ -15,6 +16,7 @@ fn node(alloc: Global, id: &str, name: &str, reason: Option<&str>) -> Result<Nod
         id: UniqueId::of(alloc, "node", id)?,
         name: Text::new(alloc, name)?,
         kind: Kind::Container,
+        tags: TagSet::new(alloc),
         body: None,
         disabled: reason.map(|reason| Text::new(alloc, reason)).transpose()?,
     })

@@ -2,7 +2,7 @@
 use Rattle.std.proofs.Common.{◌≡◌, ◌<◌, ◌≤◌, ◌-◌, ◌++◌, ◌∷◌, [], List, length, refl, rules, arith}
 use Rattle.std.proofs.lemmas.Grind.{common_steps}
 use Rattle.plan_events.specs.declared.event.Event.{Event}
-use Rattle.listeners.proofs.Hearing.{next_has_room, changed_more}
+use Rattle.listeners.proofs.Hearing.{next_has_room, changed_more, changed_all, all_changed, all_with_room}
 use Rattle.listeners.proofs.audience.Audience.tell.Goals as goal
 
 pub tell_one-requires : goal.tell_one-requires
@@ -14,3 +14,16 @@ loop-index-preserved g c = record {
   got = changed_more _ _ c.loop-index.index c.args.self.now.listeners.items c.loop-index.self.listeners.items c.index_mut.result.now c.tell_one.new.listener c.loop-index.invariant.got (grind (arith, common_steps)) c.index_mut.ensures.value c.tell_one.ensures.got;
   room = changed_more _ _ c.loop-index.index c.args.self.now.listeners.items c.loop-index.self.listeners.items c.index_mut.result.now c.tell_one.new.listener c.loop-index.invariant.room (grind (arith, common_steps)) c.index_mut.ensures.value c.tell_one.ensures.room;
 }
+
+pub returns-clause-len : goal.returns-clause-len
+returns-clause-len g c = c.loop-index.invariant.got.same
+
+pub returns-clause-all_got : goal.returns-clause-all_got
+returns-clause-all_got g c heard =
+    all_changed c.args.self.now.listeners.items c.loop-index.self.listeners.items (λ b. (goal.Listener-dyn g (b.vtable, b.value)).got b.value) (λ (old : List Event). old ++ c.args.event ∷ []) heard
+      (changed_all _ _ c.loop-index.index c.args.self.now.listeners.items c.loop-index.self.listeners.items (grind (arith, common_steps)) c.loop-index.invariant.got)
+
+pub returns-clause-all_room : goal.returns-clause-all_room
+returns-clause-all_room g c n =
+    all_with_room c.args.self.now.listeners.items c.loop-index.self.listeners.items (λ b. (goal.Listener-dyn g (b.vtable, b.value)).room b.value) n
+      (changed_all _ _ c.loop-index.index c.args.self.now.listeners.items c.loop-index.self.listeners.items (grind (arith, common_steps)) c.loop-index.invariant.room)
