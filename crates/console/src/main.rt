@@ -16,6 +16,8 @@ mod replay;
 mod replay_tests;
 mod request;
 mod run;
+#[cfg(test)]
+mod selection_tests;
 mod values;
 mod words;
 

@@ -30,10 +30,10 @@ w1 plan finished
 
 /// Takes so many bytes, a few at a time, and then fails.
 #[derive(Drop)]
-struct Failing {
-    taken: Vec<u8>,
-    room: usize,
-    step: usize,
+pub(crate) struct Failing {
+    pub(crate) taken: Vec<u8>,
+    pub(crate) room: usize,
+    pub(crate) step: usize,
 }
 
 impl Write for Failing {
@@ -99,7 +99,7 @@ fn a_reader_that_fails_ends_the_reading(rt: HostRuntime) -> Result<(), Fail> {
     Ok(())
 }
 
-fn words_of(alloc: Global, line: &str) -> Result<Vec<String>, AllocError> {
+pub(crate) fn words_of(alloc: Global, line: &str) -> Result<Vec<String>, AllocError> {
     let mut words = Vec::new(alloc);
     for word in line.split(' ') {
         words.push(String::from_str(alloc, word)?)?;
@@ -108,11 +108,16 @@ fn words_of(alloc: Global, line: &str) -> Result<Vec<String>, AllocError> {
 }
 
 #[test]
-fn words_of_the_two_details_are_read(rt: HostRuntime) -> Result<(), Fail> {
+fn words_of_the_details_are_read(rt: HostRuntime) -> Result<(), Fail> {
     let lines = [
+        ("console", Details::Tree),
         ("console --details none", Details::None),
+        ("console --details summary", Details::Summary),
+        ("console --details tree", Details::Tree),
         ("console --details testfeed", Details::Testfeed),
         ("any/path --details=testfeed", Details::Testfeed),
+        // the first word is the program's name
+        ("--details", Details::Tree),
     ];
     for (line, details) in lines {
         let words = words_of(rt.alloc(), line)?;
@@ -127,7 +132,6 @@ fn words_of_the_two_details_are_read(rt: HostRuntime) -> Result<(), Fail> {
 #[test]
 fn other_words_are_refused(rt: HostRuntime) -> Result<(), Fail> {
     let lines = [
-        "console",
         "console --details",
         "console --details=",
         "console --details flat",
@@ -140,6 +144,14 @@ fn other_words_are_refused(rt: HostRuntime) -> Result<(), Fail> {
         "console --help",
         "console --version",
         "--details none",
+        "console --details-theme colour",
+        "console --details-theme ascii --details-theme ascii",
+        "console --fail-if-no-tests --fail-if-no-tests",
+        "console --fail-if-no-tests=true",
+        "console --select-class",
+        "console --include-tag -x",
+        "console --replay d:read --replay d:read",
+        "console help",
     ];
     for line in lines {
         let words = words_of(rt.alloc(), line)?;
@@ -154,7 +166,7 @@ fn other_words_are_refused(rt: HostRuntime) -> Result<(), Fail> {
 }
 
 /// What the program answers and writes for these words and this input.
-fn run(
+pub(crate) fn run(
     rt: &HostRuntime,
     line: &str,
     mut input: &[u8],
@@ -286,7 +298,6 @@ fn a_bad_step_is_refused_at_its_number(rt: HostRuntime) -> Result<(), Fail> {
     let lines = [
         ("console --details none --replay x", "error 104 at 1"),
         ("console --details flat --replay x", "error 105"),
-        ("console --replay d:read", "error 105"),
         (
             "console --details none --replay d:read --replay x",
             "error 105",
@@ -312,8 +323,8 @@ fn a_failure_of_a_node_is_status_1(rt: HostRuntime) {
         event_of(EventKind::Finished, 2, Some(Status::Aborted)),
         event_of(EventKind::Finished, 0, Some(Status::Failed)),
     ];
-    assert_eq!(rt; status_of(failing.as_slice()), 1);
-    assert_eq!(rt; status_of(passing.as_slice()), 0);
+    assert_eq!(rt; status_of(false, 2, failing.as_slice()), 1);
+    assert_eq!(rt; status_of(false, 2, passing.as_slice()), 0);
 }
 
 #[test]
