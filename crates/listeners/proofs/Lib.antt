@@ -3,3 +3,4 @@ pub mod Counting
 pub mod Hearing
 pub mod Marking
 pub mod Printing
+pub mod Skipping
