@@ -5,7 +5,6 @@ use Rattle.std.proofs.Math.Seq.{map-set_same}
 use Rattle.std.proofs.lemmas.List.{length-map, length-set, map-set, get_or-map, get_or-drop, get_or-append_right, length-take-le, take_all, append-nil, map-id}
 use Rattle.std.proofs.lemmas.List.Edits.{map_over_more}
 use Rattle.std.proofs.lemmas.List.Elements.{AllWithin-more_set, All-more, All-same}
-use Rattle.plan_events.specs.declared.event.Event.{Event}
 
 -- m of each of the first i is changed by f, and of the others as it was
 pub record AreChanged {L X : Type 0} (m : L → X) (f : X → X) (i : ℕ) (old items : List L) : Type 0 where

@@ -8,4 +8,5 @@ pub mod Retelling
 pub mod SameTold
 pub mod Sending
 pub mod Siblings
+pub mod Skipping
 pub mod ToldMore

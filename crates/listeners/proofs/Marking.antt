@@ -1,11 +1,11 @@
 -- How marks come with one more event, and places with one more node.
 use Rattle.std.proofs.Common.{◌≡◌, ◌≢◌, ℕ, zero, suc, ◌+◌, ◌<◌, ◌≤◌, ◌==◌, ◌||◌, ◌&&◌, Bool, true, false, cond, List, [], ◌∷◌, ◌++◌, length, map, set, get_or, replicate, Option, inl, inr, refl, sym, ap, ◌∙◌, arith, get_or-set_other, length-set}
-use Rattle.std.specs.List.{list_any, range_with_len}
+use Rattle.std.specs.List.{range_with_len}
 use Rattle.std.proofs.lemmas.Bool.{eq-eqb, ne_eqb, cases_eq}
 use Rattle.std.proofs.lemmas.Grind.{get_or-set_at}
-use Rattle.std.proofs.lemmas.List.{same_lists, get_or_default}
+use Rattle.std.proofs.lemmas.List.{same_lists}
 use Rattle.std.proofs.lemmas.List.Folds.{list_any-append}
-use Rattle.std.proofs.lemmas.List.FromFn.{length-map-range_with_len, get_or-map-range_with_len}
+use Rattle.std.proofs.lemmas.List.FromFn.{length-map-range_with_len, get_or-map-range_with_len, map-range_with_len_more}
 use Rattle.descriptor.specs.Nodes.{Nodes, IsTree, size, parent_of}
 use Rattle.plan_events.specs.declared.event.Event.{Event}
 use Rattle.plan_events.specs.declared.event.EventKind.{EventKind}
@@ -58,7 +58,7 @@ module _ (events : List Event) (e : Event) where
 pub marks_len : (nodes : ℕ) (events : List Event) → length (marks_of nodes events) ≡ nodes
 marks_len nodes events = length-map-range_with_len (marks_at events) 0 nodes
 
-marks_get : (nodes : ℕ) (events : List Event) (n : ℕ) (d : Marks) → n < nodes → get_or (marks_of nodes events) n d ≡ marks_at events n
+pub marks_get : (nodes : ℕ) (events : List Event) (n : ℕ) (d : Marks) → n < nodes → get_or (marks_of nodes events) n d ≡ marks_at events n
 marks_get nodes events n d lt = get_or-map-range_with_len (marks_at events) 0 nodes n n d lt (omega arith)
 
 -- one more event of a node with a place marks it
@@ -81,11 +81,17 @@ marks_past nodes events e old past so =
     let within : k < nodes = omega (arith, marks_len nodes events, lt) in
     marks_get nodes events k d within ∙ sym (marks_other events e k (λ q. omega (arith, q, within, past))) ∙ sym (marks_get nodes (events ++ e ∷ []) k d within))
 
+-- one more place
+pub places_more : (t : Nodes) (n : ℕ) (was now : List Place) (place : Place) → was ≡ map (place_of t) (range_with_len 0 n) → place ≡ place_of t n → now ≡ was ++ place ∷ [] → now ≡ map (place_of t) (range_with_len 0 (n + 1))
+places_more t n was now place before here grown =
+    grown ∙ ap (λ (ps : List Place). ps ++ place ∷ []) before ∙ ap (λ (p : Place). map (place_of t) (range_with_len 0 n) ++ p ∷ []) here
+    ∙ sym (map-range_with_len_more (place_of t) 0 n n (omega arith))
+
 module _ (t : Nodes) (tree : IsTree t) where
-  places_len : length (outline_of t) ≡ size t
+  pub places_len : length (outline_of t) ≡ size t
   places_len = length-map-range_with_len (place_of t) 0 (size t)
 
-  parent_kept : (n : ℕ) → 0 < n → (place_of t n).parent ≡ parent_of t n
+  pub parent_kept : (n : ℕ) → 0 < n → (place_of t n).parent ≡ parent_of t n
   parent_kept zero above = absurd (omega (arith, above))
   parent_kept (suc n) above = ap (λ (b : Bool). cond b 0 (parent_of t (suc n))) (ne_eqb (suc n) 0 (λ q. omega (arith, q)))
 

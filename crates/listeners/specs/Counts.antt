@@ -1,11 +1,11 @@
 -- How many containers and tests a plan has, and what became of them.
-use Rattle.std.specs.Prelude.{ℕ, zero, suc, ◌+◌, ◌<◌, ◌≤◌, ◌==◌, ◌&&◌, ◌||◌, nat_lt, Bool, true, false, cond, List, [], ◌∷◌, ◌++◌, length, map, Option, Some, None, slice_index_or}
+use Rattle.std.specs.Prelude.{◌≡◌, ◌↔◌, ◌⊎◌, ℕ, zero, suc, ◌+◌, ◌<◌, ◌≤◌, ◌==◌, ◌&&◌, ◌||◌, nat_lt, Bool, true, false, cond, List, [], ◌∷◌, ◌++◌, length, map, Option, Some, slice_index_or}
 use Rattle.std.specs.List.{list_any, range_with_len}
 use Rattle.descriptor.specs.declared.kind.Kind.{Kind}
 use Rattle.descriptor.specs.declared.kind.Kind.TheVariants.{Container, Test, ContainerAndTest}
-use Rattle.descriptor.specs.Nodes.{Nodes, size, parent_of, kind_of, bit, count_below}
+use Rattle.descriptor.specs.Nodes.{Nodes, Below, size, parent_of, kind_of, bit, count_below}
 use Rattle.plan_events.specs.declared.event.EventKind.{EventKind}
-use Rattle.plan_events.specs.declared.event.EventKind.TheVariants.{Started, Finished, Skipped, Registered}
+use Rattle.plan_events.specs.declared.event.EventKind.TheVariants.{Started, Finished, Skipped}
 use Rattle.plan_events.specs.declared.event.Event.{Event}
 use Rattle.plan_events.specs.declared.status.Status.{Status}
 use Rattle.plan_events.specs.declared.status.Status.TheVariants.{Successful, Aborted, Failed}
@@ -101,6 +101,15 @@ is_lost_within outline marks (suc k) (suc n) = (marks_in marks (suc n)).skipped 
 -- whether node n was skipped, or a node that it is below; as a parent has a smaller number, n steps are enough
 abbrev pub is_lost : List Place → List Marks → ℕ → Bool
 is_lost outline marks n = is_lost_within outline marks n n
+
+-- node n was skipped, or a node that it is below
+abbrev pub WasSkipped : Nodes → List Event → ℕ → Type 0
+WasSkipped t events n = (a : ℕ) × ((a ≡ n) ⊎ Below t a n) × (stands (λ kind _. is_skip kind) a events ≡ true)
+
+-- the nodes of a tree that are lost are those that were skipped and all below them
+abbrev pub SkipsReachBelow : Nodes → List Event → Type 0
+SkipsReachBelow t events =
+    (n : ℕ) → n < size t → (is_lost (outline_of t) (marks_of (length (outline_of t)) events) n ≡ true) ↔ WasSkipped t events n
 
 -- whether a node of this kind counts as a container; one that is both counts
 abbrev pub is_container : Kind → Bool

@@ -1,8 +1,9 @@
 //! What is kept of a plan to count its nodes.
 
-ghost use Rattle.std.specs.Prelude.{◌≡◌, ◌<◌, ◌≤◌, length, IfOk};
+ghost use Rattle.std.specs.Prelude.{◌≡◌, ◌<◌, ◌≤◌, List, length, IfOk};
 ghost use Rattle.descriptor.specs.Nodes.{size};
-ghost use Rattle.listeners.specs.Counts.{place_of, outline_of, FollowParents};
+ghost use Rattle.plan_events.specs.declared.event.Event.{Event};
+ghost use Rattle.listeners.specs.Counts.{place_of, outline_of, FollowParents, SkipsReachBelow};
 
 use descriptor::{Kind, NodeId, Tree};
 use resource_locks::Plan;
@@ -32,6 +33,7 @@ pub(crate) fn outline_of(alloc: Global, plan: &Plan) -> Result<Vec<Place>, Alloc
     ensures places { IfOk result (λ outline. outline.items ≡ outline_of plan.now.tree) }
     ensures parents { IfOk result (λ outline. FollowParents outline.items) }
     ensures few { IfOk result (λ outline. length outline.items ≤ 4096) }
+    ensures skips { IfOk result (λ _. (events : List Event) → SkipsReachBelow plan.now.tree events) }
 {
     let tree = plan.tree();
     let mut outline = Vec::new(alloc);

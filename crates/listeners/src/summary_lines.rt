@@ -2,7 +2,7 @@
 
 ghost use Rattle.std.specs.Prelude.{◌≡◌, ◌++◌, codes, IfOk, OnOk, string_bytes};
 ghost use Rattle.plan_events.specs.declared.event.Event.{Event};
-ghost use Rattle.listeners.specs.Counts.{six, counts_of};
+ghost use Rattle.listeners.specs.Counts.{six, counts_of, SkipsReachBelow};
 ghost use Rattle.listeners.specs.SummaryTexts.{bracketed, count_lines, phrases_of, summary_of};
 
 use crate::counts::{SortCounts, count};
@@ -48,7 +48,8 @@ fn push_tests(text: &mut String, counts: SortCounts) -> Result<(), AllocError>
 
 /// A heading, and twelve lines with the counts of these events on the plan.
 pub fn summary_text(alloc: Global, plan: &Plan, events: &[Event]) -> Result<String, AllocError>
-    ensures { IfOk result (λ text. string_bytes text ≡ summary_of (counts_of plan.now events.now)) }
+    ensures text { IfOk result (λ text. string_bytes text ≡ summary_of (counts_of plan.now events.now)) }
+    ensures skipped { IfOk result (λ _. SkipsReachBelow plan.now.tree events.now) }
 {
     let outline = outline_of(alloc, plan)?;
     let marks = marks_of(alloc, outline.len(), events)?;

@@ -1,5 +1,5 @@
 -- The counts of one node more.
-use Rattle.std.proofs.Common.{◌≡◌, ◌<◌, ◌≤◌, length, refl, arith, rules}
+use Rattle.std.proofs.Common.{arith}
 use Rattle.std.proofs.lemmas.Grind.{common_steps}
 use Rattle.listeners.specs.Counts.{is_container, is_test}
 use Rattle.listeners.proofs.Counting.{counts_small, counts_more}

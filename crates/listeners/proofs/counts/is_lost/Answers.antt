@@ -1,5 +1,5 @@
 -- The search goes on at the parent.
-use Rattle.std.proofs.Common.{◌≡◌, ◌<◌, length, false, refl, arith, rules}
+use Rattle.std.proofs.Common.{◌≡◌, false, arith, rules}
 use Rattle.std.proofs.lemmas.Grind.{common_steps}
 use Rattle.listeners.specs.Counts.{marks_in}
 use Rattle.listeners.proofs.Counting.{lost_on}

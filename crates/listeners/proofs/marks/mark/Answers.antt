@@ -1,5 +1,5 @@
 -- The event's node is marked, where there is one.
-use Rattle.std.proofs.Common.{◌≡◌, ◌<◌, ◌≤◌, length, refl, arith}
+use Rattle.std.proofs.Common.{length, refl, arith}
 use Rattle.std.proofs.lemmas.Grind.{common_steps}
 use Rattle.listeners.proofs.Marking.{marks_more, marks_past}
 use Rattle.listeners.proofs.marks.mark.Goals as goal

@@ -1,5 +1,5 @@
 -- At first nothing is marked.
-use Rattle.std.proofs.Common.{◌≡◌, ◌∙◌, sym, length, refl, arith}
+use Rattle.std.proofs.Common.{◌∙◌, sym, arith}
 use Rattle.std.proofs.lemmas.Grind.{common_steps}
 use Rattle.listeners.proofs.Marking.{none_marked}
 use Rattle.listeners.proofs.marks.marks_of.Goals as goal

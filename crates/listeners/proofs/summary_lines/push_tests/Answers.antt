@@ -1,5 +1,5 @@
 -- Six lines, one after the other.
-use Rattle.std.proofs.Common.{◌≡◌, codes, string_bytes}
+use Rattle.std.proofs.Common.{codes, string_bytes}
 use Rattle.listeners.specs.SummaryTexts.{bracketed}
 use Rattle.listeners.proofs.Printing.{six_behind}
 use Rattle.listeners.proofs.summary_lines.push_tests.Goals as goal

@@ -1,8 +1,7 @@
 -- The marks are those of the events, so the counts are too, and their lines stand behind the heading.
-use Rattle.std.proofs.Common.{◌≡◌, ◌∙◌, ◌++◌, List, refl, sym, ap, length, codes, string_bytes, arith}
+use Rattle.std.proofs.Common.{◌≡◌, ◌∙◌, ◌++◌, List, refl, ap, length, codes, string_bytes, arith}
 use Rattle.std.proofs.lemmas.Grind.{common_steps}
 use Rattle.listeners.specs.declared.outline.Place.{Place}
-use Rattle.listeners.specs.declared.marks.Marks.{Marks}
 use Rattle.listeners.specs.Counts.{six, marks_of, counts_on}
 use Rattle.listeners.specs.SummaryTexts.{phrases_of, summary_of}
 use Rattle.listeners.proofs.Counting.{twelve_are}
@@ -15,8 +14,8 @@ count-counts-requires-clause-marks c =
     let len : c.len.result ≡ length c.in_ok-outline.outline.items = grind (arith, common_steps) in
     rw (c.as_slice-2.ensures.value, c.as_slice.ensures.value) (same_len c.in_ok-outline.outline.items c.in_ok-marks.marks.items c.args.events.now (c.in_ok-marks.ensures ∙ ap (λ n. marks_of n c.args.events.now) len))
 
-pub returns : goal.returns
-returns c =
+pub returns-clause-text : goal.returns-clause-text
+returns-clause-text c =
     let len : c.len.result ≡ length c.in_ok-outline.outline.items = grind (arith, common_steps) in
     let containers = c.count-counts.result.containers in
     let tests = c.count-counts.result.tests in

@@ -1,5 +1,5 @@
 -- One more was told nothing; in the end none was told anything.
-use Rattle.std.proofs.Common.{◌≡◌, ◌<◌, ◌≤◌, [], length, refl, rules, arith}
+use Rattle.std.proofs.Common.{◌≡◌, [], refl, rules, arith}
 use Rattle.std.proofs.lemmas.Grind.{common_steps}
 use Rattle.listeners.proofs.Hearing.{all_more, all_of}
 use Rattle.listeners.proofs.audience.Audience.fresh.Goals as goal

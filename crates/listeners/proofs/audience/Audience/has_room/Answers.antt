@@ -1,5 +1,5 @@
 -- One more has room; in the end all have.
-use Rattle.std.proofs.Common.{◌≡◌, ◌<◌, ◌≤◌, length, refl, rules, arith}
+use Rattle.std.proofs.Common.{◌≤◌, refl, rules, arith}
 use Rattle.std.proofs.lemmas.Grind.{common_steps}
 use Rattle.listeners.proofs.Hearing.{all_more, all_of}
 use Rattle.listeners.proofs.audience.Audience.has_room.Goals as goal

@@ -1,7 +1,6 @@
 -- The next listener has what it was told, and room.
-use Rattle.std.proofs.Common.{◌≡◌, ◌<◌, ◌≤◌, length, refl, rules, arith}
+use Rattle.std.proofs.Common.{arith}
 use Rattle.std.proofs.lemmas.Grind.{common_steps}
-use Rattle.resource_locks.specs.Plans.{most_events}
 use Rattle.listeners.proofs.Hearing.{ready_same, ready_more, all_kept, kept_len}
 use Rattle.listeners.proofs.audience.Audience.prepare.Goals as goal
 

@@ -1,5 +1,5 @@
 -- The next listener has room, as it had at first, and is told.
-use Rattle.std.proofs.Common.{◌≡◌, ◌<◌, ◌≤◌, ◌-◌, ◌++◌, ◌∷◌, [], List, length, refl, rules, arith}
+use Rattle.std.proofs.Common.{◌-◌, ◌++◌, ◌∷◌, [], List, arith}
 use Rattle.std.proofs.lemmas.Grind.{common_steps}
 use Rattle.plan_events.specs.declared.event.Event.{Event}
 use Rattle.listeners.proofs.Hearing.{next_has_room, changed_more, changed_all, all_changed, all_with_room}
@@ -21,9 +21,9 @@ returns-clause-len g c = c.loop-index.invariant.got.same
 pub returns-clause-all_got : goal.returns-clause-all_got
 returns-clause-all_got g c heard =
     all_changed c.args.self.now.listeners.items c.loop-index.self.listeners.items (λ b. (goal.Listener-dyn g (b.vtable, b.value)).got b.value) (λ (old : List Event). old ++ c.args.event ∷ []) heard
-      (changed_all _ _ c.loop-index.index c.args.self.now.listeners.items c.loop-index.self.listeners.items (grind (arith, common_steps)) c.loop-index.invariant.got)
+    (changed_all _ _ c.loop-index.index c.args.self.now.listeners.items c.loop-index.self.listeners.items (grind (arith, common_steps)) c.loop-index.invariant.got)
 
 pub returns-clause-all_room : goal.returns-clause-all_room
 returns-clause-all_room g c n =
     all_with_room c.args.self.now.listeners.items c.loop-index.self.listeners.items (λ b. (goal.Listener-dyn g (b.vtable, b.value)).room b.value) n
-      (changed_all _ _ c.loop-index.index c.args.self.now.listeners.items c.loop-index.self.listeners.items (grind (arith, common_steps)) c.loop-index.invariant.room)
+    (changed_all _ _ c.loop-index.index c.args.self.now.listeners.items c.loop-index.self.listeners.items (grind (arith, common_steps)) c.loop-index.invariant.room)

@@ -1,5 +1,5 @@
 -- The marks are those of what it was told, so the counts are too.
-use Rattle.std.proofs.Common.{◌≡◌, ◌∙◌, sym, ap, length}
+use Rattle.std.proofs.Common.{◌∙◌, ap}
 use Rattle.listeners.specs.Summaries.{SummaryParts}
 use Rattle.listeners.specs.Counts.{counts_on}
 use Rattle.listeners.proofs.Counting.{twelve_are}
