@@ -1,5 +1,5 @@
 -- The attributes of a line, which stand before its verdict: `#TAG`, and on a test `spin=N`.
-use Rattle.std.specs.Prelude.{ℕ, ◌==◌, List, [], ◌∷◌, Bool, if◌then◌else◌, Option, Some, None, Result, Ok, Err}
+use Rattle.std.specs.Prelude.{ℕ, List, [], ◌∷◌, Bool, if◌then◌else◌, Option, Some, None, Result, Ok, Err}
 use Rattle.std.specs.List.{after_first}
 use Rattle.std.specs.Option.{is_some, option_map_or}
 use Rattle.std.specs.Str.{trim}
@@ -13,15 +13,12 @@ use Rattle.suite_text.specs.declared.suite_fault.SuiteFault.{SuiteFault}
 use Rattle.suite_text.specs.declared.suite_fault.SuiteFault.TheVariants.{BadLine}
 use Rattle.suite_text.specs.Words.{words_in}
 use Rattle.suite_text.specs.SuiteFaults.{◌>>=◌}
-use Rattle.suite_text.specs.SuiteLines.{begins_with_sign, after_word}
+use Rattle.suite_text.specs.SuiteLines.{is_number_sign, begins_with_sign, after_word}
 use Rattle.suite_text.specs.SuiteSpins.{key_of, value_of, is_spin, spin_of}
-
-abbrev pub is_sign : ℕ → Bool
-is_sign byte = byte == 35
 
 -- what follows the first number sign of a word
 abbrev pub after_sign : List ℕ → List ℕ
-after_sign text = after_first is_sign text
+after_sign text = after_first is_number_sign text
 
 -- the attribute that a word of a line is, if it is one that a node of this word may have
 abbrev pub attribute_of : Word → List ℕ → Option Attribute

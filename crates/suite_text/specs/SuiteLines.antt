@@ -34,10 +34,13 @@ text_after_word text = without_end (without_front (after_word text))
 abbrev pub indentation_of : List ℕ → ℕ
 indentation_of line = prefix_len is_space line
 
+abbrev pub is_number_sign : ℕ → Bool
+is_number_sign byte = byte == 35
+
 -- whether the first character is a number sign
 abbrev pub begins_with_sign : List ℕ → Bool
 begins_with_sign [] = false
-begins_with_sign (byte ∷ bytes) = byte == 35
+begins_with_sign (byte ∷ bytes) = is_number_sign byte
 
 -- whether a line is passed over: a comment, or spaces only
 abbrev pub says_nothing : List ℕ → Bool
