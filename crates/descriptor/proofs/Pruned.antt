@@ -1,24 +1,22 @@
 -- The tree of the kept nodes, one node at a time.
-use Rattle.std.proofs.Common.{◌≡◌, ◌≢◌, ℕ, zero, suc, ◌+◌, ◌-◌, ◌<◌, ◌≤◌, ◌&&◌, ◌==◌, Bool, true, false, cond, eqb, ltb, List, [], ◌∷◌, ◌++◌, length, map, get_or, refl, ap, sym, ◌∙◌, arith, inl, inr, ◌⊎◌, subst, Option, Some, None}
+use Rattle.std.proofs.Common.{◌≡◌, ℕ, zero, suc, ◌+◌, ◌-◌, ◌<◌, ◌≤◌, ◌&&◌, Bool, true, false, cond, eqb, ltb, List, [], ◌∷◌, ◌++◌, length, map, get_or, refl, ap, sym, ◌∙◌, arith, inl, inr, subst, Option, Some, None}
 use Rattle.std.specs.Prelude.{slice_get}
 use Rattle.std.specs.List.{filter_map, cons_option}
 use Rattle.std.specs.Str.{bytes_eq}
 use Rattle.std.proofs.lemmas.List.{append-nil, map-append, length-map}
 use Rattle.std.proofs.lemmas.List.Elements.{filter_map-append}
 use Rattle.std.proofs.lemmas.Bool.{ne_eqb}
-use Rattle.std.proofs.lemmas.Option.{same_Some}
 use Rattle.std.proofs.lemmas.Slice.Eq.{bytes_eq-Decides}
 use Rattle.unique_id.specs.Spelling.{spelling}
 use Rattle.descriptor.specs.declared.node.Node.{Node}
-use Rattle.descriptor.specs.Limits.{is_over_limit}
 use Rattle.descriptor.specs.Nodes.{Nodes, IsTree, IsChild, Below, child, under, MayTake, size, parent_of, node_at, text_or, text_of, body_or, body_of, kind_or, is_test_kind, is_test_at, depth_of, steps_up, numbers_where, count_below, appended, plan_alone}
-use Rattle.descriptor.specs.Refusals.{refusal, has_text, has_id, has_body, is_body}
+use Rattle.descriptor.specs.Refusals.{refusal, has_text, has_body, is_body}
 use Rattle.descriptor.specs.Pruned.{is_kept, is_kept_node, new_number, IsClosed, KeepsNodes, tree_of, pruned_below, pruned}
 use Rattle.descriptor.proofs.Accepted.{get_early, none_holds, tree_grown}
 use Rattle.descriptor.proofs.Between.{between}
 use Rattle.descriptor.proofs.Children.{counted}
-use Rattle.descriptor.proofs.Counts.{cases_bool, above_zero, count_pass, count_fail, count_most, count_grows, count_increases, count_last, count_reached, count_without_first}
-use Rattle.descriptor.proofs.Grown.{steps_enough, get_before, get_last, below_or_last, length_more}
+use Rattle.descriptor.proofs.Counts.{cases_bool, above_zero, count_most, count_increases, count_last, count_reached, count_without_first}
+use Rattle.descriptor.proofs.Grown.{steps_enough, get_before, get_last, below_or_last}
 use Rattle.descriptor.proofs.Sets.{has_text_grown, has_body_grown}
 
 nodes_same : (p q : List ℕ) (m n : List Node) → p ≡ q → m ≡ n → (let left : Nodes = record { parents = p; nodes = m } in let right : Nodes = record { parents = q; nodes = n } in left ≡ right)

@@ -1,11 +1,10 @@
 -- One turn of pruning: the next node is copied if it is kept, and has its new number.
-use Rattle.std.proofs.Common.{◌≡◌, ℕ, zero, suc, ◌+◌, ◌<◌, ◌≤◌, Bool, true, false, List, [], ◌∷◌, ◌++◌, length, get_or, refl, ap, sym, ◌∙◌, arith, inl, inr, subst, Some, None}
+use Rattle.std.proofs.Common.{◌≡◌, ℕ, zero, suc, ◌+◌, ◌<◌, ◌≤◌, Bool, true, false, List, [], ◌∷◌, ◌++◌, length, get_or, ap, sym, ◌∙◌, arith, inl, inr, subst, Some, None}
 use Rattle.std.specs.Prelude.{slice_get}
 use Rattle.descriptor.specs.declared.node.Node.{Node}
-use Rattle.descriptor.specs.Children.{ListsChildren}
 use Rattle.descriptor.specs.Nodes.{Nodes, IsTree, MayTake, size, parent_of, node_at, appended}
 use Rattle.descriptor.specs.Refusals.{refusal}
-use Rattle.descriptor.specs.Pruned.{is_kept, new_number, IsClosed, KeepsNodes, pruned_below, pruned}
+use Rattle.descriptor.specs.Pruned.{is_kept, new_number, IsClosed, KeepsNodes, pruned_below}
 use Rattle.descriptor.proofs.Grown.{get_before, get_last, below_or_last}
 use Rattle.descriptor.proofs.Pruned.{size_is, step_kept, step_left, may_take, no_refusal, upto_all, keeps_nodes}
 

@@ -1,5 +1,5 @@
 -- The tree of some nodes of another: which nodes may be kept, and what the tree of them is.
-use Rattle.std.specs.Prelude.{◌≡◌, ℕ, ◌<◌, ◌&&◌, nat_lt, Bool, true, false, List, [], ◌∷◌, map, slice_index_or}
+use Rattle.std.specs.Prelude.{◌≡◌, ℕ, ◌<◌, ◌&&◌, nat_lt, Bool, true, false, List, ◌∷◌, map, slice_index_or}
 use Rattle.std.specs.List.{filter_map}
 use Rattle.descriptor.specs.Nodes.{Nodes, size, parent_of, node_at, depth_of, count_below, numbers_where}
 

@@ -4,7 +4,7 @@ use crate::{BodyId, Kind, Node, NodeId, Tree, TreeBuilder, TreeFault};
 use std::alloc::Global;
 use std::process::Abort;
 use std::test::Fail;
-use tag_expr::TagSet;
+use tag_expr::{TagSet, tag_of};
 use unique_id::{Text, UniqueId};
 
 /// A node whose unique id has the one segment `[d:VALUE]`.
@@ -144,6 +144,67 @@ fn tells_what_it_was_given(rt: HostRuntime) -> Result<(), Fail> {
 }
 
 #[test]
+fn keeps_some_nodes(rt: HostRuntime) -> Result<(), Fail> {
+    let tree = small_tree(&rt, rt.alloc())?;
+    assert_eq!(rt; tree.len(), 6);
+    let keep = [true, true, false, true, true, false];
+    assert!(rt; tree.is_closed(keep.as_slice()));
+    let pruned = tree.pruned(rt.alloc(), keep.as_slice())?;
+    assert_eq!(rt; pruned.len(), 4);
+    let wants = [
+        ("[d:class]", 0, None, 1),
+        ("[d:factory]", 1, Some(BodyId::new(3)), 1),
+        ("[d:made]", 2, None, 0),
+    ];
+    for (place, (id, parent, body, children)) in wants.iter().enumerate() {
+        assert!(rt; place < 3);
+        let number = NodeId::new(place as u16 + 1);
+        assert_eq!(rt; pruned.node(number).id.text(), *id);
+        assert_eq!(rt;
+            pruned.parent(number),
+            Some(NodeId::new(*parent)),
+            "of {id}"
+        );
+        assert_eq!(rt; pruned.body(number), *body, "of {id}");
+        assert_eq!(rt; pruned.children(number).len(), *children, "of {id}");
+    }
+    Ok(())
+}
+
+#[test]
+fn keeps_no_node_without_its_parent(rt: HostRuntime) -> Result<(), Fail> {
+    let tree = small_tree(&rt, rt.alloc())?;
+    assert_eq!(rt; tree.len(), 6);
+    let alone = [true, false, false, false, false, false];
+    assert!(rt; tree.is_closed(alone.as_slice()));
+    assert_eq!(rt; tree.pruned(rt.alloc(), alone.as_slice())?.len(), 1);
+    let orphan = [true, true, false, false, true, false];
+    assert!(rt; !tree.is_closed(orphan.as_slice()));
+    let none = [false, false, false, false, false, false];
+    assert!(rt; !tree.is_closed(none.as_slice()));
+    Ok(())
+}
+
+#[test]
+fn copies_nodes(rt: HostRuntime) -> Result<(), Fail> {
+    let alloc = rt.alloc();
+    let mut node = disabled(alloc, "test", "")?;
+    node.tags.add(tag_of(alloc, "slow")?)?;
+    let copy = node.copy(alloc)?;
+    assert_eq!(rt; copy.id.text(), "[d:test]");
+    let reason = copy.disabled.as_ref().map(Text::as_str);
+    assert_eq!(rt; reason, Some(""));
+    let mut builder = TreeBuilder::new(alloc)?;
+    add(&rt, alloc, &mut builder, NodeId::ROOT, copy)?;
+    let tree = builder.finish();
+    assert_eq!(rt; tree.len(), 2);
+    assert!(rt; tree.tags(NodeId::ROOT).is_none());
+    let tags = tree.tags(NodeId::new(1)).ok_or("no tags")?;
+    assert!(rt; tags.contains("slow"));
+    Ok(())
+}
+
+#[test]
 fn takes_4095_nodes(rt: HostRuntime) -> Result<(), Fail> {
     let alloc = rt.alloc();
     let mut builder = TreeBuilder::new(alloc)?;
@@ -162,7 +223,11 @@ fn takes_4095_nodes(rt: HostRuntime) -> Result<(), Fail> {
             Err(TreeFault::TooMany)
         );
     }
-    assert_eq!(rt; builder.finish().len(), 4096);
+    let tree = builder.finish();
+    assert_eq!(rt; tree.len(), 4096);
+    let keep = vec![in alloc; true; 4096]?;
+    assert!(rt; tree.is_closed(keep.as_slice()));
+    assert_eq!(rt; tree.pruned(alloc, keep.as_slice())?.len(), 4096);
     Ok(())
 }
 

@@ -149,6 +149,20 @@ impl Tree {
         false
     }
 
+    /// Whether a tree of the nodes that are kept can be made: the plan is kept, and so is the
+    /// parent of each kept node.
+    pub fn is_closed(&self, keep: &[bool]) -> bool
+        requires { length keep.now ≡ size self.now }
+        ensures { IsTrue result ↔ IsClosed self.now keep.now }
+    {
+        for node in 1..self.len() {
+            if keep[node] && !keep[self.parents[node].index()] {
+                return false;
+            }
+        }
+        keep[0]
+    }
+
     /// The tree of the nodes that are kept, numbered anew, with copies of what was told of them.
     pub fn pruned(&self, alloc: Global, keep: &[bool]) -> Result<Tree, AllocError>
         requires one_each { length keep.now ≡ size self.now }

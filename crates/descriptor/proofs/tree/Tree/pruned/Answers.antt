@@ -1,8 +1,8 @@
 -- Each turn adds the next kept node, and at the end all of them are there.
-use Rattle.std.proofs.Common.{◌≡◌, ℕ, ◌<◌, ◌≤◌, ◌-◌, true, false, ◌∙◌, arith, get_or, List, Some}
+use Rattle.std.proofs.Common.{◌≡◌, ◌<◌, ◌-◌, ◌∙◌, arith, get_or, Some}
 use Rattle.std.proofs.lemmas.Grind.{common_steps}
 use Rattle.descriptor.specs.Nodes.{size, parent_of, node_at}
-use Rattle.descriptor.specs.Pruned.{is_kept, new_number}
+use Rattle.descriptor.specs.Pruned.{new_number}
 use Rattle.descriptor.proofs.Children.{lists_children}
 use Rattle.descriptor.proofs.Pruning.{next_number, told_at, taken, not_refused, tree_after, tree_left, numbers_more, kept_at_end, tree_at_end}
 use Rattle.descriptor.proofs.tree.Tree.pruned.Goals.{then-keep-node+in_ok-copy+in_ok-push-2, else-keep-node}
