@@ -1,8 +1,8 @@
 -- The first token of what is left of a text, and the others.
-use Rattle.std.proofs.Common.{◌≡◌, ℕ, zero, suc, ◌+◌, ◌-◌, ◌≤◌, ◌<◌, ◌==◌, ◌++◌, ◌∷◌, [], ◌∙◌, List, Bool, true, false, cond, if◌then◌else◌, length, take, drop, refl, sym, ap, arith}
+use Rattle.std.proofs.Common.{◌≡◌, ℕ, zero, suc, ◌+◌, ◌-◌, ◌≤◌, ◌<◌, ◌==◌, ◌∷◌, [], ◌∙◌, List, Bool, true, false, cond, if◌then◌else◌, length, take, drop, refl, sym, ap, arith}
 use Rattle.std.specs.Prelude.{encode_utf8_all, ◌||◌, ◌&&◌, not, codes, Option, Some, None}
 use Rattle.std.specs.Char.{is_whitespace, len_utf8}
-use Rattle.std.specs.Str.{chars, bytes_eq, IsUtf8, skip_leading_whitespace}
+use Rattle.std.specs.Str.{chars, bytes_eq, skip_leading_whitespace}
 use Rattle.std.proofs.lemmas.Str.{chars-nil, chars-encodes, encodes-chars, scalars-chars, len_utf8_bounds}
 use Rattle.tag_expr.specs.Tags.{is_sign}
 use Rattle.tag_expr.specs.Tokens.{Token, left_paren, right_paren, bang, ampersand, bar, any_call, none_call, word, is_word_character, word_len, is_called, word_or_call, token_len, sign_of, sign_or_word, front_token, front_len, tokens_from, placed}

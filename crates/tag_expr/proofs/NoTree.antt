@@ -1,14 +1,14 @@
 -- Tokens that spell an expression have no fault, but that too much is pending.
 use Rattle.std.proofs.Common.{◌≡◌, ◌≢◌, ℕ, ◌+◌, ◌==◌, ◌++◌, ◌∷◌, [], ◌∙◌, List, Bool, true, false, if◌then◌else◌, length, drop, map, refl, sym, ap, append_assoc, append-nil, inl, inr}
-use Rattle.std.specs.Prelude.{◌⊎◌, ◌||◌, Option, Some, None}
+use Rattle.std.specs.Prelude.{◌⊎◌, ◌||◌, Some, None}
 use Rattle.std.specs.List.{list_any}
 use Rattle.std.specs.Str.{chars}
 use Rattle.std.specs.Char.{len_utf8}
 use Rattle.tag_expr.specs.declared.fault.TagFault.{TagFault}
-use Rattle.tag_expr.specs.declared.fault.TagFault.TheVariants.{Empty, ParenClose, TooDeep}
+use Rattle.tag_expr.specs.declared.fault.TagFault.TheVariants.{ParenClose, TooDeep}
 use Rattle.tag_expr.specs.Expressions.{Expression}
 use Rattle.tag_expr.specs.ExpressionFaults.{Pending, negating, opened, operand, operator, settled, at_word, first_fault, fault_of_tokens}
-use Rattle.tag_expr.specs.Grammar.{Phrase, or_phrase, and_phrase, not_phrase, atom_phrase, Spells, one_and, more_or, one_not, more_and, negated, one_atom, a_tag, any_atom, none_atom, group, HasNoTree}
+use Rattle.tag_expr.specs.Grammar.{Phrase, Spells, one_and, more_or, one_not, more_and, negated, one_atom, a_tag, any_atom, none_atom, group, HasNoTree}
 use Rattle.tag_expr.specs.Parsing.{MayPend}
 use Rattle.tag_expr.specs.Tags.{is_bad, first_bad}
 use Rattle.tag_expr.specs.Tokens.{Token, left_paren, right_paren, bang, ampersand, bar, any_call, none_call, word, PlacedToken, placed, token_of}

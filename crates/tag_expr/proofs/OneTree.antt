@@ -1,5 +1,5 @@
 -- Tokens spell one expression at most: a machine that takes them from the left comes to each that they spell.
-use Rattle.std.proofs.Common.{◌≡◌, ℕ, ◌++◌, ◌∷◌, [], ◌∙◌, List, Bool, true, false, refl, sym, ap, append_assoc, append-nil}
+use Rattle.std.proofs.Common.{◌≡◌, ◌++◌, ◌∷◌, [], ◌∙◌, List, refl, sym, ap, append_assoc, append-nil}
 use Rattle.std.specs.Prelude.{Option, Some, None}
 use Rattle.tag_expr.specs.Expressions.{Expression, tag, any_tag, no_tag, negation, conjunction, disjunction}
 use Rattle.tag_expr.specs.Grammar.{Phrase, or_phrase, and_phrase, not_phrase, atom_phrase, Spells, one_and, more_or, one_not, more_and, negated, one_atom, a_tag, any_atom, none_atom, group, IsOnlyTree}

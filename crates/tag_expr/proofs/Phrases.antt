@@ -7,8 +7,8 @@ use Rattle.std.specs.Char.{len_utf8}
 use Rattle.std.proofs.lemmas.Bool.Decides.{nat_tests}
 use Rattle.tag_expr.specs.declared.fault.TagFault.TheVariants.{ParenClose, TooDeep}
 use Rattle.tag_expr.specs.Expressions.{Expression, tag, any_tag, no_tag, negation, conjunction, disjunction}
-use Rattle.tag_expr.specs.ExpressionFaults.{Pending, negating, opened, operand, operator, settled, at_word, first_fault}
-use Rattle.tag_expr.specs.Grammar.{or_phrase, and_phrase, not_phrase, Spells, one_and, more_or, one_not, more_and, negated, one_atom, a_tag, any_atom, none_atom, group}
+use Rattle.tag_expr.specs.ExpressionFaults.{negating, opened, operand, operator, settled, at_word, first_fault}
+use Rattle.tag_expr.specs.Grammar.{or_phrase, and_phrase, not_phrase, one_and, more_or, one_not, more_and, negated, one_atom, a_tag, any_atom, none_atom, group}
 use Rattle.tag_expr.specs.Parsing.{IsRead, Begins}
 use Rattle.tag_expr.specs.Tags.{is_bad, first_bad}
 use Rattle.tag_expr.specs.Tokens.{Token, left_paren, right_paren, bang, ampersand, bar, any_call, none_call, word, PlacedToken, placed, token_of}

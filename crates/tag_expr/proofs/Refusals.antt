@@ -1,5 +1,5 @@
 -- What is refused of a text, and its tokens.
-use Rattle.std.proofs.Common.{◌≡◌, ◌≢◌, ℕ, ◌-◌, ◌≤◌, ◌<◌, ◌++◌, ◌∷◌, [], ◌∙◌, List, Bool, true, false, if◌then◌else◌, length, map, refl, sym, ap, arith, append-nil, subst}
+use Rattle.std.proofs.Common.{◌≡◌, ◌≢◌, ℕ, ◌-◌, ◌≤◌, ◌<◌, ◌++◌, ◌∷◌, [], ◌∙◌, List, Bool, true, false, if◌then◌else◌, length, map, sym, ap, arith, append-nil, subst}
 use Rattle.std.specs.Prelude.{nat_lt, Option, Some, None, IfSome, Result, Ok, Err, IfErr}
 use Rattle.std.specs.Result.{IsErrAnd}
 use Rattle.std.specs.Str.{chars}
@@ -7,11 +7,11 @@ use Rattle.std.proofs.lemmas.Bool.Decides.{nat_tests}
 use Rattle.tag_expr.specs.declared.fault.TagFault.{TagFault}
 use Rattle.tag_expr.specs.declared.fault.TagFault.TheVariants.{TooDeep}
 use Rattle.tag_expr.specs.Expressions.{Expression}
-use Rattle.tag_expr.specs.ExpressionFaults.{Pending, operand, operator, first_fault, fault_of_tokens, expression_refusal}
+use Rattle.tag_expr.specs.ExpressionFaults.{operand, first_fault, fault_of_tokens, expression_refusal}
 use Rattle.tag_expr.specs.Grammar.{or_phrase, Spells, HasNoTree, IsOnlyTree}
 use Rattle.tag_expr.specs.Nodes.{expression_of}
 use Rattle.tag_expr.specs.declared.node.Node.{Node}
-use Rattle.tag_expr.specs.Parsing.{IsRead, IsRefused}
+use Rattle.tag_expr.specs.Parsing.{IsRead}
 use Rattle.tag_expr.specs.Tokens.{Token, PlacedToken, token_of, tokens, tokens_from}
 use Rattle.tag_expr.specs.TokenTexts.{tokens_left}
 use Rattle.tag_expr.proofs.NoTree.{no_tree}

@@ -1,14 +1,12 @@
 -- Tokens of characters, as tokens of what is left of a text.
-use Rattle.std.proofs.Common.{◌≡◌, ◌≢◌, ℕ, zero, suc, ◌+◌, ◌-◌, ◌≤◌, ◌<◌, ◌==◌, ◌++◌, ◌∷◌, [], ◌∙◌, List, Bool, true, false, cond, if◌then◌else◌, length, take, drop, refl, sym, ap, encode_utf8, arith, length-append, drop-drop}
-use Rattle.std.specs.Prelude.{encode_utf8_all, codes, ◌&&◌, ◌||◌, not, Option, Some, None}
+use Rattle.std.proofs.Common.{◌≡◌, ℕ, zero, suc, ◌+◌, ◌-◌, ◌≤◌, ◌==◌, ◌++◌, ◌∷◌, [], ◌∙◌, List, Bool, true, false, cond, if◌then◌else◌, length, take, drop, refl, sym, ap, encode_utf8, arith, length-append, drop-drop}
+use Rattle.std.specs.Prelude.{encode_utf8_all, codes, ◌&&◌, Option, Some, None}
 use Rattle.std.specs.Char.{is_whitespace, len_utf8}
-use Rattle.std.specs.List.{prefix_len}
 use Rattle.std.specs.Str.{chars, bytes_eq, IsUtf8, IsCharBoundary, skip_leading_whitespace, trim_start}
 use Rattle.std.proofs.Math.Seq.{take-append-add, drop-append-add}
-use Rattle.std.proofs.lemmas.Bool.Decides.{nat_tests}
 use Rattle.std.proofs.lemmas.Str.{length-encode, encodes-chars, chars-encodes, scalars-chars, chars_past_char, IsUtf8-past_char, IsCharBoundary-from_drop}
 use Rattle.std.proofs.Math.Utf8.{scalar, scalars}
-use Rattle.tag_expr.specs.Tokens.{is_word_character, word_len, front_token, front_len, tokens_from, placed, PlacedToken, Token, left_paren, right_paren, bang, ampersand, bar, any_call, none_call, word, word_or_call, token_len, sign_of, sign_or_word}
+use Rattle.tag_expr.specs.Tokens.{is_word_character, word_len, front_token, front_len, tokens_from, placed, Token, left_paren, right_paren, bang, ampersand, bar, any_call, none_call, word, word_or_call, token_len, sign_of, sign_or_word}
 use Rattle.tag_expr.specs.TokenTexts.{word_size, tokens_left}
 
 -- the characters that the word has, and its bytes

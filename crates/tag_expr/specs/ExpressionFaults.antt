@@ -4,7 +4,7 @@ use Rattle.std.specs.Str.{chars}
 use Rattle.tag_expr.specs.declared.fault.TagFault.{TagFault}
 use Rattle.tag_expr.specs.declared.fault.TagFault.TheVariants.{Empty, BadTag, OperandMissing, OperatorMissing, ParenOpen, ParenClose, TooDeep}
 use Rattle.tag_expr.specs.Tags.{first_bad}
-use Rattle.tag_expr.specs.Tokens.{Token, left_paren, right_paren, bang, ampersand, bar, any_call, none_call, word, PlacedToken, placed, tokens}
+use Rattle.tag_expr.specs.Tokens.{left_paren, right_paren, bang, ampersand, bar, any_call, none_call, word, PlacedToken, placed, tokens}
 
 -- what must come next
 pub data Awaited : Type 0 where

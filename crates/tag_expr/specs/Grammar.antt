@@ -1,5 +1,5 @@
 -- Which tokens spell which expression.
-use Rattle.std.specs.Prelude.{◌≡◌, ℕ, List, [], ◌∷◌, ◌++◌, Bool, false}
+use Rattle.std.specs.Prelude.{◌≡◌, ℕ, List, [], ◌∷◌, ◌++◌, false}
 use Rattle.std.specs.List.{list_any}
 use Rattle.std.specs.Str.{chars}
 use Rattle.tag_expr.specs.Expressions.{Expression, tag, any_tag, no_tag, negation, conjunction, disjunction}

@@ -1,10 +1,10 @@
 -- What the parts of the parser answer.
-use Rattle.std.specs.Prelude.{◌≡◌, ℕ, List, [], ◌∷◌, ◌++◌, map, length, Bool, true, false, Option, Some, IfSome}
+use Rattle.std.specs.Prelude.{◌≡◌, ℕ, List, ◌∷◌, ◌++◌, map, length, Bool, true, false, Option, Some, IfSome}
 use Rattle.tag_expr.specs.declared.fault.TagFault.{TagFault}
 use Rattle.tag_expr.specs.Expressions.{Expression}
 use Rattle.tag_expr.specs.ExpressionFaults.{Pending, operand, operator, settled, first_fault}
 use Rattle.tag_expr.specs.Grammar.{Phrase, or_phrase, and_phrase, not_phrase, atom_phrase, Spells}
-use Rattle.tag_expr.specs.Tokens.{Token, bar, ampersand, right_paren, PlacedToken, placed, token_of}
+use Rattle.tag_expr.specs.Tokens.{Token, bar, ampersand, PlacedToken, placed, token_of}
 
 -- what may be pending before a phrase: an or and an and stand behind no !
 abbrev pub MayPend : Phrase → List Pending → Type 0

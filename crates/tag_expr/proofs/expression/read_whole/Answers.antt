@@ -1,5 +1,5 @@
 -- The text is judged by its tokens, up to the end of the expression and behind it.
-use Rattle.std.proofs.Common.{◌≡◌, ◌≤◌, ◌∙◌, ◌∷◌, [], refl, ap, length, arith, Some}
+use Rattle.std.proofs.Common.{◌≡◌, ◌≤◌, ◌∙◌, [], refl, ap, length, arith, Some}
 use Rattle.tag_expr.specs.ExpressionFaults.{operator, first_fault, expression_refusal}
 use Rattle.tag_expr.proofs.Refusals.{judged, handed_on}
 use Rattle.tag_expr.proofs.expression.read_whole.Goals as goal

@@ -1,9 +1,7 @@
 -- The two parentheses in characters, as in bytes.
-use Rattle.std.proofs.Common.{◌≡◌, ◌∙◌, ap, sym, lit<}
-use Rattle.std.specs.Prelude.{None, Some, is_some, IfSome, MatchOption}
-use Rattle.std.specs.Str.{chars}
+use Rattle.std.proofs.Common.{◌∙◌, ap, sym, lit<}
+use Rattle.std.specs.Prelude.{None, Some, is_some}
 use Rattle.std.proofs.lemmas.Str.Pattern.{strip_prefix_char}
-use Rattle.tag_expr.specs.Tokens.{is_called}
 use Rattle.tag_expr.proofs.Calls.{called_no_first, called_second}
 use Rattle.tag_expr.proofs.token.after_call.Goals as goal
 

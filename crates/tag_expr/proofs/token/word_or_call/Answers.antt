@@ -1,9 +1,8 @@
 -- The word is cut off behind its last character, and is a call where () follows.
-use Rattle.std.proofs.Common.{◌≡◌, ◌∙◌, ap, sym, true, false, take, drop, arith}
+use Rattle.std.proofs.Common.{◌∙◌, ap, sym, take, drop}
 use Rattle.std.specs.Prelude.{codes, encode_utf8_all}
 use Rattle.std.specs.Str.{chars, bytes_eq}
-use Rattle.std.proofs.lemmas.Grind.{common_steps}
-use Rattle.tag_expr.specs.Tokens.{is_called, word, word_len, word_or_call}
+use Rattle.tag_expr.specs.Tokens.{is_called, word, word_len}
 use Rattle.tag_expr.proofs.TokenTexts.{cut, drop_more, any_found, none_found, word_called, word_alone}
 use Rattle.tag_expr.proofs.token.word_or_call.Goals.{in-Some+else-eq+else-eq-2, in_default}
 use Rattle.tag_expr.proofs.token.word_or_call.Goals as goal

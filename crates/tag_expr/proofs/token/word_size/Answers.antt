@@ -1,11 +1,9 @@
 -- One more character belongs to the word, or ends it.
-use Rattle.std.proofs.Common.{◌≡◌, ◌∙◌, ◌+◌, ◌++◌, length, true, false, sym, ap, arith, encode_utf8, length-append}
-use Rattle.std.specs.Str.{chars}
+use Rattle.std.proofs.Common.{◌≡◌, ◌∙◌, ◌+◌, length, true, false, ap, arith, encode_utf8, length-append}
 use Rattle.std.specs.Str.Iter.{chars_rest}
 use Rattle.std.proofs.lemmas.Grind.{common_steps}
 use Rattle.std.proofs.lemmas.Str.{IsUtf8-past_char}
 use Rattle.tag_expr.specs.Tokens.{is_word_character}
-use Rattle.tag_expr.specs.TokenTexts.{word_size}
 use Rattle.tag_expr.proofs.WordSizes.{word_size_next, word_size_stop, word_size_end}
 use Rattle.tag_expr.proofs.token.word_size.Goals as goal
 

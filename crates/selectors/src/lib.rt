@@ -1,0 +1,22 @@
+//! Selection: which tests of a tree a request asks for, and the tree of those.
+
+#![tactic(auto)]
+
+mod class_names;
+mod covered;
+mod discovery;
+mod filter;
+mod kept;
+mod names;
+mod refusal;
+mod request;
+mod select_fault;
+mod selected;
+mod selector;
+mod selector_fault;
+
+pub use discovery::discover;
+pub use request::Request;
+pub use select_fault::SelectFault;
+pub use selector::{Selector, SelectorKind};
+pub use selector_fault::SelectorFault;
