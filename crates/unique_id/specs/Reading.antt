@@ -43,7 +43,7 @@ abbrev pub after : ℕ → List ℕ → Option (List ℕ)
 after byte [] = None
 after byte (b ∷ rest) = cond (b == byte) (Some rest) None
 
--- the bytes of a part that stands at this place, behind those that are read already; % without two hexadecimal digits is a fault there
+-- the bytes that a part at this place stands for, behind those that are read already; a % without two hexadecimal digits is a fault at its place
 abbrev pub unescaped : List ℕ → ℕ → List ℕ → Result (List ℕ) UidFault
 unescaped done place [] = Ok done
 unescaped done place (b ∷ high ∷ low ∷ rest) =
@@ -62,7 +62,7 @@ item_of (b ∷ rest) = cond (b == 37) None (Some (b, 1))
 abbrev pub part_len : List ℕ → ℕ
 part_len text = prefix_len (λ b. not (is_delimiter b)) text
 
--- the bytes of a part that is written so at this place: not none, and text; else a fault at its end, or at its first %
+-- the bytes of a part that is written so at this place: one or more, and UTF-8; else a fault at its end, or at its first %
 abbrev pub checked : ℕ → List ℕ → List ℕ → Result (List ℕ) UidFault
 checked place written bytes =
     cond (length bytes == 0) (Err (EmptyPart (place + length written))) (

@@ -185,10 +185,10 @@ fn engine_of(alloc: Global, item: &str, times: usize) -> Result<String, AllocErr
     Ok(text)
 }
 
-/// `[a:b]` so many times, with a slash between two.
-fn segments_of(alloc: Global, times: usize) -> Result<String, AllocError> {
+/// `[a:b]`, and `/[a:b]` so many times.
+fn segments_of(alloc: Global, more: usize) -> Result<String, AllocError> {
     let mut text = String::from_str(alloc, "[a:b]")?;
-    text.push_str("/[a:b]".repeat(alloc, times - 1)?.as_str())?;
+    text.push_str("/[a:b]".repeat(alloc, more)?.as_str())?;
     Ok(text)
 }
 
@@ -203,29 +203,25 @@ fn shown(alloc: Global, fault: UidFault) -> Result<String, AllocError> {
 
 #[test]
 fn reads_texts_of_the_format(rt: HostRuntime) -> Result<(), Fail> {
-    let mut read = 0;
+    assert_eq!(rt; READ.split('^').count(), 59);
     for row in READ.split('^') {
         let (canonical, text) = row.split_once('|').unwrap_or(("", row));
         let id = UniqueId::parse(rt.alloc(), text)?;
         assert_eq!(rt; id.text(), canonical);
-        read += 1;
     }
-    assert_eq!(rt; read, 59);
     Ok(())
 }
 
 #[test]
 fn refuses_other_texts(rt: HostRuntime) -> Result<(), Fail> {
-    let mut refused = 0;
+    assert_eq!(rt; REFUSED.split('^').count(), 108);
     for row in REFUSED.split('^') {
         let (answer, text) = row.split_once('|').unwrap_or(("", row));
         let fault = UniqueId::parse(rt.alloc(), text)
             .err()
             .unwrap_or(UidFault::NoMemory);
         assert_eq!(rt; shown(rt.alloc(), fault)?.as_str(), answer);
-        refused += 1;
     }
-    assert_eq!(rt; refused, 108);
     Ok(())
 }
 
@@ -241,7 +237,7 @@ fn reads_long_texts(rt: HostRuntime) -> Result<(), Fail> {
         let id = UniqueId::parse(rt.alloc(), text.as_str())?;
         assert_eq!(rt; id.text().len(), len);
     }
-    let id = UniqueId::parse(rt.alloc(), segments_of(rt.alloc(), 64)?.as_str())?;
+    let id = UniqueId::parse(rt.alloc(), segments_of(rt.alloc(), 63)?.as_str())?;
     assert_eq!(rt; id.segments().len(), 64);
     Ok(())
 }
@@ -259,8 +255,8 @@ fn refuses_texts_over_the_limits(rt: HostRuntime) -> Result<(), Fail> {
         let fault = UniqueId::parse(rt.alloc(), text.as_str()).err();
         assert_eq!(rt; fault, Some(UidFault::TooLong));
     }
-    for times in [65, 200] {
-        let text = segments_of(rt.alloc(), times)?;
+    for more in [64, 199] {
+        let text = segments_of(rt.alloc(), more)?;
         let fault = UniqueId::parse(rt.alloc(), text.as_str()).err();
         assert_eq!(rt; fault, Some(UidFault::TooLong));
     }

@@ -2,7 +2,7 @@
 
 ghost use Rattle.std.specs.Prelude.{◌≡◌, ◌≤◌, ◌+◌, ◌==◌, not, [], IfOk, length, option_map};
 ghost use Rattle.std.specs.List.{slice_split, prefix_len};
-ghost use Rattle.unique_id.specs.Reading.{Gives, after, unescaped, part_len, checked, part_at, ended, segment_at, segments_at, texts};
+ghost use Rattle.unique_id.specs.Reading.{Gives, after, unescaped, part_len, checked, part_at, segment_at, segments_at, texts};
 
 use crate::escape::item_of;
 use crate::fault::UidFault;
@@ -21,7 +21,7 @@ fn after(byte: u8, text: &[u8]) -> Option<&[u8]>
     }
 }
 
-/// The bytes that a part is written for, which stands at `place`.
+/// The bytes that the part stands for that is written so at `place`.
 fn unescaped(alloc: Global, place: usize, written: &[u8]) -> Result<Vec<u8>, UidFault>
     requires { place + length written.now ≤ 1024 }
     ensures { Gives (λ bytes. bytes.items) result (unescaped [] place written.now) }
@@ -56,7 +56,7 @@ fn plain_len(text: &[u8]) -> usize
     text.iter().take_while(|byte| **byte != b'%').count()
 }
 
-/// The text of these bytes, which are written so at `place`.
+/// The text of these bytes of a part that is written so at `place`.
 fn checked(place: usize, written: &[u8], bytes: Vec<u8>) -> Result<Text, UidFault>
     requires { place + length written.now ≤ 1024 }
     ensures { Gives (λ text. text) result (checked place written.now bytes.items) }

@@ -114,8 +114,9 @@ impl UniqueId {
         grown(alloc, self.segments(), self.text(), kind, value)
     }
 
-    /// The id that a text spells, with any byte of a part as a percent escape or, but for `%` and
-    /// the four delimiters, as it is. The text is read from left to right, and the first fault counts.
+    /// The id that a text spells. Any byte of a part may be written as a percent escape and, but
+    /// for `%` and the delimiters `[`, `]`, `:` and `/`, as it is. The text is read from left to
+    /// right; the first fault counts.
     pub fn parse(alloc: Global, text: &str) -> Result<UniqueId, UidFault>
         ensures exact { Gives (λ id. id) result (id_of text.now) }
         // What is answered is written in the format, and what is written in it is answered.
