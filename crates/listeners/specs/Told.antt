@@ -8,13 +8,14 @@ use Rattle.plan_events.specs.declared.event.EventKind.TheVariants.{Started, Fini
 use Rattle.plan_events.specs.declared.status.Status.{Status}
 use Rattle.listeners.specs.declared.told.Told.{Told}
 
--- a start and a skip give their node a line
+-- whether the event gives its node a line, as a start and a skip do
 abbrev pub gives_line : EventKind → Bool
 gives_line Started = true
 gives_line Finished = false
 gives_line Skipped = true
 gives_line Registered = false
 
+-- whether the event says that its node was skipped
 abbrev pub is_skip : EventKind → Bool
 is_skip Started = false
 is_skip Finished = false

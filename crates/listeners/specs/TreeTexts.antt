@@ -38,6 +38,7 @@ abbrev pub ending : Theme → Bool → Option Status → List ℕ → List ℕ
 ending theme true status text = (codes " " ++ skip_mark theme) ++ text_after text
 ending theme false status text = end_of theme status text
 
+-- the name of a node that may be missing
 abbrev pub name_or : Option Node → List ℕ
 name_or None = []
 name_or (Some node) = node.name
