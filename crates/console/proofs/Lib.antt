@@ -2,3 +2,4 @@ pub mod Given
 pub mod Growing
 pub mod Reading
 pub mod Refused
+pub mod Requesting

@@ -16,7 +16,7 @@ use Rattle.sched_core.specs.Runs.{run, passed_over}
 use Rattle.sched_core.specs.Drives.{Drives}
 use Rattle.sched_core.specs.Texts.{AreTexts}
 use Rattle.listeners.specs.declared.theme.Theme.{Theme}
-use Rattle.listeners.specs.Counts.{counts_of, is_test}
+use Rattle.listeners.specs.Counts.{counts_of as node_counts, is_test}
 use Rattle.listeners.specs.Feed.{feed_of}
 use Rattle.listeners.specs.SummaryTexts.{summary_of}
 use Rattle.listeners.specs.TreeTexts.{tree_of}
@@ -35,8 +35,8 @@ pub record IsHistory (p : PlanParts) (answers : List (ℕ × Reply)) (history : 
 -- what is printed of these events with these texts: nothing; the summary; the tree, and then the summary; or the feed
 abbrev pub details_of : Details → Theme → PlanParts → TextParts → List Event → List ℕ
 details_of details.None theme p texts events = []
-details_of details.Summary theme p texts events = summary_of (counts_of p events)
-details_of details.Tree theme p texts events = tree_of theme p texts events ++ summary_of (counts_of p events)
+details_of details.Summary theme p texts events = summary_of (node_counts p events)
+details_of details.Tree theme p texts events = tree_of theme p texts events ++ summary_of (node_counts p events)
 details_of details.Testfeed theme p texts events = feed_of p texts events
 
 -- the text is what is printed of a history, with the texts of its nodes

@@ -1,6 +1,6 @@
 -- What the words of the command line ask for, and why they ask for nothing.
-use Rattle.std.specs.Prelude.{◌≡◌, ℕ, ◌+◌, Bool, List, [], ◌∷◌, ◌++◌, codes, map, if◌then◌else◌, Option, Some, None, option_map, is_none, slice_get, Result, Ok, Err}
-use Rattle.std.specs.List.{filter_map, position}
+use Rattle.std.specs.Prelude.{◌≡◌, ℕ, ◌+◌, Bool, List, [], ◌∷◌, ◌++◌, codes, map, if◌then◌else◌, Option, Some, None, option_map, Result, Ok, Err}
+use Rattle.std.specs.List.{filter_map}
 use Rattle.std.specs.Option.{option_or}
 use Rattle.std.specs.Str.{bytes_eq}
 use Rattle.clap.specs.Words.{Kinds, Text, fault_of, matches_of}
@@ -92,17 +92,20 @@ selector_texts given =
 abbrev pub spelled : SelectorKind × Text → Option Selector
 spelled text = selector_of text.0 text.1
 
--- whether it spells none
-abbrev pub spells_none : SelectorKind × Text → Bool
-spells_none text = is_none (spelled text)
+-- refused where a text of this number spells no selector, and else where another is
+abbrev pub unless_spelled : ℕ → Option Selector → Option ConsoleFault → Option ConsoleFault
+unless_spelled number None others = Some (BadSelector number)
+unless_spelled number (Some selector) others = others
 
--- why texts of selectors are refused: the number, from 1, of the first that spells none
-abbrev pub selectors_refusal : List (SelectorKind × Text) → Option ConsoleFault
-selectors_refusal texts = option_map (λ place. BadSelector (place + 1)) (position spells_none texts)
+-- why texts of selectors, of which the first has this number, are refused: the number of the first that spells none
+abbrev pub selectors_refusal : ℕ → List (SelectorKind × Text) → Option ConsoleFault
+selectors_refusal number [] = None
+selectors_refusal number (text ∷ texts) = unless_spelled number (spelled text) (selectors_refusal (number + 1) texts)
 
 -- why texts of tag expressions are refused: what is the matter with the first that is none
 abbrev pub tags_refusal : List Text → Option ConsoleFault
-tags_refusal texts = option_map BadTags (slice_get (filter_map expression_refusal texts) 0)
+tags_refusal [] = None
+tags_refusal (text ∷ texts) = option_or (option_map BadTags (expression_refusal text)) (tags_refusal texts)
 
 -- a text spells an expression
 abbrev pub IsExpression : Text → Expression → Type 0
@@ -121,7 +124,7 @@ refusal_of given =
     option_or (unless_named (details_named given.details)) (
     option_or (unless_named (theme_named given.theme)) (
     option_or (replay_refusal given.replay) (
-    option_or (selectors_refusal (selector_texts given)) (
+    option_or (selectors_refusal 1 (selector_texts given)) (
     option_or (tags_refusal given.include_tags) (
     tags_refusal given.exclude_tags)))))
 

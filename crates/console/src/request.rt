@@ -1,11 +1,11 @@
 //! What the words ask to run.
 
 ghost use Rattle.std.specs.Prelude.{◌≡◌, ◌≢◌, ◌++◌, List, [], ◌∷◌, Some, None, Option, IfOk, IfErr, OnOk, map, option_map};
-ghost use Rattle.std.specs.List.{filter_map, position};
+ghost use Rattle.std.specs.List.{filter_map};
 ghost use Rattle.clap.specs.Words.{Text, found_of, rows_of};
 ghost use Rattle.console.specs.declared.fault.ConsoleFault.TheVariants.{NoMemory};
 ghost use Rattle.console.specs.Values.{given_in, texts_or_none};
-ghost use Rattle.console.specs.Words.{selector_texts as texts_given, spelled, spells_none, selectors_refusal, tags_refusal, IsExpression, AreExpressions};
+ghost use Rattle.console.specs.Words.{selector_texts as texts_given, spelled, selectors_refusal, tags_refusal, IsExpression, AreExpressions};
 ghost use Rattle.console.specs.Requests.{texts_of, now_of};
 
 use crate::fault::ConsoleFault;
@@ -26,11 +26,11 @@ fn push_texts<'a>(
 ) -> Result<(), AllocError>
     ensures { OnOk result (texts_of texts.new.items ≡ texts_of texts.old.items ++ map (λ text. (kind, text)) (now_of found.entry)) }
 {
-    let Some(found) = found else {
+    let Some(values) = found else {
         return Ok(());
     };
-    for text in found {
-        texts.push((kind, *text))?;
+    for value in values {
+        texts.push((kind, *value))?;
     }
     Ok(())
 }
@@ -77,8 +77,8 @@ fn selectors_of(
     texts: &[(SelectorKind, &str)],
 ) -> Result<Vec<Selector>, ConsoleFault>
     ensures spelled { IfOk result (λ selectors. selectors.items ≡ filter_map spelled (texts_of texts.now)) }
-    ensures accepted { IfOk result (λ _. selectors_refusal (texts_of texts.now) ≡ None) }
-    ensures refused { IfErr result (λ fault. fault ≢ NoMemory → selectors_refusal (texts_of texts.now) ≡ Some fault) }
+    ensures accepted { IfOk result (λ _. selectors_refusal 1 (texts_of texts.now) ≡ None) }
+    ensures refused { IfErr result (λ fault. fault ≢ NoMemory → selectors_refusal 1 (texts_of texts.now) ≡ Some fault) }
 {
     let mut selectors = Vec::new(alloc);
     for (index, (kind, text)) in texts.iter().enumerate() {
@@ -93,8 +93,8 @@ pub(crate) fn selectors_found(
     matches: &ArgMatches<'_>,
 ) -> Result<Vec<Selector>, ConsoleFault>
     ensures spelled { IfOk result (λ selectors. selectors.items ≡ filter_map spelled (texts_given (given_in (rows_of (found_of matches.now))))) }
-    ensures accepted { IfOk result (λ _. selectors_refusal (texts_given (given_in (rows_of (found_of matches.now)))) ≡ None) }
-    ensures refused { IfErr result (λ fault. fault ≢ NoMemory → selectors_refusal (texts_given (given_in (rows_of (found_of matches.now)))) ≡ Some fault) }
+    ensures accepted { IfOk result (λ _. selectors_refusal 1 (texts_given (given_in (rows_of (found_of matches.now)))) ≡ None) }
+    ensures refused { IfErr result (λ fault. fault ≢ NoMemory → selectors_refusal 1 (texts_given (given_in (rows_of (found_of matches.now)))) ≡ Some fault) }
 {
     let texts = selector_texts(alloc, matches)?;
     selectors_of(alloc, texts.as_slice())
@@ -107,11 +107,11 @@ pub(crate) fn expressions_of(alloc: Global, found: Option<&[&str]>) -> Result<Ve
     ensures refused { IfErr result (λ fault. fault ≢ NoMemory → tags_refusal (now_of found.entry) ≡ Some fault) }
 {
     let mut expressions = Vec::new(alloc);
-    let Some(found) = found else {
+    let Some(values) = found else {
         return Ok(expressions);
     };
-    for text in found {
-        expressions.push(TagExpr::parse(alloc, text)?)?;
+    for value in values {
+        expressions.push(TagExpr::parse(alloc, value)?)?;
     }
     Ok(expressions)
 }
