@@ -3,3 +3,4 @@ pub mod Growing
 pub mod Reading
 pub mod Refused
 pub mod Requesting
+pub mod Tests
