@@ -1,0 +1,36 @@
+-- The nodes that a selector names, and those that it covers.
+use Rattle.std.specs.Prelude.{◌≡◌, ℕ, ◌&&◌, ◌||◌, nat_eq, List, [], ◌∷◌, ◌++◌, codes, Bool, true, false, IsTrue, Option, Some, None}
+use Rattle.std.specs.List.{list_any, starts_with}
+use Rattle.std.specs.Str.{bytes_eq}
+use Rattle.unique_id.specs.Spelling.{spelling}
+use Rattle.unique_id.specs.declared.unique_id.Segment.{Segment}
+use Rattle.descriptor.specs.Nodes.{Nodes, parent_of, text_of}
+use Rattle.selectors.specs.declared.selector.Selector.{Selector}
+use Rattle.selectors.specs.declared.selector.Selector.TheVariants.{Uid, Class, Method, Package}
+use Rattle.selectors.specs.ClassNames.{last_segment, class_name, is_text}
+use Rattle.selectors.specs.Lineages.{lineage, AtOrBelow}
+
+-- a segment of type `method` or `test-factory` with this value
+abbrev pub is_method : List ℕ → Option Segment → Bool
+is_method method None = false
+is_method method (Some segment) = (bytes_eq segment.kind (codes "method") || bytes_eq segment.kind (codes "test-factory")) && bytes_eq segment.value method
+
+-- a segment of type `class` whose value begins with the name of a package and a dot (46)
+abbrev pub is_class_in : List ℕ → Option Segment → Bool
+is_class_in name None = false
+is_class_in name (Some segment) = bytes_eq segment.kind (codes "class") && starts_with nat_eq segment.value (name ++ 46 ∷ [])
+
+-- whether a selector names node n: the node of its unique id; those of its class name; those methods right below them; the classes of its package
+abbrev pub names : Nodes → Selector → ℕ → Bool
+names t (Uid id) n = is_text (text_of t n) (spelling id)
+names t (Class class) n = is_text (class_name t n) class
+names t (Method class method) n = is_method method (last_segment t n) && is_text (class_name t (parent_of t n)) class
+names t (Package name) n = is_class_in name (last_segment t n)
+
+-- whether a selector covers node n: it names the node, or one that the node is below
+abbrev pub covers : Nodes → Selector → ℕ → Bool
+covers t selector n = list_any (names t selector) (lineage t n)
+
+-- the same in a tree's words
+abbrev pub Covers : Nodes → Selector → ℕ → Type 0
+Covers t selector n = (a : ℕ) × (names t selector a ≡ true) × AtOrBelow t a n

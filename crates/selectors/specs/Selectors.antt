@@ -1,0 +1,30 @@
+-- What a selector's text says.
+use Rattle.std.specs.Prelude.{ℕ, ◌==◌, ◌||◌, List, length, Bool, if◌then◌else◌, Option, Some, None}
+use Rattle.std.specs.List.{before_first, after_first}
+use Rattle.selectors.specs.declared.selector.Selector.{Selector}
+use Rattle.selectors.specs.declared.selector.Selector.TheVariants as Selector
+use Rattle.selectors.specs.declared.selector.SelectorKind.{SelectorKind}
+use Rattle.selectors.specs.declared.selector.SelectorKind.TheVariants as Kind
+
+abbrev pub is_hash : ℕ → Bool
+is_hash byte = byte == 35
+
+-- a class: any text but the empty one
+abbrev pub class_of : List ℕ → Option Selector
+class_of text = if length text == 0 then None else Some (Selector.Class text)
+
+-- a package: any text but the empty one
+abbrev pub package_of : List ℕ → Option Selector
+package_of text = if length text == 0 then None else Some (Selector.Package text)
+
+-- a method: what stands before its first hash is the class, what follows it the name, and neither is empty; without a hash nothing follows
+abbrev pub method_of : List ℕ → Option Selector
+method_of text =
+    if length (before_first is_hash text) == 0 || length (after_first is_hash text) == 0 then None
+    else Some (Selector.Method (before_first is_hash text) (after_first is_hash text))
+
+-- the selector of this kind that a text spells, if any
+abbrev pub selector_of : SelectorKind → List ℕ → Option Selector
+selector_of Kind.Class text = class_of text
+selector_of Kind.Method text = method_of text
+selector_of Kind.Package text = package_of text

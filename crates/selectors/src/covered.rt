@@ -1,0 +1,58 @@
+//! The nodes that a request's selectors cover.
+
+ghost use Rattle.std.specs.Prelude.{◌≡◌, ◌<◌, IfOk};
+ghost use Rattle.std.specs.List.{list_any};
+ghost use Rattle.descriptor.specs.Nodes.{size, IsTree};
+ghost use Rattle.selectors.specs.Names.{names};
+ghost use Rattle.selectors.specs.Covered.{truths, is_covered};
+
+use crate::names::names;
+use crate::selector::Selector;
+use descriptor::{NodeId, Tree};
+use std::alloc::{AllocError, Global};
+
+/// Whether one of the selectors names the node.
+fn is_named(tree: &Tree, selectors: &[Selector], node: NodeId) -> bool
+    requires tree { IsTree tree.now }
+    requires inside { node < size tree.now }
+    ensures { result ≡ list_any (λ selector. names tree.now selector node) selectors.now }
+{
+    for selector in selectors {
+        if names(tree, selector, node) {
+            return true;
+        }
+    }
+    false
+}
+
+/// Whether the node is covered, where this is known of all nodes before it.
+fn is_covered(tree: &Tree, selectors: &[Selector], before: &[bool], node: NodeId) -> bool
+    requires tree { IsTree tree.now }
+    requires inside { node < size tree.now }
+    requires before { before.now ≡ truths (is_covered tree.now selectors.now) node }
+    ensures { result ≡ is_covered tree.now selectors.now node }
+{
+    let above = match tree.parent(node) {
+        Some(parent) => before[parent.index()],
+        None => selectors.is_empty(),
+    };
+    above || is_named(tree, selectors, node)
+}
+
+/// For each node whether it is covered.
+pub(crate) fn covered(
+    alloc: Global,
+    tree: &Tree,
+    selectors: &[Selector],
+) -> Result<Vec<bool>, AllocError>
+    requires { IsTree tree.now }
+    ensures { IfOk result (λ covered. covered.items ≡ truths (is_covered tree.now selectors.now) (size tree.now)) }
+{
+    let mut covered = Vec::new(alloc);
+    for number in 0..tree.len() {
+        let node = NodeId::new(number as u16);
+        let here = is_covered(tree, selectors, covered.as_slice(), node);
+        covered.push(here)?;
+    }
+    Ok(covered)
+}

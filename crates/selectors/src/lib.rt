@@ -1,0 +1,16 @@
+//! Selection: which tests of a tree a request asks for, and the tree of those.
+
+#![tactic(auto)]
+
+mod class_names;
+mod covered;
+mod kept;
+mod names;
+mod refusal;
+mod select_fault;
+mod selector;
+mod selector_fault;
+
+pub use select_fault::SelectFault;
+pub use selector::{Selector, SelectorKind};
+pub use selector_fault::SelectorFault;

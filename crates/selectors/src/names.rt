@@ -1,0 +1,55 @@
+//! The nodes that a selector names.
+
+ghost use Rattle.std.specs.Prelude.{◌≡◌, ◌<◌, Some};
+ghost use Rattle.descriptor.specs.Nodes.{size, IsTree};
+ghost use Rattle.selectors.specs.Names.{names, is_method, is_class_in};
+
+use crate::class_names::{has_class_name, last_segment};
+use crate::selector::Selector;
+use descriptor::{NodeId, Tree};
+use unique_id::Segment;
+
+/// Whether the selector names the node. Takes no memory, and at most 64 steps up the tree.
+pub(crate) fn names(tree: &Tree, selector: &Selector, node: NodeId) -> bool
+    requires tree { IsTree tree.now }
+    requires inside { node < size tree.now }
+    ensures { result ≡ names tree.now selector.now node }
+{
+    let Some(parent) = tree.parent(node) else {
+        return false;
+    };
+    let subject = tree.node(node);
+    match selector {
+        Selector::Uid(id) => subject.id.text() == id.text(),
+        Selector::Class(class) => has_class_name(tree, node, class.as_str().as_bytes()),
+        Selector::Method { class, method } => {
+            is_method(last_segment(subject), method.as_str())
+                && has_class_name(tree, parent, class.as_str().as_bytes())
+        }
+        Selector::Package(name) => is_class_in(last_segment(subject), name.as_str()),
+    }
+}
+
+/// Whether the segment is a method or a test factory with this value.
+fn is_method(segment: &Segment, method: &str) -> bool
+    ensures { result ≡ is_method method.now (Some segment.now) }
+{
+    match segment.kind.as_str() {
+        "method" | "test-factory" => segment.value.as_str() == method,
+        _ => false,
+    }
+}
+
+/// Whether the segment is a class whose value begins with the name of a package and a dot.
+fn is_class_in(segment: &Segment, name: &str) -> bool
+    ensures { result ≡ is_class_in name.now (Some segment.now) }
+{
+    let value = segment.value.as_str().as_bytes();
+    match segment.kind.as_str() {
+        "class" => match value.strip_prefix(name.as_bytes()) {
+            Some(rest) => rest.starts_with(b".".as_slice()),
+            None => false,
+        },
+        _ => false,
+    }
+}

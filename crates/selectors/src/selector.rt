@@ -1,0 +1,101 @@
+//! Selectors: which nodes a request names.
+
+ghost use Rattle.std.specs.Prelude.{◌≡◌, Some, None, IfOk, IfErr, IsSome};
+ghost use Rattle.selectors.specs.Selectors.{class_of, method_of, package_of, selector_of};
+
+use crate::selector_fault::SelectorFault;
+use std::alloc::Global;
+use unique_id::{Text, UniqueId};
+
+/// What a selector's text names.
+#[derive(Clone, Copy, PartialEq, Eq, Debug)]
+pub enum SelectorKind {
+    /// A class, by its name.
+    Class,
+    /// A method, by the name of its class, a hash, and its own segment's value.
+    Method,
+    /// The classes of a package and of those inside it, by the package's name.
+    Package,
+}
+
+/// What names nodes of a tree; it covers them and all nodes below them.
+#[derive(Debug, Drop)]
+pub enum Selector {
+    /// The node with this unique id.
+    Uid(UniqueId),
+    /// The nodes of this class name.
+    Class(Text),
+    /// The methods and test factories of this name, right below a node of this class name.
+    Method { class: Text, method: Text },
+    /// The classes whose name begins with this one and a dot, nested classes aside.
+    Package(Text),
+}
+
+impl Selector {
+    /// The selector of this kind that a text spells; a text that spells none is refusal 40.
+    pub fn parse(alloc: Global, kind: SelectorKind, text: &str) -> Result<Selector, SelectorFault>
+        ensures ok { IfOk result (λ selector. selector_of kind text.now ≡ Some selector) }
+        ensures refused { IfErr result (λ fault. fault ≡ SelectorFault.BadSelector → selector_of kind text.now ≡ None) }
+        ensures no_memory { IfErr result (λ fault. fault ≡ SelectorFault.NoMemory → IsSome (selector_of kind text.now)) }
+    {
+        match kind {
+            SelectorKind::Class => class(alloc, text),
+            SelectorKind::Method => method(alloc, text),
+            SelectorKind::Package => package(alloc, text),
+        }
+    }
+}
+
+/// The selector of a class of this name.
+fn class(alloc: Global, text: &str) -> Result<Selector, SelectorFault>
+    ensures ok { IfOk result (λ selector. class_of text.now ≡ Some selector) }
+    ensures refused { IfErr result (λ fault. fault ≡ SelectorFault.BadSelector → class_of text.now ≡ None) }
+    ensures no_memory { IfErr result (λ fault. fault ≡ SelectorFault.NoMemory → IsSome (class_of text.now)) }
+{
+    if text.is_empty() {
+        return Err(SelectorFault::BadSelector);
+    }
+    Ok(Selector::Class(Text::new(alloc, text)?))
+}
+
+/// The selector of a package of this name.
+fn package(alloc: Global, text: &str) -> Result<Selector, SelectorFault>
+    ensures ok { IfOk result (λ selector. package_of text.now ≡ Some selector) }
+    ensures refused { IfErr result (λ fault. fault ≡ SelectorFault.BadSelector → package_of text.now ≡ None) }
+    ensures no_memory { IfErr result (λ fault. fault ≡ SelectorFault.NoMemory → IsSome (package_of text.now)) }
+{
+    if text.is_empty() {
+        return Err(SelectorFault::BadSelector);
+    }
+    Ok(Selector::Package(Text::new(alloc, text)?))
+}
+
+ghost use Rattle.std.specs.List.{before_first, after_first};
+ghost use Rattle.selectors.specs.Selectors.{is_hash};
+
+/// The parts of a text before and behind its first hash; without one all of it stands before.
+fn class_and_method(text: &str) -> (&str, &str)
+    ensures class { result.0.now ≡ before_first is_hash text.now }
+    ensures method { result.1.now ≡ after_first is_hash text.now }
+{
+    match text.split_once('#') {
+        Some((class, method)) => (class, method),
+        None => (text, ""),
+    }
+}
+
+/// The selector of a method, spelled by its class, a hash and its name.
+fn method(alloc: Global, text: &str) -> Result<Selector, SelectorFault>
+    ensures ok { IfOk result (λ selector. method_of text.now ≡ Some selector) }
+    ensures refused { IfErr result (λ fault. fault ≡ SelectorFault.BadSelector → method_of text.now ≡ None) }
+    ensures no_memory { IfErr result (λ fault. fault ≡ SelectorFault.NoMemory → IsSome (method_of text.now)) }
+{
+    let (class, method) = class_and_method(text);
+    if class.is_empty() || method.is_empty() {
+        return Err(SelectorFault::BadSelector);
+    }
+    Ok(Selector::Method {
+        class: Text::new(alloc, class)?,
+        method: Text::new(alloc, method)?,
+    })
+}
