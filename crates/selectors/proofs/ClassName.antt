@@ -7,21 +7,10 @@ use Rattle.unique_id.specs.declared.unique_id.Segment.{Segment}
 use Rattle.descriptor.specs.Nodes.{Nodes, IsTree, size, parent_of, IsChild}
 use Rattle.selectors.specs.ClassNames.{is_text, nested_name, name_below, name_along, class_name, last_segment}
 use Rattle.selectors.proofs.Lineage.{lineage_up}
+use Rattle.selectors.proofs.Truths.{same_truth, never}
 
 pub class_name_up : (t : Nodes) → IsTree t → (n : ℕ) → 0 < n → n < size t → class_name t n ≡ name_below (class_name t (parent_of t n)) (last_segment t n)
 class_name_up t tree n above inside = ap (name_along t) (lineage_up t tree n above inside)
-
--- two truth values with one meaning
-pub same_truth : (a b : Bool) → (a ≡ true → b ≡ true) → (b ≡ true → a ≡ true) → a ≡ b
-same_truth true true f g = refl
-same_truth true false f g = sym (f refl)
-same_truth false true f g = g refl
-same_truth false false f g = refl
-
--- a truth value that cannot be true
-pub never : (a : Bool) → a ≢ true → a ≡ false
-never true f = absurd (f refl)
-never false f = refl
 
 pub nested_text : (above : Option (List ℕ)) (value name left : List ℕ) → name ≡ left ++ 36 ∷ value → is_text (nested_name above value) name ≡ is_text above left
 nested_text None value name left e = refl
@@ -30,18 +19,8 @@ nested_text (Some outer) value name left e =
     (λ h. (bytes_eq-Decides outer left).1 (append_cancel_right outer left (36 ∷ value) ((bytes_eq-Decides (outer ++ 36 ∷ value) name).0 h ∙ e)))
     (λ h. (bytes_eq-Decides (outer ++ 36 ∷ value) name).1 (ap (λ x. x ++ 36 ∷ value) ((bytes_eq-Decides outer left).0 h) ∙ sym e))
 
-pub nested_none : (above : Option (List ℕ)) (value name : List ℕ) → ((outer : List ℕ) → name ≢ outer ++ 36 ∷ value) → is_text (nested_name above value) name ≡ false
-nested_none None value name none = refl
-nested_none (Some outer) value name none = never (bytes_eq (outer ++ 36 ∷ value) name) (λ h. none outer (sym ((bytes_eq-Decides (outer ++ 36 ∷ value) name).0 h)))
-
-pub name_class : (above : Option (List ℕ)) (s : Segment) → s.kind ≡ codes "class" → name_below above (Some s) ≡ Some s.value
-name_class above s e = rw e refl
-
 pub name_nested : (above : Option (List ℕ)) (s : Segment) → s.kind ≡ codes "nested-class" → name_below above (Some s) ≡ nested_name above s.value
 name_nested above s e = rw e refl
-
-pub name_other : (above : Option (List ℕ)) (s : Segment) → bytes_eq s.kind (codes "class") ≡ false → bytes_eq s.kind (codes "nested-class") ≡ false → name_below above (Some s) ≡ None
-name_other above s a b = rw (a, b) refl
 
 module _ (t : Nodes) (tree : IsTree t) (n p : ℕ) (s : Segment) (e : IsChild t p n) (last : last_segment t n ≡ Some s) where
   up_to : class_name t n ≡ name_below (class_name t p) (Some s)
@@ -52,13 +31,3 @@ module _ (t : Nodes) (tree : IsTree t) (n p : ℕ) (s : Segment) (e : IsChild t 
 
   pub told_nested : (name left : List ℕ) → s.kind ≡ codes "nested-class" → name ≡ left ++ 36 ∷ s.value → is_text (class_name t n) name ≡ is_text (class_name t p) left
   told_nested name left kind split = ap (λ x. is_text x name) (up_to ∙ name_nested (class_name t p) s kind) ∙ nested_text (class_name t p) s.value name left split
-
-  pub told_not_nested : (name : List ℕ) → s.kind ≡ codes "nested-class" → ((outer : List ℕ) → name ≢ outer ++ 36 ∷ s.value) → is_text (class_name t n) name ≡ false
-  told_not_nested name kind none = ap (λ x. is_text x name) (up_to ∙ name_nested (class_name t p) s kind) ∙ nested_none (class_name t p) s.value name none
-
-  pub told_class : (name : List ℕ) → s.kind ≡ codes "class" → is_text (class_name t n) name ≡ bytes_eq s.value name
-  told_class name kind = ap (λ x. is_text x name) (up_to ∙ name_class (class_name t p) s kind)
-
-  pub told_other : (name : List ℕ) → s.kind ≢ codes "class" → s.kind ≢ codes "nested-class" → is_text (class_name t n) name ≡ false
-  told_other name a b =
-      ap (λ x. is_text x name) (up_to ∙ name_other (class_name t p) s (never (bytes_eq s.kind (codes "class")) (λ h. a ((bytes_eq-Decides s.kind (codes "class")).0 h))) (never (bytes_eq s.kind (codes "nested-class")) (λ h. b ((bytes_eq-Decides s.kind (codes "nested-class")).0 h))))

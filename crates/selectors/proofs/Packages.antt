@@ -6,7 +6,7 @@ use Rattle.std.proofs.lemmas.Slice.Eq.{starts_is}
 use Rattle.std.specs.List.{starts_with}
 use Rattle.unique_id.specs.declared.unique_id.Segment.{Segment}
 use Rattle.selectors.specs.Names.{is_class_in}
-use Rattle.selectors.proofs.ClassName.{same_truth, never}
+use Rattle.selectors.proofs.Truths.{same_truth, never}
 
 dotted : (value name rest : List ℕ) → value ≡ name ++ rest → starts_with eqb rest (46 ∷ []) ≡ starts_with eqb value (name ++ 46 ∷ [])
 dotted value name rest e =

@@ -32,11 +32,10 @@ fn is_covered(tree: &Tree, selectors: &[Selector], before: &[bool], node: NodeId
     requires before { before.now ≡ truths (is_covered tree.now selectors.now) node }
     ensures { result ≡ is_covered tree.now selectors.now node }
 {
-    let above = match tree.parent(node) {
-        Some(parent) => before[parent.index()],
-        None => selectors.is_empty(),
-    };
-    above || is_named(tree, selectors, node)
+    match tree.parent(node) {
+        Some(parent) => before[parent.index()] || is_named(tree, selectors, node),
+        None => selectors.is_empty() || is_named(tree, selectors, node),
+    }
 }
 
 /// For each node whether it is covered.
