@@ -1,10 +1,12 @@
 -- A tree with one more node that is not refused is a tree.
 use Rattle.std.proofs.Common.{◌≡◌, ◌≢◌, ℕ, zero, suc, ◌-◌, ◌<◌, ◌≤◌, Bool, true, false, cond, eqb, List, [], ◌∷◌, ◌++◌, length, refl, ap, sym, ◌∙◌, arith, inl, inr, ◌⊎◌, subst, Some, None}
 use Rattle.std.specs.Prelude.{slice_get}
+use Rattle.std.proofs.lemmas.Option.{same_Some}
 use Rattle.descriptor.specs.declared.node.Node.{Node}
-use Rattle.descriptor.specs.Nodes.{Nodes, IsTree, IsChild, Below, child, under, MayTake, size, parent_of, depth_of, appended, is_test_at, is_test_kind, kind_or}
+use Rattle.descriptor.specs.Nodes.{Nodes, IsTree, IsChild, Below, child, under, MayTake, size, parent_of, depth_of, appended, node_at, is_test_at, is_test_kind, kind_or}
 use Rattle.descriptor.specs.declared.fault.TreeFault.TheVariants.{TooMany, TooDeep, DoubleId, ParentIsTest, BodyTwice, OverLimit}
-use Rattle.descriptor.specs.Refusals.{refusal, has_id, has_body, is_over_limit}
+use Rattle.descriptor.specs.Limits.{is_over_limit}
+use Rattle.descriptor.specs.Refusals.{refusal, has_id, has_body}
 use Rattle.descriptor.proofs.Distinct.{ids_once, bodies_once}
 use Rattle.descriptor.proofs.Grown.{length_more, get_before, get_last, depth_before, depth_last, below_or_last}
 
@@ -18,22 +20,34 @@ none_passed false false false false true g u v w x y z h = absurd (cc)
 none_passed false false false false false true u v w x y z h = absurd (cc)
 none_passed false false false false false false u v w x y z h = (refl, refl, refl, refl, refl, refl)
 
+-- the converse
+pub none_holds : {X : Type 0} (b c d e f g : Bool) (u v w x y z : X) → b ≡ false → c ≡ false → d ≡ false → e ≡ false → f ≡ false → g ≡ false → cond b (Some u) (cond c (Some v) (cond d (Some w) (cond e (Some x) (cond f (Some y) (cond g (Some z) None))))) ≡ None
+none_holds b c d e f g u v w x y z hb hc hd he hf hg = rw (hb, hc, hd, he, hf, hg) refl
+
 pub record IsAccepted (t : Nodes) (a : ℕ) (node : Node) : Type 0 where
   pub few : size t ≢ 4096
   pub shallow : depth_of t a ≢ 64
   pub new_id : has_id t node.id ≡ false
   pub container : is_test_at t a ≡ false
   pub new_body : has_body t node.body ≡ false
+  pub short : is_over_limit node ≡ false
 
 pub accepted : (t : Nodes) (a : ℕ) (node : Node) → refusal t a node ≡ None → IsAccepted t a node
 accepted t a node e =
     let all = none_passed (eqb (size t) 4096) (eqb (depth_of t a) 64) (has_id t node.id) (is_test_at t a) (has_body t node.body) (is_over_limit node) TooMany TooDeep DoubleId ParentIsTest BodyTwice OverLimit e in
-    record { few = grind (arith, all.0); shallow = grind (arith, all.1); new_id = all.2; container = all.3; new_body = all.4 }
+    record { few = grind (arith, all.0); shallow = grind (arith, all.1); new_id = all.2; container = all.3; new_body = all.4; short = all.5 }
 
-get_early : {X : Type 0} (xs : List X) (x : X) (n : ℕ) → n < length xs → slice_get (xs ++ x ∷ []) n ≡ slice_get xs n
+pub get_early : {X : Type 0} (xs : List X) (x : X) (n : ℕ) → n < length xs → slice_get (xs ++ x ∷ []) n ≡ slice_get xs n
 get_early [] x n h = absurd (grind arith)
 get_early (y ∷ xs) x zero h = refl
 get_early (y ∷ xs) x (suc n) h = get_early xs x n (grind arith)
+
+-- what is got from a list with one more is got from the list, or is the last
+get_grown : {X : Type 0} (xs : List X) (x : X) (n : ℕ) (y : X) → slice_get (xs ++ x ∷ []) n ≡ Some y → (slice_get xs n ≡ Some y) ⊎ (x ≡ y)
+get_grown [] x zero y e = inr (same_Some x y e)
+get_grown [] x (suc n) y e = absurd (cc)
+get_grown (z ∷ xs) x zero y e = inl e
+get_grown (z ∷ xs) x (suc n) y e = get_grown xs x n y e
 
 module _ (t : Nodes) (a : ℕ) (node : Node) where
   child_grown : (b c : ℕ) → IsChild t b c → IsChild (appended t a node) b c
@@ -86,6 +100,13 @@ module _ (t : Nodes) (a : ℕ) (node : Node) where
           subst (λ (x : ℕ). is_test_at (appended t a node) x ≡ false) is (test_before a may.0 ∙ (accepted t a node ok).container)
     ]
 
+    short : (n : ℕ) (told : Node) → node_at (appended t a node) n ≡ Some told → is_over_limit told ≡ false
+    short zero told e = absurd (cc)
+    short (suc n) told e = elim (get_grown t.nodes node n told e) [
+      | inl old ↦ tree.short (suc n) told old
+      | inr new ↦ subst (λ (x : Node). is_over_limit x ≡ false) new (accepted t a node ok).short
+    ]
+
     pub tree_grown : IsTree (appended t a node)
     tree_grown =
         let is : length (t.parents ++ a ∷ []) ≡ suc (length t.parents) = more in
@@ -100,4 +121,5 @@ module _ (t : Nodes) (a : ℕ) (node : Node) where
           leaf = leaf;
           ids = ids_once t a node tree.ids (accepted t a node ok).new_id;
           bodies = bodies_once t a node tree.bodies (accepted t a node ok).new_body;
+          short = short;
         }

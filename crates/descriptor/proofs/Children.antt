@@ -75,7 +75,7 @@ module _ (q : ℕ → Bool) where
     ]
   ]
 
-  counted : (n : ℕ) → length (numbers_where q n) ≡ count_below q n
+  pub counted : (n : ℕ) → length (numbers_where q n) ≡ count_below q n
   counted zero = refl
   counted (suc n) = length_if (q n) (numbers_where q n) n ∙ ap (λ x. bit (q n) + x) (counted n)
 

@@ -36,7 +36,7 @@ numbers_none q (suc n) none =
     rw (before, here) refl
 
 module _ (ps : List ℕ) (up : (n : ℕ) → 0 < n → n < length ps → get_or ps n 0 < n) where
-  steps_enough : (k m n : ℕ) → n < length ps → n ≤ k → n ≤ m → steps_up ps k n ≡ steps_up ps m n
+  pub steps_enough : (k m n : ℕ) → n < length ps → n ≤ k → n ≤ m → steps_up ps k n ≡ steps_up ps m n
   steps_enough zero zero n inside kk mm = refl
   steps_enough zero (suc m) zero inside kk mm = refl
   steps_enough zero (suc m) (suc n) inside kk mm = absurd (omega arith)

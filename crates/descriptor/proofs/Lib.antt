@@ -5,3 +5,5 @@ pub mod Grown
 pub mod Accepted
 pub mod Sets
 pub mod Children
+pub mod Counts
+pub mod Between

@@ -2,5 +2,6 @@
 pub mod BuilderFields
 pub mod Children
 pub mod Fields
+pub mod Limits
 pub mod Nodes
 pub mod Refusals

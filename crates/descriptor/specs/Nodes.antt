@@ -3,6 +3,7 @@ use Rattle.std.specs.Prelude.{◌≡◌, ℕ, zero, suc, ◌+◌, ◌-◌, ◌<�
 use Rattle.std.specs.Option.{is_some}
 use Rattle.unique_id.specs.Spelling.{spelling}
 use Rattle.descriptor.specs.declared.node.Node.{Node}
+use Rattle.descriptor.specs.Limits.{is_over_limit}
 use Rattle.descriptor.specs.declared.kind.Kind.TheVariants.{Test, Container, ContainerAndTest}
 use Rattle.descriptor.specs.declared.kind.Kind.{Kind}
 
@@ -113,6 +114,15 @@ reason_of t n = reason_or (node_at t n)
 abbrev pub is_disabled : Nodes → ℕ → Bool
 is_disabled t n = is_some (reason_of t n)
 
+-- the tags of a node; where there is none, no tag
+abbrev pub tags_or : Option Node → List (List ℕ)
+tags_or None = []
+tags_or (Some node) = node.tags
+
+-- the tags of node n itself; the plan has none
+abbrev pub tags_of : Nodes → ℕ → List (List ℕ)
+tags_of t n = tags_or (node_at t n)
+
 -- the canonical text of a node's unique id; where there is no node, none
 abbrev pub text_or : Option Node → Option (List ℕ)
 text_or None = None
@@ -142,6 +152,8 @@ pub record IsTree (t : Nodes) : Type 0 where
   pub ids : (m n : ℕ) (text : List ℕ) → text_of t m ≡ Some text → text_of t n ≡ Some text → m ≡ n
   -- no two nodes have one body
   pub bodies : (m n b : ℕ) → body_of t m ≡ Some b → body_of t n ≡ Some b → m ≡ n
+  -- no node's name or reason is too long
+  pub short : (n : ℕ) (node : Node) → node_at t n ≡ Some node → is_over_limit node ≡ false
 
 -- the plan alone
 abbrev pub plan_alone : Nodes

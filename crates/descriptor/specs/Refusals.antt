@@ -7,6 +7,7 @@ use Rattle.unique_id.specs.declared.unique_id.Segment.{Segment}
 use Rattle.descriptor.specs.declared.node.Node.{Node}
 use Rattle.descriptor.specs.declared.fault.TreeFault.{TreeFault}
 use Rattle.descriptor.specs.declared.fault.TreeFault.TheVariants.{NoMemory, TooMany, TooDeep, DoubleId, ParentIsTest, BodyTwice, OverLimit}
+use Rattle.descriptor.specs.Limits.{is_over_limit}
 use Rattle.descriptor.specs.Nodes.{Nodes, size, depth_of, is_test_at}
 
 -- the number of each refusal, and 0 for want of memory
@@ -36,19 +37,6 @@ is_body b (Some other) = other == b
 abbrev pub has_body : Nodes → Option ℕ → Bool
 has_body t None = false
 has_body t (Some b) = list_any (λ node. is_body b node.body) t.nodes
-
--- a text has more than 1,024 bytes
-abbrev pub is_long : List ℕ → Bool
-is_long text = nat_lt 1024 (length text)
-
--- a reason has more than 1,024 bytes
-abbrev pub is_long_reason : Option (List ℕ) → Bool
-is_long_reason None = false
-is_long_reason (Some reason) = is_long reason
-
--- the name or the reason has more than 1,024 bytes
-abbrev pub is_over_limit : Node → Bool
-is_over_limit node = is_long node.name || is_long_reason node.disabled
 
 -- the first reason to refuse a node below a, in the order in which they are looked for
 abbrev pub refusal : Nodes → ℕ → Node → Option TreeFault

@@ -1,9 +1,11 @@
 //! What a tree says of a node.
 
-ghost use Rattle.std.specs.Prelude.{◌≡◌};
+ghost use Rattle.std.specs.Prelude.{◌≡◌, IfOk};
 
 use crate::body_id::BodyId;
 use crate::kind::Kind;
+use std::alloc::{AllocError, Global};
+use tag_expr::TagSet;
 use unique_id::{Text, UniqueId};
 
 /// The greatest length of a name and of a reason, in bytes.
@@ -23,10 +25,30 @@ pub struct Node {
     /// Why the node is disabled, of at most 1,024 bytes; `None` where it is not. The reason may be
     /// empty.
     pub disabled: Option<Text>,
+    /// The tags of the node itself, not of those above.
+    pub tags: TagSet,
 }
 
 impl Node {
-    ghost use Rattle.descriptor.specs.Refusals.{is_over_limit};
+    ghost use Rattle.descriptor.specs.Limits.{is_over_limit};
+
+    /// The same node, in memory of its own.
+    pub fn copy(&self, alloc: Global) -> Result<Node, AllocError>
+        ensures { IfOk result (λ node. node ≡ self.now) }
+    {
+        let disabled = match &self.disabled {
+            Some(reason) => Some(reason.copy(alloc)?),
+            None => None,
+        };
+        Ok(Node {
+            id: self.id.copy(alloc)?,
+            name: self.name.copy(alloc)?,
+            kind: self.kind,
+            body: self.body,
+            disabled,
+            tags: self.tags.copy(alloc)?,
+        })
+    }
 
     /// Whether the name or the reason has more than 1,024 bytes.
     pub(crate) fn is_over_limit(&self) -> bool
@@ -36,7 +58,7 @@ impl Node {
     }
 }
 
-ghost use Rattle.descriptor.specs.Refusals.{is_long};
+ghost use Rattle.descriptor.specs.Limits.{is_long};
 
 fn is_long(text: &Text) -> bool
     ensures { result ≡ is_long text.now }

@@ -4,6 +4,7 @@ use crate::{BodyId, Kind, Node, NodeId, Tree, TreeBuilder, TreeFault};
 use std::alloc::Global;
 use std::process::Abort;
 use std::test::Fail;
+use tag_expr::TagSet;
 use unique_id::{Text, UniqueId};
 
 /// A node whose unique id has the one segment `[d:VALUE]`.
@@ -20,6 +21,7 @@ fn node(
         kind,
         body: body.map(BodyId::new),
         disabled: None,
+        tags: TagSet::new(alloc),
     })
 }
 

@@ -8,6 +8,7 @@ use crate::node::Node;
 use crate::node_id::NodeId;
 use std::alloc::{AllocError, Global};
 use std::marker::Model;
+use tag_expr::TagSet;
 use unique_id::Text;
 
 /// A tree of nodes, numbered in preorder. Node 0 is the plan.
@@ -36,7 +37,7 @@ impl Model for Tree {
 impl Tree {
     ghost use Rattle.std.specs.Option.{is_some};
     ghost use Rattle.descriptor.specs.Refusals.{refusal};
-    ghost use Rattle.descriptor.specs.Nodes.{size, plan_alone, parent_of, children_of, node_at, kind_of, body_of, reason_of, is_disabled, is_test_at, depth_of, appended, Below, MayTake, IsTree, IsChild};
+    ghost use Rattle.descriptor.specs.Nodes.{size, plan_alone, parent_of, children_of, node_at, kind_of, body_of, reason_of, is_disabled, tags_of, is_test_at, depth_of, appended, Below, MayTake, IsTree, IsChild};
 
     /// How many nodes there are, the plan included.
     pub fn len(&self) -> usize
@@ -113,6 +114,19 @@ impl Tree {
             None
         } else {
             self.node(node).disabled.as_ref().map(Text::as_str)
+        }
+    }
+
+    /// The tags of the node itself, not of those above; the plan is given none.
+    pub fn tags(&self, node: NodeId) -> Option<&TagSet>
+        requires { node < size self.now }
+        ensures tags { IfSome result (λ tags. tags.now ≡ tags_of self.now node) }
+        ensures root { IsNone result ↔ (node ≡ 0) }
+    {
+        if node == NodeId::ROOT {
+            None
+        } else {
+            Some(&self.node(node).tags)
         }
     }
 

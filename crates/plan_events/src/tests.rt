@@ -5,6 +5,7 @@ use descriptor::{Kind, Node, NodeId, TreeBuilder};
 use std::alloc::Global;
 use std::process::Abort;
 use std::test::Fail;
+use tag_expr::TagSet;
 use unique_id::{Text, UniqueId};
 
 /// An event of this node by this worker.
@@ -119,6 +120,7 @@ fn add(
         kind: Kind::Test,
         body: None,
         disabled: reason.map(|reason| Text::new(alloc, reason)).transpose()?,
+        tags: TagSet::new(alloc),
     };
     assert!(rt; builder.may_take(NodeId::ROOT));
     Ok(builder.add(alloc, NodeId::ROOT, node)?)

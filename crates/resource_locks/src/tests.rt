@@ -3,6 +3,7 @@
 use crate::Plan;
 use descriptor::{Kind, Node, NodeId, TreeBuilder};
 use std::test::Fail;
+use tag_expr::TagSet;
 use unique_id::{Text, UniqueId};
 
 #[test]
@@ -16,6 +17,7 @@ fn counts_two_events_for_each_node(rt: HostRuntime) -> Result<(), Fail> {
         kind: Kind::Test,
         body: None,
         disabled: None,
+        tags: TagSet::new(alloc),
     };
     builder.add(alloc, NodeId::ROOT, node)?;
     let plan = Plan::plain(builder.finish());

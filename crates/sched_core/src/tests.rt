@@ -9,6 +9,7 @@ use resource_locks::Plan;
 use std::alloc::Global;
 use std::process::Abort;
 use std::test::Fail;
+use tag_expr::TagSet;
 use unique_id::{Text, UniqueId};
 
 /// A node of this kind, named like its id. Its body has the given number, if it has one.
@@ -19,6 +20,7 @@ fn node(alloc: Global, name: &str, kind: Kind, body: Option<u16>) -> Result<Node
         kind,
         body: body.map(BodyId::new),
         disabled: None,
+        tags: TagSet::new(alloc),
     })
 }
 

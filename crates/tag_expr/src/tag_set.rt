@@ -1,0 +1,70 @@
+//! A set of tags.
+
+ghost use Rattle.std.specs.Prelude.{◌≡◌, [], length, ◌==◌, OnOk, OnErr, IfOk};
+ghost use Rattle.tag_expr.specs.TagSets.{has_tag, with_tag};
+
+use crate::tag::Tag;
+use std::alloc::{AllocError, Global};
+use std::marker::Model;
+
+/// A set of tags.
+#[derive(Debug, Drop)]
+pub struct TagSet {
+    tags: Vec<Tag>,
+}
+
+impl Model for TagSet {
+    ghost use Rattle.std.specs.Prelude.{List, ℕ};
+
+    ghost Value = { List (List ℕ) };
+
+    ghost view = { λ s. s.tags.items };
+}
+
+impl TagSet {
+    /// The empty set.
+    pub fn new(alloc: Global) -> TagSet
+        ensures { result ≡ [] }
+    {
+        TagSet {
+            tags: Vec::new(alloc),
+        }
+    }
+
+    /// Puts the tag into the set.
+    pub fn add(&mut self, tag: Tag) -> Result<(), AllocError>
+        ensures ok { OnOk result (self.new ≡ with_tag self.old tag) }
+        ensures err { OnErr result (self.new ≡ self.old) }
+    {
+        if self.contains(tag.as_str()) {
+            return Ok(());
+        }
+        self.tags.push(tag)?;
+        Ok(())
+    }
+
+    /// Whether the set has the tag.
+    pub fn contains(&self, tag: &str) -> bool
+        ensures { result ≡ has_tag self.now tag.now }
+    {
+        self.tags.iter().any(|other| other.as_str() == tag)
+    }
+
+    /// Whether the set has no tag.
+    pub fn is_empty(&self) -> bool
+        ensures { result ≡ (length self.now == 0) }
+    {
+        self.tags.is_empty()
+    }
+
+    /// The same set, in memory of its own.
+    pub fn copy(&self, alloc: Global) -> Result<TagSet, AllocError>
+        ensures { IfOk result (λ set. set ≡ self.now) }
+    {
+        let mut tags = Vec::new(alloc);
+        for tag in &self.tags {
+            tags.push(tag.copy(alloc)?)?;
+        }
+        Ok(TagSet { tags })
+    }
+}
