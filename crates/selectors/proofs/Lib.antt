@@ -1,7 +1,10 @@
 -- The lemmas, by subject.
+pub mod AtOrBelows
 pub mod ClassName
 pub mod Covering
+pub mod Marks
 pub mod Lineage
 pub mod Outers
 pub mod Packages
+pub mod Tags
 pub mod Truths

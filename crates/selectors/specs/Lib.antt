@@ -2,6 +2,8 @@
 pub mod ClassNames
 pub mod Covered
 pub mod Faults
+pub mod Filters
+pub mod Keeping
 pub mod Lineages
 pub mod Names
 pub mod Selectors

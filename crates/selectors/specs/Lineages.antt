@@ -1,5 +1,5 @@
 -- A node together with all nodes that it is below.
-use Rattle.std.specs.Prelude.{◌≡◌, ℕ, zero, suc, ◌<◌, Bool, nat_eq, List, [], ◌∷◌, slice_index_or, ◌⊎◌}
+use Rattle.std.specs.Prelude.{◌≡◌, ℕ, zero, suc, Bool, nat_eq, List, [], ◌∷◌, slice_index_or, ◌⊎◌}
 use Rattle.std.specs.List.{list_any}
 use Rattle.descriptor.specs.Nodes.{Nodes, Below}
 
@@ -13,10 +13,10 @@ path_up parents (suc steps) (suc n) = suc n ∷ path_up parents steps (slice_ind
 abbrev pub lineage : Nodes → ℕ → List ℕ
 lineage t n = path_up t.parents n n
 
--- whether a is n or a node that n is below, as a test
-abbrev pub is_at_or_above : Nodes → ℕ → ℕ → Bool
-is_at_or_above t a n = list_any (nat_eq a) (lineage t n)
+-- whether n is a, or below a
+abbrev pub is_at_or_below : Nodes → ℕ → ℕ → Bool
+is_at_or_below t a n = list_any (nat_eq a) (lineage t n)
 
--- n is a, or below a
+-- the same as a relation: n is a, or is reached from it by one or more children
 abbrev pub AtOrBelow : Nodes → ℕ → ℕ → Type 0
 AtOrBelow t a n = (n ≡ a) ⊎ Below t a n

@@ -4,6 +4,7 @@
 
 mod class_names;
 mod covered;
+mod filter;
 mod kept;
 mod names;
 mod refusal;
