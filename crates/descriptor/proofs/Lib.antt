@@ -7,3 +7,5 @@ pub mod Sets
 pub mod Children
 pub mod Counts
 pub mod Between
+pub mod Pruned
+pub mod Pruning

@@ -4,4 +4,5 @@ pub mod Children
 pub mod Fields
 pub mod Limits
 pub mod Nodes
+pub mod Pruned
 pub mod Refusals

@@ -1,6 +1,6 @@
 //! A tree of nodes.
 
-ghost use Rattle.std.specs.Prelude.{◌≡◌, ◌<◌, ◌≤◌, ◌-◌, ◌↔◌, IsTrue, None, Some, OnOk, OnErr, IfSome, IfOk, IsNone};
+ghost use Rattle.std.specs.Prelude.{◌≡◌, ℕ, ◌<◌, ◌≤◌, ◌-◌, ◌↔◌, length, IsTrue, None, Some, OnOk, OnErr, IfSome, IfOk, IsNone};
 
 use crate::body_id::BodyId;
 use crate::kind::Kind;
@@ -36,6 +36,8 @@ impl Model for Tree {
 
 impl Tree {
     ghost use Rattle.std.specs.Option.{is_some};
+    ghost use Rattle.descriptor.specs.Children.{ListsChildren};
+    ghost use Rattle.descriptor.specs.Pruned.{IsClosed, KeepsNodes, pruned};
     ghost use Rattle.descriptor.specs.Refusals.{refusal};
     ghost use Rattle.descriptor.specs.Nodes.{size, plan_alone, parent_of, children_of, node_at, kind_of, body_of, reason_of, is_disabled, tags_of, is_test_at, depth_of, appended, Below, MayTake, IsTree, IsChild};
 
@@ -145,6 +147,28 @@ impl Tree {
             current = parent;
         }
         false
+    }
+
+    /// The tree of the nodes that are kept, numbered anew, with copies of what was told of them.
+    pub fn pruned(&self, alloc: Global, keep: &[bool]) -> Result<Tree, AllocError>
+        requires one_each { length keep.now ≡ size self.now }
+        requires closed { IsClosed self.now keep.now }
+        ensures same { IfOk result (λ tree. tree ≡ pruned self.now keep.now) }
+        ensures kept { IfOk result (λ tree. KeepsNodes self.now keep.now tree) }
+        ensures tree { IfOk result (λ tree. IsTree tree) }
+        ensures children { IfOk result (λ tree. (n : ℕ) → ListsChildren tree n) }
+    {
+        let mut tree = Tree::new(alloc)?;
+        // the new number of each node; where a node is not kept, that of the next one that is
+        let mut numbers = vec![in alloc; NodeId::ROOT]?;
+        for node in 1..self.len() {
+            numbers.push(NodeId::new(tree.len() as u16))?;
+            if keep[node] {
+                let parent = numbers[self.parents[node].index()];
+                tree.push(alloc, parent, self.nodes[node - 1].copy(alloc)?)?;
+            }
+        }
+        Ok(tree)
     }
 
     /// The tree of the plan alone.
