@@ -1,5 +1,15 @@
 -- The lemmas.
+pub mod Again
+pub mod Canonical
+pub mod Checked
+pub mod Ids
+pub mod Items
+pub mod Parsed
 pub mod Parts
+pub mod Pieces
+pub mod Prefixes
 pub mod ReadBack
 pub mod Refused
 pub mod Spellings
+pub mod Steps
+pub mod Takes

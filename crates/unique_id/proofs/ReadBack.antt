@@ -6,7 +6,7 @@ use Rattle.unique_id.specs.Spelling.{spelling, spelled_byte, spelled_part, spell
 use Rattle.unique_id.proofs.Parts.{IsPlain, plain_byte}
 
 -- a fact of each byte and its spelling, from the six escapes and the plain bytes
-by_byte : (P : ℕ → List ℕ → Type 0)
+pub by_byte : (P : ℕ → List ℕ → Type 0)
     → P 37 (spelled_byte 37) → P 43 (spelled_byte 43) → P 91 (spelled_byte 91) → P 93 (spelled_byte 93) → P 58 (spelled_byte 58) → P 47 (spelled_byte 47)
     → ((b : ℕ) → IsPlain b → P b (b ∷ []))
     → (b : ℕ) → P b (spelled_byte b)
@@ -91,7 +91,7 @@ part_cancel (c ∷ a) (d ∷ b) e x y ends h =
     let more = part_cancel a b e x y ends rest in
     (ap (λ n. n ∷ a) first ∙ ap (λ l. d ∷ l) more.0, more.1)
 
-open_segment : (kind value rest : List ℕ) → spelled_segment kind value ++ rest ≡ 91 ∷ (spelled_part kind ++ 58 ∷ (spelled_part value ++ 93 ∷ rest))
+pub open_segment : (kind value rest : List ℕ) → spelled_segment kind value ++ rest ≡ 91 ∷ (spelled_part kind ++ 58 ∷ (spelled_part value ++ 93 ∷ rest))
 open_segment kind value rest = simp append_assoc
 
 -- a segment and what follows it are told by the spelling

@@ -1,7 +1,17 @@
--- What each segment of a unique id has.
-use Rattle.std.specs.Prelude.{◌<◌, length}
+-- What each segment of a unique id has, and which id stands above which.
+use Rattle.std.specs.Prelude.{◌≡◌, ◌<◌, List, ◌++◌, length}
+use Rattle.std.specs.Str.{IsUtf8}
 use Rattle.unique_id.specs.declared.unique_id.Segment.{Segment}
 
 -- neither the kind nor the value is empty
 abbrev pub IsWhole : Segment → Type 0
 IsWhole s = (0 < length s.kind) × (0 < length s.value)
+
+-- both are text
+pub record IsText (s : Segment) : Type 0 where
+  pub kind : IsUtf8 s.kind
+  pub value : IsUtf8 s.value
+
+-- some further segments, or none, make the one list the other
+abbrev pub IsPrefix : List Segment → List Segment → Type 0
+IsPrefix segments others = (rest : List Segment) × (segments ++ rest ≡ others)

@@ -1,7 +1,10 @@
 //! Unique ids: where a node stands in the tree, and the canonical text of that.
 #![tactic(auto)]
 
+mod escape;
 mod fault;
+mod part;
+mod reading;
 mod spelling;
 mod text;
 mod unique_id;
@@ -10,5 +13,7 @@ pub use fault::UidFault;
 pub use text::Text;
 pub use unique_id::{Segment, UniqueId};
 
+#[cfg(test)]
+mod corpus_tests;
 #[cfg(test)]
 mod tests;

@@ -1,10 +1,14 @@
 //! A unique id: its segments, with their canonical text beside them.
 
-ghost use Rattle.std.specs.Prelude.{◌≡◌, ◌≢◌, ◌<◌, ◌≤◌, ◌↔◌, IsTrue, Some, None, IfOk, IfErr, [], ◌∷◌, ◌++◌, length, All, string_bytes};
-ghost use Rattle.unique_id.specs.Segments.{IsWhole};
+ghost use Rattle.std.specs.Prelude.{◌≡◌, ◌≢◌, ◌<◌, ◌≤◌, ◌↔◌, IsTrue, Some, None, IfOk, IfErr, [], ◌∷◌, ◌++◌, List, Ok, length, All, string_bytes};
+ghost use Rattle.unique_id.specs.declared.unique_id.Segment.{Segment};
+ghost use Rattle.unique_id.specs.Grammar.{IsId, IsWithinLimits};
+ghost use Rattle.unique_id.specs.Reading.{Gives, id_of};
+ghost use Rattle.unique_id.specs.Segments.{IsWhole, IsText, IsPrefix};
 ghost use Rattle.unique_id.specs.Spelling.{refusal, spelling};
 
 use crate::fault::UidFault;
+use crate::reading::segments_of;
 use crate::spelling::{push_segment, segment_len};
 use crate::text::Text;
 use std::alloc::{AllocError, Global};
@@ -32,6 +36,13 @@ impl Segment {
             kind: Text::new(alloc, kind)?,
             value: Text::new(alloc, value)?,
         })
+    }
+
+    /// Whether both have the same kind and the same value.
+    fn same(&self, other: &Segment) -> bool
+        ensures { IsTrue result ↔ (self.now ≡ other.now) }
+    {
+        self.kind.as_str() == other.kind.as_str() && self.value.as_str() == other.value.as_str()
     }
 
     /// The same segment, in memory of its own.
@@ -77,6 +88,7 @@ impl UniqueId {
         ensures some { 0 < length self.now }
         ensures few { length self.now ≤ 64 }
         ensures whole { All IsWhole self.now }
+        ensures texts { All IsText self.now }
     {
         self.segments.as_slice()
     }
@@ -100,6 +112,35 @@ impl UniqueId {
         ensures no_memory { IfErr result (λ fault. fault ≡ UidFault.NoMemory → refusal self.now kind.now value.now ≡ None) }
     {
         grown(alloc, self.segments(), self.text(), kind, value)
+    }
+
+    /// The id that a text spells, with any byte of a part as a percent escape or, but for `%` and
+    /// the four delimiters, as it is. The text is read from left to right, and the first fault counts.
+    pub fn parse(alloc: Global, text: &str) -> Result<UniqueId, UidFault>
+        ensures exact { Gives (λ id. id) result (id_of text.now) }
+        // What is answered is written in the format, and what is written in it is answered.
+        ensures parsed { IfOk result (λ id. IsId text.now id × IsWithinLimits text.now id) }
+        ensures parses { (segments : List Segment) → IsId text.now segments → IsWithinLimits text.now segments → Gives (λ id. id) result (Ok segments) }
+        ensures reads_back { (segments : List Segment) → 0 < length segments → length segments ≤ 64 → All IsWhole segments → All IsText segments → length text.now ≤ 1024 → text.now ≡ spelling segments → Gives (λ id. id) result (Ok segments) }
+    {
+        id_of(alloc, text)
+    }
+
+    /// Whether the other id is this one, or stands below it.
+    pub fn is_prefix_of(&self, other: &UniqueId) -> bool
+        ensures { IsTrue result ↔ IsPrefix self.now other.now }
+    {
+        let segments = self.segments();
+        let others = other.segments();
+        if segments.len() > others.len() {
+            return false;
+        }
+        for index in 0..segments.len() {
+            if !segments[index].same(&others[index]) {
+                return false;
+            }
+        }
+        true
     }
 
     /// Whether both have the same segments.
@@ -161,6 +202,38 @@ fn longer_text(
     Ok(longer)
 }
 
+/// The id that a text spells, read from left to right.
+fn id_of(alloc: Global, text: &str) -> Result<UniqueId, UidFault>
+    ensures { Gives (λ id. id) result (id_of text.now) }
+{
+    if text.is_empty() {
+        return Err(UidFault::Empty);
+    }
+    if text.len() > LONGEST_TEXT {
+        return Err(UidFault::TooLong);
+    }
+    let segments = segments_of(alloc, text)?;
+    let text = spelled(alloc, segments.as_slice())?;
+    if segments.len() > MOST_SEGMENTS || text.len() > LONGEST_TEXT {
+        return Err(UidFault::TooLong);
+    }
+    Ok(UniqueId { segments, text })
+}
+
+/// The spelling of these segments.
+fn spelled(alloc: Global, segments: &[Segment]) -> Result<String, AllocError>
+    ensures { IfOk result (λ text. string_bytes text ≡ spelling segments.now) }
+{
+    let mut text = String::new(alloc);
+    for (index, segment) in segments.iter().enumerate() {
+        if index > 0 {
+            text.push_str("/")?;
+        }
+        push_segment(&mut text, segment.kind.as_str(), segment.value.as_str())?;
+    }
+    Ok(text)
+}
+
 /// The id of `segments`, whose spelling is `text`, and one more.
 fn grown(
     alloc: Global,
@@ -172,6 +245,7 @@ fn grown(
     requires spelled { text.now ≡ spelling segments.now }
     requires short { length text.now ≤ 1024 }
     requires whole { All IsWhole segments.now }
+    requires texts { All IsText segments.now }
     ensures ok { IfOk result (λ id. id ≡ segments.now ++ record { kind = kind.now; value = value.now } ∷ []) }
     ensures accepted { IfOk result (λ _. refusal segments.now kind.now value.now ≡ None) }
     ensures refused { IfErr result (λ fault. fault ≢ UidFault.NoMemory → refusal segments.now kind.now value.now ≡ Some fault) }

@@ -3,7 +3,7 @@ use Rattle.std.proofs.Common.{◌≡◌, ◌+◌, ◌++◌, ◌∷◌, [], lengt
 use Rattle.std.proofs.lemmas.Grind.{common_steps}
 use Rattle.std.proofs.lemmas.List.Elements.{All-push, All-same}
 use Rattle.unique_id.specs.declared.unique_id.Segment.{Segment}
-use Rattle.unique_id.specs.Segments.{IsWhole}
+use Rattle.unique_id.specs.Segments.{IsWhole, IsText}
 use Rattle.unique_id.specs.Spelling.{spelling, refusal}
 use Rattle.unique_id.proofs.Refused.{accepted}
 use Rattle.unique_id.proofs.unique_id.grown.Goals as goal
@@ -22,5 +22,6 @@ invariant_of-result c =
       some_segment = omega arith;
       few = omega (arith, fine.few);
       whole = All-same IsWhole c.push.new.self.items (old ++ new ∷ []) items (All-push IsWhole old new c.requires.whole (fine.some_kind, fine.some_value));
+      texts = All-same IsText c.push.new.self.items (old ++ new ∷ []) items (All-push IsText old new c.requires.texts (record { kind = c.utf8.kind; value = c.utf8.value }));
       short = omega (arith, fine.short, ap length spelled);
     }
