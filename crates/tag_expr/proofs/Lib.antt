@@ -1,2 +1,11 @@
 -- The lemmas.
 pub mod FirstBad
+pub mod Together
+pub mod WordSizes
+pub mod TokenTexts
+pub mod Calls
+pub mod NextTokens
+pub mod Phrases
+pub mod NoTree
+pub mod OneTree
+pub mod Refusals

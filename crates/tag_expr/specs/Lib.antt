@@ -1,4 +1,12 @@
 -- The definitions that contracts cite.
+pub mod ExpressionCodes
+pub mod ExpressionFaults
+pub mod Expressions
 pub mod Faults
-pub mod Tags
+pub mod Grammar
+pub mod Nodes
+pub mod Parsing
 pub mod TagSets
+pub mod Tags
+pub mod TokenTexts
+pub mod Tokens

@@ -5,7 +5,7 @@ ghost use Rattle.std.specs.Str.{chars};
 ghost use Rattle.tag_expr.specs.Tags.{is_sign, is_bad, first_bad};
 
 /// Whether the character is a sign of the expressions.
-fn is_sign(c: char) -> bool
+pub(crate) fn is_sign(c: char) -> bool
     ensures { result ≡ is_sign c }
 {
     c == '(' || c == ')' || c == '!' || c == '&' || c == '|'

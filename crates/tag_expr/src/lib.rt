@@ -2,10 +2,20 @@
 #![tactic(auto)]
 
 mod characters;
+mod expression;
 mod fault;
+mod node;
+mod parser;
 mod tag;
 mod tag_set;
+mod token;
 
+pub use expression::TagExpr;
 pub use fault::TagFault;
 pub use tag::{Tag, tag_of};
 pub use tag_set::TagSet;
+
+#[cfg(test)]
+mod examples;
+#[cfg(test)]
+mod tests;

@@ -42,6 +42,17 @@ impl Tag {
     }
 }
 
+impl Tag {
+    /// The tag of this text, which is one.
+    pub(crate) fn of_word(alloc: Global, text: &str) -> Result<Tag, AllocError>
+        ensures { IfOk result (λ tag. tag ≡ text.now) }
+    {
+        Ok(Tag {
+            text: String::from_str(alloc, text)?,
+        })
+    }
+}
+
 /// The tag that a text is, without the white space at its ends. The first character that no tag
 /// has is refusal 21, and so is place 0 of a blank text.
 pub fn tag_of(alloc: Global, text: &str) -> Result<Tag, TagFault>

@@ -1,0 +1,54 @@
+-- Each phrase is read from its parts.
+use Rattle.std.proofs.Common.{◌≡◌, ◌<◌, ◌∙◌, ◌∷◌, ap, arith, None}
+use Rattle.std.specs.Str.{chars}
+use Rattle.std.proofs.lemmas.Grind.{common_steps}
+use Rattle.tag_expr.specs.Tags.{first_bad}
+use Rattle.tag_expr.specs.Tokens.{placed}
+use Rattle.tag_expr.specs.TokenTexts.{token_read, tokens_left}
+use Rattle.tag_expr.proofs.Phrases.{read_tag, read_any, read_none, read_negation, read_group, read_one_not, read_one_and, read_more_and, read_more_or}
+use Rattle.tag_expr.proofs.parser.+parser.Goals as goal
+
+pub operand-returns-in_default-first_bad-clause-read : goal.operand-returns-in_default-first_bad-clause-read
+operand-returns-in_default-first_bad-clause-read t c =
+    let is = c.in-Some.ensures.found ∙ ap (λ k. placed c.in-Some.found.place (token_read k) ∷ tokens_left c.args.end c.in-Some.found.rest.now) c.in-Word.is in
+    let good : first_bad c.in-Some.found.place (chars c.in-Word.text.now) ≡ None = grind (arith, common_steps) in
+    read_tag _ _ _ _ _ _ _ is good c.tag.ensures
+
+pub operand-returns-in-AnyCall-clause-read : goal.operand-returns-in-AnyCall-clause-read
+operand-returns-in-AnyCall-clause-read t c =
+    read_any _ _ _ _ _ (c.in-Some.ensures.found ∙ ap (λ k. placed c.in-Some.found.place (token_read k) ∷ tokens_left c.args.end c.in-Some.found.rest.now) c.in-AnyCall.is)
+
+pub operand-returns-in-NoneCall-clause-read : goal.operand-returns-in-NoneCall-clause-read
+operand-returns-in-NoneCall-clause-read t c =
+    read_none _ _ _ _ _ (c.in-Some.ensures.found ∙ ap (λ k. placed c.in-Some.found.place (token_read k) ∷ tokens_left c.args.end c.in-Some.found.rest.now) c.in-NoneCall.is)
+
+pub operand-returns-in_ok-read-in-Bang-clause-read : goal.operand-returns-in_ok-read-in-Bang-clause-read
+operand-returns-in_ok-read-in-Bang-clause-read t c =
+    let is = c.in-Some.ensures.found ∙ ap (λ k. placed c.in-Some.found.place (token_read k) ∷ tokens_left c.args.end c.in-Some.found.rest.now) c.in-Bang.is in
+    let few : c.args.pending < 64 = omega arith in
+    read_negation _ _ _ _ _ _ _ _ is few c.in_ok-read-in-Bang.ensures.read c.negation.ensures
+
+pub operand-returns-in_ok-rest-in-LeftParen-clause-read : goal.operand-returns-in_ok-rest-in-LeftParen-clause-read
+operand-returns-in_ok-rest-in-LeftParen-clause-read t c =
+    let is = c.in-Some.ensures.found ∙ ap (λ k. placed c.in-Some.found.place (token_read k) ∷ tokens_left c.args.end c.in-Some.found.rest.now) c.in-LeftParen.is in
+    let few : c.args.pending < 64 = omega arith in
+    read_group _ _ _ _ _ _ _ _ is few c.in_ok-read-in-LeftParen.ensures.read c.in_ok-rest-in-LeftParen.ensures.closed
+
+pub operands-loop-after-init : goal.operands-loop-after-init
+operands-loop-after-init t c = (read_one_not _ _ _ _ _ c.in_ok-read.ensures.read, c.in_ok-read.ensures.shorter)
+
+pub operands-loop-after-preserved : goal.operands-loop-after-preserved
+operands-loop-after-preserved t c = (
+  read_more_and _ _ _ _ _ _ _ _ _ c.loop-after.invariant.0 c.in-Some.ensures.cases c.in_ok-right.ensures.read c.conjunction.ensures,
+  omega (arith, c.loop-after.invariant.1, c.in-Some.ensures.shorter, c.in_ok-right.ensures.shorter),
+)
+
+pub alternatives-loop-after-init : goal.alternatives-loop-after-init
+alternatives-loop-after-init t c = (read_one_and _ _ _ _ _ c.in_ok-read.ensures.read, c.in_ok-read.ensures.shorter, c.in_ok-read.ensures.whole)
+
+pub alternatives-loop-after-preserved : goal.alternatives-loop-after-preserved
+alternatives-loop-after-preserved t c = (
+  read_more_or _ _ _ _ _ _ _ _ _ c.loop-after.invariant.0 c.in-Some.ensures.cases c.in_ok-right.ensures.read c.disjunction.ensures,
+  omega (arith, c.loop-after.invariant.1, c.in-Some.ensures.shorter, c.in_ok-right.ensures.shorter),
+  c.in_ok-right.ensures.whole,
+)
