@@ -1,13 +1,24 @@
 -- What a selector's text says.
-use Rattle.std.specs.Prelude.{ℕ, ◌==◌, ◌||◌, List, length, Bool, if◌then◌else◌, Option, Some, None}
+use Rattle.std.specs.Prelude.{ℕ, ◌==◌, ◌||◌, List, length, Bool, if◌then◌else◌, Option, Some, None, Result, Ok, Err}
 use Rattle.std.specs.List.{before_first, after_first}
+use Rattle.unique_id.specs.declared.fault.UidFault.{UidFault}
+use Rattle.unique_id.specs.declared.unique_id.Segment.{Segment}
+use Rattle.unique_id.specs.Reading.{id_of}
 use Rattle.selectors.specs.declared.selector.Selector.{Selector}
-use Rattle.selectors.specs.declared.selector.Selector.TheVariants as Selector
 use Rattle.selectors.specs.declared.selector.SelectorKind.{SelectorKind}
 use Rattle.selectors.specs.declared.selector.SelectorKind.TheVariants as Kind
 
 abbrev pub is_hash : ℕ → Bool
 is_hash byte = byte == 35
+
+-- the selector of a unique id that was read
+abbrev pub id_selector : Result (List Segment) UidFault → Option Selector
+id_selector (Ok id) = Some (Selector.Uid id)
+id_selector (Err fault) = None
+
+-- a unique id: what reads as one
+abbrev pub unique_id_of : List ℕ → Option Selector
+unique_id_of text = id_selector (id_of text)
 
 -- a class: any text but the empty one
 abbrev pub class_of : List ℕ → Option Selector
@@ -25,6 +36,7 @@ method_of text =
 
 -- the selector of this kind that a text spells, if any
 abbrev pub selector_of : SelectorKind → List ℕ → Option Selector
+selector_of Kind.UniqueId text = unique_id_of text
 selector_of Kind.Class text = class_of text
 selector_of Kind.Method text = method_of text
 selector_of Kind.Package text = package_of text

@@ -1,15 +1,17 @@
 //! Selectors: which nodes a request names.
 
-ghost use Rattle.std.specs.Prelude.{◌≡◌, Some, None, IfOk, IfErr, IsSome};
-ghost use Rattle.selectors.specs.Selectors.{class_of, method_of, package_of, selector_of};
+ghost use Rattle.std.specs.Prelude.{◌≡◌, ◌≢◌, Some, None, IfOk, IfErr, IsSome};
+ghost use Rattle.selectors.specs.Selectors.{class_of, method_of, package_of, selector_of, unique_id_of};
 
 use crate::selector_fault::SelectorFault;
 use std::alloc::Global;
-use unique_id::{Text, UniqueId};
+use unique_id::{Text, UidFault, UniqueId};
 
 /// What a selector's text names.
 #[derive(Clone, Copy, PartialEq, Eq, Debug)]
 pub enum SelectorKind {
+    /// A node, by the canonical text of its unique id.
+    UniqueId,
     /// A class, by its name.
     Class,
     /// A method, by the name of its class, a hash, and its own segment's value.
@@ -36,13 +38,26 @@ impl Selector {
     pub fn parse(alloc: Global, kind: SelectorKind, text: &str) -> Result<Selector, SelectorFault>
         ensures ok { IfOk result (λ selector. selector_of kind text.now ≡ Some selector) }
         ensures refused { IfErr result (λ fault. fault ≡ SelectorFault.BadSelector → selector_of kind text.now ≡ None) }
-        ensures no_memory { IfErr result (λ fault. fault ≡ SelectorFault.NoMemory → IsSome (selector_of kind text.now)) }
+        ensures no_memory { IfErr result (λ fault. fault ≡ SelectorFault.NoMemory → kind ≢ SelectorKind.UniqueId → IsSome (selector_of kind text.now)) }
     {
         match kind {
+            SelectorKind::UniqueId => unique_id(alloc, text),
             SelectorKind::Class => class(alloc, text),
             SelectorKind::Method => method(alloc, text),
             SelectorKind::Package => package(alloc, text),
         }
+    }
+}
+
+/// The selector of the unique id that a text spells.
+fn unique_id(alloc: Global, text: &str) -> Result<Selector, SelectorFault>
+    ensures ok { IfOk result (λ selector. unique_id_of text.now ≡ Some selector) }
+    ensures refused { IfErr result (λ fault. fault ≡ SelectorFault.BadSelector → unique_id_of text.now ≡ None) }
+{
+    match UniqueId::parse(alloc, text) {
+        Ok(id) => Ok(Selector::Uid(id)),
+        Err(UidFault::NoMemory) => Err(SelectorFault::NoMemory),
+        Err(_) => Err(SelectorFault::BadSelector),
     }
 }
 
