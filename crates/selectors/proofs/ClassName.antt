@@ -1,5 +1,5 @@
 -- A node's class name from its parent's, and what that says of a text.
-use Rattle.std.proofs.Common.{◌≡◌, ◌≢◌, ℕ, ◌<◌, Bool, true, false, List, [], ◌∷◌, ◌++◌, refl, ap, sym, ◌∙◌, arith, Some, None, Option, codes}
+use Rattle.std.proofs.Common.{◌≡◌, ℕ, ◌<◌, List, ◌∷◌, ◌++◌, refl, ap, sym, ◌∙◌, arith, Some, None, Option, codes}
 use Rattle.std.proofs.lemmas.List.{append_cancel_right}
 use Rattle.std.proofs.lemmas.Slice.Eq.{bytes_eq-Decides}
 use Rattle.std.specs.Str.{bytes_eq}
@@ -7,7 +7,7 @@ use Rattle.unique_id.specs.declared.unique_id.Segment.{Segment}
 use Rattle.descriptor.specs.Nodes.{Nodes, IsTree, size, parent_of, IsChild}
 use Rattle.selectors.specs.ClassNames.{is_text, nested_name, name_below, name_along, class_name, last_segment}
 use Rattle.selectors.proofs.Lineage.{lineage_up}
-use Rattle.selectors.proofs.Truths.{same_truth, never}
+use Rattle.selectors.proofs.Truths.{same_truth}
 
 pub class_name_up : (t : Nodes) → IsTree t → (n : ℕ) → 0 < n → n < size t → class_name t n ≡ name_below (class_name t (parent_of t n)) (last_segment t n)
 class_name_up t tree n above inside = ap (name_along t) (lineage_up t tree n above inside)

@@ -1,13 +1,13 @@
 -- What a selector covers, from parent to child.
-use Rattle.std.proofs.Common.{◌≡◌, ℕ, zero, suc, ◌+◌, ◌<◌, ◌≤◌, Bool, true, false, List, [], ◌∷◌, length, refl, sym, ap, ◌∙◌, arith, drop, Option, Some, None, get_or}
+use Rattle.std.proofs.Common.{◌≡◌, ℕ, zero, suc, ◌<◌, Bool, true, false, List, length, refl, sym, ap, ◌∙◌, arith}
 use Rattle.std.specs.Prelude.{◌||◌, ◌==◌}
 use Rattle.std.specs.List.{list_any}
 use Rattle.descriptor.specs.Nodes.{Nodes, IsTree, IsChild, size, parent_of}
 use Rattle.selectors.specs.declared.selector.Selector.{Selector}
-use Rattle.selectors.specs.Covered.{any_below, is_covered, matches}
+use Rattle.selectors.specs.Covered.{is_covered, matches}
 use Rattle.selectors.specs.Names.{names, covers}
 use Rattle.selectors.proofs.Lineage.{lineage_up}
-use Rattle.selectors.proofs.Truths.{or_left, or_false, any_at, any_none, never, list_any_same, list_any_or}
+use Rattle.selectors.proofs.Truths.{or_left, or_false, any_at, any_none, list_any_same, list_any_or}
 
 or_none : (a : Bool) → (a || false) ≡ a
 or_none true = refl
@@ -24,7 +24,7 @@ module _ (t : Nodes) (tree : IsTree t) where
   pub covers_up : (s : Selector) (n : ℕ) → 0 < n → n < size t → covers t s n ≡ (names t s n || covers t s (parent_of t n))
   covers_up s n above inside = ap (list_any (names t s)) (lineage_up t tree n above inside)
 
-  covers_named : (s : Selector) (n : ℕ) → n < size t → names t s n ≡ true → covers t s n ≡ true
+  pub covers_named : (s : Selector) (n : ℕ) → n < size t → names t s n ≡ true → covers t s n ≡ true
   covers_named s zero inside e = covers_root t s ∙ e
   covers_named s (suc n) inside e = covers_up s (suc n) (omega arith) inside ∙ or_left (names t s (suc n)) (covers t s (parent_of t (suc n))) e
 

@@ -1,4 +1,5 @@
 -- The lemmas, by subject.
+pub mod Answer
 pub mod AtOrBelows
 pub mod ClassName
 pub mod Covering

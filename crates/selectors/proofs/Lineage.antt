@@ -1,5 +1,5 @@
 -- A node's lineage: itself, and the lineage of its parent.
-use Rattle.std.proofs.Common.{◌≡◌, ℕ, zero, suc, ◌<◌, ◌≤◌, List, [], ◌∷◌, length, get_or, refl, ap, arith}
+use Rattle.std.proofs.Common.{◌≡◌, ℕ, zero, suc, ◌<◌, ◌≤◌, List, ◌∷◌, length, get_or, refl, ap, arith}
 use Rattle.descriptor.specs.Nodes.{Nodes, IsTree, size, parent_of}
 use Rattle.selectors.specs.Lineages.{path_up, lineage}
 

@@ -1,14 +1,14 @@
 -- Marks that go up from the selected nodes, each node after its children.
-use Rattle.std.proofs.Common.{◌≡◌, ◌≢◌, ℕ, zero, suc, ◌<◌, ◌≤◌, ◌+◌, Bool, true, false, cond, List, ◌++◌, length, take, drop, get_or, refl, sym, ap, ◌∙◌, arith, inl, inr, ◌⊎◌, ◌↔◌, subst, eqb}
+use Rattle.std.proofs.Common.{◌≡◌, ◌≢◌, ℕ, suc, ◌<◌, ◌≤◌, Bool, true, false, cond, List, ◌++◌, length, take, drop, get_or, refl, sym, ap, ◌∙◌, arith, inl, inr, ◌⊎◌, subst, eqb}
 use Rattle.std.proofs.Math.ListN.{set, length-set}
 use Rattle.std.proofs.lemmas.Bool.Decides.{Decides-eqb}
 use Rattle.std.proofs.lemmas.List.{get_or-set_other, ext_get_or}
 use Rattle.std.proofs.lemmas.Grind.{get_or-set_at, common_steps}
-use Rattle.std.specs.Prelude.{◌||◌, ◌&&◌}
+use Rattle.std.specs.Prelude.{◌&&◌}
 use Rattle.descriptor.specs.Nodes.{Nodes, IsTree, IsChild, size, parent_of}
 use Rattle.selectors.specs.Covered.{any_below, truths}
 use Rattle.selectors.specs.Keeping.{stays, HasSelected}
-use Rattle.selectors.specs.Lineages.{is_at_or_below, AtOrBelow}
+use Rattle.selectors.specs.Lineages.{is_at_or_below}
 use Rattle.selectors.proofs.AtOrBelows.{child_at_or_above, first_step, told, tells}
 use Rattle.selectors.proofs.Truths.{or_left, or_right, or_cases, any_at, any_found, same_truth, length_truths, truth_at}
 
@@ -49,9 +49,9 @@ module _ (t : Nodes) (tree : IsTree t) (q : ℕ → Bool) where
   -- a node with a selected one at or below it is selected itself, or has such a child
   parted : (m : ℕ) → HasSelected t q m → (q m ≡ true) ⊎ ((c : ℕ) × IsChild t m c × HasSelected t q c)
   parted m (n, inside, here, at) = elim at [
-      | inl same ↦ inl (ap q (sym same) ∙ here)
-      | inr below ↦ let first = first_step t m n below in inr (first.0, first.1, (n, inside, here, first.2))
-    ]
+    | inl same ↦ inl (ap q (sym same) ∙ here)
+    | inr below ↦ let first = first_step t m n below in inr (first.0, first.1, (n, inside, here, first.2))
+  ]
 
   by_child : (m c : ℕ) → IsChild t m c → HasSelected t q c → HasSelected t q m
   by_child m c e (n, inside, here, at) = (n, inside, here, child_at_or_above t m c n e at)
@@ -65,9 +65,9 @@ module _ (t : Nodes) (tree : IsTree t) (q : ℕ → Bool) where
 
   marked : (m : ℕ) → HasSelected t q m → Marked t q (suc m) m
   marked m some = elim (parted m some) [
-      | inl here ↦ inl here
-      | inr (c, e, more) ↦ inr (c, e, (let less : m < c = up_of m c e in omega arith), more)
-    ]
+    | inl here ↦ inl here
+    | inr (c, e, more) ↦ inr (c, e, (let less : m < c = up_of m c e in omega arith), more)
+  ]
 
   earlier : (i m : ℕ) → Marked t q (suc i) m → Marked t q i m
   earlier i m (inl here) = inl here
@@ -94,9 +94,9 @@ module _ (t : Nodes) (tree : IsTree t) (q : ℕ → Bool) where
       later : (m p i : ℕ) → IsChild t p i → m ≢ p → Marked t q i m → Marked t q (suc i) m
       later m p i e other (inl is) = inl is
       later m p i e other (inr (c, f, from, more)) = elim (same_or_not c i) [
-          | inl same ↦ absurd (other (sym f.parent ∙ ap (parent_of t) same ∙ e.parent))
-          | inr different ↦ inr (c, f, grind arith, more)
-        ]
+        | inl same ↦ absurd (other (sym f.parent ∙ ap (parent_of t) same ∙ e.parent))
+        | inr different ↦ inr (c, f, grind arith, more)
+      ]
 
   -- node i is not marked: nothing at or below it is selected then
   pass_none : (marks : List Bool) (i : ℕ) → i < size t → AreMarks t q marks (suc i) → get_or marks i false ≡ false → AreMarks t q marks i
@@ -109,25 +109,25 @@ module _ (t : Nodes) (tree : IsTree t) (q : ℕ → Bool) where
       later : (m : ℕ) → Marked t q i m → Marked t q (suc i) m
       later m (inl is) = inl is
       later m (inr (c, f, from, more)) = elim (same_or_not c i) [
-          | inl same ↦ let on : get_or marks i false ≡ true = were.whole i inside (marked i (subst (HasSelected t q) same more)) in absurd (cc)
-          | inr different ↦ inr (c, f, grind arith, more)
-        ]
+        | inl same ↦ let on : get_or marks i false ≡ true = were.whole i inside (marked i (subst (HasSelected t q) same more)) in absurd (cc)
+        | inr different ↦ inr (c, f, grind arith, more)
+      ]
 
   pub passed : (marks new : List Bool) (i : ℕ) → 0 < i → i < size t → AreMarks t q marks (suc i) → new ≡ cond (get_or marks i false) (set marks (parent_of t i) true) marks → AreMarks t q new i
   passed marks new i above inside were is = elim (is_or_is_not (get_or marks i false)) [
-      | inl on ↦ subst (λ (x : List Bool). AreMarks t q x i) (sym (is ∙ ap (λ b. cond b (set marks (parent_of t i) true) marks) on)) (pass_on marks i (parent_of t i) (record { above_zero = above; inside = inside; parent = refl }) were on)
-      | inr off ↦ subst (λ (x : List Bool). AreMarks t q x i) (sym (is ∙ ap (λ b. cond b (set marks (parent_of t i) true) marks) off)) (pass_none marks i inside were off)
-    ]
+    | inl on ↦ subst (λ (x : List Bool). AreMarks t q x i) (sym (is ∙ ap (λ b. cond b (set marks (parent_of t i) true) marks) on)) (pass_on marks i (parent_of t i) (record { above_zero = above; inside = inside; parent = refl }) were on)
+    | inr off ↦ subst (λ (x : List Bool). AreMarks t q x i) (sym (is ∙ ap (λ b. cond b (set marks (parent_of t i) true) marks) off)) (pass_none marks i inside were off)
+  ]
 
   -- the test and what it tells
   pub stays_told : (n : ℕ) → stays t q n ≡ true → (n ≡ 0) ⊎ HasSelected t q n
   stays_told n h = elim (or_cases (eqb n 0) (any_below (λ m. q m && is_at_or_below t n m) (size t)) h) [
-      | inl root ↦ inl ((Decides-eqb n 0).0 root)
-      | inr some ↦
-          let at = any_found (λ (m : ℕ). q m && is_at_or_below t n m) (size t) some in
-          let both = and_parts (q at.0) (is_at_or_below t n at.0) at.2 in
-          inr (at.0, at.1, both.0, told t tree n at.0 at.1 both.1)
-    ]
+    | inl root ↦ inl ((Decides-eqb n 0).0 root)
+    | inr some ↦
+        let at = any_found (λ (m : ℕ). q m && is_at_or_below t n m) (size t) some in
+        let both = and_parts (q at.0) (is_at_or_below t n at.0) at.2 in
+        inr (at.0, at.1, both.0, told t tree n at.0 at.1 both.1)
+  ]
 
   pub stays_as : (n : ℕ) → (n ≡ 0) ⊎ HasSelected t q n → stays t q n ≡ true
   stays_as n (inl root) = or_left (eqb n 0) (any_below (λ m. q m && is_at_or_below t n m) (size t)) ((Decides-eqb n 0).1 root)
@@ -136,22 +136,22 @@ module _ (t : Nodes) (tree : IsTree t) (q : ℕ → Bool) where
 
   from_first : (i m : ℕ) → i ≤ 1 → HasSelected t q m → Marked t q i m
   from_first i m first some = elim (parted m some) [
-      | inl here ↦ inl here
-      | inr (c, e, more) ↦ inr (c, e, (let above : 0 < c = e.above_zero in omega arith), more)
-    ]
+    | inl here ↦ inl here
+    | inr (c, e, more) ↦ inr (c, e, (let above : 0 < c = e.above_zero in omega arith), more)
+  ]
 
   last : (marks : List Bool) (i m : ℕ) → i ≤ 1 → AreMarks t q marks i → m < size t → get_or (set marks 0 true) m false ≡ stays t q m
   last marks i m first were inside = elim (same_or_not m 0) [
-      | inl root ↦ get_or-set_at marks 0 m true false root (omega (arith, were.len)) ∙ sym (stays_as m (inl root))
-      | inr other ↦
-          get_or-set_other marks 0 m true false other
-          ∙ same_truth (get_or marks m false) (stays t q m)
-          (λ h. stays_as m (inr (has i m inside (were.sound m inside h))))
-          (λ h. elim (stays_told m h) [
-            | inl root ↦ absurd (other root)
-            | inr some ↦ were.whole m inside (from_first i m first some)
-          ])
-    ]
+    | inl root ↦ get_or-set_at marks 0 m true false root (omega (arith, were.len)) ∙ sym (stays_as m (inl root))
+    | inr other ↦
+        get_or-set_other marks 0 m true false other
+        ∙ same_truth (get_or marks m false) (stays t q m)
+        (λ h. stays_as m (inr (has i m inside (were.sound m inside h))))
+        (λ h. elim (stays_told m h) [
+          | inl root ↦ absurd (other root)
+          | inr some ↦ were.whole m inside (from_first i m first some)
+        ])
+  ]
 
   pub finished : (marks : List Bool) (i : ℕ) → i ≤ 1 → AreMarks t q marks i → set marks 0 true ≡ truths (stays t q) (size t)
   finished marks i first were =
@@ -168,3 +168,9 @@ begun t marks len = record {
     | inr (c, e, from, some) ↦ absurd (let inside : c < size t = e.inside in omega arith)
   ];
 }
+
+pub stays_up : (t : Nodes) (tree : IsTree t) (q : ℕ → Bool) (p n : ℕ) → IsChild t p n → stays t q n ≡ true → stays t q p ≡ true
+stays_up t tree q p n e h = elim (stays_told t tree q n h) [
+  | inl root ↦ absurd (let above : 0 < n = e.above_zero in omega arith)
+  | inr some ↦ stays_as t tree q p (inr (by_child t tree q p n e some))
+]

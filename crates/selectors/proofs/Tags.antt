@@ -1,8 +1,8 @@
 -- The tags of a node together with those above it.
-use Rattle.std.proofs.Common.{◌≡◌, ℕ, ◌<◌, List, [], ◌∷◌, ◌++◌, refl, sym, ap, ◌∙◌, arith, append_assoc, length, Bor}
+use Rattle.std.proofs.Common.{◌≡◌, ℕ, List, [], ◌∷◌, ◌++◌, refl, sym, ap, ◌∙◌, append_assoc, Bor}
 use Rattle.std.proofs.lemmas.List.{append-nil}
 use Rattle.std.specs.List.{flat_map}
-use Rattle.descriptor.specs.Nodes.{Nodes, IsTree, IsChild, size, parent_of, tags_of}
+use Rattle.descriptor.specs.Nodes.{Nodes, IsTree, IsChild, tags_of}
 use Rattle.selectors.specs.Filters.{tags_together}
 use Rattle.selectors.proofs.Lineage.{lineage_up}
 
@@ -19,8 +19,3 @@ tags_stepped t tree start p n e sets set is so_far =
     so_far ∙ ap (λ x. flat_map (λ (s : Bor (List (List ℕ))). s.now) sets ++ x) (tags_up t tree p n e ∙ ap (λ x. x ++ tags_together t p) (sym is))
     ∙ sym (append_assoc (flat_map (λ (s : Bor (List (List ℕ))). s.now) sets) set.now (tags_together t p))
     ∙ ap (λ x. x ++ tags_together t p) (ap (λ x. flat_map (λ (s : Bor (List (List ℕ))). s.now) sets ++ x) (sym (append-nil set.now)) ∙ sym (flat_map-append (λ (s : Bor (List (List ℕ))). s.now) sets (set ∷ [])))
-
--- node 0 has no tags
-pub tags_at_root : (t : Nodes) (start n : ℕ) (sets : List (Bor (List (List ℕ)))) → n ≡ 0 → tags_together t start ≡ flat_map (λ s. s.now) sets ++ tags_together t n → flat_map (λ s. s.now) sets ≡ tags_together t start
-tags_at_root t start n sets root so_far =
-    sym (so_far ∙ ap (λ m. flat_map (λ (s : Bor (List (List ℕ))). s.now) sets ++ tags_together t m) root ∙ append-nil (flat_map (λ (s : Bor (List (List ℕ))). s.now) sets))

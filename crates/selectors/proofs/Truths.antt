@@ -1,5 +1,5 @@
 -- Tests of the numbers below a bound, and lists of their answers.
-use Rattle.std.proofs.Common.{◌≡◌, ◌≢◌, ℕ, zero, suc, ◌+◌, ◌<◌, ◌≤◌, Bool, true, false, List, [], ◌∷◌, ◌++◌, length, get_or, refl, sym, ap, ◌∙◌, arith, add-one, inl, inr, ◌⊎◌}
+use Rattle.std.proofs.Common.{◌≡◌, ◌≢◌, ℕ, zero, suc, ◌+◌, ◌<◌, Bool, true, false, List, [], ◌∷◌, ◌++◌, length, get_or, refl, sym, ap, ◌∙◌, arith, add-one, inl, inr, ◌⊎◌}
 use Rattle.std.proofs.lemmas.Grind.{common_steps}
 use Rattle.std.specs.List.{list_any}
 use Rattle.std.specs.Prelude.{◌||◌}
@@ -39,16 +39,16 @@ below_or_at i n h = grind arith
 pub any_at : (q : ℕ → Bool) (n i : ℕ) → i < n → q i ≡ true → any_below q n ≡ true
 any_at q zero i h e = absurd (omega arith)
 any_at q (suc n) i h e = elim (below_or_at i n h) [
-    | inl less ↦ or_right (q n) (any_below q n) (any_at q n i less e)
-    | inr same ↦ or_left (q n) (any_below q n) (ap q (sym same) ∙ e)
-  ]
+  | inl less ↦ or_right (q n) (any_below q n) (any_at q n i less e)
+  | inr same ↦ or_left (q n) (any_below q n) (ap q (sym same) ∙ e)
+]
 
 pub any_found : (q : ℕ → Bool) (n : ℕ) → any_below q n ≡ true → (i : ℕ) × (i < n) × (q i ≡ true)
 any_found q zero e = absurd (cc)
 any_found q (suc n) e = elim (or_cases (q n) (any_below q n) e) [
-    | inl here ↦ (n, omega arith, here)
-    | inr before ↦ let found = any_found q n before in (found.0, omega (arith, found.1), found.2)
-  ]
+  | inl here ↦ (n, omega arith, here)
+  | inr before ↦ let found = any_found q n before in (found.0, omega (arith, found.1), found.2)
+]
 
 pub any_none : (q : ℕ → Bool) (n : ℕ) → ((i : ℕ) → i < n → q i ≡ false) → any_below q n ≡ false
 any_none q zero none = refl
@@ -95,3 +95,20 @@ module _ {X : Type 0} where
   pub list_any_or : (f g : X → Bool) (xs : List X) → list_any (λ x. f x || g x) xs ≡ (list_any g xs || list_any f xs)
   list_any_or f g [] = refl
   list_any_or f g (x ∷ xs) = ap (λ rest. (f x || g x) || rest) (list_any_or f g xs) ∙ swap_or (f x) (g x) (list_any g xs) (list_any f xs)
+
+pub any_same : (f g : ℕ → Bool) (n : ℕ) → ((i : ℕ) → i < n → f i ≡ g i) → any_below f n ≡ any_below g n
+any_same f g zero same = refl
+any_same f g (suc n) same =
+    let here : f n ≡ g n = same n (omega arith) in
+    let before : any_below f n ≡ any_below g n = any_same f g n (λ i h. same i (omega arith)) in
+    cc
+
+pub truths_same : (f g : ℕ → Bool) (n : ℕ) → ((i : ℕ) → i < n → f i ≡ g i) → truths f n ≡ truths g n
+truths_same f g zero same = refl
+truths_same f g (suc n) same =
+    let here : f n ≡ g n = same n (omega arith) in
+    let before : truths f n ≡ truths g n = truths_same f g n (λ i h. same i (omega arith)) in
+    cc
+
+pub truths_more : (q : ℕ → Bool) (n : ℕ) (b : Bool) → b ≡ q n → truths q n ++ b ∷ [] ≡ truths q (n + 1)
+truths_more q n b e = rw (add-one, e) refl

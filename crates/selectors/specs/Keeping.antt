@@ -1,5 +1,5 @@
 -- The nodes that stay where some tests are selected.
-use Rattle.std.specs.Prelude.{◌≡◌, ℕ, ◌<◌, ◌==◌, ◌&&◌, ◌||◌, Bool, true, ◌⊎◌}
+use Rattle.std.specs.Prelude.{◌≡◌, ℕ, ◌<◌, ◌==◌, ◌&&◌, ◌||◌, Bool, true}
 use Rattle.descriptor.specs.Nodes.{Nodes, size}
 use Rattle.selectors.specs.Covered.{any_below}
 use Rattle.selectors.specs.Lineages.{is_at_or_below, AtOrBelow}

@@ -6,4 +6,5 @@ pub mod Filters
 pub mod Keeping
 pub mod Lineages
 pub mod Names
+pub mod Selections
 pub mod Selectors

@@ -4,14 +4,22 @@
 
 mod class_names;
 mod covered;
+mod discovery;
 mod filter;
 mod kept;
 mod names;
 mod refusal;
+mod request;
 mod select_fault;
+mod selected;
 mod selector;
 mod selector_fault;
 
+pub use discovery::discover;
+pub use request::Request;
 pub use select_fault::SelectFault;
 pub use selector::{Selector, SelectorKind};
 pub use selector_fault::SelectorFault;
+
+#[cfg(test)]
+mod tests;

@@ -11,5 +11,5 @@ loop-parent-preserved c =
     let kind : c.last_segment-last.result.now.kind ≡ codes "nested-class" = grind (arith, common_steps) in (
       parent_inside c.args.tree.now c.requires.tree c.loop-parent.current c.in-Some.parent c.last_segment-last.result.now c.in-Some.ensures.parent last,
       c.loop-parent.invariant.1
-      ∙ told_nested c.args.tree.now c.requires.tree c.loop-parent.current c.in-Some.parent c.last_segment-last.result.now c.in-Some.ensures.parent last c.loop-parent.left.now c.in-Some-outer_name.outer.now kind (grind (arith, common_steps)),
+          ∙ told_nested c.args.tree.now c.requires.tree c.loop-parent.current c.in-Some.parent c.last_segment-last.result.now c.in-Some.ensures.parent last c.loop-parent.left.now c.in-Some-outer_name.outer.now kind (grind (arith, common_steps)),
     )

@@ -1,5 +1,5 @@
 -- A node is covered where its parent is, or it is named.
-use Rattle.std.proofs.Common.{◌≡◌, ◌<◌, ℕ, false, true, ◌∙◌, sym, ap, get_or, subst, arith}
+use Rattle.std.proofs.Common.{◌≡◌, false, ◌∙◌, ap, get_or, arith}
 use Rattle.std.proofs.lemmas.Grind.{common_steps}
 use Rattle.selectors.specs.Covered.{is_covered}
 use Rattle.selectors.proofs.Covering.{covered_by_parent, covered_by_name}

@@ -1,5 +1,5 @@
 -- One more node marks its parent, and node 0 is marked at the end.
-use Rattle.std.proofs.Common.{◌≡◌, ℕ, suc, ◌<◌, ◌≤◌, ◌-◌, ◌++◌, false, Bool, List, arith, true, ap, get_or, subst, cond, length, ◌∙◌}
+use Rattle.std.proofs.Common.{◌≡◌, ℕ, suc, ◌<◌, ◌≤◌, ◌-◌, false, arith, true, ap, get_or, subst, cond, length, ◌∙◌}
 use Rattle.std.proofs.Math.ListN.{set}
 use Rattle.std.proofs.lemmas.Grind.{common_steps}
 use Rattle.descriptor.specs.Nodes.{size, parent_of}
@@ -20,7 +20,7 @@ loop-number-preserved c =
       omega arith,
       omega arith,
       passed c.args.tree.now c.requires.tree (λ (m : ℕ). get_or c.args.selected.items m false) c.loop-number.marks.items _ (c.loop-number.number - 1) (omega arith) (omega arith) were
-      (written_back c.loop-number.marks.len c.mark_parent.new.marks c.loop-number.marks.items len same ∙ value),
+          (written_back c.loop-number.marks.len c.mark_parent.new.marks c.loop-number.marks.items len same ∙ value),
     )
 
 pub returns : goal.returns

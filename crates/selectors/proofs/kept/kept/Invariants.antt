@@ -1,5 +1,5 @@
 -- Each node from the number on has marked its parent.
-use Rattle.std.proofs.Common.{ℕ, ◌<◌, ◌≤◌, ◌-◌, false, get_or}
+use Rattle.std.proofs.Common.{ℕ, ◌<◌, ◌≤◌, false, get_or}
 use Rattle.descriptor.specs.Nodes.{size}
 use Rattle.selectors.proofs.Marks.{AreMarks}
 use Rattle.selectors.proofs.kept.kept.Given as goal

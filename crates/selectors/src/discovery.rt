@@ -1,0 +1,61 @@
+//! Discovery: the tree of what a request selects.
+
+ghost use Rattle.std.specs.Prelude.{◌≡◌, ◌≢◌, ◌<◌, ◌↔◌, ◌⊎◌, ℕ, List, true, Some, None, IfOk, IfErr};
+ghost use Rattle.descriptor.specs.Children.{ListsChildren};
+ghost use Rattle.descriptor.specs.Nodes.{size, parent_of, IsTree};
+ghost use Rattle.tag_expr.specs.TagSets.{has_tag};
+ghost use Rattle.selectors.specs.ClassNames.{class_name, last_segment, name_below};
+ghost use Rattle.selectors.specs.Filters.{tags_together, IsTagged};
+ghost use Rattle.selectors.specs.Keeping.{stays, HasSelected};
+ghost use Rattle.selectors.specs.Names.{covers, Covers};
+ghost use Rattle.selectors.specs.Selections.{answer, is_selected, refusal};
+ghost use Rattle.selectors.specs.declared.selector.Selector.{Selector};
+
+use crate::kept::kept;
+use crate::refusal::first_unmatched;
+use crate::request::Request;
+use crate::select_fault::SelectFault;
+use crate::selected::selected;
+use descriptor::Tree;
+use std::alloc::Global;
+
+/// The tree of the tests that the request selects and of what they are below, its nodes numbered
+/// anew, in their order and with their bodies.
+///
+/// Errors: refusal 41 for the first selector that covers no node, and else want of memory.
+pub fn discover(alloc: Global, tree: &Tree, request: &Request) -> Result<Tree, SelectFault>
+    ensures ok { IfOk result (λ found. found ≡ answer tree.now request.now) }
+    ensures tree { IfOk result (λ found. IsTree found) }
+    ensures children { IfOk result (λ found. (n : ℕ) → ListsChildren found n) }
+    ensures accepted { IfOk result (λ _. refusal tree.now request.now ≡ None) }
+    ensures refused { IfErr result (λ fault. fault ≢ SelectFault.NoMemory → refusal tree.now request.now ≡ Some fault) }
+    ensures no_memory { IfErr result (λ fault. fault ≡ SelectFault.NoMemory → refusal tree.now request.now ≡ None) }
+    // What covering, class names, tags and staying come to.
+    ensures covered { (selector : Selector) (n : ℕ) → n < size tree.now → (covers tree.now selector n ≡ true) ↔ Covers tree.now selector n }
+    ensures class_names { (n : ℕ) → 0 < n → n < size tree.now → class_name tree.now n ≡ name_below (class_name tree.now (parent_of tree.now n)) (last_segment tree.now n) }
+    ensures tags { (tag : List ℕ) (n : ℕ) → n < size tree.now → (has_tag (tags_together tree.now n) tag ≡ true) ↔ IsTagged tree.now tag n }
+    ensures stays { (n : ℕ) → n < size tree.now → (stays tree.now (is_selected tree.now request.now) n ≡ true) ↔ ((n ≡ 0) ⊎ HasSelected tree.now (is_selected tree.now request.now) n) }
+{
+    // the contract of `len` tells that it is a tree
+    let _ = tree.len();
+    found(alloc, tree, request)
+}
+
+/// What the request finds in a tree.
+fn found(alloc: Global, tree: &Tree, request: &Request) -> Result<Tree, SelectFault>
+    requires { IsTree tree.now }
+    ensures ok { IfOk result (λ found. found ≡ answer tree.now request.now) }
+    ensures tree { IfOk result (λ found. IsTree found) }
+    ensures children { IfOk result (λ found. (n : ℕ) → ListsChildren found n) }
+    ensures accepted { IfOk result (λ _. refusal tree.now request.now ≡ None) }
+    ensures refused { IfErr result (λ fault. fault ≢ SelectFault.NoMemory → refusal tree.now request.now ≡ Some fault) }
+    ensures no_memory { IfErr result (λ fault. fault ≡ SelectFault.NoMemory → refusal tree.now request.now ≡ None) }
+{
+    if let Some(number) = first_unmatched(tree, request.selectors.as_slice()) {
+        return Err(SelectFault::NothingMatches(number));
+    }
+    let selected = selected(alloc, tree, request)?;
+    let keep = kept(tree, selected);
+    let found = tree.pruned(alloc, keep.as_slice())?;
+    Ok(found)
+}

@@ -1,0 +1,16 @@
+//! What a request asks for.
+
+use crate::selector::Selector;
+use tag_expr::TagExpr;
+
+/// What a request asks for: tests that one of the selectors covers, or all where there is none,
+/// and that the tag filter keeps.
+#[derive(Debug, Drop)]
+pub struct Request {
+    /// What to cover.
+    pub selectors: Vec<Selector>,
+    /// Of which one has to be true of the tags, where there is one.
+    pub include: Vec<TagExpr>,
+    /// Of which none may be true of the tags.
+    pub exclude: Vec<TagExpr>,
+}
