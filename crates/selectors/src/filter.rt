@@ -5,10 +5,9 @@ ghost use Rattle.descriptor.specs.Nodes.{size, IsTree};
 ghost use Rattle.tag_expr.specs.Expressions.{together};
 ghost use Rattle.selectors.specs.Filters.{tags_together, any_true, keeps};
 
-use tag_expr::TagExpr;
 use descriptor::{NodeId, Tree};
 use std::alloc::{AllocError, Global};
-use tag_expr::TagSet;
+use tag_expr::{TagExpr, TagSet};
 
 /// The tags of the node and of each node that it is below, at most 64 sets.
 fn tags_up(alloc: Global, tree: &Tree, node: NodeId) -> Result<Vec<&TagSet>, AllocError>

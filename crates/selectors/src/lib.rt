@@ -20,3 +20,6 @@ pub use request::Request;
 pub use select_fault::SelectFault;
 pub use selector::{Selector, SelectorKind};
 pub use selector_fault::SelectorFault;
+
+#[cfg(test)]
+mod tests;
