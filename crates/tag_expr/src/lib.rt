@@ -18,4 +18,8 @@ pub use tag_set::TagSet;
 #[cfg(test)]
 mod examples;
 #[cfg(test)]
+mod fault_tests;
+#[cfg(test)]
 mod tests;
+#[cfg(test)]
+mod truth_tests;
