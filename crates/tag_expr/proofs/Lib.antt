@@ -9,3 +9,4 @@ pub mod Phrases
 pub mod NoTree
 pub mod OneTree
 pub mod Refusals
+pub mod TagTexts

@@ -6,6 +6,7 @@ pub mod Faults
 pub mod Grammar
 pub mod Nodes
 pub mod Parsing
+pub mod TagSetFields
 pub mod TagSets
 pub mod Tags
 pub mod TokenTexts
