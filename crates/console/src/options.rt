@@ -75,10 +75,7 @@ fn replay_named(alloc: Global, text: Option<&str>) -> Result<Option<Vec<Step>>, 
 }
 
 /// The options that these values give.
-pub(crate) fn options_with(
-    alloc: Global,
-    matches: &ArgMatches<'_>,
-) -> Result<Options, ConsoleFault>
+pub(crate) fn options_with(alloc: Global, matches: &ArgMatches<'_>) -> Result<Options, ConsoleFault>
     ensures asked { IfOk result (λ options. AreAsked (given_in (rows_of (found_of matches.now))) (asked_by options)) }
     ensures accepted { IfOk result (λ _. refusal_of (given_in (rows_of (found_of matches.now))) ≡ None) }
     ensures refused { IfErr result (λ fault. fault ≢ NoMemory → refusal_of (given_in (rows_of (found_of matches.now))) ≡ Some fault) }

@@ -101,7 +101,10 @@ pub(crate) fn selectors_found(
 }
 
 /// The tag expressions of an option's texts.
-pub(crate) fn expressions_of(alloc: Global, found: Option<&[&str]>) -> Result<Vec<TagExpr>, ConsoleFault>
+pub(crate) fn expressions_of(
+    alloc: Global,
+    found: Option<&[&str]>,
+) -> Result<Vec<TagExpr>, ConsoleFault>
     ensures spelled { IfOk result (λ expressions. AreExpressions (now_of found.entry) expressions.items) }
     ensures accepted { IfOk result (λ _. tags_refusal (now_of found.entry) ≡ None) }
     ensures refused { IfErr result (λ fault. fault ≢ NoMemory → tags_refusal (now_of found.entry) ≡ Some fault) }

@@ -8,8 +8,8 @@ ghost use Rattle.console.specs.Runs.{IsRun, IsSuiteOutput, FailsSuite, ReadsSuit
 ghost use Rattle.console.specs.Words.{asked_by};
 
 use crate::bytes::{ReadFault, read_front};
-use crate::options::Options;
 use crate::fault::ConsoleFault;
+use crate::options::Options;
 use crate::output::{Output, output_of};
 use listeners::print_to;
 use resource_locks::Plan;

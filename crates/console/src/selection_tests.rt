@@ -116,13 +116,31 @@ fn what_selects_nothing_is_refused(rt: HostRuntime) -> Result<(), Fail> {
         (&["--select-method", "a.B#x()"], "error 41 at 1"),
         (&["--select-method", "a.B"], "error 40 at 1"),
         (&["--select-class="], "error 40 at 1"),
-        (&["--select-package", "a.c", "--select-class", "a.X"], "error 41 at 1"),
-        (&["--select-package", "x", "--select-class", "a.B"], "error 41 at 2"),
-        (&["--select-package=", "--select-unique-id", "[engine]"], "error 40 at 1"),
-        (&["--select-package=", "--select-unique-id", "[engine:e]"], "error 40 at 2"),
+        (
+            &["--select-package", "a.c", "--select-class", "a.X"],
+            "error 41 at 1",
+        ),
+        (
+            &["--select-package", "x", "--select-class", "a.B"],
+            "error 41 at 2",
+        ),
+        (
+            &["--select-package=", "--select-unique-id", "[engine]"],
+            "error 40 at 1",
+        ),
+        (
+            &["--select-package=", "--select-unique-id", "[engine:e]"],
+            "error 40 at 2",
+        ),
         (&["--include-tag="], "error 20"),
-        (&["--include-tag", "a b", "--exclude-tag", "("], "error 23 at 2"),
-        (&["--exclude-tag", "a,b", "--include-tag", "a b"], "error 23 at 2"),
+        (
+            &["--include-tag", "a b", "--exclude-tag", "("],
+            "error 23 at 2",
+        ),
+        (
+            &["--exclude-tag", "a,b", "--include-tag", "a b"],
+            "error 23 at 2",
+        ),
         (&["--exclude-tag", "a,b"], "error 21 at 1"),
         (&["--include-tag", "(a", "--select-class="], "error 40 at 1"),
         (&["--select-class=", "--replay", "x"], "error 104 at 1"),
@@ -214,7 +232,10 @@ fn a_tree_that_is_cut_short_is_refused(rt: HostRuntime) -> Result<(), Fail> {
     let fault = run_console(rt.alloc(), words.as_slice(), &mut input, &mut writer)
         .err()
         .ok_or("no fault")?;
-    assert_eq!(rt; format!(in rt.alloc(); "{fault}")?.as_str(), "error 81 at 11");
+    assert_eq!(rt;
+        format!(in rt.alloc(); "{fault}")?.as_str(),
+        "error 81 at 11"
+    );
     assert_eq!(rt; writer.taken.as_slice(), b"'-- e [OK]\n".as_slice());
     Ok(())
 }

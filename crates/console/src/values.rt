@@ -8,14 +8,23 @@ use clap::{Arg, ArgAction, ArgMatches, Command};
 use std::alloc::{AllocError, Global};
 
 pub(crate) const SELECT_UNIQUE_ID: &str = "select-unique-id";
+
 pub(crate) const SELECT_CLASS: &str = "select-class";
+
 pub(crate) const SELECT_METHOD: &str = "select-method";
+
 pub(crate) const SELECT_PACKAGE: &str = "select-package";
+
 pub(crate) const INCLUDE_TAG: &str = "include-tag";
+
 pub(crate) const EXCLUDE_TAG: &str = "exclude-tag";
+
 pub(crate) const DETAILS: &str = "details";
+
 pub(crate) const DETAILS_THEME: &str = "details-theme";
+
 pub(crate) const FAIL_IF_NO_TESTS: &str = "fail-if-no-tests";
+
 pub(crate) const REPLAY: &str = "replay";
 
 fn single<'a>(alloc: Global, name: &'a str) -> Arg<'a>

@@ -15,9 +15,9 @@ loop-number-preserved c =
     let few = c.loop-number.invariant.1 in
     elim c.if-is_test.branch [
       | then-is_test w ↦
-        let more = w.found-is in
-        (count_next (λ n. is_test (kind_of c.args.plan.now.tree n)) c.loop-number.number c.loop-number.found c.if-is_test.found true c.loop-number.invariant.0 (passes ∙ w.if-is_test.true) (omega (arith, more)), omega (arith, more, few))
+          let more = w.found-is in
+          (count_next (λ n. is_test (kind_of c.args.plan.now.tree n)) c.loop-number.number c.loop-number.found c.if-is_test.found true c.loop-number.invariant.0 (passes ∙ w.if-is_test.true) (omega (arith, more)), omega (arith, more, few))
       | else-is_test w ↦
-        let same = w.found-is in
-        (count_next (λ n. is_test (kind_of c.args.plan.now.tree n)) c.loop-number.number c.loop-number.found c.if-is_test.found false c.loop-number.invariant.0 (passes ∙ w.if-is_test.false) (omega (arith, same)), omega (arith, same, few))
+          let same = w.found-is in
+          (count_next (λ n. is_test (kind_of c.args.plan.now.tree n)) c.loop-number.number c.loop-number.found c.if-is_test.found false c.loop-number.invariant.0 (passes ∙ w.if-is_test.false) (omega (arith, same)), omega (arith, same, few))
     ]
