@@ -13,7 +13,7 @@ use Rattle.tag_expr.specs.declared.fault.TagFault.TheVariants as tags
 use Rattle.tag_expr.specs.Expressions.{Expression}
 use Rattle.tag_expr.specs.ExpressionFaults.{expression_refusal}
 use Rattle.console.specs.declared.fault.ConsoleFault.{ConsoleFault}
-use Rattle.console.specs.declared.fault.ConsoleFault.TheVariants.{NoMemory, BadTags, BadSelector}
+use Rattle.console.specs.declared.fault.ConsoleFault.TheVariants.{NoMemory, BadTags}
 use Rattle.console.specs.Faults.{IsTagFault}
 use Rattle.console.specs.Requests.{behind, now_of, texts_of}
 use Rattle.console.specs.Values.{texts_or_none}

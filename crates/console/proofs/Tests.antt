@@ -1,5 +1,5 @@
 -- Counting tests one number after the other.
-use Rattle.std.proofs.Common.{◌≡◌, ℕ, suc, ◌+◌, Bool, refl, sym, ap, ap₂, ◌∙◌, arith}
+use Rattle.std.proofs.Common.{◌≡◌, ℕ, suc, ◌+◌, Bool, sym, ap, ap₂, ◌∙◌, arith}
 use Rattle.descriptor.specs.Nodes.{bit, count_below}
 
 pub count_next : (q : ℕ → Bool) (n found now : ℕ) (passes : Bool) → found ≡ count_below q n → q n ≡ passes → now ≡ bit passes + found → now ≡ count_below q (n + 1)

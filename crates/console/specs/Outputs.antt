@@ -82,16 +82,16 @@ abbrev pub replay_counts : PlanParts → List (ℕ × Reply) → List Step → R
 replay_counts p answers steps = counts_of steps (replayed p answers steps) (passed_over p answers (opening p 64) steps)
 
 -- the steps are replayed: the feed of what they gave is printed, then the line of counts, and the status is 0
-pub record IsReplayOutput (theme : Theme) (steps : List Step) (p : PlanParts) (answers : List (ℕ × Reply)) (text : List ℕ) (status : ℕ) : Type 0 where
-  pub feed : List ℕ
-  pub fed : ArePrinted details.Testfeed theme p answers (given_list (replayed p answers steps)) feed
-  pub printed : text ≡ feed ++ replay_line (replay_counts p answers steps)
+pub record IsReplayOutput (steps : List Step) (p : PlanParts) (answers : List (ℕ × Reply)) (text : List ℕ) (status : ℕ) : Type 0 where
+  pub texts : TextParts
+  pub are : AreTexts p answers (given_list (replayed p answers steps)) texts
+  pub printed : text ≡ feed_of p texts (given_list (replayed p answers steps)) ++ replay_line (replay_counts p answers steps)
   pub exits : status ≡ 0
 
 -- what is printed of a plan, and the status: where there are steps to be replayed, nothing else counts
 abbrev pub IsOutputWith : Option (List Step) → Asked → PlanParts → List (ℕ × Reply) → List ℕ → ℕ → Type 0
 IsOutputWith None asked p answers text status = IsRunOutput asked p answers text status
-IsOutputWith (Some steps) asked p answers text status = IsReplayOutput asked.theme steps p answers text status
+IsOutputWith (Some steps) asked p answers text status = IsReplayOutput steps p answers text status
 
 abbrev pub IsOutput : Asked → PlanParts → List (ℕ × Reply) → List ℕ → ℕ → Type 0
 IsOutput asked p answers text status = IsOutputWith asked.replay asked p answers text status

@@ -1,5 +1,5 @@
 -- Texts of the words, without where they lie in memory.
-use Rattle.std.specs.Prelude.{ℕ, List, map, Option, option_map}
+use Rattle.std.specs.Prelude.{List, map, Option, option_map}
 use Rattle.std.specs.Borrow.{Bor}
 use Rattle.clap.specs.Words.{Text}
 use Rattle.selectors.specs.declared.selector.SelectorKind.{SelectorKind}

@@ -20,7 +20,7 @@ use Rattle.console.specs.declared.details.Details.{Details}
 use Rattle.console.specs.declared.details.Details.TheVariants as details
 use Rattle.console.specs.declared.options.Options.{Options}
 use Rattle.console.specs.declared.fault.ConsoleFault.{ConsoleFault}
-use Rattle.console.specs.declared.fault.ConsoleFault.TheVariants.{NoMemory, BadWords, BadStep, BadSelector, BadTags}
+use Rattle.console.specs.declared.fault.ConsoleFault.TheVariants.{BadWords, BadStep, BadSelector, BadTags}
 use Rattle.suite_text.specs.StepTexts.{steps_of}
 use Rattle.console.specs.Values.{Given, given_in, program}
 

@@ -155,12 +155,11 @@ fn run_output(
 /// The output of these steps.
 fn replay_output(
     alloc: Global,
-    theme: Theme,
     steps: &[Step],
     plan: &Plan,
     answers: &Answers,
 ) -> Result<Output, AllocError>
-    ensures { IfOk result (λ output. IsReplayOutput theme steps.now plan.now answers.now (string_bytes output.text) output.status) }
+    ensures { IfOk result (λ output. IsReplayOutput steps.now plan.now answers.now (string_bytes output.text) output.status) }
 {
     // So many workers are never refused.
     let Ok(trace) = run_steps(alloc, plan, answers, REPLAY_WORKERS, steps) else {
@@ -168,7 +167,7 @@ fn replay_output(
     };
     let given = trace.given.as_slice();
     let texts = texts_of(alloc, plan, answers, given)?;
-    let mut text = details_text(alloc, Details::Testfeed, theme, plan, &texts, given)?;
+    let mut text = feed_text(alloc, plan, given, &texts)?;
     let counts = ReplayCounts {
         steps: steps.len(),
         passed_over: trace.passed_over,
@@ -189,7 +188,7 @@ pub fn output_of(
     ensures { IfOk result (λ output. IsOutput (asked_by options.now) plan.now answers.now (string_bytes output.text) output.status) }
 {
     match &options.replay {
-        Some(steps) => replay_output(alloc, options.theme, steps.as_slice(), plan, answers),
+        Some(steps) => replay_output(alloc, steps.as_slice(), plan, answers),
         None => run_output(alloc, options, plan, answers),
     }
 }

@@ -8,8 +8,6 @@ mod fault;
 mod kind;
 mod node;
 mod node_id;
-#[cfg(test)]
-mod tests;
 mod tree;
 
 pub use body_id::BodyId;

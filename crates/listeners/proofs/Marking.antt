@@ -12,7 +12,8 @@ use Rattle.plan_events.specs.declared.event.EventKind.{EventKind}
 use Rattle.plan_events.specs.declared.status.Status.{Status}
 use Rattle.listeners.specs.declared.outline.Place.{Place}
 use Rattle.listeners.specs.declared.marks.Marks.{Marks}
-use Rattle.listeners.specs.Counts.{place_of, outline_of, place_in, FollowParents, is_skip, is_start, is_end, is_aborted, is_successful, is_failed, stands, marks_at, marks_of, marked, unmarked}
+use Rattle.listeners.specs.Told.{is_skip}
+use Rattle.listeners.specs.Counts.{place_of, outline_of, place_in, FollowParents, is_start, is_end, is_aborted, is_successful, is_failed, stands, marks_at, marks_of, marked, unmarked}
 
 or_false : (b : Bool) → (b || false) ≡ b
 or_false true = refl

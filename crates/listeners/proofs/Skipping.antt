@@ -6,7 +6,8 @@ use Rattle.descriptor.specs.Nodes.{Nodes, IsTree, IsChild, Below, child, under, 
 use Rattle.plan_events.specs.declared.event.Event.{Event}
 use Rattle.listeners.specs.declared.outline.Place.{Place}
 use Rattle.listeners.specs.declared.marks.Marks.{Marks}
-use Rattle.listeners.specs.Counts.{place_of, outline_of, place_in, marks_of, marks_in, is_skip, stands, is_lost_within, WasSkipped, SkipsReachBelow}
+use Rattle.listeners.specs.Told.{is_skipped}
+use Rattle.listeners.specs.Counts.{place_of, outline_of, place_in, marks_of, marks_in, is_lost_within, WasSkipped, SkipsReachBelow}
 use Rattle.listeners.proofs.Marking.{marks_get, places_len, parent_kept}
 
 or_either : (a b : Bool) → (a || b) ≡ true → (a ≡ true) ⊎ (b ≡ true)
@@ -33,7 +34,7 @@ module _ (t : Nodes) (tree : IsTree t) (events : List Event) where
   all_marks = marks_of (length (outline_of t)) events
 
   abbrev was_skipped : ℕ → Bool
-  was_skipped n = stands (λ kind _. is_skip kind) n events
+  was_skipped n = is_skipped events n
 
   mark_is : (n : ℕ) → n < size t → (marks_in all_marks n).skipped ≡ was_skipped n
   mark_is n lt = ap (λ (m : Marks). m.skipped) (marks_get (length (outline_of t)) events n _ (rw (places_len t tree) lt))

@@ -5,11 +5,12 @@ use Rattle.descriptor.specs.declared.kind.Kind.{Kind}
 use Rattle.descriptor.specs.declared.kind.Kind.TheVariants.{Container, Test, ContainerAndTest}
 use Rattle.descriptor.specs.Nodes.{Nodes, Below, size, parent_of, kind_of, bit, count_below}
 use Rattle.plan_events.specs.declared.event.EventKind.{EventKind}
-use Rattle.plan_events.specs.declared.event.EventKind.TheVariants.{Started, Finished, Skipped}
+use Rattle.plan_events.specs.declared.event.EventKind.TheVariants.{Started, Finished}
 use Rattle.plan_events.specs.declared.event.Event.{Event}
 use Rattle.plan_events.specs.declared.status.Status.{Status}
 use Rattle.plan_events.specs.declared.status.Status.TheVariants.{Successful, Aborted, Failed}
 use Rattle.resource_locks.specs.Plans.{PlanParts}
+use Rattle.listeners.specs.Told.{is_skip, is_skipped}
 use Rattle.listeners.specs.declared.outline.Place.{Place}
 use Rattle.listeners.specs.declared.marks.Marks.{Marks}
 use Rattle.listeners.specs.declared.counts.SortCounts.{SortCounts}
@@ -29,11 +30,6 @@ place_in outline n = slice_index_or outline n (record { parent = 0; kind = Conta
 -- each node but node 0 stands after its parent
 abbrev pub FollowParents : List Place → Type 0
 FollowParents outline = (n : ℕ) → 0 < n → n < length outline → (place_in outline n).parent < n
-
--- whether an event of this kind says that its node was skipped
-abbrev pub is_skip : EventKind → Bool
-is_skip Skipped = true
-is_skip _ = false
 
 -- whether it says that its node was started
 abbrev pub is_start : EventKind → Bool
@@ -64,7 +60,7 @@ stands says n events = list_any (λ e. (e.node == n) && says e.kind e.status) ev
 -- which events stand for node n
 abbrev pub marks_at : List Event → ℕ → Marks
 marks_at events n = record {
-  skipped = stands (λ kind _. is_skip kind) n events;
+  skipped = is_skipped events n;
   started = stands (λ kind _. is_start kind) n events;
   aborted = stands (is_end is_aborted) n events;
   successful = stands (is_end is_successful) n events;
@@ -104,7 +100,7 @@ is_lost outline marks n = is_lost_within outline marks n n
 
 -- node n was skipped, or a node that it is below
 abbrev pub WasSkipped : Nodes → List Event → ℕ → Type 0
-WasSkipped t events n = (a : ℕ) × ((a ≡ n) ⊎ Below t a n) × (stands (λ kind _. is_skip kind) a events ≡ true)
+WasSkipped t events n = (a : ℕ) × ((a ≡ n) ⊎ Below t a n) × (is_skipped events a ≡ true)
 
 -- the nodes of a tree that are lost are those that were skipped and all below them
 abbrev pub SkipsReachBelow : Nodes → List Event → Type 0

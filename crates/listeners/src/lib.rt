@@ -2,14 +2,10 @@
 #![tactic(auto)]
 
 mod audience;
-#[cfg(test)]
-mod audience_tests;
 mod counts;
 mod drawing;
 mod event_list;
 mod feed;
-#[cfg(test)]
-mod feed_tests;
 mod listener;
 mod marks;
 mod outline;
@@ -18,12 +14,8 @@ mod printed;
 mod recorder;
 mod summary;
 mod summary_lines;
-#[cfg(test)]
-mod summary_tests;
 mod theme;
 mod told;
-#[cfg(test)]
-mod tree_tests;
 
 pub use audience::{Audience, TooManyListeners};
 pub use drawing::tree_text;

@@ -4,6 +4,7 @@ ghost use Rattle.std.specs.Prelude.{◌≡◌, ◌++◌, ◌∷◌, [], List, le
 ghost use Rattle.plan_events.specs.declared.event.Event.{Event};
 ghost use Rattle.listeners.specs.Counts.{marks_of};
 
+use crate::told::{is_skip, status_by};
 use plan_events::{Event, EventKind, Status};
 use std::alloc::{AllocError, Global};
 
@@ -33,12 +34,9 @@ impl Marks {
     fn with(self, kind: EventKind, status: Option<Status>) -> Marks
         ensures { result ≡ marked self kind status }
     {
-        let end = match kind {
-            EventKind::Finished => status,
-            _ => None,
-        };
+        let end = status_by(kind, status);
         Marks {
-            skipped: self.skipped || matches!(kind, EventKind::Skipped),
+            skipped: self.skipped || is_skip(kind),
             started: self.started || matches!(kind, EventKind::Started),
             aborted: self.aborted || matches!(end, Some(Status::Aborted)),
             successful: self.successful || matches!(end, Some(Status::Successful)),

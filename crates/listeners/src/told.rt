@@ -26,19 +26,22 @@ pub(crate) const NOTHING: Told = Told {
     status: None,
 };
 
+/// Whether an event of this kind gives its node a line.
 fn gives_line(kind: EventKind) -> bool
     ensures { result ≡ gives_line kind }
 {
     matches!(kind, EventKind::Started | EventKind::Skipped)
 }
 
-fn is_skip(kind: EventKind) -> bool
+/// Whether an event of this kind says that its node was skipped.
+pub(crate) fn is_skip(kind: EventKind) -> bool
     ensures { result ≡ is_skip kind }
 {
     matches!(kind, EventKind::Skipped)
 }
 
-fn status_by(kind: EventKind, status: Option<Status>) -> Option<Status>
+/// The status that stands with an event of this kind, which counts at a finish alone.
+pub(crate) fn status_by(kind: EventKind, status: Option<Status>) -> Option<Status>
     ensures { result ≡ status_by kind status }
 {
     match kind {

@@ -5,8 +5,6 @@ mod event;
 mod note;
 mod outcome;
 mod status;
-#[cfg(test)]
-mod tests;
 mod texts;
 mod word;
 

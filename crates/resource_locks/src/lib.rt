@@ -2,7 +2,5 @@
 #![tactic(auto)]
 
 mod plan;
-#[cfg(test)]
-mod tests;
 
 pub use plan::Plan;

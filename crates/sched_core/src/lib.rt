@@ -12,8 +12,6 @@ mod schedule;
 mod status;
 mod step;
 mod task;
-#[cfg(test)]
-mod tests;
 mod text;
 mod trace;
 

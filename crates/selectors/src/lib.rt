@@ -20,6 +20,3 @@ pub use request::Request;
 pub use select_fault::SelectFault;
 pub use selector::{Selector, SelectorKind};
 pub use selector_fault::SelectorFault;
-
-#[cfg(test)]
-mod tests;

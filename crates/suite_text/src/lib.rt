@@ -6,18 +6,12 @@ mod digits;
 mod script;
 mod step_words;
 mod steps;
-#[cfg(test)]
-mod steps_tests;
 mod suite;
 mod suite_attributes;
 mod suite_builder;
 mod suite_fault;
 mod suite_lines;
 mod suite_spins;
-#[cfg(test)]
-mod suite_tags_tests;
-#[cfg(test)]
-mod suite_tests;
 mod suite_verdicts;
 mod suite_words;
 

@@ -14,12 +14,3 @@ pub use expression::TagExpr;
 pub use fault::TagFault;
 pub use tag::{Tag, tag_of};
 pub use tag_set::TagSet;
-
-#[cfg(test)]
-mod examples;
-#[cfg(test)]
-mod fault_tests;
-#[cfg(test)]
-mod tests;
-#[cfg(test)]
-mod truth_tests;

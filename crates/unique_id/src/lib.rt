@@ -12,8 +12,3 @@ mod unique_id;
 pub use fault::UidFault;
 pub use text::Text;
 pub use unique_id::{Segment, UniqueId};
-
-#[cfg(test)]
-mod corpus_tests;
-#[cfg(test)]
-mod tests;

@@ -1,5 +1,5 @@
 -- One node more, which counts or does not.
-use Rattle.std.proofs.Common.{◌≡◌, ◌+◌, true, false, arith, rules, sym, ap, ap₂, ◌∙◌}
+use Rattle.std.proofs.Common.{◌≡◌, true, false, arith, sym, ap, ap₂, ◌∙◌}
 use Rattle.std.proofs.lemmas.Grind.{common_steps}
 use Rattle.descriptor.specs.Nodes.{kind_of}
 use Rattle.listeners.specs.Counts.{is_test}

@@ -1,6 +1,5 @@
 -- One expression more.
-use Rattle.std.proofs.Common.{◌∙◌, sym, subst, rules}
-use Rattle.console.proofs.Requesting.{expressions_next, tags_next, tags_refused}
+use Rattle.console.proofs.Requesting.{expressions_next, tags_next}
 use Rattle.console.proofs.request.expressions_of.Goals as goal
 
 pub loop-value-preserved : goal.loop-value-preserved

@@ -1,7 +1,7 @@
 -- The texts of the four options, one option after the other.
-use Rattle.std.proofs.Common.{◌∙◌, ◌++◌, ap, ap₂, map}
+use Rattle.std.proofs.Common.{◌∙◌, ◌++◌, ap, ap₂}
 use Rattle.selectors.specs.declared.selector.SelectorKind.TheVariants.{UniqueId, Class, Method, Package}
-use Rattle.console.specs.Requests.{texts_of, now_of}
+use Rattle.console.specs.Requests.{texts_of}
 use Rattle.console.proofs.Requesting.{in_turn, of_kind}
 use Rattle.console.proofs.request.selector_texts.Goals as goal
 

@@ -1,7 +1,4 @@
 -- The command with the six options that say what runs.
-use Rattle.std.proofs.Common.{codes, IfOk}
-use Rattle.clap.specs.Words.{app_of}
-use Rattle.console.specs.Values.{selecting}
 use Rattle.console.proofs.Growing.{one_more, last_one}
 use Rattle.console.proofs.values.selecting.Goals as goal
 

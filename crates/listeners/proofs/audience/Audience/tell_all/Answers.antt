@@ -1,6 +1,5 @@
 -- One more event is told to each.
-use Rattle.std.proofs.Common.{length, arith, rules}
-use Rattle.std.proofs.lemmas.Grind.{common_steps}
+use Rattle.std.proofs.Common.{length, arith}
 use Rattle.listeners.proofs.Retelling.{told_none, told_more, room_less}
 use Rattle.listeners.proofs.audience.Audience.tell_all.Goals as goal
 

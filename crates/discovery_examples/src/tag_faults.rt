@@ -1,6 +1,7 @@
 //! Texts that are no expressions, and the refusal of each.
 
-use crate::examples::answer;
+use crate::tag_answers::{answer, assert_answers};
+use std::alloc::{AllocError, Global};
 use std::test::Fail;
 
 /// A text, `~`, the tags of a set, `~` and the refusal, with `^` between two.
@@ -166,62 +167,46 @@ bb&b&bany()any()&~~error 23 at 9^\
 b&!)~b~error 22 at 3^\
 !)any(),& ,~a~error 22 at 1";
 
-/// A front, a text and how often it comes, a text behind it, another text and how often it comes,
-/// tags, and the answer.
-type Long = (
-    &'static str,
-    &'static str,
-    usize,
-    &'static str,
-    &'static str,
-    usize,
-    &'static str,
-    &'static str,
-);
-
-static LONG_EXAMPLES: [Long; 13] = [
-    ("", "a", 200, "", "", 0, "", "false"),
-    ("", "a", 200, "", "", 0, "a", "false"),
-    ("", "!", 100, "a", "", 0, "a", "error 26"),
-    ("", "(", 100, "a", ")", 100, "a", "error 26"),
-    ("", "(!", 32, "a", ")", 32, "a", "true"),
-    ("", "!a & ", 70, "!b", "", 0, "", "true"),
-    ("", "!a & ", 70, "!b", "", 0, "a", "false"),
-    ("", "a&", 300, "b", "", 0, "a,b", "true"),
-    ("", "a&", 300, "b", "", 0, "b", "false"),
-    ("", "a", 1024, "", "", 0, "b", "false"),
-    ("", "a", 1025, "", "", 0, "b", "error 26"),
-    ("a", " ", 1022, "&", "", 0, "a", "error 22 at 1024"),
-    ("", " ", 1023, "a", "", 0, "a", "true"),
-];
-
 #[test]
 fn is_refused_at_the_first_fault(rt: HostRuntime) -> Result<(), Fail> {
     assert_eq!(rt; EXAMPLES.split('^').count(), 160);
-    for example in EXAMPLES.split('^') {
-        let (text, rest) = example.split_once('~').unwrap_or(("", ""));
-        let (tags, expected) = rest.split_once('~').unwrap_or(("", ""));
-        assert_eq!(rt;
-            answer(rt.alloc(), text, tags)?.as_str(),
-            expected,
-            "{text}"
-        );
-    }
-    Ok(())
+    assert_answers(&rt, rt.alloc(), EXAMPLES)
+}
+
+/// A text that repeats `front`, has `middle` once, and repeats `back` as often.
+fn repeated(
+    alloc: Global,
+    front: &str,
+    middle: &str,
+    back: &str,
+    times: usize,
+) -> Result<String, AllocError> {
+    let mut text = front.repeat(alloc, times)?;
+    text.push_str(middle)?;
+    text.push_str(back.repeat(alloc, times)?.as_str())?;
+    Ok(text)
 }
 
 #[test]
 fn is_read_up_to_the_limits(rt: HostRuntime) -> Result<(), Fail> {
-    for (front, unit, times, middle, last, last_times, tags, expected) in LONG_EXAMPLES {
-        let mut text = String::from_str(rt.alloc(), front)?;
-        for _ in 0..times {
-            text.push_str(unit)?;
-        }
-        text.push_str(middle)?;
-        for _ in 0..last_times {
-            text.push_str(last)?;
-        }
-        assert_eq!(rt; answer(rt.alloc(), text.as_str(), tags)?.as_str(), expected);
+    let alloc = rt.alloc();
+    let rows = [
+        ("a", "", "", 200, "false"),
+        ("!", "a", "", 100, "error 26"),
+        ("(", "a", ")", 100, "error 26"),
+        ("(!", "a", ")", 32, "true"),
+        ("!a & ", "!b", "", 70, "false"),
+        ("!b & ", "a", "", 70, "true"),
+        ("a|", "b", "", 300, "true"),
+        ("a", "", "", 1024, "false"),
+        ("a", "", "", 1025, "error 26"),
+        (" ", "a&", "", 1022, "error 22 at 1024"),
+        (" ", "a", "", 1023, "true"),
+    ];
+    for (front, middle, back, times, want) in rows {
+        let text = repeated(alloc, front, middle, back, times)?;
+        let answered = answer(alloc, text.as_str(), "a")?;
+        assert_eq!(rt; answered.as_str(), want, "{times} times {front}");
     }
     Ok(())
 }

@@ -1,9 +1,9 @@
 //! Worked texts of steps.
 
-use crate::steps::{StepsFault, parse_steps};
 use descriptor::NodeId;
 use sched_core::{Action, Step};
 use std::test::Fail;
+use suite_text::{StepsFault, parse_steps};
 
 #[test]
 fn reads_a_whole_schedule(rt: HostRuntime) -> Result<(), Fail> {

@@ -1,11 +1,10 @@
 //! Tags and other attributes of suites, and lines in which they are faulty.
 
-use crate::suite::Suite;
-use crate::suite_fault::SuiteFault;
 use descriptor::NodeId;
 use plan_events::Status;
 use std::alloc::{AllocError, Global};
 use std::test::Fail;
+use suite_text::{Suite, SuiteFault};
 
 /// How many nodes the suite of a text has, or why there is none.
 fn nodes_of(alloc: Global, text: &str) -> Result<usize, SuiteFault> {

@@ -1,12 +1,9 @@
-//! Words of events and texts of nodes, with values from outside.
+//! Words of events, with values from outside.
 
-use crate::{Event, EventKind, Note, Outcome, Status, Texts};
-use descriptor::{Kind, Node, NodeId, TreeBuilder};
-use std::alloc::Global;
-use std::process::Abort;
+use descriptor::NodeId;
+use plan_events::{Event, EventKind, Outcome, Status};
 use std::test::Fail;
-use tag_expr::TagSet;
-use unique_id::{Text, UniqueId};
+use unique_id::Text;
 
 /// An event of this node by this worker.
 fn event(kind: EventKind, status: Option<Status>, worker: u8, node: u16) -> Event {
@@ -103,71 +100,5 @@ fn copies_outcomes(rt: HostRuntime) -> Result<(), Fail> {
     let copy = outcome.copy(alloc)?;
     assert_eq!(rt; copy.status, Status::Aborted);
     assert_eq!(rt; copy.text.as_str(), "no service");
-    Ok(())
-}
-
-/// A test below the plan, disabled where there is a reason.
-fn add(
-    rt: &impl Abort,
-    alloc: Global,
-    builder: &mut TreeBuilder,
-    name: &str,
-    reason: Option<&str>,
-) -> Result<NodeId, Fail> {
-    let node = Node {
-        id: UniqueId::of(alloc, "test", name)?,
-        name: Text::new(alloc, name)?,
-        kind: Kind::Test,
-        body: None,
-        disabled: reason.map(|reason| Text::new(alloc, reason)).transpose()?,
-        tags: TagSet::new(alloc),
-    };
-    assert!(rt; builder.may_take(NodeId::ROOT));
-    Ok(builder.add(alloc, NodeId::ROOT, node)?)
-}
-
-#[test]
-fn keeps_texts(rt: HostRuntime) -> Result<(), Fail> {
-    let alloc = rt.alloc();
-    let mut builder = TreeBuilder::new(alloc)?;
-    let test = add(&rt, alloc, &mut builder, "adds", None)?;
-    let tree = builder.finish();
-    assert!(rt; test.index() < tree.len());
-    let mut texts = Texts::new(alloc, &tree)?;
-    assert!(rt; texts.of(test).is_none());
-    texts.set(test, Note::Own(Text::new(alloc, "broken")?));
-    assert_eq!(rt; texts.of(test), Some("broken"));
-    assert!(rt; texts.of(NodeId::ROOT).is_none());
-    texts.set(test, Note::TooMany);
-    assert_eq!(rt; texts.of(test), Some("too many dynamic tests"));
-    texts.set(test, Note::Reason);
-    assert!(rt; texts.of(test).is_none());
-    assert!(rt; texts.of(NodeId::new(2)).is_none());
-    Ok(())
-}
-
-#[test]
-fn tells_reasons(rt: HostRuntime) -> Result<(), Fail> {
-    let alloc = rt.alloc();
-    let mut builder = TreeBuilder::new(alloc)?;
-    let enabled = add(&rt, alloc, &mut builder, "adds", None)?;
-    let disabled = add(&rt, alloc, &mut builder, "rounds", Some("flaky"))?;
-    let unexplained = add(&rt, alloc, &mut builder, "waits", Some(""))?;
-    let tree = builder.finish();
-    let mut texts = Texts::new(alloc, &tree)?;
-    // a reason is told where a note asks for it
-    assert!(rt; texts.of(disabled).is_none());
-    assert!(rt; enabled.index() < tree.len());
-    texts.set(enabled, Note::Reason);
-    assert!(rt; disabled.index() < tree.len());
-    texts.set(disabled, Note::Reason);
-    assert!(rt; unexplained.index() < tree.len());
-    texts.set(unexplained, Note::Reason);
-    assert!(rt; texts.of(enabled).is_none());
-    assert_eq!(rt; texts.of(disabled), Some("flaky"));
-    assert_eq!(rt; texts.of(unexplained), Some(""));
-    assert!(rt; texts.of(NodeId::new(4)).is_none());
-    texts.set(disabled, Note::Own(Text::new(alloc, "broken")?));
-    assert_eq!(rt; texts.of(disabled), Some("broken"));
     Ok(())
 }

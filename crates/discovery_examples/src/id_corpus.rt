@@ -1,8 +1,8 @@
 //! Texts of ids and what is read from each: the canonical text, or the refusal's number and place.
 
-use super::*;
 use std::alloc::{AllocError, Global};
 use std::test::Fail;
+use unique_id::{UidFault, UniqueId};
 
 /// Texts that are read, each behind its canonical spelling and `|`, with `^` between two.
 const READ: &str = "\

@@ -1,8 +1,8 @@
 //! Worked values, and each public call once where memory is ample.
 
-use super::*;
-use crate::examples::answer;
+use crate::tag_answers::answer;
 use std::test::Fail;
+use tag_expr::{TagExpr, TagFault, TagSet, tag_of};
 
 #[test]
 fn reads_a_tag_between_white_space(rt: HostRuntime) -> Result<(), Fail> {

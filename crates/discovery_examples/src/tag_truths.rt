@@ -1,6 +1,6 @@
 //! Expressions, the tags of a set, and whether the expression is true of the set.
 
-use crate::examples::answer;
+use crate::tag_answers::assert_answers;
 use std::test::Fail;
 
 /// An expression, `~`, the tags of a set, `~` and whether it is true of the set, with `^` between two.
@@ -264,14 +264,5 @@ b~b~true";
 #[test]
 fn is_true_of_the_sets_that_it_means(rt: HostRuntime) -> Result<(), Fail> {
     assert_eq!(rt; EXAMPLES.split('^').count(), 255);
-    for example in EXAMPLES.split('^') {
-        let (text, rest) = example.split_once('~').unwrap_or(("", ""));
-        let (tags, expected) = rest.split_once('~').unwrap_or(("", ""));
-        assert_eq!(rt;
-            answer(rt.alloc(), text, tags)?.as_str(),
-            expected,
-            "{text}"
-        );
-    }
-    Ok(())
+    assert_answers(&rt, rt.alloc(), EXAMPLES)
 }

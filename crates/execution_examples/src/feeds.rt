@@ -2,15 +2,13 @@
 
 ghost use Rattle.std.specs.Prelude.{Some};
 
-use crate::{feed_text, print_to};
-use descriptor::{Kind, Node, NodeId, TreeBuilder};
+use crate::plans::plan_of_one;
+use descriptor::{Kind, NodeId};
+use listeners::{feed_text, print_to};
 use plan_events::{Event, EventKind, Note, Status, Texts};
-use resource_locks::Plan;
-use std::alloc::Global;
 use std::io::{Error, ErrorKind, Result as IoResult, Write};
 use std::test::Fail;
-use tag_expr::TagSet;
-use unique_id::{Text, UniqueId};
+use unique_id::Text;
 
 /// Takes so many bytes, a few at a time, and then fails.
 #[derive(Drop)]
@@ -75,27 +73,7 @@ fn a_writer_that_takes_all_is_no_fault(rt: HostRuntime) -> Result<(), Fail> {
     Ok(())
 }
 
-/// A plan of one engine.
-fn plan_of_one(alloc: Global) -> Result<Plan, Fail> {
-    let mut builder = TreeBuilder::new(alloc)?;
-    let node = Node {
-        id: UniqueId::of(alloc, "engine", "a\tb").ok().ok_or("no id")?,
-        name: Text::new(alloc, "a")?,
-        kind: Kind::Container,
-        tags: TagSet::new(alloc),
-        body: None,
-        disabled: None,
-    };
-    if !builder.may_take(NodeId::ROOT) {
-        return Err("not taken".into());
-    }
-    builder
-        .add(alloc, NodeId::ROOT, node)
-        .ok()
-        .ok_or("refused")?;
-    Ok(Plan::plain(builder.finish()))
-}
-
+/// An event by worker 12.
 fn event_of(kind: EventKind, node: u16, status: Option<Status>) -> Event {
     Event {
         kind,
@@ -107,7 +85,7 @@ fn event_of(kind: EventKind, node: u16, status: Option<Status>) -> Event {
 
 #[test]
 fn each_event_has_a_line(rt: HostRuntime) -> Result<(), Fail> {
-    let plan = plan_of_one(rt.alloc())?;
+    let plan = plan_of_one(&rt, rt.alloc(), "a\tb", Kind::Container)?;
     let texts = Texts::new(rt.alloc(), plan.tree())?;
     let events = [
         event_of(EventKind::Registered, 1, None),
@@ -127,7 +105,7 @@ w12 started \nw12 plan finished\n";
 
 #[test]
 fn texts_are_printed_with_spaces_for_control_bytes(rt: HostRuntime) -> Result<(), Fail> {
-    let plan = plan_of_one(rt.alloc())?;
+    let plan = plan_of_one(&rt, rt.alloc(), "a\tb", Kind::Container)?;
     let mut texts = Texts::new(rt.alloc(), plan.tree())?;
     let text = Text::new(rt.alloc(), "no\tfile\u{7f}\nx\u{e9}")?;
     assert!(rt; plan.tree().len() > 1);

@@ -1,82 +1,23 @@
 //! Worked examples of trees, and of what is refused.
 
-use crate::{BodyId, Kind, Node, NodeId, Tree, TreeBuilder, TreeFault};
+use crate::nodes::{add, node, tree_of};
+use descriptor::{BodyId, Kind, Node, NodeId, Tree, TreeBuilder, TreeFault};
 use std::alloc::Global;
 use std::process::Abort;
 use std::test::Fail;
-use tag_expr::{TagSet, tag_of};
-use unique_id::{Text, UniqueId};
-
-/// A node whose unique id has the one segment `[d:VALUE]`.
-fn node(
-    alloc: Global,
-    value: &str,
-    name: &str,
-    kind: Kind,
-    body: Option<u16>,
-) -> Result<Node, Fail> {
-    Ok(Node {
-        id: UniqueId::of(alloc, "d", value)?,
-        name: Text::new(alloc, name)?,
-        kind,
-        body: body.map(BodyId::new),
-        disabled: None,
-        tags: TagSet::new(alloc),
-    })
-}
-
-/// A container with no body, named like its id.
-fn container(alloc: Global, value: &str) -> Result<Node, Fail> {
-    node(alloc, value, value, Kind::Container, None)
-}
-
-/// Adds a node below a parent that may take it.
-fn add(
-    rt: &impl Abort,
-    alloc: Global,
-    builder: &mut TreeBuilder,
-    parent: NodeId,
-    node: Node,
-) -> Result<NodeId, TreeFault> {
-    assert!(rt; builder.may_take(parent));
-    builder.add(alloc, parent, node)
-}
-
-/// A text of this many bytes.
-fn text_of_length(alloc: Global, length: usize) -> Result<String, Fail> {
-    let mut text = String::new(alloc);
-    for _ in 0..length {
-        text.push('n')?;
-    }
-    Ok(text)
-}
+use tag_expr::tag_of;
+use unique_id::Text;
 
 /// A class with a test and a factory that holds a test, and an empty class.
 fn small_tree(rt: &impl Abort, alloc: Global) -> Result<Tree, Fail> {
-    let mut builder = TreeBuilder::new(alloc)?;
-    let root = NodeId::ROOT;
-    let class = add(rt, alloc, &mut builder, root, container(alloc, "class")?)?;
-    let test = node(alloc, "test", "adds", Kind::Test, Some(7))?;
-    assert_eq!(rt;
-        add(rt, alloc, &mut builder, class, test),
-        Ok(NodeId::new(2))
-    );
-    let factory = node(alloc, "factory", "makes", Kind::ContainerAndTest, Some(3))?;
-    let factory = add(rt, alloc, &mut builder, class, factory)?;
-    let made = node(alloc, "made", "made", Kind::Test, None)?;
-    assert_eq!(rt;
-        add(rt, alloc, &mut builder, factory, made),
-        Ok(NodeId::new(4))
-    );
-    assert!(rt; !builder.may_take(NodeId::new(2)));
-    let empty = container(alloc, "empty")?;
-    assert_eq!(rt;
-        add(rt, alloc, &mut builder, root, empty),
-        Ok(NodeId::new(5))
-    );
-    assert!(rt; !builder.may_take(class));
-    assert_eq!(rt; builder.tree().len(), 6);
-    Ok(builder.finish())
+    let nodes = [
+        (0, "[d:class]", Kind::Container, None, ""),
+        (1, "[d:test]", Kind::Test, Some(7), ""),
+        (1, "[d:factory]", Kind::ContainerAndTest, Some(3), ""),
+        (3, "[d:made]", Kind::Test, None, ""),
+        (0, "[d:empty]", Kind::Container, None, ""),
+    ];
+    tree_of(rt, alloc, nodes.as_slice())
 }
 
 #[test]
@@ -133,7 +74,7 @@ fn tells_what_it_was_given(rt: HostRuntime) -> Result<(), Fail> {
     assert_eq!(rt; tree.len(), 6);
     let test = tree.node(NodeId::new(2));
     assert_eq!(rt; test.id.text(), "[d:test]");
-    assert_eq!(rt; test.name.as_str(), "adds");
+    assert_eq!(rt; test.name.as_str(), "test");
     assert_eq!(rt; tree.kind(NodeId::ROOT), Kind::Container);
     assert_eq!(rt; tree.kind(NodeId::new(2)), Kind::Test);
     assert_eq!(rt; tree.kind(NodeId::new(3)), Kind::ContainerAndTest);
@@ -185,15 +126,21 @@ fn keeps_no_node_without_its_parent(rt: HostRuntime) -> Result<(), Fail> {
     Ok(())
 }
 
+/// A test that is disabled for this reason.
+fn disabled(alloc: Global, id: &str, reason: &str) -> Result<Node, Fail> {
+    let mut node = node(alloc, id, Kind::Test)?;
+    node.disabled = Some(Text::new(alloc, reason)?);
+    Ok(node)
+}
+
 #[test]
 fn copies_nodes(rt: HostRuntime) -> Result<(), Fail> {
     let alloc = rt.alloc();
-    let mut node = disabled(alloc, "test", "")?;
+    let mut node = disabled(alloc, "[d:test]", "")?;
     node.tags.add(tag_of(alloc, "slow")?)?;
     let copy = node.copy(alloc)?;
     assert_eq!(rt; copy.id.text(), "[d:test]");
-    let reason = copy.disabled.as_ref().map(Text::as_str);
-    assert_eq!(rt; reason, Some(""));
+    assert_eq!(rt; copy.disabled.as_ref().map(Text::as_str), Some(""));
     let mut builder = TreeBuilder::new(alloc)?;
     add(&rt, alloc, &mut builder, NodeId::ROOT, copy)?;
     let tree = builder.finish();
@@ -208,21 +155,20 @@ fn copies_nodes(rt: HostRuntime) -> Result<(), Fail> {
 fn takes_4095_nodes(rt: HostRuntime) -> Result<(), Fail> {
     let alloc = rt.alloc();
     let mut builder = TreeBuilder::new(alloc)?;
-    for number in 1..4096u16 {
-        let value = format!(in alloc; "{number}")?;
-        let node = container(alloc, value.as_str())?;
-        assert_eq!(rt;
-            add(&rt, alloc, &mut builder, NodeId::ROOT, node),
+    for number in 1..4097u16 {
+        let id = format!(in alloc; "[d:{number}]")?;
+        let node = node(alloc, id.as_str(), Kind::Container)?;
+        let added = add(&rt, alloc, &mut builder, NodeId::ROOT, node);
+        let want = if number < 4096 {
             Ok(NodeId::new(number))
-        );
-    }
-    for value in ["new", "1"] {
-        let node = container(alloc, value)?;
-        assert_eq!(rt;
-            add(&rt, alloc, &mut builder, NodeId::ROOT, node),
+        } else {
             Err(TreeFault::TooMany)
-        );
+        };
+        assert_eq!(rt; added, want);
     }
+    let twin = node(alloc, "[d:1]", Kind::Container)?;
+    let refused = add(&rt, alloc, &mut builder, NodeId::ROOT, twin);
+    assert_eq!(rt; refused, Err(TreeFault::TooMany));
     let tree = builder.finish();
     assert_eq!(rt; tree.len(), 4096);
     let keep = vec![in alloc; true; 4096]?;
@@ -237,23 +183,14 @@ fn takes_64_levels(rt: HostRuntime) -> Result<(), Fail> {
     let mut builder = TreeBuilder::new(alloc)?;
     let mut last = NodeId::ROOT;
     for number in 1..65u16 {
-        let value = format!(in alloc; "{number}")?;
-        last = add(
-            &rt,
-            alloc,
-            &mut builder,
-            last,
-            container(alloc, value.as_str())?,
-        )?;
+        let id = format!(in alloc; "[d:{number}]")?;
+        let node = node(alloc, id.as_str(), Kind::Container)?;
+        last = add(&rt, alloc, &mut builder, last, node)?;
         assert_eq!(rt; last, NodeId::new(number));
     }
-    for value in ["new", "1"] {
-        let node = container(alloc, value)?;
-        assert_eq!(rt;
-            add(&rt, alloc, &mut builder, last, node),
-            Err(TreeFault::TooDeep)
-        );
-    }
+    let twin = node(alloc, "[d:1]", Kind::Container)?;
+    let refused = add(&rt, alloc, &mut builder, last, twin);
+    assert_eq!(rt; refused, Err(TreeFault::TooDeep));
     assert_eq!(rt; builder.finish().len(), 65);
     Ok(())
 }
@@ -261,90 +198,94 @@ fn takes_64_levels(rt: HostRuntime) -> Result<(), Fail> {
 #[test]
 fn refuses_in_order(rt: HostRuntime) -> Result<(), Fail> {
     let alloc = rt.alloc();
-    let long = text_of_length(alloc, 1025)?;
-    let longest = text_of_length(alloc, 1024)?;
+    let long = "n".repeat(alloc, 1025)?;
+    let longest = "n".repeat(alloc, 1024)?;
     let mut builder = TreeBuilder::new(alloc)?;
-    let test = node(alloc, "test", longest.as_str(), Kind::Test, Some(7))?;
-    let test = add(&rt, alloc, &mut builder, NodeId::ROOT, test)?;
+    let root = NodeId::ROOT;
+    let test = NodeId::new(1);
     // a refused node leaves no trace: its id and its body may come again
-    let refusals = [
-        ("test", test, 7, TreeFault::DoubleId, 12),
-        ("new", test, 7, TreeFault::ParentIsTest, 13),
-        ("new", NodeId::ROOT, 7, TreeFault::BodyTwice, 15),
-        ("new", NodeId::ROOT, 8, TreeFault::OverLimit, 17),
-        ("new", NodeId::ROOT, 8, TreeFault::OverLimit, 17),
+    let (long, longest) = (long.as_str(), longest.as_str());
+    let class = Kind::Container;
+    let rows = [
+        (root, Kind::Test, "[d:test]", longest, 7, Ok(test)),
+        (
+            test,
+            class,
+            "[d:test]",
+            long,
+            7,
+            Err((TreeFault::DoubleId, 12)),
+        ),
+        (
+            test,
+            class,
+            "[d:new]",
+            long,
+            7,
+            Err((TreeFault::ParentIsTest, 13)),
+        ),
+        (
+            root,
+            class,
+            "[d:new]",
+            long,
+            7,
+            Err((TreeFault::BodyTwice, 15)),
+        ),
+        (
+            root,
+            class,
+            "[d:new]",
+            long,
+            8,
+            Err((TreeFault::OverLimit, 17)),
+        ),
+        (root, class, "[d:new]", "new", 8, Ok(NodeId::new(2))),
     ];
-    for (value, parent, body, want, number) in refusals {
-        let refused = node(alloc, value, long.as_str(), Kind::Container, Some(body))?;
-        assert_eq!(rt; add(&rt, alloc, &mut builder, parent, refused), Err(want));
-        assert_eq!(rt; want.number(), number);
+    for (parent, kind, id, name, body, want) in rows {
+        let mut node = node(alloc, id, kind)?;
+        node.name = Text::new(alloc, name)?;
+        node.body = Some(BodyId::new(body));
+        let added = add(&rt, alloc, &mut builder, parent, node);
+        let added = added.map_err(|fault| (fault, fault.number()));
+        assert_eq!(rt; added, want);
     }
-    let taken = node(alloc, "new", "new", Kind::Container, Some(8))?;
-    assert_eq!(rt;
-        add(&rt, alloc, &mut builder, NodeId::ROOT, taken),
-        Ok(NodeId::new(2))
-    );
     assert_eq!(rt; builder.finish().len(), 3);
     Ok(())
 }
 
-/// A test with this reason.
-fn disabled(alloc: Global, value: &str, reason: &str) -> Result<Node, Fail> {
-    let mut node = node(alloc, value, value, Kind::Test, None)?;
-    node.disabled = Some(Text::new(alloc, reason)?);
-    Ok(node)
-}
-
 #[test]
-fn tells_reasons(rt: HostRuntime) -> Result<(), Fail> {
+fn tells_and_limits_reasons(rt: HostRuntime) -> Result<(), Fail> {
     let alloc = rt.alloc();
+    let long = "r".repeat(alloc, 1025)?;
+    let longest = "r".repeat(alloc, 1024)?;
     let mut builder = TreeBuilder::new(alloc)?;
-    let root = NodeId::ROOT;
-    add(
-        &rt,
-        alloc,
-        &mut builder,
-        root,
-        disabled(alloc, "one", "not on Windows")?,
-    )?;
-    add(&rt, alloc, &mut builder, root, container(alloc, "two")?)?;
-    add(
-        &rt,
-        alloc,
-        &mut builder,
-        root,
-        disabled(alloc, "three", "")?,
-    )?;
+    let rows = [
+        ("[d:one]", "not on Windows", Ok(NodeId::new(1))),
+        ("[d:two]", "", Ok(NodeId::new(2))),
+        ("[d:three]", long.as_str(), Err(TreeFault::OverLimit)),
+        ("[d:three]", longest.as_str(), Ok(NodeId::new(3))),
+    ];
+    for (id, reason, want) in rows {
+        let node = disabled(alloc, id, reason)?;
+        let added = add(&rt, alloc, &mut builder, NodeId::ROOT, node);
+        assert_eq!(rt; added, want, "{id}");
+    }
+    let enabled = node(alloc, "[d:four]", Kind::Test)?;
+    add(&rt, alloc, &mut builder, NodeId::ROOT, enabled)?;
     let tree = builder.finish();
-    assert_eq!(rt; tree.len(), 4);
-    let reasons = [None, Some("not on Windows"), None, Some("")];
+    assert_eq!(rt; tree.len(), 5);
+    let reasons = [
+        None,
+        Some("not on Windows"),
+        Some(""),
+        Some(longest.as_str()),
+        None,
+    ];
     for (number, want) in reasons.iter().enumerate() {
-        assert!(rt; number < 4);
+        assert!(rt; number < 5);
         let reason = tree.reason(NodeId::new(number as u16));
         assert_eq!(rt; reason, *want, "at {number}");
     }
-    Ok(())
-}
-
-#[test]
-fn refuses_long_reasons(rt: HostRuntime) -> Result<(), Fail> {
-    let alloc = rt.alloc();
-    let long = text_of_length(alloc, 1025)?;
-    let longest = text_of_length(alloc, 1024)?;
-    let mut builder = TreeBuilder::new(alloc)?;
-    let root = NodeId::ROOT;
-    let refused = disabled(alloc, "test", long.as_str())?;
-    assert_eq!(rt;
-        add(&rt, alloc, &mut builder, root, refused),
-        Err(TreeFault::OverLimit)
-    );
-    let taken = disabled(alloc, "test", longest.as_str())?;
-    assert_eq!(rt;
-        add(&rt, alloc, &mut builder, root, taken),
-        Ok(NodeId::new(1))
-    );
-    let tree = builder.finish();
-    assert_eq!(rt; tree.len(), 2);
-    assert_eq!(rt; tree.reason(NodeId::new(1)), Some(longest.as_str()));
     Ok(())
 }

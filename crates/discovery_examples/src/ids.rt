@@ -1,7 +1,7 @@
 //! Worked values, and each public call once where memory is ample.
 
-use super::*;
 use std::test::Fail;
+use unique_id::{Segment, Text, UidFault, UniqueId};
 
 #[test]
 fn spells_a_segment_with_escapes(rt: HostRuntime) -> Result<(), Fail> {
