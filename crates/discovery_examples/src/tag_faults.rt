@@ -191,22 +191,27 @@ fn repeated(
 fn is_read_up_to_the_limits(rt: HostRuntime) -> Result<(), Fail> {
     let alloc = rt.alloc();
     let rows = [
-        ("a", "", "", 200, "false"),
-        ("!", "a", "", 100, "error 26"),
-        ("(", "a", ")", 100, "error 26"),
-        ("(!", "a", ")", 32, "true"),
-        ("!a & ", "!b", "", 70, "false"),
-        ("!b & ", "a", "", 70, "true"),
-        ("a|", "b", "", 300, "true"),
-        ("a", "", "", 1024, "false"),
-        ("a", "", "", 1025, "error 26"),
-        (" ", "a&", "", 1022, "error 22 at 1024"),
-        (" ", "a", "", 1023, "true"),
+        ("a", "", "", 200, "", "false"),
+        ("a", "", "", 200, "a", "false"),
+        ("!", "a", "", 100, "a", "error 26"),
+        ("(", "a", ")", 100, "a", "error 26"),
+        ("(!", "a", ")", 32, "a", "true"),
+        ("!a & ", "!b", "", 70, "", "true"),
+        ("!a & ", "!b", "", 70, "a", "false"),
+        ("a&", "b", "", 300, "a,b", "true"),
+        ("a&", "b", "", 300, "b", "false"),
+        ("a", "", "", 1024, "b", "false"),
+        ("a", "", "", 1025, "b", "error 26"),
+        (" ", "a", "", 1023, "a", "true"),
     ];
-    for (front, middle, back, times, want) in rows {
+    for (front, middle, back, times, tags, want) in rows {
         let text = repeated(alloc, front, middle, back, times)?;
-        let answered = answer(alloc, text.as_str(), "a")?;
+        let answered = answer(alloc, text.as_str(), tags)?;
         assert_eq!(rt; answered.as_str(), want, "{times} times {front}");
     }
+    let mut text = repeated(alloc, " ", "&", "", 1022)?;
+    text.insert_str(0, "a")?;
+    let answered = answer(alloc, text.as_str(), "a")?;
+    assert_eq!(rt; answered.as_str(), "error 22 at 1024");
     Ok(())
 }
