@@ -23,7 +23,7 @@ pub enum TreeFault {
     #[error("a node has this unique id")]
     DoubleId,
     /// Refusal 13: the parent is a test, which holds no other node.
-    #[error("the parent is a test")]
+    #[error("the parent takes no children")]
     ParentIsTest,
     /// Refusal 15: a node has the same body.
     #[error("a node has this body")]
