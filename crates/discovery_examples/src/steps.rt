@@ -49,55 +49,21 @@ fn reads_each_word(rt: HostRuntime) -> Result<(), Fail> {
     Ok(())
 }
 
+/// Words that name no step, with `^` between two.
+const OTHER_WORDS: &str = "\
+w65:draw^w0:draw^w01:draw^w:draw^w+1:draw^w256:draw^w257:draw^\
+w18446744073709551617:draw^w1:claim^w1:claim:^w1:claim:65536^w1:claim:65537^w1:claim:01^\
+w1:claim:00^w1:claim:+1^w1:claim:-1^w1:claim:1:^w1:claim:1x^\
+w1:claim:18446744073709551616^w1:own^w1:draw:1^w1:draw:^w1:read^w1:^w1^w^W1:draw^\
+w1:Draw^w1:drawn^d:show^d:read:^D:read^d:^x^w1:draw\td:read^\t^d:read\n^w١:draw^\
+w1:claim:\u{a0}1";
+
 #[test]
 fn refuses_other_words(rt: HostRuntime) {
-    let words = [
-        "w65:draw",
-        "w0:draw",
-        "w01:draw",
-        "w:draw",
-        "w+1:draw",
-        "w256:draw",
-        "w257:draw",
-        "w18446744073709551617:draw",
-        "w1:claim",
-        "w1:claim:",
-        "w1:claim:65536",
-        "w1:claim:65537",
-        "w1:claim:01",
-        "w1:claim:00",
-        "w1:claim:+1",
-        "w1:claim:-1",
-        "w1:claim:1:",
-        "w1:claim:1x",
-        "w1:claim:18446744073709551616",
-        "w1:own",
-        "w1:draw:1",
-        "w1:draw:",
-        "w1:read",
-        "w1:",
-        "w1",
-        "w",
-        "W1:draw",
-        "w1:Draw",
-        "w1:drawn",
-        "d:show",
-        "d:read:",
-        "D:read",
-        "d:",
-        "x",
-        "w1:draw\td:read",
-        "\t",
-        "d:read\n",
-        "w١:draw",
-        "w1:claim:\u{a0}1",
-    ];
-    for word in words {
-        assert_eq!(rt;
-            parse_steps(rt.alloc(), word).err(),
-            Some(StepsFault::BadStep(1)),
-            "{word}"
-        );
+    assert_eq!(rt; OTHER_WORDS.split('^').count(), 39);
+    for word in OTHER_WORDS.split('^') {
+        let fault = parse_steps(rt.alloc(), word).err();
+        assert_eq!(rt; fault, Some(StepsFault::BadStep(1)), "{word}");
     }
 }
 

@@ -105,85 +105,67 @@ fn reads_the_tree_of_a_suite(rt: HostRuntime) -> Result<(), Fail> {
     Ok(())
 }
 
-#[test]
-fn reads_and_refuses_lines(rt: HostRuntime) {
-    let texts = [
-        ("", Ok(1)),
-        ("# a\n\n   \n#", Ok(1)),
-        ("engine e", Ok(2)),
-        ("engine e\n", Ok(2)),
-        ("engine   e  \n  class  A   \n", Ok(3)),
-        ("engine e\r\n  class A\r\n    test t pass\r\n", Ok(4)),
-        ("engine e\n# between\n\n  class A", Ok(3)),
-        (
-            "engine e\n  class A\n    class B\n      test t pass\n  class C\nengine f",
-            Ok(7),
-        ),
-        ("\t", Err(SuiteFault::BadLine(1))),
-        ("\tengine e", Err(SuiteFault::BadLine(1))),
-        ("\r", Err(SuiteFault::BadLine(1))),
-        ("\r\r\n", Err(SuiteFault::BadLine(1))),
-        (
-            "engine e\n  class A\n    test t pass\r",
-            Err(SuiteFault::BadLine(3)),
-        ),
-        (" engine e", Err(SuiteFault::BadIndent(1))),
-        ("  engine e", Err(SuiteFault::BadIndent(1))),
-        ("  # a", Err(SuiteFault::BadIndent(1))),
-        ("engine e\n  # a", Err(SuiteFault::BadLine(2))),
-        (
-            "engine e\n  class A\n   test t pass",
-            Err(SuiteFault::BadIndent(3)),
-        ),
-        ("engine e\n    class A", Err(SuiteFault::BadIndent(2))),
-        ("engine e\n  engine f", Err(SuiteFault::BadLine(2))),
-        ("class A", Err(SuiteFault::BadLine(1))),
-        ("test t pass", Err(SuiteFault::BadLine(1))),
-        ("engine e\n  test t pass", Err(SuiteFault::BadLine(2))),
-        ("engine e\n  test t pass\n   x", Err(SuiteFault::BadLine(2))),
-        (
-            "engine e\n  class A\n    test t pass\n      test u pass",
-            Err(SuiteFault::BadLine(4)),
-        ),
-        (
-            "engine e\n  class A\n    test t pass\n        test u pass",
-            Err(SuiteFault::BadIndent(4)),
-        ),
-        ("Engine e", Err(SuiteFault::BadLine(1))),
-        ("engine", Err(SuiteFault::BadLine(1))),
-        ("engine e x", Err(SuiteFault::BadLine(1))),
-        ("engine e pass", Err(SuiteFault::BadLine(1))),
-        ("engine e spin=1", Err(SuiteFault::BadLine(1))),
-        ("engine e\n  class A pass", Ok(3)),
-        ("engine e\n  class A pass x", Err(SuiteFault::BadLine(2))),
-        (
-            "engine e\n  class A spin=1 pass",
-            Err(SuiteFault::BadLine(2)),
-        ),
-        ("engine e\n  class A\n    test", Err(SuiteFault::BadLine(3))),
-        (
-            "engine e\n  class A\n    test t",
-            Err(SuiteFault::MissingVerdict(3)),
-        ),
-        (
-            "engine e\n  class A\n    test t bogus pass",
-            Err(SuiteFault::BadLine(3)),
-        ),
-        (
-            "engine e\n  class A\n    test t pass x",
-            Err(SuiteFault::BadLine(3)),
-        ),
-        (
-            "engine e\n\nengine e",
-            Err(SuiteFault::Refused {
-                fault: TreeFault::DoubleId,
-                line: 3,
-            }),
-        ),
-    ];
-    for (text, answer) in texts {
-        assert_eq!(rt; nodes_of(rt.alloc(), text), answer, "{text:?}");
+/// What the suite of a text is, `|` and the text, with `^` between two.
+const LINES: &str = "\
+1 nodes|^\
+1 nodes|# a\n\n   \n#^\
+2 nodes|engine e^\
+2 nodes|engine e\n^\
+3 nodes|engine   e  \n  class  A   \n^\
+4 nodes|engine e\r\n  class A\r\n    test t pass\r\n^\
+3 nodes|engine e\n# between\n\n  class A^\
+7 nodes|engine e\n  class A\n    class B\n      test t pass\n  class C\nengine f^\
+error 100 at 1|\t^\
+error 100 at 1|\tengine e^\
+error 100 at 1|\r^\
+error 100 at 1|\r\r\n^\
+error 100 at 3|engine e\n  class A\n    test t pass\r^\
+error 101 at 1| engine e^\
+error 101 at 1|  engine e^\
+error 101 at 1|  # a^\
+error 100 at 2|engine e\n  # a^\
+error 101 at 3|engine e\n  class A\n   test t pass^\
+error 101 at 2|engine e\n    class A^\
+error 100 at 2|engine e\n  engine f^\
+error 100 at 1|class A^\
+error 100 at 1|test t pass^\
+error 100 at 2|engine e\n  test t pass^\
+error 100 at 2|engine e\n  test t pass\n   x^\
+error 100 at 4|engine e\n  class A\n    test t pass\n      test u pass^\
+error 101 at 4|engine e\n  class A\n    test t pass\n        test u pass^\
+error 100 at 1|Engine e^\
+error 100 at 1|engine^\
+error 100 at 1|engine e x^\
+error 100 at 1|engine e pass^\
+error 100 at 1|engine e spin=1^\
+3 nodes|engine e\n  class A pass^\
+error 100 at 2|engine e\n  class A pass x^\
+error 100 at 2|engine e\n  class A spin=1 pass^\
+error 100 at 3|engine e\n  class A\n    test^\
+error 102 at 3|engine e\n  class A\n    test t^\
+error 100 at 3|engine e\n  class A\n    test t bogus pass^\
+error 100 at 3|engine e\n  class A\n    test t pass x^\
+error 12 at 3|engine e\n\nengine e";
+
+/// How many nodes the suite of a text has, or the refusal's number and place.
+fn answer(alloc: Global, text: &str) -> Result<String, AllocError> {
+    match nodes_of(alloc, text) {
+        Ok(nodes) => format!(in alloc; "{nodes} nodes"),
+        Err(fault) => {
+            let place = fault.place().unwrap_or(0);
+            format!(in alloc; "error {} at {place}", fault.number())
+        }
     }
+}
+
+#[test]
+fn reads_and_refuses_lines(rt: HostRuntime) -> Result<(), Fail> {
+    assert_eq!(rt; LINES.split('^').count(), 39);
+    for row in LINES.split('^') {
+        let (want, text) = row.split_once('|').unwrap_or(("", row));
+        assert_eq!(rt; answer(rt.alloc(), text)?.as_str(), want, "{text:?}");
+    }
+    Ok(())
 }
 
 /// A text with one test line, which ends like this.
