@@ -8,7 +8,7 @@ use tag_expr::{TagSet, tag_of};
 use unique_id::{Text, UniqueId};
 
 /// A node of this kind, named by the value of its unique id's last segment.
-pub fn node(alloc: Global, id: &str, kind: Kind) -> Result<Node, Fail> {
+pub(crate) fn node(alloc: Global, id: &str, kind: Kind) -> Result<Node, Fail> {
     let id = UniqueId::parse(alloc, id)?;
     let last = id.segments().last().ok_or("no segment")?;
     let name = last.value.copy(alloc)?;
@@ -23,7 +23,7 @@ pub fn node(alloc: Global, id: &str, kind: Kind) -> Result<Node, Fail> {
 }
 
 /// Adds a node below a parent that may take it.
-pub fn add(
+pub(crate) fn add(
     rt: &impl Abort,
     alloc: Global,
     builder: &mut TreeBuilder,
@@ -36,7 +36,7 @@ pub fn add(
 
 /// The tree of these nodes from number 1, each below the node of the given number, with a body of the given number
 /// if there is one, and with this tag if it is not empty.
-pub fn tree_of(
+pub(crate) fn tree_of(
     rt: &impl Abort,
     alloc: Global,
     nodes: &[(u16, &str, Kind, Option<u16>, &str)],

@@ -6,7 +6,7 @@ use std::test::Fail;
 use tag_expr::{TagExpr, TagFault, TagSet, tag_of};
 
 /// `true` or `false`, or the refusal's number and place.
-pub fn answer(alloc: Global, text: &str, tags: &str) -> Result<String, AllocError> {
+pub(crate) fn answer(alloc: Global, text: &str, tags: &str) -> Result<String, AllocError> {
     let expression = match TagExpr::parse(alloc, text) {
         Ok(expression) => expression,
         Err(fault) => return refusal(alloc, fault),
@@ -31,7 +31,7 @@ fn refusal(alloc: Global, fault: TagFault) -> Result<String, AllocError> {
 
 /// Asserts what expressions answer: each row, with `^` between two, is an expression, `~`, the tags of a set, `~` and
 /// the answer.
-pub fn assert_answers(rt: &impl Abort, alloc: Global, rows: &str) -> Result<(), Fail> {
+pub(crate) fn assert_answers(rt: &impl Abort, alloc: Global, rows: &str) -> Result<(), Fail> {
     for row in rows.split('^') {
         let (text, rest) = row.split_once('~').unwrap_or(("", ""));
         let (tags, want) = rest.split_once('~').unwrap_or(("", ""));

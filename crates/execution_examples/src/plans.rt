@@ -24,12 +24,17 @@ pub const DISABLED_CLASS: &str = "engine e
 ";
 
 /// The plan of the suite of a text.
-pub fn plan_of(alloc: Global, text: &str) -> Result<Plan, Fail> {
+pub(crate) fn plan_of(alloc: Global, text: &str) -> Result<Plan, Fail> {
     Ok(Plan::plain(Suite::parse(alloc, text)?.tree))
 }
 
 /// The plan of one node with this name, which a suite's text may be unable to give.
-pub fn plan_of_one(rt: &impl Abort, alloc: Global, name: &str, kind: Kind) -> Result<Plan, Fail> {
+pub(crate) fn plan_of_one(
+    rt: &impl Abort,
+    alloc: Global,
+    name: &str,
+    kind: Kind,
+) -> Result<Plan, Fail> {
     let mut builder = TreeBuilder::new(alloc)?;
     let node = Node {
         id: UniqueId::of(alloc, "engine", name)?,
@@ -45,7 +50,7 @@ pub fn plan_of_one(rt: &impl Abort, alloc: Global, name: &str, kind: Kind) -> Re
 }
 
 /// The event of this kind, by worker 1.
-pub fn event(kind: EventKind, node: u16, status: Option<Status>) -> Event {
+pub(crate) fn event(kind: EventKind, node: u16, status: Option<Status>) -> Event {
     Event {
         kind,
         node: NodeId::new(node),
@@ -55,17 +60,17 @@ pub fn event(kind: EventKind, node: u16, status: Option<Status>) -> Event {
 }
 
 /// The start of a node, by worker 1.
-pub fn started(node: u16) -> Event {
+pub(crate) fn started(node: u16) -> Event {
     event(EventKind::Started, node, None)
 }
 
 /// The finish of a node, by worker 1.
-pub fn finished(node: u16, status: Status) -> Event {
+pub(crate) fn finished(node: u16, status: Status) -> Event {
     event(EventKind::Finished, node, Some(status))
 }
 
 /// That a node is skipped, by worker 1.
-pub fn skipped(node: u16) -> Event {
+pub(crate) fn skipped(node: u16) -> Event {
     event(EventKind::Skipped, node, None)
 }
 
