@@ -26,12 +26,12 @@ fn keeps_and_copies_its_segments(rt: HostRuntime) -> Result<(), Fail> {
     assert!(rt; copy.same(&id));
     assert!(rt; !copy.same(&UniqueId::of(rt.alloc(), "engine", "e")?));
     assert_eq!(rt; copy.segments().len(), 2);
-    let segment = copy.segments()[1].copy(rt.alloc())?;
-    assert_eq!(rt; segment.kind.as_str(), "class");
-    assert_eq!(rt; segment.value.copy(rt.alloc())?.as_str(), "a/b");
+    let segment = copy.segments()[1].copy()?;
+    assert_eq!(rt; segment.kind(), "class");
+    assert_eq!(rt; segment.value(), "a/b");
     let made = Segment::new(rt.alloc(), "test", "t")?;
-    assert_eq!(rt; made.value.as_str(), "t");
-    assert_eq!(rt; Text::new(rt.alloc(), "ü")?.as_str(), "ü");
+    assert_eq!(rt; made.value(), "t");
+    assert_eq!(rt; Text::new(rt.alloc(), "ü")?.copy(rt.alloc())?.as_str(), "ü");
     Ok(())
 }
 
@@ -111,7 +111,7 @@ fn reads_what_it_spells(rt: HostRuntime) -> Result<(), Fail> {
     assert_eq!(rt; class.text(), "[engine:e]/[class:a%2Fb%5Bc%25]");
     let again = UniqueId::parse(rt.alloc(), class.text())?;
     assert!(rt; again.same(&class));
-    assert_eq!(rt; again.segments()[1].value.as_str(), "a/b[c%");
+    assert_eq!(rt; again.segments()[1].value(), "a/b[c%");
     let lower = UniqueId::parse(rt.alloc(), "[engine:e]/[class:a%5b]")?;
     assert_eq!(rt; lower.text(), "[engine:e]/[class:a%5B]");
     let mixed = UniqueId::parse(rt.alloc(), "[engine:%c3\u{fc}]");

@@ -11,7 +11,7 @@ use unique_id::{Text, UniqueId};
 pub(crate) fn node(alloc: Global, id: &str, kind: Kind) -> Result<Node, Fail> {
     let id = UniqueId::parse(alloc, id)?;
     let last = id.segments().last().ok_or("no segment")?;
-    let name = last.value.copy(alloc)?;
+    let name = Text::new(alloc, last.value())?;
     Ok(Node {
         id,
         name,

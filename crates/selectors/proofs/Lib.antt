@@ -4,6 +4,7 @@ pub mod AtOrBelows
 pub mod ClassName
 pub mod Covering
 pub mod Marks
+pub mod Ids
 pub mod Lineage
 pub mod Outers
 pub mod Packages

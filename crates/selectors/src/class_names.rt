@@ -25,8 +25,8 @@ pub(crate) fn has_class_name(tree: &Tree, node: NodeId, name: &[u8]) -> bool
     let mut left = name;
     while let Some(parent) = tree.parent(current) {
         let last = last_segment(tree.node(current));
-        let value = last.value.as_str().as_bytes();
-        match last.kind.as_str() {
+        let value = last.value().as_bytes();
+        match last.kind() {
             "class" => return value == left,
             "nested-class" => match outer_name(left, value) {
                 Some(outer) => {

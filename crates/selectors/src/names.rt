@@ -34,8 +34,8 @@ pub(crate) fn names(tree: &Tree, selector: &Selector, node: NodeId) -> bool
 fn is_method(segment: &Segment, method: &str) -> bool
     ensures { result ≡ is_method method.now (Some segment.now) }
 {
-    match segment.kind.as_str() {
-        "method" | "test-factory" => segment.value.as_str() == method,
+    match segment.kind() {
+        "method" | "test-factory" => segment.value() == method,
         _ => false,
     }
 }
@@ -44,8 +44,8 @@ fn is_method(segment: &Segment, method: &str) -> bool
 fn is_class_in(segment: &Segment, name: &str) -> bool
     ensures { result ≡ is_class_in name.now (Some segment.now) }
 {
-    let value = segment.value.as_str().as_bytes();
-    match segment.kind.as_str() {
+    let value = segment.value().as_bytes();
+    match segment.kind() {
         "class" => match value.strip_prefix(name.as_bytes()) {
             Some(rest) => rest.starts_with(b".".as_slice()),
             None => false,

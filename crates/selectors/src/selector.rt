@@ -1,6 +1,6 @@
 //! Selectors: which nodes a request names.
 
-ghost use Rattle.std.specs.Prelude.{◌≡◌, ◌≢◌, Some, None, IfOk, IfErr, IsSome};
+ghost use Rattle.std.specs.Prelude.{◌≡◌, Some, None, IfOk, IfErr, IsSome};
 ghost use Rattle.selectors.specs.Selectors.{class_of, method_of, package_of, selector_of, unique_id_of};
 
 use crate::selector_fault::SelectorFault;
@@ -38,7 +38,7 @@ impl Selector {
     pub fn parse(alloc: Global, kind: SelectorKind, text: &str) -> Result<Selector, SelectorFault>
         ensures ok { IfOk result (λ selector. selector_of kind text.now ≡ Some selector) }
         ensures refused { IfErr result (λ fault. fault ≡ SelectorFault.BadSelector → selector_of kind text.now ≡ None) }
-        ensures no_memory { IfErr result (λ fault. fault ≡ SelectorFault.NoMemory → kind ≢ SelectorKind.UniqueId → IsSome (selector_of kind text.now)) }
+        ensures no_memory { IfErr result (λ fault. fault ≡ SelectorFault.NoMemory → IsSome (selector_of kind text.now)) }
     {
         match kind {
             SelectorKind::UniqueId => unique_id(alloc, text),
@@ -53,6 +53,7 @@ impl Selector {
 fn unique_id(alloc: Global, text: &str) -> Result<Selector, SelectorFault>
     ensures ok { IfOk result (λ selector. unique_id_of text.now ≡ Some selector) }
     ensures refused { IfErr result (λ fault. fault ≡ SelectorFault.BadSelector → unique_id_of text.now ≡ None) }
+    ensures no_memory { IfErr result (λ fault. fault ≡ SelectorFault.NoMemory → IsSome (unique_id_of text.now)) }
 {
     match UniqueId::parse(alloc, text) {
         Ok(id) => Ok(Selector::Uid(id)),

@@ -9,7 +9,8 @@ use Rattle.unique_id.specs.declared.fault.UidFault.{UidFault}
 use Rattle.unique_id.specs.declared.fault.UidFault.TheVariants.{Empty, TooLong}
 use Rattle.unique_id.specs.declared.unique_id.Segment.{Segment}
 use Rattle.unique_id.specs.Grammar.{Item, item_byte, part_bytes, IsPart, Written, IsSegment, segment_text, meaning, IsId, IsWithinLimits}
-use Rattle.unique_id.specs.Reading.{◌>>=◌, segments_at, limited, id_of}
+use Rattle.unique_id.specs.Answers.{◌>>=◌}
+use Rattle.unique_id.specs.Reading.{segments_at, limited, id_of}
 use Rattle.unique_id.specs.Segments.{IsWhole, IsText}
 use Rattle.unique_id.specs.Spelling.{spelling}
 use Rattle.unique_id.proofs.Again.{segments_again, split_again}

@@ -6,7 +6,8 @@ use Rattle.std.specs.Option.{ok_or}
 use Rattle.unique_id.specs.declared.fault.UidFault.{UidFault}
 use Rattle.unique_id.specs.declared.fault.UidFault.TheVariants.{BadEscape}
 use Rattle.unique_id.specs.Escapes.{byte_of}
-use Rattle.unique_id.specs.Reading.{◌>>=◌, item_of, unescaped}
+use Rattle.unique_id.specs.Answers.{◌>>=◌}
+use Rattle.unique_id.specs.Reading.{item_of, unescaped}
 
 -- an item's byte and its length
 abbrev found : ℕ → ℕ → Option (ℕ × ℕ)

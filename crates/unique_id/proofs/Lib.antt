@@ -4,6 +4,7 @@ pub mod Canonical
 pub mod Checked
 pub mod Ids
 pub mod Items
+pub mod Kept
 pub mod Parsed
 pub mod Parts
 pub mod Pieces

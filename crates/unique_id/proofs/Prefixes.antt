@@ -3,7 +3,7 @@ use Rattle.std.proofs.Common.{◌≡◌, ◌≢◌, ℕ, ◌<◌, ◌≤◌, Lis
 use Rattle.std.proofs.lemmas.List.{take-append-drop, take_all}
 use Rattle.std.proofs.lemmas.List.Prefix.{front_reads}
 use Rattle.unique_id.specs.declared.unique_id.Segment.{Segment}
-use Rattle.unique_id.specs.Segments.{IsPrefix}
+use Rattle.unique_id.specs.Prefixes.{IsPrefix}
 
 pub longer : (xs ys : List Segment) → length ys < length xs → IsPrefix xs ys → ⊥
 longer xs ys h (rest, e) = absurd (omega (arith, length-append xs rest, ap length e))

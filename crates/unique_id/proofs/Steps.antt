@@ -2,7 +2,7 @@
 use Rattle.std.proofs.Common.{◌≡◌, ◌⊎◌, inl, inr, Bool, true, false, cond, Option, Some, None, Result, Ok, Err, refl, ap, ◌∙◌}
 use Rattle.std.specs.Option.{ok_or}
 use Rattle.unique_id.specs.declared.fault.UidFault.{UidFault}
-use Rattle.unique_id.specs.Reading.{◌>>=◌}
+use Rattle.unique_id.specs.Answers.{◌>>=◌}
 
 -- which way a test went
 pub went : {A : Type 0} (t : Bool) (x y z : A) → cond t x y ≡ z → ((t ≡ true) × (x ≡ z)) ⊎ ((t ≡ false) × (y ≡ z))

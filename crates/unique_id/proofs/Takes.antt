@@ -15,7 +15,8 @@ use Rattle.unique_id.specs.declared.part.Part.TheVariants as parts
 use Rattle.unique_id.specs.declared.unique_id.Segment.{Segment}
 use Rattle.unique_id.specs.Escapes.{byte_of}
 use Rattle.unique_id.specs.Grammar.{Item, Plain, Escape, IsItem, item_byte, part_text, part_bytes, IsPart, Written, IsSegment, segment_text, meaning, is_delimiter}
-use Rattle.unique_id.specs.Reading.{◌>>=◌, unescaped, part_len, end_of, unended, after, checked, part_before, part_at, ended, segment_at, segments_at}
+use Rattle.unique_id.specs.Answers.{◌>>=◌}
+use Rattle.unique_id.specs.Reading.{unescaped, part_len, end_of, unended, after, checked, part_before, part_at, ended, segment_at, segments_at}
 use Rattle.unique_id.proofs.Again.{IsInside}
 use Rattle.unique_id.proofs.Steps.{went, err_ok, same_ok, both, three, some_ok}
 

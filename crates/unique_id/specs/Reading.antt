@@ -1,32 +1,17 @@
 -- The reading of a text from left to right: its segments, or the first fault.
-use Rattle.std.specs.Prelude.{◌≡◌, ◌≢◌, ℕ, ◌+◌, ◌-◌, ◌==◌, ◌||◌, not, nat_lt, cond, List, [], ◌∷◌, ◌++◌, length, take, drop, map, Option, Some, None, option_map, Result, Ok, Err}
-use denote.Ref.{Bor}
+use Rattle.std.specs.Prelude.{ℕ, ◌+◌, ◌-◌, ◌==◌, ◌||◌, not, nat_lt, cond, List, [], ◌∷◌, ◌++◌, length, take, drop, Option, Some, None, option_map, Result, Ok, Err}
 use Rattle.std.specs.List.{slice_split, prefix_len}
 use Rattle.std.specs.Option.{ok_or}
 use Rattle.std.specs.Str.{is_utf8}
 use Rattle.unique_id.specs.declared.fault.UidFault.{UidFault}
-use Rattle.unique_id.specs.declared.fault.UidFault.TheVariants.{NoMemory, Empty, NoBracket, NoColon, BadEscape, EmptyPart, TooLong}
+use Rattle.unique_id.specs.declared.fault.UidFault.TheVariants.{Empty, NoBracket, NoColon, BadEscape, EmptyPart, TooLong}
 use Rattle.unique_id.specs.declared.part.Part.{Part}
 use Rattle.unique_id.specs.declared.part.Part.TheVariants.{Kind, Value}
 use Rattle.unique_id.specs.declared.unique_id.Segment.{Segment}
+use Rattle.unique_id.specs.Answers.{◌>>=◌}
 use Rattle.unique_id.specs.Escapes.{byte_of}
 use Rattle.unique_id.specs.Grammar.{is_delimiter}
 use Rattle.unique_id.specs.Spelling.{spelling}
-
--- a second step after a first without a fault
-infixl 10 ◌>>=◌
-abbrev pub ◌>>=◌ : {A B : Type 0} → Result A UidFault → (A → Result B UidFault) → Result B UidFault
-(Ok x) >>= f = f x
-(Err fault) >>= f = Err fault
-
--- what a call answers, seen by `view`, is what the definition gives, unless memory ran out
-abbrev pub Gives : {X Y : Type 0} → (X → Y) → Result X UidFault → Result Y UidFault → Type 0
-Gives view (Ok x) read = read ≡ Ok (view x)
-Gives view (Err fault) read = fault ≢ NoMemory → read ≡ Err fault
-
--- the texts that a list of references points to
-abbrev pub texts : List (Bor (List ℕ)) → List (List ℕ)
-texts xs = map (λ x. x.now) xs
 
 -- the byte that ends a part: : (58) or ] (93)
 abbrev pub end_of : Part → ℕ

@@ -1,5 +1,5 @@
--- What each segment of a unique id has, and which id stands above which.
-use Rattle.std.specs.Prelude.{◌≡◌, ◌<◌, List, ◌++◌, length}
+-- What each segment of a unique id has.
+use Rattle.std.specs.Prelude.{◌<◌, length}
 use Rattle.std.specs.Str.{IsUtf8}
 use Rattle.unique_id.specs.declared.unique_id.Segment.{Segment}
 
@@ -11,7 +11,3 @@ IsWhole s = (0 < length s.kind) × (0 < length s.value)
 pub record IsText (s : Segment) : Type 0 where
   pub kind : IsUtf8 s.kind
   pub value : IsUtf8 s.value
-
--- some further segments, or none, make the one list the other
-abbrev pub IsPrefix : List Segment → List Segment → Type 0
-IsPrefix segments others = (rest : List Segment) × (segments ++ rest ≡ others)

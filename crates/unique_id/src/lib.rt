@@ -1,9 +1,11 @@
 //! Unique ids: where a node stands in the tree, and the canonical text of that.
 #![tactic(auto)]
 
+mod decoded;
 mod escape;
 mod fault;
 mod part;
+mod read;
 mod reading;
 mod spelling;
 mod text;

@@ -1,15 +1,18 @@
 //! Reads the segments of a text, from left to right.
 
-ghost use Rattle.std.specs.Prelude.{◌≡◌, ◌≤◌, ◌+◌, ◌==◌, not, [], IfOk, length, option_map};
-ghost use Rattle.std.specs.List.{slice_split, prefix_len};
-ghost use Rattle.unique_id.specs.Reading.{Gives, after, unescaped, part_len, checked, part_at, segment_at, segments_at, texts};
+ghost use Rattle.std.specs.Prelude.{◌≡◌, ◌≢◌, ◌≤◌, ◌+◌, ◌==◌, not, List, [], ◌∷◌, Some, IfOk, IfErr, Ok, Err, MatchResult, length, option_map};
+ghost use Rattle.std.specs.List.{prefix_len};
+ghost use Rattle.unique_id.specs.Answers.{Answers};
+ghost use Rattle.unique_id.specs.Reading.{after, unescaped, part_len, checked, part_at, segment_at, segments_at};
+ghost use Rattle.unique_id.specs.Reads.{IsReadOf, pieces_of, left_len};
+ghost use Rattle.unique_id.specs.declared.unique_id.Segment.{Segment};
 
+use crate::decoded::Decoded;
 use crate::escape::item_of;
 use crate::fault::UidFault;
 use crate::part::Part;
-use crate::text::Text;
-use crate::unique_id::Segment;
-use std::alloc::{AllocError, Global};
+use crate::read::Read;
+use std::alloc::Global;
 
 /// What follows the byte that a text has to begin with.
 fn after(byte: u8, text: &[u8]) -> Option<&[u8]>
@@ -21,23 +24,11 @@ fn after(byte: u8, text: &[u8]) -> Option<&[u8]>
     }
 }
 
-/// The bytes that the part stands for that is written so at `place`.
-fn unescaped(alloc: Global, place: usize, written: &[u8]) -> Result<Vec<u8>, UidFault>
-    requires { place + length written.now ≤ 1024 }
-    ensures { Gives (λ bytes. bytes.items) result (unescaped [] place written.now) }
+/// How many bytes stand before the first of this value.
+fn len_before(byte: u8, text: &[u8]) -> usize
+    ensures { result ≡ prefix_len (λ b. not (b == byte)) text.now }
 {
-    let mut bytes = Vec::new(alloc);
-    let mut index = 0;
-    while index < written.len() {
-        match item_of(&written[index..]) {
-            Some((byte, length)) => {
-                bytes.push(byte)?;
-                index += length;
-            }
-            None => return Err(UidFault::BadEscape(place + index)),
-        }
-    }
-    Ok(bytes)
+    text.iter().take_while(|b| **b != byte).count()
 }
 
 /// How many bytes stand before the next delimiter.
@@ -49,37 +40,52 @@ fn part_len(text: &[u8]) -> usize
         .count()
 }
 
-/// How many bytes stand before the first `%`.
-fn plain_len(text: &[u8]) -> usize
-    ensures { result ≡ prefix_len (λ b. not (b == 37)) text.now }
+/// The bytes that the part stands for that is written so at `place`.
+fn unescaped(place: usize, written: &[u8]) -> Result<Decoded, UidFault>
+    requires { place + length written.now ≤ 1024 }
+    ensures read { Answers (λ bytes. bytes) result (unescaped [] place written.now) }
+    ensures real { IfErr result (λ fault. fault ≢ UidFault.NoMemory) }
 {
-    text.iter().take_while(|byte| **byte != b'%').count()
+    let mut bytes = Decoded::new();
+    let mut index = 0;
+    while index < written.len() {
+        match item_of(&written[index..]) {
+            Some((byte, length)) => {
+                bytes.push(byte);
+                index += length;
+            }
+            None => return Err(UidFault::BadEscape(place + index)),
+        }
+    }
+    Ok(bytes)
 }
 
-/// The text of these bytes of a part that is written so at `place`.
-fn checked(place: usize, written: &[u8], bytes: Vec<u8>) -> Result<Text, UidFault>
+/// These bytes of a part that is written so at `place`, if they make a part.
+fn checked(place: usize, written: &[u8], bytes: Decoded) -> Result<Decoded, UidFault>
     requires { place + length written.now ≤ 1024 }
-    ensures { Gives (λ text. text) result (checked place written.now bytes.items) }
+    ensures read { Answers (λ bytes. bytes) result (checked place written.now bytes) }
+    ensures real { IfErr result (λ fault. fault ≢ UidFault.NoMemory) }
 {
-    if bytes.is_empty() {
+    if bytes.as_slice().is_empty() {
         return Err(UidFault::EmptyPart(place + written.len()));
     }
-    match String::from_utf8(bytes) {
-        Ok(text) => Ok(Text::of_string(text)),
-        Err(_) => Err(UidFault::BadEscape(place + plain_len(written))),
+    if !bytes.is_text() {
+        return Err(UidFault::BadEscape(place + len_before(b'%', written)));
     }
+    Ok(bytes)
 }
 
 /// The part that the text at `place` begins with, and what follows its end.
 #[tactic(auto, unfolding(crate::specs::Reading::part_before))]
-fn part_at(alloc: Global, part: Part, place: usize, text: &[u8]) -> Result<(Text, &[u8]), UidFault>
+fn part_at(part: Part, place: usize, text: &[u8]) -> Result<(Decoded, &[u8]), UidFault>
     requires { place + length text.now ≤ 1024 }
-    ensures read { Gives (λ part. (part.0, part.1.now)) result (part_at part place text.now) }
+    ensures read { Answers (λ part. (part.0, part.1.now)) result (part_at part place text.now) }
+    ensures real { IfErr result (λ fault. fault ≢ UidFault.NoMemory) }
     ensures shorter { IfOk result (λ part. length part.1.now ≤ length text.now) }
 {
     let length = part_len(text);
     let written = &text[..length];
-    let bytes = unescaped(alloc, place, written)?;
+    let bytes = unescaped(place, written)?;
     let Some(rest) = after(part.end(), &text[length..]) else {
         return Err(part.unended(place + written.len()));
     };
@@ -87,42 +93,51 @@ fn part_at(alloc: Global, part: Part, place: usize, text: &[u8]) -> Result<(Text
     Ok((named, rest))
 }
 
-/// The segment that stands at `place`, where the text goes to the next slash or the end.
+/// The kind and the value of the segment that stands at `place`, where the text goes to the next
+/// slash or the end.
 #[tactic(auto, unfolding(crate::specs::Reading::segment_at))]
-fn segment_at(alloc: Global, place: usize, text: &[u8]) -> Result<Segment, UidFault>
+fn segment_at(place: usize, text: &[u8]) -> Result<(Decoded, Decoded), UidFault>
     requires { place + length text.now ≤ 1024 }
-    ensures { Gives (λ segment. segment) result (segment_at place text.now) }
+    ensures read { Answers (λ parts. record { kind = parts.0; value = parts.1 }) result (segment_at place text.now) }
+    ensures real { IfErr result (λ fault. fault ≢ UidFault.NoMemory) }
 {
     let Some(inside) = after(b'[', text) else {
         return Err(UidFault::NoBracket(place));
     };
-    let (kind, rest) = part_at(alloc, Part::Kind, place + 1, inside)?;
+    let (kind, rest) = part_at(Part::Kind, place + 1, inside)?;
     let value_place = place + (text.len() - rest.len());
-    let (value, rest) = part_at(alloc, Part::Value, value_place, rest)?;
+    let (value, rest) = part_at(Part::Value, value_place, rest)?;
     if !rest.is_empty() {
         return Err(UidFault::NoBracket(place + (text.len() - rest.len())));
     }
-    Ok(Segment { kind, value })
+    Ok((kind, value))
 }
 
-/// What stands between the slashes.
-fn pieces(alloc: Global, text: &str) -> Result<Vec<&str>, AllocError>
-    ensures { IfOk result (λ pieces. texts pieces.items ≡ slice_split (λ b. b == 47) text.now) }
+/// What stands before the first slash, and what follows that.
+fn first_piece(text: &[u8]) -> (&[u8], Option<&[u8]>)
+    ensures pieces { pieces_of (Some text.now) ≡ result.0.now ∷ pieces_of (option_map (λ rest. rest.now) result.1) }
+    ensures len { length result.0.now + left_len (option_map (λ rest. rest.now) result.1) ≡ length text.now }
 {
-    text.split('/').collect(alloc)
+    let length = len_before(b'/', text);
+    let piece = &text[..length];
+    (piece, after(b'/', &text[length..]))
 }
 
-/// The segments of a text, one between each two slashes.
-pub fn segments_of(alloc: Global, text: &str) -> Result<Vec<Segment>, UidFault>
+/// The segments of a text, one between each two slashes. Want of memory doesn't end the reading.
+pub fn read(alloc: Global, text: &[u8]) -> Result<Read, UidFault>
     requires { length text.now ≤ 1024 }
-    ensures { Gives (λ segments. segments.items) result (segments_at [] 0 (slice_split (λ b. b == 47) text.now)) }
+    ensures read { MatchResult result (λ read. (segments : List Segment) × IsReadOf read segments × (segments_at [] 0 (pieces_of (Some text.now)) ≡ Ok segments)) (λ fault. segments_at [] 0 (pieces_of (Some text.now)) ≡ Err fault) }
+    ensures real { IfErr result (λ fault. fault ≢ UidFault.NoMemory) }
 {
-    let mut segments = Vec::new(alloc);
+    let mut read = Read::new(alloc);
+    let mut left = Some(text);
     let mut place = 0;
-    let pieces = pieces(alloc, text)?;
-    for piece in pieces.as_slice() {
-        segments.push(segment_at(alloc, place, piece.as_bytes())?)?;
+    while let Some(text) = left {
+        let (piece, rest) = first_piece(text);
+        let (kind, value) = segment_at(place, piece)?;
+        read = read.with(alloc, &kind, &value);
         place += piece.len() + 1;
+        left = rest;
     }
-    Ok(segments)
+    Ok(read)
 }

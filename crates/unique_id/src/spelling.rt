@@ -53,20 +53,20 @@ fn byte_len(byte: u8) -> usize
 }
 
 /// How many bytes a part is written in.
-fn part_len(part: &str) -> usize
+fn part_len(part: &[u8]) -> usize
     requires { length part.now ≤ 1024 }
     ensures spelled { result ≡ length (spelled_part part.now) }
     ensures bounded { result ≤ 3072 }
 {
     let mut written = 0;
-    for byte in part.as_bytes() {
+    for byte in part {
         written += byte_len(*byte);
     }
     written
 }
 
 /// How many bytes a segment is written in.
-pub fn segment_len(kind: &str, value: &str) -> usize
+pub fn segment_len(kind: &[u8], value: &[u8]) -> usize
     requires kind_fits { length kind.now ≤ 1024 }
     requires value_fits { length value.now ≤ 1024 }
     ensures spelled { result ≡ length (spelled_segment kind.now value.now) }

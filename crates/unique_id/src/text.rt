@@ -30,13 +30,6 @@ impl Text {
         })
     }
 
-    /// The text of this string, in the memory that it has.
-    pub fn of_string(text: String) -> Text
-        ensures { result ≡ string_bytes text }
-    {
-        Text { text }
-    }
-
     /// The text as it is.
     pub fn as_str(&self) -> &str
         ensures { result.now ≡ self.now }

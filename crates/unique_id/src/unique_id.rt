@@ -1,18 +1,22 @@
 //! A unique id: its segments, with their canonical text beside them.
 
-ghost use Rattle.std.specs.Prelude.{◌≡◌, ◌≢◌, ◌<◌, ◌≤◌, ◌↔◌, IsTrue, Some, None, IfOk, IfErr, [], ◌∷◌, ◌++◌, List, Ok, length, All, string_bytes};
+ghost use Rattle.std.specs.Prelude.{◌≡◌, ◌≢◌, ◌<◌, ◌≤◌, ◌↔◌, IsTrue, Some, None, IfOk, IfErr, IsOk, [], ◌∷◌, ◌++◌, List, Ok, length, All, string_bytes};
 ghost use Rattle.unique_id.specs.declared.unique_id.Segment.{Segment};
 ghost use Rattle.unique_id.specs.Grammar.{IsId, IsWithinLimits};
-ghost use Rattle.unique_id.specs.Reading.{Gives, id_of};
-ghost use Rattle.unique_id.specs.Segments.{IsWhole, IsText, IsPrefix};
+ghost use Rattle.unique_id.specs.Answers.{Gives};
+ghost use Rattle.unique_id.specs.Prefixes.{IsPrefix};
+ghost use Rattle.unique_id.specs.Reading.{id_of};
+ghost use Rattle.unique_id.specs.Segments.{IsWhole, IsText};
 ghost use Rattle.unique_id.specs.Spelling.{refusal, spelling};
 
 use crate::fault::UidFault;
-use crate::reading::segments_of;
+use crate::read::Read;
+use crate::reading::read;
 use crate::spelling::{push_segment, segment_len};
 use crate::text::Text;
 use std::alloc::{AllocError, Global};
 use std::marker::Model;
+use std::sync::Arc;
 
 /// The greatest number of segments.
 const MOST_SEGMENTS: usize = 64;
@@ -20,36 +24,69 @@ const MOST_SEGMENTS: usize = 64;
 /// The greatest length of the canonical text, in bytes.
 const LONGEST_TEXT: usize = 1024;
 
-/// One step down the tree: the kind of the node there, and what tells it from its siblings.
+/// The kind and the value of a segment.
 #[derive(Debug, Drop)]
-pub struct Segment {
+pub struct Parts {
     pub kind: Text,
     pub value: Text,
 }
 
+/// One step down the tree: the kind of the node there, and what tells it from its siblings. All ids
+/// that lead through it share its parts.
+#[derive(Debug, Drop)]
+pub struct Segment {
+    parts: Arc<Parts>,
+}
+
+impl Model for Segment {
+    ghost use Rattle.std.specs.Arc.{arc_value};
+    ghost use Rattle.unique_id.specs.declared.unique_id.Parts.{Parts};
+
+    ghost Value = { Parts };
+
+    ghost view = { λ s. arc_value s.parts };
+}
+
 impl Segment {
-    /// This kind and this value, in memory of their own.
+    /// The segment of this kind and this value.
     pub fn new(alloc: Global, kind: &str, value: &str) -> Result<Segment, AllocError>
         ensures { IfOk result (λ s. s ≡ record { kind = kind.now; value = value.now }) }
     {
+        let kind = Text::new(alloc, kind)?;
+        let value = Text::new(alloc, value)?;
         Ok(Segment {
-            kind: Text::new(alloc, kind)?,
-            value: Text::new(alloc, value)?,
+            parts: Arc::new(alloc, Parts { kind, value })?,
         })
+    }
+
+    /// The kind of the node.
+    pub fn kind(&self) -> &str
+        ensures { result.now ≡ self.now.kind }
+    {
+        self.parts.kind.as_str()
+    }
+
+    /// What tells the node from its siblings.
+    pub fn value(&self) -> &str
+        ensures { result.now ≡ self.now.value }
+    {
+        self.parts.value.as_str()
     }
 
     /// Whether both have the same kind and the same value.
     fn same(&self, other: &Segment) -> bool
         ensures { IsTrue result ↔ (self.now ≡ other.now) }
     {
-        self.kind.as_str() == other.kind.as_str() && self.value.as_str() == other.value.as_str()
+        self.kind() == other.kind() && self.value() == other.value()
     }
 
-    /// The same segment, in memory of its own.
-    pub fn copy(&self, alloc: Global) -> Result<Segment, AllocError>
+    /// The same segment, which shares its parts with this one.
+    pub fn copy(&self) -> Result<Segment, AllocError>
         ensures { IfOk result (λ s. s ≡ self.now) }
     {
-        Segment::new(alloc, self.kind.as_str(), self.value.as_str())
+        Ok(Segment {
+            parts: Arc::try_clone(&self.parts)?,
+        })
     }
 }
 
@@ -118,11 +155,13 @@ impl UniqueId {
     /// for `%` and the delimiters `[`, `]`, `:` and `/`, as it is. The text is read from left to
     /// right; the first fault counts.
     pub fn parse(alloc: Global, text: &str) -> Result<UniqueId, UidFault>
-        ensures exact { Gives (λ id. id) result (id_of text.now) }
+        ensures exact { Gives UidFault.NoMemory (λ id. id) result (id_of text.now) }
+        // Want of memory stands in place of no fault.
+        ensures no_memory { IfErr result (λ fault. fault ≡ UidFault.NoMemory → IsOk (id_of text.now)) }
         // What is answered is written in the format, and what is written in it is answered.
         ensures parsed { IfOk result (λ id. IsId text.now id × IsWithinLimits text.now id) }
-        ensures parses { (segments : List Segment) → IsId text.now segments → IsWithinLimits text.now segments → Gives (λ id. id) result (Ok segments) }
-        ensures reads_back { (segments : List Segment) → 0 < length segments → length segments ≤ 64 → All IsWhole segments → All IsText segments → length text.now ≤ 1024 → text.now ≡ spelling segments → Gives (λ id. id) result (Ok segments) }
+        ensures parses { (segments : List Segment) → IsId text.now segments → IsWithinLimits text.now segments → Gives UidFault.NoMemory (λ id. id) result (Ok segments) }
+        ensures reads_back { (segments : List Segment) → 0 < length segments → length segments ≤ 64 → All IsWhole segments → All IsText segments → length text.now ≤ 1024 → text.now ≡ spelling segments → Gives UidFault.NoMemory (λ id. id) result (Ok segments) }
     {
         id_of(alloc, text)
     }
@@ -156,46 +195,51 @@ impl UniqueId {
         ensures { IfOk result (λ id. id ≡ self.now) }
     {
         Ok(UniqueId {
-            segments: copied(alloc, self.segments())?,
+            segments: copied(alloc, self.segments(), 0)?,
             text: String::from_str(alloc, self.text())?,
         })
     }
 }
 
-/// What refuses one more segment after `segments`, whose spelling is `text`.
-fn fault_of(segments: &[Segment], text: &str, kind: &str, value: &str) -> Option<UidFault>
+/// How long the spelling of `segments`, which is `text`, gets by one more segment, or what refuses that.
+fn longer_len(segments: &[Segment], text: &str, kind: &str, value: &str) -> Result<usize, UidFault>
     requires spelled { text.now ≡ spelling segments.now }
     requires short { length text.now ≤ 1024 }
-    ensures { result ≡ refusal segments.now kind.now value.now }
+    ensures accepted { IfOk result (λ _. refusal segments.now kind.now value.now ≡ None) }
+    ensures refused { IfErr result (λ fault. refusal segments.now kind.now value.now ≡ Some fault) }
+    ensures real { IfErr result (λ fault. fault ≢ UidFault.NoMemory) }
 {
     if kind.is_empty() {
-        return Some(UidFault::EmptyPart(0));
+        return Err(UidFault::EmptyPart(0));
     }
     if value.is_empty() {
-        return Some(UidFault::EmptyPart(1));
+        return Err(UidFault::EmptyPart(1));
     }
     if segments.len() >= MOST_SEGMENTS || kind.len() > LONGEST_TEXT || value.len() > LONGEST_TEXT {
-        return Some(UidFault::TooLong);
+        return Err(UidFault::TooLong);
     }
     let slash = usize::from(!segments.is_empty());
-    if text.len() + slash + segment_len(kind, value) > LONGEST_TEXT {
-        return Some(UidFault::TooLong);
+    let len = text.len() + slash + segment_len(kind.as_bytes(), value.as_bytes());
+    if len > LONGEST_TEXT {
+        return Err(UidFault::TooLong);
     }
-    None
+    Ok(len)
 }
 
-/// The spelling of `segments`, which is `text`, and one more.
+/// The spelling of `segments`, which is `text`, and one more, in room for so many bytes.
 fn longer_text(
     alloc: Global,
     segments: &[Segment],
     text: &str,
     kind: &str,
     value: &str,
+    len: usize,
 ) -> Result<String, AllocError>
     requires { text.now ≡ spelling segments.now }
     ensures { IfOk result (λ longer. string_bytes longer ≡ spelling (segments.now ++ record { kind = kind.now; value = value.now } ∷ [])) }
 {
-    let mut longer = String::from_str(alloc, text)?;
+    let mut longer = String::with_capacity(alloc, len)?;
+    longer.push_str(text)?;
     if !segments.is_empty() {
         longer.push_str("/")?;
     }
@@ -205,7 +249,8 @@ fn longer_text(
 
 /// The id that a text spells, read from left to right.
 fn id_of(alloc: Global, text: &str) -> Result<UniqueId, UidFault>
-    ensures { Gives (λ id. id) result (id_of text.now) }
+    ensures exact { Gives UidFault.NoMemory (λ id. id) result (id_of text.now) }
+    ensures no_memory { IfErr result (λ fault. fault ≡ UidFault.NoMemory → IsOk (id_of text.now)) }
 {
     if text.is_empty() {
         return Err(UidFault::Empty);
@@ -213,24 +258,31 @@ fn id_of(alloc: Global, text: &str) -> Result<UniqueId, UidFault>
     if text.len() > LONGEST_TEXT {
         return Err(UidFault::TooLong);
     }
-    let segments = segments_of(alloc, text)?;
-    let text = spelled(alloc, segments.as_slice())?;
-    if segments.len() > MOST_SEGMENTS || text.len() > LONGEST_TEXT {
+    let Read {
+        segments,
+        count,
+        spelled: len,
+    } = read(alloc, text.as_bytes())?;
+    if count > MOST_SEGMENTS || len > LONGEST_TEXT {
         return Err(UidFault::TooLong);
     }
+    let Some(segments) = segments else {
+        return Err(UidFault::NoMemory);
+    };
+    let text = spelled(alloc, segments.as_slice(), len)?;
     Ok(UniqueId { segments, text })
 }
 
-/// The spelling of these segments.
-fn spelled(alloc: Global, segments: &[Segment]) -> Result<String, AllocError>
+/// The spelling of these segments, which has so many bytes.
+fn spelled(alloc: Global, segments: &[Segment], len: usize) -> Result<String, AllocError>
     ensures { IfOk result (λ text. string_bytes text ≡ spelling segments.now) }
 {
-    let mut text = String::new(alloc);
+    let mut text = String::with_capacity(alloc, len)?;
     for (index, segment) in segments.iter().enumerate() {
         if index > 0 {
             text.push_str("/")?;
         }
-        push_segment(&mut text, segment.kind.as_str(), segment.value.as_str())?;
+        push_segment(&mut text, segment.kind(), segment.value())?;
     }
     Ok(text)
 }
@@ -252,11 +304,9 @@ fn grown(
     ensures refused { IfErr result (λ fault. fault ≢ UidFault.NoMemory → refusal segments.now kind.now value.now ≡ Some fault) }
     ensures no_memory { IfErr result (λ fault. fault ≡ UidFault.NoMemory → refusal segments.now kind.now value.now ≡ None) }
 {
-    if let Some(fault) = fault_of(segments, text, kind, value) {
-        return Err(fault);
-    }
-    let text = longer_text(alloc, segments, text, kind, value)?;
-    let mut longer = copied(alloc, segments)?;
+    let len = longer_len(segments, text, kind, value)?;
+    let text = longer_text(alloc, segments, text, kind, value, len)?;
+    let mut longer = copied(alloc, segments, 1)?;
     longer.push(Segment::new(alloc, kind, value)?)?;
     Ok(UniqueId {
         segments: longer,
@@ -264,13 +314,15 @@ fn grown(
     })
 }
 
-/// The same segments, in memory of their own.
-fn copied(alloc: Global, items: &[Segment]) -> Result<Vec<Segment>, AllocError>
+/// The same segments, with room for some more behind them.
+fn copied(alloc: Global, items: &[Segment], more: usize) -> Result<Vec<Segment>, AllocError>
+    requires few { length items.now ≤ 64 }
+    requires some { more ≤ 1 }
     ensures { IfOk result (λ v. v.items ≡ items.now) }
 {
-    let mut copies = Vec::new(alloc);
+    let mut copies = Vec::with_capacity(alloc, items.len() + more)?;
     for item in items {
-        copies.push(item.copy(alloc)?)?;
+        copies.push(item.copy()?)?;
     }
     Ok(copies)
 }

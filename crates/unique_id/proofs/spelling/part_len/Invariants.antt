@@ -5,4 +5,4 @@ use Rattle.unique_id.proofs.spelling.part_len.Given as goal
 
 abbrev pub invariant-loop-byte : goal.invariant-loop-byte
 invariant-loop-byte l =
-    (l.written ≡ length (spelled_part (take l.byte-index l.byte-items))) × (l.written ≤ 3 * l.byte-index)
+    (l.written ≡ length (spelled_part (take l.byte-index l.part))) × (l.written ≤ 3 * l.byte-index)

@@ -15,8 +15,8 @@ loop-index-preserved c =
     let written = spelled_segment s.kind s.value in
     let count : length (take i segments) ≡ i = length-take-le i segments (omega arith) in
     let more : take (i + 1) segments ≡ take i segments ++ s ∷ [] = take_more segments i s inside ∙ ap (λ x. take i segments ++ x ∷ []) (sym c.index-segments-index.is) in
-    let parts : spelled_segment c.as_str.result.now c.as_str-in-loop-index.result.now ≡ written =
-    ap (λ k. spelled_segment k c.as_str-in-loop-index.result.now) c.as_str.ensures ∙ ap (λ v. spelled_segment s.kind v) c.as_str-in-loop-index.ensures in
+    let parts : spelled_segment c.kind.result.now c.value.result.now ≡ written =
+    ap (λ k. spelled_segment k c.value.result.now) c.kind.ensures ∙ ap (λ v. spelled_segment s.kind v) c.value.ensures in
     let pushed : string_bytes c.push_segment.new.text ≡ string_bytes c.if-index-gt0.text ++ written = c.in_ok-push_segment.ensures ∙ ap (λ l. string_bytes c.if-index-gt0.text ++ l) parts in
     elim c.if-index-gt0.branch [
       | then-index-gt0+in_ok-push_str w ↦
