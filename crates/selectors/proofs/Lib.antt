@@ -4,7 +4,6 @@ pub mod AtOrBelows
 pub mod ClassName
 pub mod Covering
 pub mod Marks
-pub mod Ids
 pub mod Lineage
 pub mod Outers
 pub mod Packages

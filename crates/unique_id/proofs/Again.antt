@@ -78,7 +78,7 @@ unfolding part_before
 before_again part place written behind rest bytes read follows fine = rw (read, follows, fine) refl
 
 -- a part is read, whatever follows its end
-part_again : (part : Part) (place : ℕ) (items : List Item) (rest : List ℕ) → IsPart items → part_at part place (part_text items ++ end_of part ∷ rest) ≡ Ok (part_bytes items, rest)
+pub part_again : (part : Part) (place : ℕ) (items : List Item) (rest : List ℕ) → IsPart items → part_at part place (part_text items ++ end_of part ∷ rest) ≡ Ok (part_bytes items, rest)
 part_again part place items rest is =
     let written = part_text items in
     let behind = end_of part ∷ rest in
@@ -92,7 +92,7 @@ part_again part place items rest is =
     ∙ before_again part place written behind rest bytes (items_again items is.each_item [] place) (after_end part rest) (text_checked place written bytes bytes some is.utf8 refl)
 
 -- a segment is read
-segment_again : (w : Written) (place : ℕ) → IsSegment w → segment_at place (segment_text w) ≡ Ok (meaning w)
+pub segment_again : (w : Written) (place : ℕ) → IsSegment w → segment_at place (segment_text w) ≡ Ok (meaning w)
 unfolding segment_at
 segment_again w place is =
     rw (part_again parts.Kind (place + 1) w.kind (part_text w.value ++ 93 ∷ []) is.kind)
@@ -104,10 +104,10 @@ segments_again (w ∷ ws) (is, all) done place =
     rw (segment_again w place is) (segments_again ws all (done ++ meaning w ∷ []) (place + (length (segment_text w) + 1)) ∙ ap Ok (append_assoc done (meaning w ∷ []) (map meaning ws)))
 
 -- no slash stands inside a segment
-no_slash : (b : ℕ) → IsInside b → (b == 47) ≡ false
+pub no_slash : (b : ℕ) → IsInside b → (b == 47) ≡ false
 no_slash b h = elim (eqb_tells b 47) [ inl e ↦ (let bad : true ≡ false = ap is_delimiter (sym e.1) ∙ h in cc) | inr e ↦ e.0 ]
 
-text_no_slash : (text : List ℕ) → AllByRecursion IsInside text → All (λ b. (b == 47) ≡ false) text
+pub text_no_slash : (text : List ℕ) → AllByRecursion IsInside text → All (λ b. (b == 47) ≡ false) text
 text_no_slash [] all = All-nil (λ b. (b == 47) ≡ false)
 text_no_slash (b ∷ text) (inside, all) = All-cons (λ b. (b == 47) ≡ false) b text (no_slash b inside) (text_no_slash text all)
 

@@ -5,6 +5,7 @@ pub mod Checked
 pub mod Ids
 pub mod Items
 pub mod Kept
+pub mod PartStops
 pub mod Parsed
 pub mod Parts
 pub mod Pieces

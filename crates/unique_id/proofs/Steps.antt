@@ -36,3 +36,6 @@ three {A} {B} {C} (Ok a) (Ok b) t all h =
     (a, refl, ap (λ (p : C × B). Ok p.1) same, last.1 ∙ ap (λ (p : C × B). Ok p.0) same)
 three {A} {B} {C} (Ok a) (Err e) t all h = err_ok {A = C × B} e all h
 three {A} {B} {C} (Err e) s t all h = err_ok {A = C × B} e all h
+
+pub same_err : {A : Type 0} (e f : UidFault) → ◌≡◌ {A = Result A UidFault} (Err e) (Err f) → e ≡ f
+same_err e f h = cc

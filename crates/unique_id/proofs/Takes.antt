@@ -21,11 +21,11 @@ use Rattle.unique_id.proofs.Again.{IsInside}
 use Rattle.unique_id.proofs.Steps.{went, err_ok, same_ok, both, three, some_ok}
 
 -- items that are written so and stand for these bytes, behind others
-record AreItems (text done bytes : List ℕ) : Type 0 where
-  items : List Item
-  each_item : AllByRecursion IsItem items
-  text_is : text ≡ part_text items
-  bytes_are : bytes ≡ done ++ part_bytes items
+pub record AreItems (text done bytes : List ℕ) : Type 0 where
+  pub items : List Item
+  pub each_item : AllByRecursion IsItem items
+  pub text_is : text ≡ part_text items
+  pub bytes_are : bytes ≡ done ++ part_bytes items
 
 plain_item : (b : ℕ) (text done bytes : List ℕ) → (b == 37) ≡ false → IsInside b → AreItems text (done ++ b ∷ []) bytes → AreItems (b ∷ text) done bytes
 plain_item b text done bytes plain inside more = record {
@@ -43,7 +43,7 @@ escape_item b high low byte text done bytes percent digits more = record {
   bytes_are = more.bytes_are ∙ append_assoc done (byte ∷ []) (part_bytes more.items);
 }
 
-items_read : (text done : List ℕ) (place : ℕ) (bytes : List ℕ) → AllByRecursion IsInside text → unescaped done place text ≡ Ok bytes → AreItems text done bytes
+pub items_read : (text done : List ℕ) (place : ℕ) (bytes : List ℕ) → AllByRecursion IsInside text → unescaped done place text ≡ Ok bytes → AreItems text done bytes
 items_read [] done place bytes inside h = record { items = []; each_item = tt; text_is = refl; bytes_are = sym (same_ok done bytes h) ∙ sym (append-nil done) }
 items_read (b ∷ []) done place bytes (inside, all) h =
     elim (went (b == 37) _ _ (Ok bytes) h) [
@@ -71,11 +71,11 @@ front_step : (b : ℕ) (text : List ℕ) (t : Bool) → is_delimiter b ≡ t →
 front_step b text true e all = rw e tt
 front_step b text false e all = subst (λ (n : ℕ). AllByRecursion IsInside (take n (b ∷ text))) (sym (len_step b text e)) (e, all)
 
-front_inside : (text : List ℕ) → AllByRecursion IsInside (take (part_len text) text)
+pub front_inside : (text : List ℕ) → AllByRecursion IsInside (take (part_len text) text)
 front_inside [] = tt
 front_inside (b ∷ text) = front_step b text (is_delimiter b) refl (front_inside text)
 
-after_found : (byte : ℕ) (text rest : List ℕ) → after byte text ≡ Some rest → text ≡ byte ∷ rest
+pub after_found : (byte : ℕ) (text rest : List ℕ) → after byte text ≡ Some rest → text ≡ byte ∷ rest
 after_found byte [] rest h = absurd (none-some rest h)
 after_found byte (b ∷ text) rest h =
     elim (went (b == byte) (Some text) None (Some rest) h) [
@@ -101,11 +101,11 @@ fine place written bytes named h =
     ]
 
 -- a part at the front of a text
-record IsTaken (part : Part) (text named rest : List ℕ) : Type 0 where
-  items : List Item
-  right : IsPart items
-  text_is : text ≡ part_text items ++ end_of part ∷ rest
-  named_is : named ≡ part_bytes items
+pub record IsTaken (part : Part) (text named rest : List ℕ) : Type 0 where
+  pub items : List Item
+  pub right : IsPart items
+  pub text_is : text ≡ part_text items ++ end_of part ∷ rest
+  pub named_is : named ≡ part_bytes items
 
 -- the three steps of a part
 record IsBefore (part : Part) (place : ℕ) (written behind named rest : List ℕ) : Type 0 where
@@ -126,7 +126,7 @@ before_read part place written behind named rest h =
       checks = steps.3;
     }
 
-part_read : (part : Part) (place : ℕ) (text named rest : List ℕ) → part_at part place text ≡ Ok (named, rest) → IsTaken part text named rest
+pub part_read : (part : Part) (place : ℕ) (text named rest : List ℕ) → part_at part place text ≡ Ok (named, rest) → IsTaken part text named rest
 part_read part place text named rest h =
     let written = take (part_len text) text in
     let behind = drop (part_len text) text in
@@ -149,11 +149,11 @@ nothing_left place [] x h = refl
 nothing_left place (b ∷ text) x h = err_ok (NoBracket place) x h
 
 -- a segment that is written so
-record IsSegmentOf (text : List ℕ) (s : Segment) : Type 0 where
-  written : Written
-  right : IsSegment written
-  text_is : text ≡ segment_text written
-  means : s ≡ meaning written
+pub record IsSegmentOf (text : List ℕ) (s : Segment) : Type 0 where
+  pub written : Written
+  pub right : IsSegment written
+  pub text_is : text ≡ segment_text written
+  pub means : s ≡ meaning written
 
 segment_of : (text inside kind behind value rest : List ℕ) → text ≡ 91 ∷ inside → IsTaken parts.Kind inside kind behind → IsTaken parts.Value behind value rest → rest ≡ []
     → IsSegmentOf text (record { kind = kind; value = value })
@@ -166,7 +166,7 @@ segment_of text inside kind behind value rest front first second back = record {
   means = ap (λ k. record { kind = k; value = value }) first.named_is ∙ ap (λ v. record { kind = part_bytes first.items; value = v }) second.named_is;
 }
 
-segment_read : (place : ℕ) (text : List ℕ) (s : Segment) → segment_at place text ≡ Ok s → IsSegmentOf text s
+pub segment_read : (place : ℕ) (text : List ℕ) (s : Segment) → segment_at place text ≡ Ok s → IsSegmentOf text s
 unfolding segment_at
 segment_read place text s h =
     let value_of : List ℕ × List ℕ → Result (List ℕ × List ℕ) UidFault = λ kind. part_at parts.Value (place + (length text - length kind.1)) kind.1 in
