@@ -104,14 +104,14 @@ segments_again (w ∷ ws) (is, all) done place =
     rw (segment_again w place is) (segments_again ws all (done ++ meaning w ∷ []) (place + (length (segment_text w) + 1)) ∙ ap Ok (append_assoc done (meaning w ∷ []) (map meaning ws)))
 
 -- no slash stands inside a segment
-pub no_slash : (b : ℕ) → IsInside b → (b == 47) ≡ false
+no_slash : (b : ℕ) → IsInside b → (b == 47) ≡ false
 no_slash b h = elim (eqb_tells b 47) [ inl e ↦ (let bad : true ≡ false = ap is_delimiter (sym e.1) ∙ h in cc) | inr e ↦ e.0 ]
 
-pub text_no_slash : (text : List ℕ) → AllByRecursion IsInside text → All (λ b. (b == 47) ≡ false) text
+text_no_slash : (text : List ℕ) → AllByRecursion IsInside text → All (λ b. (b == 47) ≡ false) text
 text_no_slash [] all = All-nil (λ b. (b == 47) ≡ false)
 text_no_slash (b ∷ text) (inside, all) = All-cons (λ b. (b == 47) ≡ false) b text (no_slash b inside) (text_no_slash text all)
 
-segment_no_slash : (w : Written) → IsSegment w → All (λ b. (b == 47) ≡ false) (segment_text w)
+pub segment_no_slash : (w : Written) → IsSegment w → All (λ b. (b == 47) ≡ false) (segment_text w)
 segment_no_slash w is =
     let P : ℕ → Type 0 = λ b. (b == 47) ≡ false in
     let kind = text_no_slash (part_text w.kind) (part_inside w.kind is.kind.each_item) in

@@ -12,6 +12,8 @@ pub mod Pieces
 pub mod Prefixes
 pub mod ReadBack
 pub mod Refused
+pub mod SegmentStops
 pub mod Spellings
 pub mod Steps
 pub mod Takes
+pub mod TextStops

@@ -10,10 +10,10 @@ pub some_piece : (text : List ℕ) → 0 < length (slice_split (λ b. b == 47) t
 some_piece text = omega (arith, length-slice_split (λ b. b == 47) text)
 
 -- how many bytes stand before the first slash
-abbrev slash : List ℕ → ℕ
+abbrev pub slash : List ℕ → ℕ
 slash text = prefix_len (λ b. not (b == 47)) text
 
-slash_step : (b : ℕ) (text : List ℕ) → (b == 47) ≡ false → slash (b ∷ text) ≡ suc (slash text)
+pub slash_step : (b : ℕ) (text : List ℕ) → (b == 47) ≡ false → slash (b ∷ text) ≡ suc (slash text)
 slash_step b text e = rw e (omega arith)
 
 -- the first of the texts between slashes, and the others

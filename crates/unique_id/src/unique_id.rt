@@ -1,9 +1,11 @@
 //! A unique id: its segments, with their canonical text beside them.
 
-ghost use Rattle.std.specs.Prelude.{◌≡◌, ◌≢◌, ◌<◌, ◌≤◌, ◌↔◌, IsTrue, Some, None, IfOk, IfErr, IsOk, [], ◌∷◌, ◌++◌, List, Ok, length, All, string_bytes};
+ghost use Rattle.std.specs.Prelude.{◌≡◌, ◌≢◌, ◌<◌, ◌≤◌, ◌↔◌, IsTrue, Some, None, IfOk, IfErr, IsOk, [], ◌∷◌, ◌++◌, List, Ok, ℕ, drop, length, All, string_bytes};
 ghost use Rattle.unique_id.specs.declared.unique_id.Segment.{Segment};
 ghost use Rattle.unique_id.specs.Grammar.{IsId, IsWithinLimits};
 ghost use Rattle.unique_id.specs.Answers.{Gives};
+ghost use Rattle.unique_id.specs.Faults.{place_of};
+ghost use Rattle.unique_id.specs.Places.{StopsAt, width};
 ghost use Rattle.unique_id.specs.Prefixes.{IsPrefix};
 ghost use Rattle.unique_id.specs.Reading.{id_of};
 ghost use Rattle.unique_id.specs.Segments.{IsWhole, IsText};
@@ -158,6 +160,8 @@ impl UniqueId {
         ensures exact { Gives UidFault.NoMemory (λ id. id) result (id_of text.now) }
         // Want of memory stands in place of no fault.
         ensures no_memory { IfErr result (λ fault. fault ≡ UidFault.NoMemory → IsOk (id_of text.now)) }
+        // A fault with a place stands where the text stops being the beginning of an id.
+        ensures placed { IfErr result (λ fault. (place : ℕ) → place_of fault ≡ Some place → StopsAt text.now place (width fault (drop place text.now))) }
         // What is answered is written in the format, and what is written in it is answered.
         ensures parsed { IfOk result (λ id. IsId text.now id × IsWithinLimits text.now id) }
         ensures parses { (segments : List Segment) → IsId text.now segments → IsWithinLimits text.now segments → Gives UidFault.NoMemory (λ id. id) result (Ok segments) }
