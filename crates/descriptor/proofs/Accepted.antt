@@ -1,9 +1,10 @@
 -- A tree with one more node that is not refused is a tree.
-use Rattle.std.proofs.Common.{◌≡◌, ◌≢◌, ℕ, zero, suc, ◌-◌, ◌<◌, ◌≤◌, Bool, true, false, cond, eqb, List, [], ◌∷◌, ◌++◌, length, refl, ap, sym, ◌∙◌, arith, inl, inr, ◌⊎◌, subst, Some, None}
+use Rattle.std.proofs.Common.{◌≡◌, ◌≢◌, ℕ, zero, suc, ◌-◌, ◌<◌, ◌≤◌, not, Bool, true, false, cond, eqb, List, [], ◌∷◌, ◌++◌, length, refl, ap, sym, ◌∙◌, arith, inl, inr, ◌⊎◌, subst, Some, None}
 use Rattle.std.specs.Prelude.{slice_get}
 use Rattle.std.proofs.lemmas.Option.{same_Some}
 use Rattle.descriptor.specs.declared.node.Node.{Node}
-use Rattle.descriptor.specs.Nodes.{Nodes, IsTree, IsChild, Below, child, under, MayTake, size, parent_of, depth_of, appended, node_at, is_test_at, is_test_kind, kind_or}
+use Rattle.descriptor.specs.Nodes.{Nodes, IsTree, IsChild, Below, child, under, MayTake, size, parent_of, depth_of, appended, node_at, is_leaf_at, kind_or}
+use Rattle.descriptor.specs.Kinds.{is_container}
 use Rattle.descriptor.specs.declared.fault.TreeFault.TheVariants.{TooMany, TooDeep, DoubleId, ParentIsTest, BodyTwice, OverLimit}
 use Rattle.descriptor.specs.Limits.{is_over_limit}
 use Rattle.descriptor.specs.Refusals.{refusal, has_id, has_body}
@@ -28,13 +29,13 @@ pub record IsAccepted (t : Nodes) (a : ℕ) (node : Node) : Type 0 where
   pub few : size t ≢ 4096
   pub shallow : depth_of t a ≢ 64
   pub new_id : has_id t node.id ≡ false
-  pub container : is_test_at t a ≡ false
+  pub container : is_leaf_at t a ≡ false
   pub new_body : has_body t node.body ≡ false
   pub short : is_over_limit node ≡ false
 
 pub accepted : (t : Nodes) (a : ℕ) (node : Node) → refusal t a node ≡ None → IsAccepted t a node
 accepted t a node e =
-    let all = none_passed (eqb (size t) 4096) (eqb (depth_of t a) 64) (has_id t node.id) (is_test_at t a) (has_body t node.body) (is_over_limit node) TooMany TooDeep DoubleId ParentIsTest BodyTwice OverLimit e in
+    let all = none_passed (eqb (size t) 4096) (eqb (depth_of t a) 64) (has_id t node.id) (is_leaf_at t a) (has_body t node.body) (is_over_limit node) TooMany TooDeep DoubleId ParentIsTest BodyTwice OverLimit e in
     record { few = grind (arith, all.0); shallow = grind (arith, all.1); new_id = all.2; container = all.3; new_body = all.4; short = all.5 }
 
 pub get_early : {X : Type 0} (xs : List X) (x : X) (n : ℕ) → n < length xs → slice_get (xs ++ x ∷ []) n ≡ slice_get xs n
@@ -85,11 +86,11 @@ module _ (t : Nodes) (a : ℕ) (node : Node) where
       | inr new ↦ rw (depth_last t a node may.0 tree n new) (omega (arith, tree.shallow a may.0, (accepted t a node ok).shallow))
     ]
 
-    test_before : (n : ℕ) → n < size t → is_test_at (appended t a node) n ≡ is_test_at t n
+    test_before : (n : ℕ) → n < size t → is_leaf_at (appended t a node) n ≡ is_leaf_at t n
     test_before zero h = refl
-    test_before (suc n) h = ap (λ x. is_test_kind (kind_or x)) (get_early t.nodes node n (omega (arith, tree.nodes_len)))
+    test_before (suc n) h = ap (λ x. not (is_container (kind_or x))) (get_early t.nodes node n (omega (arith, tree.nodes_len)))
 
-    leaf : (n c : ℕ) → IsChild (appended t a node) n c → is_test_at (appended t a node) n ≡ false
+    leaf : (n c : ℕ) → IsChild (appended t a node) n c → is_leaf_at (appended t a node) n ≡ false
     leaf n c e = elim (split c e.inside) [
       | inl old ↦
           let is : parent_of t c ≡ n = sym (get_before t.parents a 0 c old) ∙ e.parent in
@@ -97,7 +98,7 @@ module _ (t : Nodes) (a : ℕ) (node : Node) where
           test_before n (omega arith) ∙ tree.leaf n c (record { above_zero = e.above_zero; inside = old; parent = is })
       | inr new ↦
           let is : a ≡ n = sym (get_last t.parents a 0 c new) ∙ e.parent in
-          subst (λ (x : ℕ). is_test_at (appended t a node) x ≡ false) is (test_before a may.0 ∙ (accepted t a node ok).container)
+          subst (λ (x : ℕ). is_leaf_at (appended t a node) x ≡ false) is (test_before a may.0 ∙ (accepted t a node ok).container)
     ]
 
     short : (n : ℕ) (told : Node) → node_at (appended t a node) n ≡ Some told → is_over_limit told ≡ false

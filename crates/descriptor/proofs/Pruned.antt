@@ -1,5 +1,5 @@
 -- The tree of the kept nodes, one node at a time.
-use Rattle.std.proofs.Common.{◌≡◌, ℕ, zero, suc, ◌+◌, ◌-◌, ◌<◌, ◌≤◌, ◌&&◌, Bool, true, false, cond, eqb, ltb, List, [], ◌∷◌, ◌++◌, length, map, get_or, refl, ap, sym, ◌∙◌, arith, inl, inr, subst, Option, Some, None}
+use Rattle.std.proofs.Common.{◌≡◌, ℕ, zero, suc, ◌+◌, ◌-◌, ◌<◌, ◌≤◌, ◌&&◌, not, Bool, true, false, cond, eqb, ltb, List, [], ◌∷◌, ◌++◌, length, map, get_or, refl, ap, sym, ◌∙◌, arith, inl, inr, subst, Option, Some, None}
 use Rattle.std.specs.Prelude.{slice_get}
 use Rattle.std.specs.List.{filter_map, cons_option}
 use Rattle.std.specs.Str.{bytes_eq}
@@ -9,7 +9,8 @@ use Rattle.std.proofs.lemmas.Bool.{ne_eqb}
 use Rattle.std.proofs.lemmas.Slice.Eq.{bytes_eq-Decides}
 use Rattle.unique_id.specs.Spelling.{spelling}
 use Rattle.descriptor.specs.declared.node.Node.{Node}
-use Rattle.descriptor.specs.Nodes.{Nodes, IsTree, IsChild, Below, child, under, MayTake, size, parent_of, node_at, text_or, text_of, body_or, body_of, kind_or, is_test_kind, is_test_at, depth_of, steps_up, numbers_where, count_below, appended, plan_alone}
+use Rattle.descriptor.specs.Nodes.{Nodes, IsTree, IsChild, Below, child, under, MayTake, size, parent_of, node_at, text_or, text_of, body_or, body_of, kind_or, is_leaf_at, depth_of, steps_up, numbers_where, count_below, appended, plan_alone}
+use Rattle.descriptor.specs.Kinds.{is_container}
 use Rattle.descriptor.specs.Refusals.{refusal, has_text, has_body, is_body}
 use Rattle.descriptor.specs.Pruned.{is_kept, is_kept_node, new_number, IsClosed, KeepsNodes, tree_of, pruned_below, pruned}
 use Rattle.descriptor.proofs.Accepted.{get_early, none_holds, tree_grown}
@@ -84,7 +85,7 @@ shallow_alone : (n : ℕ) → n < 1 → depth_of plan_alone n ≤ 64
 shallow_alone zero h = omega arith
 shallow_alone (suc n) h = absurd (omega arith)
 
-no_child_alone : (n c : ℕ) → IsChild plan_alone n c → is_test_at plan_alone n ≡ false
+no_child_alone : (n c : ℕ) → IsChild plan_alone n c → is_leaf_at plan_alone n ≡ false
 no_child_alone n c e = absurd (let inside : c < 1 = e.inside in omega (arith, e.above_zero))
 
 plan_tree : IsTree plan_alone
@@ -260,7 +261,7 @@ module _ (t : Nodes) (keep : List Bool) where
           let deeper : depth_of t n ≡ suc (depth_of t (parent_of t n)) = depth_down n above inside in
           let deep : depth_of (pruned_below t keep n) (new_number keep (parent_of t n)) ≡ depth_of t (parent_of t n) = depth_kept n above (omega arith) upto (parent_of t n) smaller parent_kept in
           let shallow : eqb (depth_of (pruned_below t keep n) (new_number keep (parent_of t n))) 64 ≡ false = less_eqb _ _ (rw deep (omega (arith, tree.shallow n inside))) in
-          let container : is_test_at (pruned_below t keep n) (new_number keep (parent_of t n)) ≡ false = ap (λ x. is_test_kind (kind_or x)) (upto.told (parent_of t n) smaller parent_kept) ∙ tree.leaf (parent_of t n) n (record { above_zero = above; inside = inside; parent = refl }) in
+          let container : is_leaf_at (pruned_below t keep n) (new_number keep (parent_of t n)) ≡ false = ap (λ x. not (is_container (kind_or x))) (upto.told (parent_of t n) smaller parent_kept) ∙ tree.leaf (parent_of t n) n (record { above_zero = above; inside = inside; parent = refl }) in
           none_holds _ _ _ _ _ _ _ _ _ _ _ _ few shallow (no_text n (spelling node.id) inside (ap text_or told) n above (omega arith)) container (no_body_or n node.body above inside (ap body_or told)) (tree.short n node told)
 
       one_more : (node : Node) → node_at t n ≡ Some node → Upto (suc n)

@@ -2,6 +2,7 @@
 pub mod BuilderFields
 pub mod Children
 pub mod Fields
+pub mod Kinds
 pub mod Limits
 pub mod Nodes
 pub mod Pruned

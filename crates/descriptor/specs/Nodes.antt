@@ -1,11 +1,12 @@
 -- The nodes of a tree as contracts see them: each node's parent, and what is said of each node but the plan.
-use Rattle.std.specs.Prelude.{◌≡◌, ℕ, zero, suc, ◌+◌, ◌-◌, ◌<◌, ◌≤◌, ◌&&◌, ◌==◌, nat_lt, Bool, true, false, cond, List, [], ◌∷◌, ◌++◌, length, Option, Some, None, slice_get, slice_index_or, ◌⊎◌}
+use Rattle.std.specs.Prelude.{◌≡◌, ℕ, zero, suc, ◌+◌, ◌-◌, ◌<◌, ◌≤◌, ◌&&◌, ◌==◌, nat_lt, not, Bool, true, false, cond, List, [], ◌∷◌, ◌++◌, length, Option, Some, None, slice_get, slice_index_or, ◌⊎◌}
 use Rattle.std.specs.Option.{is_some}
 use Rattle.unique_id.specs.Spelling.{spelling}
 use Rattle.descriptor.specs.declared.node.Node.{Node}
 use Rattle.descriptor.specs.Limits.{is_over_limit}
-use Rattle.descriptor.specs.declared.kind.Kind.TheVariants.{Test, Container, ContainerAndTest}
+use Rattle.descriptor.specs.declared.kind.Kind.TheVariants.{Container}
 use Rattle.descriptor.specs.declared.kind.Kind.{Kind}
+use Rattle.descriptor.specs.Kinds.{is_container}
 
 -- `parents` has a number for node 0 too, which says nothing; `nodes` begins with node 1
 pub record Nodes : Type 0 where
@@ -73,12 +74,6 @@ depth_of t n = steps_up t.parents n n
 abbrev pub MayTake : Nodes → ℕ → Type 0
 MayTake t a = (a < size t) × ((a ≡ size t - 1) ⊎ Below t a (size t - 1))
 
--- a test that holds no other node
-abbrev pub is_test_kind : Kind → Bool
-is_test_kind Test = true
-is_test_kind Container = false
-is_test_kind ContainerAndTest = false
-
 -- what a node may hold; where there is none, what the plan may hold
 abbrev pub kind_or : Option Node → Kind
 kind_or None = Container
@@ -88,9 +83,9 @@ kind_or (Some node) = node.kind
 abbrev pub kind_of : Nodes → ℕ → Kind
 kind_of t n = kind_or (node_at t n)
 
--- whether node n is a test that holds no other node; the plan is none
-abbrev pub is_test_at : Nodes → ℕ → Bool
-is_test_at t n = is_test_kind (kind_of t n)
+-- whether node n may hold no other node, as a test that is no container; the plan is none
+abbrev pub is_leaf_at : Nodes → ℕ → Bool
+is_leaf_at t n = not (is_container (kind_of t n))
 
 -- the body of a node; where there is none, no body
 abbrev pub body_or : Option Node → Option ℕ
@@ -146,8 +141,8 @@ pub record IsTree (t : Nodes) : Type 0 where
   pub preorder : (n : ℕ) → 0 < n → n < size t → (parent_of t n ≡ n - 1) ⊎ Below t (parent_of t n) (n - 1)
   -- at most 64 steps down
   pub shallow : (n : ℕ) → n < size t → depth_of t n ≤ 64
-  -- a test has no children
-  pub leaf : (n c : ℕ) → IsChild t n c → is_test_at t n ≡ false
+  -- a node that may hold none has no children
+  pub leaf : (n c : ℕ) → IsChild t n c → is_leaf_at t n ≡ false
   -- no two nodes have one unique id
   pub ids : (m n : ℕ) (text : List ℕ) → text_of t m ≡ Some text → text_of t n ≡ Some text → m ≡ n
   -- no two nodes have one body

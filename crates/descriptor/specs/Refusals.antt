@@ -8,7 +8,7 @@ use Rattle.descriptor.specs.declared.node.Node.{Node}
 use Rattle.descriptor.specs.declared.fault.TreeFault.{TreeFault}
 use Rattle.descriptor.specs.declared.fault.TreeFault.TheVariants.{NoMemory, TooMany, TooDeep, DoubleId, ParentIsTest, BodyTwice, OverLimit}
 use Rattle.descriptor.specs.Limits.{is_over_limit}
-use Rattle.descriptor.specs.Nodes.{Nodes, size, depth_of, is_test_at}
+use Rattle.descriptor.specs.Nodes.{Nodes, size, depth_of, is_leaf_at}
 
 -- the number of each refusal, and 0 for want of memory
 abbrev pub number_of : TreeFault → ℕ
@@ -44,6 +44,6 @@ refusal t a node =
     cond (size t == 4096) (Some TooMany) (
     cond (depth_of t a == 64) (Some TooDeep) (
     cond (has_id t node.id) (Some DoubleId) (
-    cond (is_test_at t a) (Some ParentIsTest) (
+    cond (is_leaf_at t a) (Some ParentIsTest) (
     cond (has_body t node.body) (Some BodyTwice) (
     cond (is_over_limit node) (Some OverLimit) None)))))

@@ -125,7 +125,7 @@ impl TreeBuilder {
             Some(TreeFault::TooDeep)
         } else if self.ids.contains(node.id.text()) {
             Some(TreeFault::DoubleId)
-        } else if self.tree.is_test(parent) {
+        } else if self.tree.is_leaf(parent) {
             Some(TreeFault::ParentIsTest)
         } else if self.has_body(node.body) {
             Some(TreeFault::BodyTwice)

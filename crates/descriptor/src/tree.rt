@@ -39,7 +39,7 @@ impl Tree {
     ghost use Rattle.descriptor.specs.Children.{ListsChildren};
     ghost use Rattle.descriptor.specs.Pruned.{IsClosed, KeepsNodes, pruned};
     ghost use Rattle.descriptor.specs.Refusals.{refusal};
-    ghost use Rattle.descriptor.specs.Nodes.{size, plan_alone, parent_of, children_of, node_at, kind_of, body_of, reason_of, is_disabled, tags_of, is_test_at, depth_of, appended, Below, MayTake, IsTree, IsChild};
+    ghost use Rattle.descriptor.specs.Nodes.{size, plan_alone, parent_of, children_of, node_at, kind_of, body_of, reason_of, is_disabled, tags_of, is_leaf_at, depth_of, appended, Below, MayTake, IsTree, IsChild};
 
     /// How many nodes there are, the plan included.
     pub fn len(&self) -> usize
@@ -234,12 +234,12 @@ impl Tree {
         NodeId::new((self.parents.len() - 1) as u16)
     }
 
-    /// Whether the node is a test that takes no children.
-    pub(crate) fn is_test(&self, node: NodeId) -> bool
+    /// Whether the node takes no children, as a test that is no container.
+    pub(crate) fn is_leaf(&self, node: NodeId) -> bool
         requires { node < size self.now }
-        ensures { result ≡ is_test_at self.now node }
+        ensures { result ≡ is_leaf_at self.now node }
     {
-        self.kind(node) == Kind::Test
+        !self.kind(node).is_container()
     }
 
     /// How many steps lead from the plan to the node.

@@ -12,6 +12,28 @@ pub enum Status {
     Failed,
 }
 
+impl Status {
+    ghost use Rattle.plan_events.specs.Statuses.{is_successful, is_aborted, is_failed};
+
+    pub fn is_successful(self) -> bool
+        ensures { result ≡ is_successful self }
+    {
+        matches!(self, Status::Successful)
+    }
+
+    pub fn is_aborted(self) -> bool
+        ensures { result ≡ is_aborted self }
+    {
+        matches!(self, Status::Aborted)
+    }
+
+    pub fn is_failed(self) -> bool
+        ensures { result ≡ is_failed self }
+    {
+        matches!(self, Status::Failed)
+    }
+}
+
 impl fmt::Display for Status {
     ghost use Rattle.std.specs.Prelude.{Some};
     ghost use Rattle.plan_events.specs.Statuses.{status_text};

@@ -3,7 +3,7 @@ use Rattle.std.proofs.Common.{◌≡◌, ◌≢◌, ℕ, ◌+◌, ◌<◌, Bool,
 use Rattle.std.proofs.lemmas.Option.{none-some, slice_get_within, same_Some}
 use Rattle.std.proofs.lemmas.List.{get_or_past}
 use Rattle.std.proofs.lemmas.Bool.{and_from, and_right, eqb-true, eqb-false, ltb-true, ltb-false, false≢true, both_ways, cases_lt}
-use Rattle.descriptor.specs.Nodes.{size, parent_of, children_of, is_test_at, IsChild, IsTree, body_of}
+use Rattle.descriptor.specs.Nodes.{size, parent_of, children_of, is_leaf_at, IsChild, IsTree, body_of}
 use Rattle.descriptor.proofs.Children.{children_each}
 use Rattle.plan_events.specs.declared.event.EventKind.{EventKind}
 use Rattle.plan_events.specs.declared.event.EventKind.TheVariants.{Started, Finished, Skipped, Registered}
@@ -15,7 +15,8 @@ use Rattle.resource_locks.specs.Plans.{PlanParts}
 use Rattle.sched_core.specs.declared.status.NodeStatus.TheVariants.{Hidden, Claimed, Settled}
 use Rattle.sched_core.specs.declared.task.Task.{Task}
 use Rattle.sched_core.specs.declared.task.Task.TheVariants.{Free, Begin, Drawn, Open, Admit, Guard, End, Settle, Up}
-use Rattle.sched_core.specs.Replies.{IsResult, is_successful}
+use Rattle.sched_core.specs.Replies.{IsResult}
+use Rattle.plan_events.specs.Statuses.{is_successful}
 use Rattle.sched_core.specs.History.{stops_with}
 use Rattle.sched_core.specs.Following.{same_kind}
 use Rattle.sched_core.specs.Machine.{State, status_at, claimed, is_ready, answered, task_after, settled}
@@ -173,11 +174,11 @@ successful_is Failed q = absurd (false≢true q)
 
 -- a node that is successful is not stopped; a container is stopped by its job's answer that is not
 pub success_stops : (p : PlanParts) (n : ℕ) → stops_with p n Successful ≡ false
-success_stops p n = and_right (not (is_test_at p.tree n)) (is_some (body_of p.tree n) && not (is_successful Successful)) (and_right (is_some (body_of p.tree n)) (not (is_successful Successful)) refl)
+success_stops p n = and_right (not (is_leaf_at p.tree n)) (is_some (body_of p.tree n) && not (is_successful Successful)) (and_right (is_some (body_of p.tree n)) (not (is_successful Successful)) refl)
 
-pub failure_stops : (p : PlanParts) (n : ℕ) (status : Status) → is_test_at p.tree n ≡ false → is_some (body_of p.tree n) ≡ true → is_successful status ≡ false → stops_with p n status ≡ true
+pub failure_stops : (p : PlanParts) (n : ℕ) (status : Status) → is_leaf_at p.tree n ≡ false → is_some (body_of p.tree n) ≡ true → is_successful status ≡ false → stops_with p n status ≡ true
 failure_stops p n status group job bad =
-    and_from (not (is_test_at p.tree n)) (is_some (body_of p.tree n) && not (is_successful status)) (ap not group) (and_from (is_some (body_of p.tree n)) (not (is_successful status)) job (ap not bad))
+    and_from (not (is_leaf_at p.tree n)) (is_some (body_of p.tree n) && not (is_successful status)) (ap not group) (and_from (is_some (body_of p.tree n)) (not (is_successful status)) job (ap not bad))
 
 -- The parts of the invariant that only the rows themselves change
 module _ (p : PlanParts) (replies : ℕ → List Reply) (tree : IsTree p.tree) (s : State) (g : ℕ → Stage) (h : Holds p replies s g) where
@@ -326,7 +327,7 @@ module _ (p : PlanParts) (replies : ℕ → List Reply) (tree : IsTree p.tree) (
   -- What the job's answer decides: the node's children, unseen till now, are admitted, or never seen
   pub decide_keeps : (w n : ℕ) (status : Status) → slice_get s.tasks w ≡ Some (Open n) → IsResult replies (body_of p.tree n) status
       → (b : Stage) × Holds p replies (record s { tasks = slice_set s.tasks w (answered p n status) }) (upd g n b) × IsNotWaiting b
-  decide_keeps w n status task lawful = go (is_test_at p.tree n) refl (is_successful status) refl (nat_lt 0 (length (children_of p.tree n))) refl
+  decide_keeps w n status task lawful = go (is_leaf_at p.tree n) refl (is_successful status) refl (nat_lt 0 (length (children_of p.tree n))) refl
     where
       old : IsAt p g w (Open n) n
       old = h.tasks w (Open n) task
@@ -361,9 +362,9 @@ module _ (p : PlanParts) (replies : ℕ → List Reply) (tree : IsTree p.tree) (
       is_at : (t : Task) → IsAt p (upd g n (At w c t Runs)) w t n
       is_at t = record { inside = old.inside; claimer = c; how = Runs; at = upd_same g n (At w c t Runs) n refl }
 
-      go : (test : Bool) → is_test_at p.tree n ≡ test → (ok : Bool) → is_successful status ≡ ok → (some : Bool) → nat_lt 0 (length (children_of p.tree n)) ≡ some
+      go : (test : Bool) → is_leaf_at p.tree n ≡ test → (ok : Bool) → is_successful status ≡ ok → (some : Bool) → nat_lt 0 (length (children_of p.tree n)) ≡ some
           → (b : Stage) × Holds p replies (record s { tasks = slice_set s.tasks w (if test then End n status else (if ok then (if some then Admit n 0 else Guard n) else End n status)) }) (upd g n b) × IsNotWaiting b
-      go true leaf ok r some q = ends (λ x ch. absurd (both_ways (is_test_at p.tree n) (tree.leaf n x ch) leaf))
+      go true leaf ok r some q = ends (λ x ch. absurd (both_ways (is_leaf_at p.tree n) (tree.leaf n x ch) leaf))
       go false leaf false r some q =
           ends (λ x ch. subst (λ (barred : Bool). Fits p (ended (how_stopped barred)) n x (g x)) (sym (failure_stops p n status leaf (fails_by_job replies (body_of p.tree n) status lawful r) r)) (unseen x ch))
       go false leaf true r true q =

@@ -1,6 +1,6 @@
 -- What a list of events must be like: every statement here is by the places of the list.
 use Rattle.std.specs.Prelude.{◌≡◌, ℕ, ◌+◌, ◌<◌, ◌≤◌, Bool, true, false, ◌&&◌, ◌==◌, not, List, ◌++◌, length, filter, Option, Some, None, is_some, slice_get, ◌⊎◌}
-use Rattle.descriptor.specs.Nodes.{size, IsChild, Below, is_test_at, body_of, is_disabled}
+use Rattle.descriptor.specs.Nodes.{size, IsChild, Below, is_leaf_at, body_of, is_disabled}
 use Rattle.plan_events.specs.declared.event.EventKind.{EventKind}
 use Rattle.plan_events.specs.declared.event.EventKind.TheVariants.{Started, Finished, Skipped, Registered}
 use Rattle.plan_events.specs.declared.status.Status.{Status}
@@ -8,7 +8,8 @@ use Rattle.plan_events.specs.declared.event.Event.{Event}
 use Rattle.plan_events.specs.declared.outcome.Reply.{Reply}
 use Rattle.plan_events.specs.Words.{is_lawful}
 use Rattle.resource_locks.specs.Plans.{PlanParts}
-use Rattle.sched_core.specs.Replies.{IsResult, is_successful}
+use Rattle.sched_core.specs.Replies.{IsResult}
+use Rattle.plan_events.specs.Statuses.{is_successful}
 
 -- an event of this kind and node stands at place i
 pub record StandsAt (h : List Event) (i : ℕ) (k : EventKind) (n : ℕ) : Type 0 where
@@ -29,7 +30,7 @@ IsSettledAt h i n = StandsBefore h i Finished n ⊎ StandsBefore h i Skipped n
 
 -- whether a finish with this status stops the node: a container whose own job was not successful
 abbrev pub stops_with : PlanParts → ℕ → Status → Bool
-stops_with p n status = not (is_test_at p.tree n) && (is_some (body_of p.tree n) && not (is_successful status))
+stops_with p n status = not (is_leaf_at p.tree n) && (is_some (body_of p.tree n) && not (is_successful status))
 
 -- the same of the status that an event has, if it has one
 abbrev pub stops_by : PlanParts → ℕ → Option Status → Bool

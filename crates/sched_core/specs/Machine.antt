@@ -1,6 +1,6 @@
 -- The state of the core, and what each step makes of it: one definition for each kind of step.
 use Rattle.std.specs.Prelude.{ℕ, zero, suc, ◌+◌, ◌-◌, Bool, true, false, ◌==◌, nat_lt, if◌then◌else◌, List, [], ◌∷◌, ◌++◌, length, take, Option, Some, None, slice_get, slice_set, slice_index_or, option_and_then, replicate}
-use Rattle.descriptor.specs.Nodes.{size, parent_of, children_of, is_test_at, is_disabled}
+use Rattle.descriptor.specs.Nodes.{size, parent_of, children_of, is_leaf_at, is_disabled}
 use Rattle.plan_events.specs.declared.event.EventKind.{EventKind}
 use Rattle.plan_events.specs.declared.event.EventKind.TheVariants.{Started, Finished, Skipped, Registered}
 use Rattle.plan_events.specs.declared.status.Status.{Status}
@@ -18,7 +18,8 @@ use Rattle.sched_core.specs.declared.step.Action.{Action}
 use Rattle.sched_core.specs.declared.step.Action.TheVariants.{Claim, Draw, Show, Admit as DoAdmit, Done, Settle as DoSettle, Look}
 use Rattle.sched_core.specs.declared.step.Step.{Step}
 use Rattle.sched_core.specs.declared.step.Step.TheVariants.{Worker, Read}
-use Rattle.sched_core.specs.Replies.{status_for, is_successful}
+use Rattle.sched_core.specs.Replies.{status_for}
+use Rattle.plan_events.specs.Statuses.{is_successful}
 
 -- The worker with number k stands at place k - 1 of the lists `tasks` and `mine`
 pub record State : Type 0 where
@@ -102,7 +103,7 @@ admit_from p n k = if nat_lt k (length (children_of p.tree n)) then Admit n k el
 -- What the job's answer decides: a test finishes with it; a container is stopped by an answer that is not
 -- successful, and else admits its children
 abbrev pub answered : PlanParts → ℕ → Status → Task
-answered p n status = if is_test_at p.tree n then End n status else (if is_successful status then admit_from p n 0 else End n status)
+answered p n status = if is_leaf_at p.tree n then End n status else (if is_successful status then admit_from p n 0 else End n status)
 
 -- the task as the answer decides it, where it waits for one; the status is the answer's
 abbrev pub decided : PlanParts → Status → Task → Task

@@ -1,8 +1,8 @@
 -- What the jobs of a plan answer.
-use Rattle.std.specs.Prelude.{◌≡◌, ℕ, ◌==◌, if◌then◌else◌, Bool, true, false, List, [], ◌∷◌, Option, Some, None, slice_get}
+use Rattle.std.specs.Prelude.{◌≡◌, ℕ, ◌==◌, if◌then◌else◌, List, [], ◌∷◌, Option, Some, None, slice_get}
 use Rattle.descriptor.specs.Nodes.{body_of}
 use Rattle.plan_events.specs.declared.status.Status.{Status}
-use Rattle.plan_events.specs.declared.status.Status.TheVariants.{Successful, Aborted, Failed}
+use Rattle.plan_events.specs.declared.status.Status.TheVariants.{Successful}
 use Rattle.plan_events.specs.declared.outcome.Reply.{Reply}
 use Rattle.resource_locks.specs.Plans.{PlanParts}
 
@@ -32,12 +32,6 @@ status_by answers (Some body) = (reply_of answers body).outcome.status
 -- the status with which the job of node n answers
 abbrev pub status_for : PlanParts → List (ℕ × Reply) → ℕ → Status
 status_for p answers n = status_by answers (body_of p.tree n)
-
--- whether the status is successful
-abbrev pub is_successful : Status → Bool
-is_successful Successful = true
-is_successful Aborted = false
-is_successful Failed = false
 
 -- one of the replies that the body may give has this status
 pub record HasReply (replies : ℕ → List Reply) (body : ℕ) (status : Status) : Type 0 where

@@ -7,7 +7,7 @@ ghost use Rattle.sched_core.specs.Machine.{admit_from as admit_from_of, answered
 
 use crate::answers::Answers;
 use crate::task::Task;
-use descriptor::{Kind, NodeId};
+use descriptor::NodeId;
 use plan_events::{EventKind, Status};
 use resource_locks::Plan;
 
@@ -28,13 +28,13 @@ fn answered(plan: &Plan, node: NodeId, status: Status) -> Task
     requires { node < size plan.now.tree }
     ensures { result ≡ answered_of plan.now node status }
 {
-    if matches!(plan.tree().kind(node), Kind::Test) {
+    if !plan.tree().kind(node).is_container() {
         return Task::End(node, status);
     }
-    match status {
-        Status::Successful => admit_from(plan, node, 0),
-        Status::Aborted | Status::Failed => Task::End(node, status),
+    if !status.is_successful() {
+        return Task::End(node, status);
     }
+    admit_from(plan, node, 0)
 }
 
 /// The task as the answer decides it, where it waits for one.

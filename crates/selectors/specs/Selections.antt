@@ -1,8 +1,7 @@
 -- The tests that are selected, and the tree of those.
-use Rattle.std.specs.Prelude.{ℕ, ◌&&◌, Bool, true, false, Option}
+use Rattle.std.specs.Prelude.{ℕ, ◌&&◌, Bool, Option}
 use Rattle.std.specs.Option.{option_map}
-use Rattle.descriptor.specs.declared.kind.Kind.{Kind}
-use Rattle.descriptor.specs.declared.kind.Kind.TheVariants.{Test, Container, ContainerAndTest}
+use Rattle.descriptor.specs.Kinds.{is_test}
 use Rattle.descriptor.specs.Nodes.{Nodes, size, kind_of}
 use Rattle.descriptor.specs.Pruned.{pruned}
 use Rattle.selectors.specs.declared.request.Request.{Request}
@@ -12,15 +11,9 @@ use Rattle.selectors.specs.Covered.{truths, is_covered, first_unmatched}
 use Rattle.selectors.specs.Filters.{keeps, tags_together}
 use Rattle.selectors.specs.Keeping.{stays}
 
--- whether a node of this kind is judged as a test, as one is that may hold other nodes
-abbrev pub is_judged : Kind → Bool
-is_judged Test = true
-is_judged Container = false
-is_judged ContainerAndTest = true
-
 -- whether node n is a selected test: one of the selectors covers it or there are none, and the tag filter keeps its tags together with all above it
 abbrev pub is_selected : Nodes → Request → ℕ → Bool
-is_selected t request n = is_judged (kind_of t n) && (is_covered t request.selectors.items n && keeps request.include.items request.exclude.items (tags_together t n))
+is_selected t request n = is_test (kind_of t n) && (is_covered t request.selectors.items n && keeps request.include.items request.exclude.items (tags_together t n))
 
 -- what discovery finds: the tree of the nodes that stay, which are node 0 and each node that a selected test is at or below, in their order
 abbrev pub answer : Nodes → Request → Nodes

@@ -3,23 +3,13 @@
 ghost use Rattle.std.specs.Prelude.{◌≡◌, ◌<◌, IfOk};
 ghost use Rattle.descriptor.specs.Nodes.{size, IsTree};
 ghost use Rattle.selectors.specs.Covered.{truths, is_covered};
-ghost use Rattle.selectors.specs.Selections.{is_judged, is_selected};
+ghost use Rattle.selectors.specs.Selections.{is_selected};
 
 use crate::covered::covered;
 use crate::filter::keeps;
 use crate::request::Request;
-use descriptor::{Kind, NodeId, Tree};
+use descriptor::{NodeId, Tree};
 use std::alloc::{AllocError, Global};
-
-/// Whether a node of the kind is judged as a test.
-fn is_judged(kind: Kind) -> bool
-    ensures { result ≡ is_judged kind }
-{
-    match kind {
-        Kind::Test | Kind::ContainerAndTest => true,
-        Kind::Container => false,
-    }
-}
 
 /// Whether the node is a selected test, where it is known whether it is covered.
 fn is_selected(
@@ -34,7 +24,7 @@ fn is_selected(
     requires covered { covered ≡ is_covered tree.now request.now.selectors.items node }
     ensures { IfOk result (λ selected. selected ≡ is_selected tree.now request.now node) }
 {
-    if !is_judged(tree.kind(node)) || !covered {
+    if !tree.kind(node).is_test() || !covered {
         return Ok(false);
     }
     keeps(
