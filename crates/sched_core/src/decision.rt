@@ -31,10 +31,10 @@ fn answered(plan: &Plan, node: NodeId, status: Status) -> Task
     if !plan.tree().kind(node).is_container() {
         return Task::End(node, status);
     }
-    if !status.is_successful() {
-        return Task::End(node, status);
+    match status {
+        Status::Successful => admit_from(plan, node, 0),
+        Status::Aborted | Status::Failed => Task::End(node, status),
     }
-    admit_from(plan, node, 0)
 }
 
 /// The task as the answer decides it, where it waits for one.
