@@ -2,8 +2,9 @@
 pub mod Cleaning
 pub mod Counting
 pub mod Hearing
-pub mod Marking
+pub mod Places
 pub mod Printing
+pub mod Reading
 pub mod Retelling
 pub mod SameTold
 pub mod Sending

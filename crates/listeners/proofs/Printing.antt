@@ -1,9 +1,9 @@
 -- How counts are printed.
-use Rattle.std.proofs.Common.{◌≡◌, ℕ, zero, suc, ◌-◌, ◌^◌, List, [], ◌∷◌, ◌++◌, length, replicate, false, refl, sym, ap, ◌∙◌, arith}
+use Rattle.std.proofs.Common.{◌≡◌, ℕ, zero, suc, ◌+◌, ◌-◌, ◌<◌, ◌^◌, List, [], ◌∷◌, ◌++◌, length, take, get_or, replicate, false, refl, sym, ap, ◌∙◌, arith}
 use Rattle.std.specs.List.{repeat}
 use Rattle.std.specs.Fmt.{decimal, format_spec, padded_integral, char_count}
-use Rattle.std.proofs.lemmas.List.{append-nil, append_assoc}
-use Rattle.listeners.specs.SummaryTexts.{right_in, count_line, count_lines}
+use Rattle.std.proofs.lemmas.List.{append-nil, append_assoc, length-take-le, take_more}
+use Rattle.listeners.specs.SummaryTexts.{right_in, left_in, bracketed, count_line, count_lines}
 
 repeat_one : (n b : ℕ) → repeat n (b ∷ []) ≡ replicate n b
 repeat_one zero b = refl
@@ -20,15 +20,6 @@ pub right_decimal : (n : ℕ) → padded_integral (format_spec 32 3 0 10 (2 ^ 64
 unfolding padded_integral char_count lib.Utf8.encode
 right_decimal n = laid (10 - length (decimal n) - 0 - 0) (10 - length (decimal n) - 0 - 0 - (10 - length (decimal n) - 0 - 0)) (10 - length (decimal n)) (decimal n) (omega arith) (omega arith)
 
--- one part behind another
-grow : (t u v b rest : List ℕ) → u ≡ t ++ b → v ≡ u ++ rest → v ≡ t ++ (b ++ rest)
-grow t u v b rest first then' = then' ∙ ap (λ (xs : List ℕ). xs ++ rest) first ∙ append_assoc t b rest
-
--- six parts behind a text
-pub six_behind : (t0 t1 t2 t3 t4 t5 t6 b1 b2 b3 b4 b5 b6 : List ℕ) → t1 ≡ t0 ++ b1 → t2 ≡ t1 ++ b2 → t3 ≡ t2 ++ b3 → t4 ≡ t3 ++ b4 → t5 ≡ t4 ++ b5 → t6 ≡ t5 ++ b6 → t6 ≡ t0 ++ (b1 ++ (b2 ++ (b3 ++ (b4 ++ (b5 ++ (b6 ++ []))))))
-six_behind t0 t1 t2 t3 t4 t5 t6 b1 b2 b3 b4 b5 b6 e1 e2 e3 e4 e5 e6 =
-    grow t0 t1 t6 b1 _ e1 (grow t1 t2 t6 b2 _ e2 (grow t2 t3 t6 b3 _ e3 (grow t3 t4 t6 b4 _ e4 (grow t4 t5 t6 b5 _ e5 (e6 ∙ ap (λ (xs : List ℕ). t5 ++ xs) (sym (append-nil b6)))))))
-
 count_lines_append : (xs ys : List ℕ) (ps qs : List (List ℕ)) → length xs ≡ length ps → count_lines (xs ++ ys) (ps ++ qs) ≡ count_lines xs ps ++ count_lines ys qs
 count_lines_append [] ys [] qs same = refl
 count_lines_append [] ys (p ∷ ps) qs same = absurd (omega (arith, same))
@@ -36,8 +27,15 @@ count_lines_append (x ∷ xs) ys [] qs same = absurd (omega (arith, same))
 count_lines_append (x ∷ xs) ys (p ∷ ps) qs same =
     ap (λ (text : List ℕ). count_line x p ++ text) (count_lines_append xs ys ps qs (omega (arith, same))) ∙ sym (append_assoc (count_line x p) (count_lines xs ps) (count_lines ys qs))
 
--- the lines of both sorts behind the heading
-pub summary_joined : (t0 t1 t2 heading : List ℕ) (cs ts : List ℕ) (ps qs : List (List ℕ)) → length cs ≡ length ps → t0 ≡ heading → t1 ≡ t0 ++ count_lines cs ps → t2 ≡ t1 ++ count_lines ts qs → t2 ≡ heading ++ count_lines (cs ++ ts) (ps ++ qs)
-summary_joined t0 t1 t2 heading cs ts ps qs same first then' last =
-    last ∙ ap (λ (t : List ℕ). t ++ count_lines ts qs) (then' ∙ ap (λ (t : List ℕ). t ++ count_lines cs ps) first) ∙ append_assoc heading (count_lines cs ps) (count_lines ts qs)
-    ∙ ap (λ (t : List ℕ). heading ++ t) (sym (count_lines_append cs ts ps qs same))
+-- one line more behind the first i
+pub line_more : (counts : List ℕ) (ps : List (List ℕ)) (i : ℕ) (old text grown phrase : List ℕ) → i < length counts → i < length ps → phrase ≡ left_in 21 (get_or ps i [])
+    → text ≡ old ++ count_lines (take i counts) (take i ps) → grown ≡ text ++ bracketed (get_or counts i 0) phrase → grown ≡ old ++ count_lines (take (i + 1) counts) (take (i + 1) ps)
+line_more counts ps i old text grown phrase inside within called before line =
+    let count = get_or counts i 0 in
+    let same : length (take i counts) ≡ length (take i ps) = length-take-le i counts (omega (arith, inside)) ∙ sym (length-take-le i ps (omega (arith, within))) in
+    let one : bracketed count phrase ≡ count_line count (get_or ps i []) ++ [] = ap (bracketed count) called ∙ sym (append-nil (count_line count (get_or ps i []))) in
+    line ∙ ap (λ (t : List ℕ). t ++ bracketed count phrase) before ∙ ap (λ (l : List ℕ). (old ++ count_lines (take i counts) (take i ps)) ++ l) one
+    ∙ append_assoc old (count_lines (take i counts) (take i ps)) (count_line count (get_or ps i []) ++ [])
+    ∙ ap (λ (l : List ℕ). old ++ l) (sym (count_lines_append (take i counts) (count ∷ []) (take i ps) (get_or ps i [] ∷ []) same))
+    ∙ ap (λ (xs : List ℕ). old ++ count_lines xs (take i ps ++ get_or ps i [] ∷ [])) (sym (take_more counts i 0 inside))
+    ∙ ap (λ (xs : List (List ℕ)). old ++ count_lines (take (i + 1) counts) xs) (sym (take_more ps i [] within))

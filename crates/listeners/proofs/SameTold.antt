@@ -10,11 +10,12 @@ use Rattle.plan_events.specs.Texts.{TextParts}
 use Rattle.plan_events.specs.declared.event.Event.{Event}
 use Rattle.listeners.specs.declared.theme.Theme.{Theme}
 use Rattle.listeners.specs.declared.told.Told.{Told}
-use Rattle.listeners.specs.Notes.{told_at, Tells}
-use Rattle.listeners.specs.Told.{told_of}
+use Rattle.listeners.specs.Drawings.{drawn_from}
+use Rattle.listeners.specs.Told.{told_of, told_at, all_told, has_line}
 use Rattle.listeners.specs.TreeTexts.{Drawn, each_sibling, drawn_of, lines_below}
 use Rattle.listeners.specs.TreeSigns.{item}
 use Rattle.listeners.proofs.Siblings.{sibling}
+use Rattle.listeners.proofs.ToldMore.{told_get}
 
 children_inside : (t : Nodes) (a : ℕ) → All (λ c. c < size t) (children_of t a)
 children_inside t a k default lt = (children_listed t a k (get_or (children_of t a) k default) (slice_get-get_or (children_of t a) k default lt)).inside
@@ -34,23 +35,19 @@ module _ (theme : Theme) (t : Nodes) (texts : TextParts) (f g : ℕ → Told) (s
   pub same_below : (levels : ℕ) (items : List ℕ) (a : ℕ) → lines_below (drawn f) levels items a ≡ lines_below (drawn g) levels items a
   same_below zero items a = refl
   same_below (suc levels) items a =
-      let kept = same_filter (λ c. (f c).has_line) (λ c. (g c).has_line) (size t) (λ n lt. ap (λ (x : Told). x.has_line) (same n lt)) (children_of t a) (recursion_from_All (λ c. c < size t) (children_of t a) (children_inside t a)) in
-      let inside = recursion_from_All (λ c. c < size t) (filter (λ c. (g c).has_line) (children_of t a)) (All-filter (λ c. (g c).has_line) (λ c. c < size t) (children_of t a) (children_inside t a)) in
-      rw kept (same_siblings (sibling (drawn f) levels items) (sibling (drawn g) levels items) (size t) (λ n is_last lt. rw (same n lt, same_below levels (items ++ item theme is_last) n) refl) (filter (λ c. (g c).has_line) (children_of t a)) inside)
+      let kept = same_filter (λ c. has_line (f c)) (λ c. has_line (g c)) (size t) (λ n lt. ap has_line (same n lt)) (children_of t a) (recursion_from_All (λ c. c < size t) (children_of t a) (children_inside t a)) in
+      let inside = recursion_from_All (λ c. c < size t) (filter (λ c. has_line (g c)) (children_of t a)) (All-filter (λ c. has_line (g c)) (λ c. c < size t) (children_of t a) (children_inside t a)) in
+      rw kept (same_siblings (sibling (drawn f) levels items) (sibling (drawn g) levels items) (size t) (λ n is_last lt. rw (same n lt, same_below levels (items ++ item theme is_last) n) refl) (filter (λ c. has_line (g c)) (children_of t a)) inside)
 
 -- the tree that is drawn from a list of what is told is the tree of the events, however many levels are allowed
-pub tree_is : (theme : Theme) (plan : PlanParts) (texts : TextParts) (events : List Event) (told : List Told) (t : Nodes) (shown : List Told) (text start : List ℕ)
+pub tree_is : (theme : Theme) (plan : PlanParts) (texts : TextParts) (events : List Event) (told : List Told) (t : Nodes) (shown : List Told) (text : List ℕ)
     → t ≡ plan.tree
     → shown ≡ told
-    → Tells events told
-    → length told ≡ size t
-    → ((levels : ℕ) → size t - 0 ≤ levels → text ≡ start ++ lines_below (record { theme = theme; tree = t; texts = texts; told = told_at shown }) levels [] 0)
-    → start ≡ []
+    → told ≡ all_told (size plan.tree) events
+    → ((levels : ℕ) → size t ≤ levels → text ≡ lines_below (drawn_from theme t texts shown) levels [] 0)
     → (levels : ℕ) → size plan.tree ≤ levels → text ≡ lines_below (drawn_of theme plan texts events) levels [] 0
-tree_is theme plan texts events told t shown text start is_tree is_shown tells places drawn none levels enough =
+tree_is theme plan texts events told t shown text is_tree is_shown is_told drawn levels enough =
     let few : size t ≤ levels = subst (λ (u : Nodes). size u ≤ levels) (sym is_tree) enough in
-    let first = drawn levels (omega arith) in
-    let from_none = subst (λ (l : List ℕ). text ≡ l ++ lines_below (record { theme = theme; tree = t; texts = texts; told = told_at shown }) levels [] 0) none first in
-    let of_told = subst (λ (l : List Told). text ≡ lines_below (record { theme = theme; tree = t; texts = texts; told = told_at l }) levels [] 0) is_shown from_none in
-    let of_events = of_told ∙ same_below theme t texts (told_at told) (told_of events) (λ n lt. tells n (omega (arith, places))) levels [] 0 in
-    subst (λ (u : Nodes). text ≡ lines_below (record { theme = theme; tree = u; texts = texts; told = told_of events }) levels [] 0) is_tree of_events
+    let of_tree = subst (λ (u : Nodes). text ≡ lines_below (drawn_from theme u texts shown) levels [] 0) is_tree (drawn levels few) in
+    let of_told = subst (λ (l : List Told). text ≡ lines_below (drawn_from theme plan.tree texts l) levels [] 0) (is_shown ∙ is_told) of_tree in
+    of_told ∙ same_below theme plan.tree texts (told_at (all_told (size plan.tree) events)) (told_of events) (λ n lt. told_get (size plan.tree) events n _ lt) levels [] 0

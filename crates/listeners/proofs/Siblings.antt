@@ -5,6 +5,7 @@ use Rattle.std.proofs.lemmas.List.Elements.{All-filter, recursion_from_All}
 use Rattle.std.proofs.lemmas.Option.{slice_get-get_or}
 use Rattle.descriptor.specs.Nodes.{Nodes, IsTree, IsChild, size, children_of}
 use Rattle.descriptor.proofs.Children.{children_listed}
+use Rattle.listeners.specs.Told.{has_line}
 use Rattle.listeners.specs.TreeTexts.{Drawn, line, children_drawn, each_sibling, lines_below}
 use Rattle.listeners.specs.TreeSigns.{item}
 
@@ -19,7 +20,7 @@ child_between t is a c child = record { above = subst (λ (p : ℕ). p < c) chil
 pub drawn_between : (d : Drawn) → IsTree d.tree → (a : ℕ) → AllByRecursion (IsBetween a (size d.tree)) (children_drawn d a)
 drawn_between d is a =
     recursion_from_All (IsBetween a (size d.tree)) (children_drawn d a)
-    (All-filter (λ c. (d.told c).has_line) (IsBetween a (size d.tree)) (children_of d.tree a)
+    (All-filter (λ c. has_line (d.told c)) (IsBetween a (size d.tree)) (children_of d.tree a)
     (λ k default lt. child_between d.tree is a (get_or (children_of d.tree a) k default) (children_listed d.tree a k (get_or (children_of d.tree a) k default) (slice_get-get_or (children_of d.tree a) k default lt))))
 
 -- what a sibling gives: its line, and the lines below it

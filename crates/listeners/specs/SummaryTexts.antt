@@ -29,6 +29,10 @@ abbrev pub phrases_of : List ℕ → List (List ℕ)
 phrases_of sort =
     map (λ (part : List ℕ). sort ++ codes " " ++ part) (codes "found" ∷ codes "skipped" ∷ codes "started" ∷ codes "aborted" ∷ codes "successful" ∷ codes "failed" ∷ [])
 
+-- what the twelve counts count
+abbrev pub phrases : List (List ℕ)
+phrases = phrases_of (codes "containers") ++ phrases_of (codes "tests")
+
 -- the text of these twelve counts
 abbrev pub summary_of : List ℕ → List ℕ
-summary_of counts = codes "Test run finished\n" ++ count_lines counts (phrases_of (codes "containers") ++ phrases_of (codes "tests"))
+summary_of counts = codes "Test run finished\n" ++ count_lines counts phrases

@@ -1,6 +1,6 @@
--- What events tell of a node: whether it has a line in the tree, and how it ended.
-use Rattle.std.specs.Prelude.{ℕ, ◌==◌, ◌&&◌, Bool, true, false, cond, List, [], ◌∷◌, Option, None}
-use Rattle.std.specs.List.{list_any}
+-- What events tell of a node: whether it started, whether it was skipped, and how it ended.
+use Rattle.std.specs.Prelude.{ℕ, ◌==◌, ◌&&◌, ◌||◌, Bool, true, false, cond, List, [], ◌∷◌, map, Option, None, Some, slice_index_or}
+use Rattle.std.specs.List.{list_any, range_with_len}
 use Rattle.std.specs.Option.{option_or}
 use Rattle.plan_events.specs.declared.event.Event.{Event}
 use Rattle.plan_events.specs.declared.event.EventKind.{EventKind}
@@ -8,12 +8,12 @@ use Rattle.plan_events.specs.declared.event.EventKind.TheVariants.{Started, Fini
 use Rattle.plan_events.specs.declared.status.Status.{Status}
 use Rattle.listeners.specs.declared.told.Told.{Told}
 
--- whether the event gives its node a line, as a start and a skip do
-abbrev pub gives_line : EventKind → Bool
-gives_line Started = true
-gives_line Finished = false
-gives_line Skipped = true
-gives_line Registered = false
+-- whether the event says that its node started
+abbrev pub is_start : EventKind → Bool
+is_start Started = true
+is_start Finished = false
+is_start Skipped = false
+is_start Registered = false
 
 -- whether the event says that its node was skipped
 abbrev pub is_skip : EventKind → Bool
@@ -29,9 +29,9 @@ status_by Finished status = status
 status_by Skipped status = None
 status_by Registered status = None
 
--- whether an event says that node n started or was skipped
-abbrev pub has_line : List Event → ℕ → Bool
-has_line events n = list_any (λ e. (e.node == n) && gives_line e.kind) events
+-- whether an event says that node n started
+abbrev pub is_started : List Event → ℕ → Bool
+is_started events n = list_any (λ e. (e.node == n) && is_start e.kind) events
 
 -- whether an event says that node n was skipped
 abbrev pub is_skipped : List Event → ℕ → Bool
@@ -48,4 +48,25 @@ status_of (e ∷ events) n = option_or (status_told n e) (status_of events n)
 
 -- all of it
 abbrev pub told_of : List Event → ℕ → Told
-told_of events n = record { has_line = has_line events n; is_skipped = is_skipped events n; status = status_of events n }
+told_of events n = record { started = is_started events n; skipped = is_skipped events n; status = status_of events n }
+
+-- what these events tell of each of so many nodes, from node 0
+abbrev pub all_told : ℕ → List Event → List Told
+all_told nodes events = map (told_of events) (range_with_len 0 nodes)
+
+-- what no event tells
+abbrev pub nothing : Told
+nothing = record { started = false; skipped = false; status = None }
+
+-- what is told of node n, and nothing past the end
+abbrev pub told_at : List Told → ℕ → Told
+told_at told n = slice_index_or told n nothing
+
+-- whether a node has a line in the tree: it started or was skipped
+abbrev pub has_line : Told → Bool
+has_line told = told.started || told.skipped
+
+-- whether a node ended with such a status
+abbrev pub ended : (Status → Bool) → Option Status → Bool
+ended such None = false
+ended such (Some status) = such status

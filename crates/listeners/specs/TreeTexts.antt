@@ -12,7 +12,7 @@ use Rattle.listeners.specs.declared.theme.Theme.{Theme}
 use Rattle.listeners.specs.declared.told.Told.{Told}
 use Rattle.listeners.specs.Feed.{text_or}
 use Rattle.listeners.specs.Printed.{cleaned, text_after}
-use Rattle.listeners.specs.Told.{told_of}
+use Rattle.listeners.specs.Told.{told_of, has_line}
 use Rattle.listeners.specs.TreeSigns.{branch, item, mark, skip_mark}
 
 -- what a tree is drawn from
@@ -50,11 +50,11 @@ name_at t n = name_or (node_at t n)
 -- the line of node n behind the items of its ancestors: a branch, the name, and what stands behind it
 abbrev pub line : Drawn → List ℕ → ℕ → Bool → List ℕ
 line d items n is_last =
-    (((items ++ branch d.theme is_last) ++ cleaned (name_at d.tree n)) ++ ending d.theme (d.told n).is_skipped (d.told n).status (text_or (text_at d.texts n))) ++ codes "\n"
+    (((items ++ branch d.theme is_last) ++ cleaned (name_at d.tree n)) ++ ending d.theme (d.told n).skipped (d.told n).status (text_or (text_at d.texts n))) ++ codes "\n"
 
 -- the children of node a that have lines
 abbrev pub children_drawn : Drawn → ℕ → List ℕ
-children_drawn d a = filter (λ c. (d.told c).has_line) (children_of d.tree a)
+children_drawn d a = filter (λ c. has_line (d.told c)) (children_of d.tree a)
 
 -- what each of these siblings gives, in order; whether it is the last one counts
 abbrev pub each_sibling : (ℕ → Bool → List ℕ) → List ℕ → List ℕ

@@ -1,15 +1,16 @@
 //! How many containers and tests there are, and what became of them.
 
 ghost use Rattle.std.specs.Prelude.{◌≡◌, ◌<◌, ◌≤◌, ◌++◌, length};
+ghost use Rattle.descriptor.specs.Kinds.{is_container, is_test};
 ghost use Rattle.descriptor.specs.Nodes.{bit};
-ghost use Rattle.listeners.specs.Counts.{is_container, is_test, is_counted, is_lost, six, counts_below, FollowParents};
+ghost use Rattle.listeners.specs.Counts.{is_counted, is_lost, six, counts_below, FollowParents};
 
-use crate::marks::Marks;
 use crate::outline::Place;
-use descriptor::Kind;
+use crate::told::Told;
+use plan_events::Status;
 
 /// The counts of containers, or those of tests.
-#[derive(Clone, Copy, PartialEq, Eq, Debug)]
+#[derive(Clone, Copy)]
 pub struct SortCounts {
     pub found: u32,
     /// Those that were skipped, and all below them.
@@ -21,7 +22,7 @@ pub struct SortCounts {
 }
 
 /// The counts of containers and those of tests. A node that is both counts in both.
-#[derive(Clone, Copy, PartialEq, Eq, Debug)]
+#[derive(Clone, Copy)]
 pub(crate) struct Counts {
     pub(crate) containers: SortCounts,
     pub(crate) tests: SortCounts,
@@ -64,16 +65,16 @@ impl SortCounts {
     };
 
     /// Adds a node, if it is counted.
-    fn add(&mut self, counted: bool, marks: Marks, lost: bool)
+    fn add(&mut self, counted: bool, told: Told, lost: bool)
         requires { AreAtMost self.old 4096 }
-        ensures { self.new ≡ counts_with self.old counted marks lost }
+        ensures { self.new ≡ counts_with self.old counted told lost }
     {
         self.found += one_if(counted);
         self.skipped += one_if(counted && lost);
-        self.started += one_if(counted && marks.started);
-        self.aborted += one_if(counted && marks.aborted);
-        self.successful += one_if(counted && marks.successful);
-        self.failed += one_if(counted && marks.failed);
+        self.started += one_if(counted && told.started);
+        self.aborted += one_if(counted && matches!(told.status, Some(Status::Aborted)));
+        self.successful += one_if(counted && matches!(told.status, Some(Status::Successful)));
+        self.failed += one_if(counted && matches!(told.status, Some(Status::Failed)));
     }
 }
 
@@ -88,7 +89,7 @@ fn counts_as_container(outline: &[Place], node: usize) -> bool
     requires { node < length outline.now }
     ensures { result ≡ is_counted is_container outline.now node }
 {
-    node > 0 && matches!(outline[node].kind, Kind::Container | Kind::ContainerAndTest)
+    node > 0 && outline[node].kind.is_container()
 }
 
 /// Whether the node counts as a test; node 0 does not.
@@ -96,18 +97,18 @@ fn counts_as_test(outline: &[Place], node: usize) -> bool
     requires { node < length outline.now }
     ensures { result ≡ is_counted is_test outline.now node }
 {
-    node > 0 && matches!(outline[node].kind, Kind::Test | Kind::ContainerAndTest)
+    node > 0 && outline[node].kind.is_test()
 }
 
 /// Whether the node was skipped, or a node that it is below.
-fn is_lost(outline: &[Place], marks: &[Marks], node: usize) -> bool
+fn is_lost(outline: &[Place], told: &[Told], node: usize) -> bool
     requires node { node < length outline.now }
-    requires marks { length marks.now ≡ length outline.now }
+    requires told { length told.now ≡ length outline.now }
     requires parents { FollowParents outline.now }
-    ensures { result ≡ is_lost outline.now marks.now node }
+    ensures { result ≡ is_lost outline.now told.now node }
 {
     let mut current = node;
-    while !marks[current].skipped {
+    while !told[current].skipped {
         if current == 0 {
             return false;
         }
@@ -117,19 +118,19 @@ fn is_lost(outline: &[Place], marks: &[Marks], node: usize) -> bool
 }
 
 /// What there is of each sort, and what became of it. It takes no memory.
-pub(crate) fn count(outline: &[Place], marks: &[Marks]) -> Counts
+pub(crate) fn count(outline: &[Place], told: &[Told]) -> Counts
     requires few { length outline.now ≤ 4096 }
-    requires marks { length marks.now ≡ length outline.now }
+    requires told { length told.now ≡ length outline.now }
     requires parents { FollowParents outline.now }
-    ensures containers { result.containers ≡ counts_below is_container outline.now marks.now (length outline.now) }
-    ensures tests { result.tests ≡ counts_below is_test outline.now marks.now (length outline.now) }
+    ensures containers { result.containers ≡ counts_below is_container outline.now told.now (length outline.now) }
+    ensures tests { result.tests ≡ counts_below is_test outline.now told.now (length outline.now) }
 {
     let mut containers = SortCounts::NONE;
     let mut tests = SortCounts::NONE;
     for index in 0..outline.len() {
-        let lost = is_lost(outline, marks, index);
-        containers.add(counts_as_container(outline, index), marks[index], lost);
-        tests.add(counts_as_test(outline, index), marks[index], lost);
+        let lost = is_lost(outline, told, index);
+        containers.add(counts_as_container(outline, index), told[index], lost);
+        tests.add(counts_as_test(outline, index), told[index], lost);
     }
     Counts { containers, tests }
 }

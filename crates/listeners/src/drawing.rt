@@ -4,17 +4,16 @@ ghost use Rattle.std.specs.Prelude.{◌≡◌, ℕ, ◌<◌, ◌≤◌, ◌-◌,
 ghost use Rattle.descriptor.specs.Nodes.{size, IsTree};
 ghost use Rattle.plan_events.specs.Texts.{text_at};
 ghost use Rattle.listeners.specs.Feed.{text_or};
-ghost use Rattle.listeners.specs.Notes.{told_at};
-ghost use Rattle.listeners.specs.Drawings.{drawn_by};
-ghost use Rattle.listeners.specs.TreeTexts.{end_of, ending, name_at, line, children_drawn, drawn_of, lines_below, tree_of};
+ghost use Rattle.listeners.specs.Told.{told_at};
+ghost use Rattle.listeners.specs.Drawings.{drawn_by, drawn_from};
+ghost use Rattle.listeners.specs.TreeTexts.{end_of, ending, name_at, line, children_drawn, lines_below};
 
 use crate::feed::text_of;
 use crate::printed::{push_cleaned, push_text};
 use crate::theme::Theme;
-use crate::told::{NOTHING, Told, told_of};
+use crate::told::{NOTHING, Told};
 use descriptor::{NodeId, Tree};
-use plan_events::{Event, Status, Texts};
-use resource_locks::Plan;
+use plan_events::{Status, Texts};
 use std::alloc::{AllocError, Global};
 
 /// What a tree is drawn from.
@@ -48,9 +47,9 @@ fn push_end(
 
 /// Appends what stands behind a name.
 fn push_ending(text: &mut String, theme: Theme, told: Told, said: &str) -> Result<(), AllocError>
-    ensures { OnOk result (string_bytes text.new ≡ string_bytes text.old ++ ending theme told.is_skipped told.status said.now) }
+    ensures { OnOk result (string_bytes text.new ≡ string_bytes text.old ++ ending theme told.skipped told.status said.now) }
 {
-    if !told.is_skipped {
+    if !told.skipped {
         return push_end(text, theme, told.status, said);
     }
     text.push_str(" ")?;
@@ -74,7 +73,7 @@ impl Drawing<'_> {
             .children(node)
             .iter()
             .copied()
-            .filter(|child| self.told(*child).has_line)
+            .filter(|child| self.told(*child).has_line())
             .collect(alloc)
     }
 
@@ -124,25 +123,22 @@ impl Drawing<'_> {
     }
 }
 
-/// The tree of these events: a line for each node that started or was skipped, below the line of
-/// its parent; a node whose parent has none has no line either. In Unicode or in ASCII.
-pub fn tree_text(
+/// The tree in which this was told of each node.
+pub(crate) fn draw(
     alloc: Global,
-    plan: &Plan,
-    events: &[Event],
+    tree: &Tree,
+    told: &[Told],
     texts: &Texts,
     theme: Theme,
 ) -> Result<String, AllocError>
-    ensures text { IfOk result (λ text. string_bytes text ≡ tree_of theme plan.now texts.now events.now) }
-    ensures levels { IfOk result (λ text. (levels : ℕ) → size plan.now.tree ≤ levels → string_bytes text ≡ lines_below (drawn_of theme plan.now texts.now events.now) levels [] 0) }
+    requires { IsTree tree.now }
+    ensures { IfOk result (λ text. (levels : ℕ) → size tree.now ≤ levels → string_bytes text ≡ lines_below (drawn_from theme tree.now texts.now told.now) levels [] 0) }
 {
-    let tree = plan.tree();
-    let told = told_of(alloc, tree.len(), events)?;
     let drawing = Drawing {
         theme,
         tree,
         texts,
-        told: told.as_slice(),
+        told,
     };
     let mut text = String::new(alloc);
     drawing.push_below(alloc, &mut text, "", NodeId::ROOT)?;

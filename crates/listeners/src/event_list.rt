@@ -39,6 +39,7 @@ impl EventList {
     pub(crate) fn reserve(&mut self, most: usize) -> Result<(), AllocError>
         ensures got { self.new.got ≡ self.old.got }
         ensures room { OnOk result (most ≤ self.new.room) }
+        ensures grown { self.old.room ≤ self.new.room }
         ensures err { OnErr result (self.new ≡ self.old) }
     {
         self.events.reserve(most)?;

@@ -17,10 +17,11 @@ pub trait Listener: Drop {
     /// How many more it can be told without taking memory.
     ghost room: { Self → ℕ };
 
-    /// Makes room for the events of an execution of the plan.
+    /// Makes room for the events of an execution of the plan. Refused or not, the room has not become smaller.
     fn prepare(&mut self, plan: &Plan) -> Result<(), AllocError>
         ensures got { got self.new ≡ got self.old }
-        ensures room { OnOk result (most_events plan.now ≤ room self.new) };
+        ensures room { OnOk result (most_events plan.now ≤ room self.new) }
+        ensures grown { room self.old ≤ room self.new };
 
     /// Is told the next event. The text is the reason of a skipped node, and what the job of a finished node said.
     fn told(&mut self, event: Event, text: Option<&str>)

@@ -1,16 +1,15 @@
 //! What is kept of a plan to count its nodes.
 
-ghost use Rattle.std.specs.Prelude.{◌≡◌, ◌<◌, ◌≤◌, List, length, IfOk};
-ghost use Rattle.descriptor.specs.Nodes.{size};
-ghost use Rattle.plan_events.specs.declared.event.Event.{Event};
-ghost use Rattle.listeners.specs.Counts.{place_of, outline_of, FollowParents, SkipsReachBelow};
+ghost use Rattle.std.specs.Prelude.{◌≡◌, ◌<◌, ◌≤◌, length, IfOk};
+ghost use Rattle.descriptor.specs.Nodes.{IsTree, size};
+ghost use Rattle.listeners.specs.Counts.{place_of, outline_of, FollowParents};
 
 use descriptor::{Kind, NodeId, Tree};
 use resource_locks::Plan;
 use std::alloc::{AllocError, Global};
 
 /// What is kept of a node to count it.
-#[derive(Clone, Copy, PartialEq, Eq, Debug)]
+#[derive(Clone, Copy, Debug)]
 pub struct Place {
     /// For node 0, node 0 itself.
     pub parent: NodeId,
@@ -33,7 +32,7 @@ pub(crate) fn outline_of(alloc: Global, plan: &Plan) -> Result<Vec<Place>, Alloc
     ensures places { IfOk result (λ outline. outline.items ≡ outline_of plan.now.tree) }
     ensures parents { IfOk result (λ outline. FollowParents outline.items) }
     ensures few { IfOk result (λ outline. length outline.items ≤ 4096) }
-    ensures skips { IfOk result (λ _. (events : List Event) → SkipsReachBelow plan.now.tree events) }
+    ensures tree { IfOk result (λ _. IsTree plan.now.tree) }
 {
     let tree = plan.tree();
     let mut outline = Vec::new(alloc);

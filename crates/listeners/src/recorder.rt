@@ -1,6 +1,7 @@
 //! A listener that keeps what it was told, and does nothing else.
 
-ghost use Rattle.std.specs.Prelude.{◌≡◌, []};
+ghost use Rattle.std.specs.Prelude.{◌≡◌, ◌≤◌, [], OnOk, OnErr};
+ghost use Rattle.resource_locks.specs.Plans.{most_events};
 
 use crate::event_list::EventList;
 use crate::listener::Listener;
@@ -39,7 +40,12 @@ impl Listener for Recorder {
 
     ghost room = { λ r. r.room };
 
-    fn prepare(&mut self, plan: &Plan) -> Result<(), AllocError> {
+    fn prepare(&mut self, plan: &Plan) -> Result<(), AllocError>
+        ensures got { self.new.got ≡ self.old.got }
+        ensures room { OnOk result (most_events plan.now ≤ self.new.room) }
+        ensures grown { self.old.room ≤ self.new.room }
+        ensures err { OnErr result (self.new ≡ self.old) }
+    {
         self.list.reserve(plan.most_events())
     }
 

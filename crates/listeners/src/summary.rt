@@ -3,11 +3,9 @@
 ghost use Rattle.std.specs.Prelude.{◌≡◌, ◌++◌, ◌∷◌, [], ◌+◌, ◌<◌, ◌≤◌, OnOk, OnErr};
 ghost use Rattle.resource_locks.specs.Plans.{most_events};
 
-use crate::counts::count;
 use crate::event_list::EventList;
 use crate::listener::Listener;
-use crate::marks::{Marks, mark, marks_of};
-use crate::outline::{Place, outline_of};
+use crate::tally::Tally;
 use plan_events::Event;
 use resource_locks::Plan;
 use std::alloc::{AllocError, Global};
@@ -17,9 +15,7 @@ use std::marker::Model;
 #[derive(Debug, Drop)]
 pub struct Summary {
     list: EventList,
-    // one place for each node of the plan, and none before there is a plan
-    outline: Vec<Place>,
-    marks: Vec<Marks>,
+    tally: Tally,
 }
 
 impl Model for Summary {
@@ -35,7 +31,8 @@ impl Model for Summary {
 }
 
 impl Summary {
-    ghost use Rattle.listeners.specs.Counts.{counts_on};
+    ghost use Rattle.descriptor.specs.Nodes.{Nodes, IsTree};
+    ghost use Rattle.listeners.specs.Counts.{counts_on, outline_of, SkipsReachBelow};
 
     /// A summary that was told nothing, and was prepared for no plan.
     pub fn new(alloc: Global) -> Summary
@@ -43,8 +40,7 @@ impl Summary {
     {
         Summary {
             list: EventList::new(alloc),
-            outline: Vec::new(alloc),
-            marks: Vec::new(alloc),
+            tally: Tally::new(alloc),
         }
     }
 
@@ -52,9 +48,10 @@ impl Summary {
     /// aborted, successful and failed, then the same of tests. A node that is both counts in both, node 0 in none; a
     /// node below a skipped one counts as skipped. It takes no memory.
     pub fn counts(&self) -> [u32; 12]
-        ensures { result ≡ counts_on self.now.outline self.now.got }
+        ensures counts { result ≡ counts_on self.now.outline self.now.got }
+        ensures skipped { (t : Nodes) → IsTree t → self.now.outline ≡ outline_of t → SkipsReachBelow t self.now.got }
     {
-        count(self.outline.as_slice(), self.marks.as_slice()).twelve()
+        self.tally.counts().twelve()
     }
 }
 
@@ -69,14 +66,12 @@ impl Listener for Summary {
         ensures got { self.new.got ≡ self.old.got }
         ensures room { OnOk result (most_events plan.now ≤ self.new.room) }
         ensures outline { OnOk result (self.new.outline ≡ outline_of plan.now.tree) }
+        ensures grown { self.old.room ≤ self.new.room }
         ensures err { OnErr result (self.new ≡ self.old) }
     {
-        let alloc = *self.outline.allocator();
-        let outline = outline_of(alloc, plan)?;
-        let marks = marks_of(alloc, outline.len(), self.list.events())?;
+        let tally = Tally::of(self.tally.allocator(), plan, self.list.events())?;
         self.list.reserve(plan.most_events())?;
-        self.outline = outline;
-        self.marks = marks;
+        self.tally = tally;
         Ok(())
     }
 
@@ -87,7 +82,7 @@ impl Listener for Summary {
         ensures outline { self.new.outline ≡ self.old.outline }
     {
         let event = &event;
-        mark(&mut self.marks, event);
+        self.tally.tell(event);
         self.list.push(*event);
     }
 

@@ -1,47 +1,33 @@
 //! What events tell of each node.
 
-ghost use Rattle.std.specs.Prelude.{◌≡◌, ◌||◌, ◌++◌, ◌∷◌, [], List, IfOk, length};
+ghost use Rattle.std.specs.Prelude.{◌≡◌, ◌||◌, ◌++◌, ◌∷◌, ◌↔◌, [], List, IfOk, IsTrue, length};
 ghost use Rattle.std.specs.Option.{option_or};
 ghost use Rattle.plan_events.specs.declared.event.Event.{Event};
-ghost use Rattle.listeners.specs.Told.{gives_line, is_skip, status_by};
-ghost use Rattle.listeners.specs.Notes.{Tells};
+ghost use Rattle.plan_events.specs.Statuses.{is_failed};
+ghost use Rattle.listeners.specs.Told.{all_told, is_start, is_skip, status_by, has_line, ended};
+ghost use Rattle.listeners.specs.Tallies.{TellsFailure};
 
 use plan_events::{Event, EventKind, Status};
 use std::alloc::{AllocError, Global};
 
 /// What events tell of a node.
-#[derive(Clone, Copy, PartialEq, Eq, Debug)]
+#[derive(Clone, Copy, Debug)]
 pub(crate) struct Told {
-    /// Whether it started or was skipped.
-    pub has_line: bool,
-    pub is_skipped: bool,
+    pub started: bool,
+    pub skipped: bool,
     /// How it ended, if it did.
     pub status: Option<Status>,
 }
 
 /// What no event tells.
 pub(crate) const NOTHING: Told = Told {
-    has_line: false,
-    is_skipped: false,
+    started: false,
+    skipped: false,
     status: None,
 };
 
-/// Whether an event of this kind gives its node a line.
-fn gives_line(kind: EventKind) -> bool
-    ensures { result ≡ gives_line kind }
-{
-    matches!(kind, EventKind::Started | EventKind::Skipped)
-}
-
-/// Whether an event of this kind says that its node was skipped.
-pub(crate) fn is_skip(kind: EventKind) -> bool
-    ensures { result ≡ is_skip kind }
-{
-    matches!(kind, EventKind::Skipped)
-}
-
 /// The status that stands with an event of this kind, which counts at a finish alone.
-pub(crate) fn status_by(kind: EventKind, status: Option<Status>) -> Option<Status>
+fn status_by(kind: EventKind, status: Option<Status>) -> Option<Status>
     ensures { result ≡ status_by kind status }
 {
     match kind {
@@ -53,22 +39,35 @@ pub(crate) fn status_by(kind: EventKind, status: Option<Status>) -> Option<Statu
 impl Told {
     /// What is told when one more event of the node is.
     fn after(self, kind: EventKind, status: Option<Status>) -> Told
-        ensures line { result.has_line ≡ (self.has_line || gives_line kind) }
-        ensures skipped { result.is_skipped ≡ (self.is_skipped || is_skip kind) }
+        ensures started { result.started ≡ (self.started || is_start kind) }
+        ensures skipped { result.skipped ≡ (self.skipped || is_skip kind) }
         ensures status { result.status ≡ option_or self.status (status_by kind status) }
     {
         Told {
-            has_line: self.has_line || gives_line(kind),
-            is_skipped: self.is_skipped || is_skip(kind),
+            started: self.started || matches!(kind, EventKind::Started),
+            skipped: self.skipped || matches!(kind, EventKind::Skipped),
             status: self.status.or(status_by(kind, status)),
         }
+    }
+
+    /// Whether the node has a line in the tree.
+    pub(crate) fn has_line(self) -> bool
+        ensures { result ≡ has_line self }
+    {
+        self.started || self.skipped
+    }
+
+    fn has_failed(self) -> bool
+        ensures { result ≡ ended is_failed self.status }
+    {
+        matches!(self.status, Some(Status::Failed))
     }
 }
 
 /// Adds an event to what was told; one of a node without a place tells nothing.
-fn note(told: &mut Vec<Told>, event: Event)
+pub(crate) fn note(told: &mut Vec<Told>, event: Event)
     ensures places { length told.new.items ≡ length told.old.items }
-    ensures more { (events : List Event) → Tells events told.old.items → Tells (events ++ event ∷ []) told.new.items }
+    ensures more { (events : List Event) → told.old.items ≡ all_told (length told.old.items) events → told.new.items ≡ all_told (length told.old.items) (events ++ event ∷ []) }
 {
     let place = event.node.index();
     if place < told.len() {
@@ -82,12 +81,23 @@ pub(crate) fn told_of(
     nodes: usize,
     events: &[Event],
 ) -> Result<Vec<Told>, AllocError>
-    ensures places { IfOk result (λ told. length told.items ≡ nodes) }
-    ensures told { IfOk result (λ told. Tells events.now told.items) }
+    ensures { IfOk result (λ told. told.items ≡ all_told nodes events.now) }
 {
     let mut told = vec![in alloc; NOTHING; nodes]?;
     for event in events {
         note(&mut told, *event);
     }
     Ok(told)
+}
+
+/// Whether it was told of a node other than node 0 that it failed.
+pub(crate) fn tells_failure(told: &[Told]) -> bool
+    ensures { IsTrue result ↔ TellsFailure told.now }
+{
+    for place in 1..told.len() {
+        if told[place].has_failed() {
+            return true;
+        }
+    }
+    false
 }

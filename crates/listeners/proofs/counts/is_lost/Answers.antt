@@ -1,12 +1,12 @@
 -- The search goes on at the parent.
 use Rattle.std.proofs.Common.{◌≡◌, false, arith, rules}
 use Rattle.std.proofs.lemmas.Grind.{common_steps}
-use Rattle.listeners.specs.Counts.{marks_in}
+use Rattle.listeners.specs.Told.{told_at}
 use Rattle.listeners.proofs.Counting.{lost_on}
 use Rattle.listeners.proofs.counts.is_lost.Goals as goal
 
 pub loop-current-preserved : goal.loop-current-preserved
 loop-current-preserved c =
-    let unskipped : (marks_in c.args.marks.now c.loop-current.current).skipped ≡ false = search rules in
-    let on = lost_on c.args.outline.now c.args.marks.now c.requires.parents c.args.node c.loop-current.current c.index-current.result c.index-outline-current.result (grind (arith, common_steps)) (grind (arith, common_steps)) unskipped c.index-current.ensures.same c.loop-current.invariant.1 in
+    let unskipped : (told_at c.args.told.now c.loop-current.current).skipped ≡ false = search rules in
+    let on = lost_on c.args.outline.now c.args.told.now c.requires.parents c.args.node c.loop-current.current c.index-current.result c.index-outline-current.result (grind (arith, common_steps)) (grind (arith, common_steps)) unskipped c.index-current.ensures.same c.loop-current.invariant.1 in
     (on.0, on.2)

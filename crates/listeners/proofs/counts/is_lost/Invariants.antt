@@ -4,7 +4,7 @@ use Rattle.listeners.specs.Counts.{is_lost}
 use Rattle.listeners.proofs.counts.is_lost.Given as goal
 
 abbrev pub invariant-loop-current : goal.invariant-loop-current
-invariant-loop-current l = (l.current < length l.outline) × (is_lost l.outline l.marks l.fn.node ≡ is_lost l.outline l.marks l.current)
+invariant-loop-current l = (l.current < length l.outline) × (is_lost l.outline l.told l.fn.node ≡ is_lost l.outline l.told l.current)
 
 abbrev pub decreases-loop-current : goal.decreases-loop-current
 decreases-loop-current l = l.current

@@ -2,8 +2,7 @@
 use Rattle.std.proofs.Common.{◌≡◌, arith}
 use Rattle.std.proofs.lemmas.Grind.{common_steps}
 use Rattle.listeners.specs.Counts.{place_of}
-use Rattle.listeners.proofs.Marking.{places_more, places_follow, places_few}
-use Rattle.listeners.proofs.Skipping.{skips_reach_below}
+use Rattle.listeners.proofs.Places.{places_more, places_follow, places_few}
 use Rattle.listeners.proofs.outline.outline_of.Goals as goal
 
 pub loop-number-preserved : goal.loop-number-preserved
@@ -16,6 +15,3 @@ returns-clause-parents c = places_follow c.tree-tree.result.now c.len-number-end
 
 pub returns-clause-few : goal.returns-clause-few
 returns-clause-few c = places_few c.tree-tree.result.now c.len-number-end.ensures.tree c.loop-number.outline.items (grind (arith, common_steps))
-
-pub returns-clause-skips : goal.returns-clause-skips
-returns-clause-skips c events = skips_reach_below c.args.plan.now.tree c.tree-tree.ensures.tree events

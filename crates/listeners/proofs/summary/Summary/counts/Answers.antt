@@ -1,17 +1,16 @@
--- The marks are those of what it was told, so the counts are too.
+-- What is told of each node is what the events tell, so the counts are theirs.
 use Rattle.std.proofs.Common.{◌∙◌, ap}
 use Rattle.listeners.specs.Summaries.{SummaryParts}
-use Rattle.listeners.specs.Counts.{counts_on}
+use Rattle.listeners.specs.Counts.{counts_in, counts_on}
 use Rattle.listeners.proofs.Counting.{twelve_are}
-use Rattle.listeners.proofs.Marking.{same_len}
+use Rattle.listeners.proofs.Skipping.{skips_reach_below}
 use Rattle.listeners.proofs.summary.Summary.counts.Goals as goal
 
-pub count-requires-clause-marks : goal.count-requires-clause-marks
-count-requires-clause-marks c =
-    rw (c.as_slice-2.ensures.value, c.as_slice.ensures.value) (same_len c.self.inside.outline.items c.self.inside.marks.items c.self.inside.list.got c.self.invariant.marks)
-
-pub returns : goal.returns
-returns c =
-    twelve_are c.self.inside.outline.items c.as_slice.result.now c.self.inside.marks.items c.as_slice-2.result.now c.self.inside.list.got c.count.result.containers c.count.result.tests c.twelve.result
-    c.self.invariant.marks c.as_slice.ensures.value c.as_slice-2.ensures.value c.count.ensures.containers c.count.ensures.tests c.twelve.ensures
+pub returns-clause-counts : goal.returns-clause-counts
+returns-clause-counts c =
+    twelve_are c.self.inside.tally.outline c.self.inside.tally.told c.counts.result.containers c.counts.result.tests c.twelve.result c.counts.ensures.containers c.counts.ensures.tests c.twelve.ensures
+    ∙ ap (counts_in c.self.inside.tally.outline) c.self.invariant
     ∙ ap (λ (s : SummaryParts). counts_on s.outline s.got) c.self.view_is
+
+pub returns-clause-skipped : goal.returns-clause-skipped
+returns-clause-skipped c t tree is = skips_reach_below t tree c.args.self.now.got

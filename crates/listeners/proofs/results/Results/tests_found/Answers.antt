@@ -1,0 +1,11 @@
+-- Node 0 is no test.
+use Rattle.std.proofs.Common.{◌∙◌, ap}
+use Rattle.listeners.specs.declared.counts.SortCounts.{SortCounts}
+use Rattle.listeners.specs.Results.{ResultParts, tests_found}
+use Rattle.listeners.proofs.Reading.{tests_are}
+use Rattle.listeners.proofs.results.Results.tests_found.Goals as goal
+
+pub returns : goal.returns
+returns c =
+    ap (λ (x : SortCounts). x.found) c.counts.ensures.tests ∙ tests_are c.self.inside.plan.now.tree c.self.invariant.tree c.self.inside.tally.outline c.self.invariant.outline
+    ∙ ap (λ (r : ResultParts). tests_found r.plan) c.self.view_is
