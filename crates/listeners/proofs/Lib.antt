@@ -10,4 +10,5 @@ pub mod SameTold
 pub mod Sending
 pub mod Siblings
 pub mod Skipping
+pub mod Stepping
 pub mod ToldMore

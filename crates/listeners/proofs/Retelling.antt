@@ -43,3 +43,22 @@ module _ {L : Type 0} (room : L → ℕ) (n : ℕ) where
       let whole : room (get_or next k d) ≡ room (get_or items k d) - 1 = sym now ∙ ap (λ xs. get_or xs k 0) is ∙ was ∙ ap (λ m. m - 1) before in
       let fits = all k d within_items in
       omega (arith, whole, fits, inside)
+
+-- each room is smaller by i
+abbrev pub AreSmaller : {L : Type 0} → (L → ℕ) → ℕ → List L → List L → Type 0
+AreSmaller room i old items = map room items ≡ map (λ n. n - i) (map room old)
+
+less_none : (rooms : List ℕ) → rooms ≡ map (λ n. n - 0) rooms
+less_none [] = refl
+less_none (r ∷ rooms) = rw (← less_none rooms) (ap (λ n. n ∷ rooms) (omega arith))
+
+less_more : (rooms : List ℕ) (i : ℕ) → map (λ n. n - 1) (map (λ n. n - i) rooms) ≡ map (λ n. n - (i + 1)) rooms
+less_more [] i = refl
+less_more (r ∷ rooms) i = ap (λ n. n ∷ map (λ n. n - 1) (map (λ n. n - i) rooms)) (omega arith) ∙ ap (λ ns. (r - (i + 1)) ∷ ns) (less_more rooms i)
+
+module _ {L : Type 0} (room : L → ℕ) where
+  pub smaller_none : (items : List L) → AreSmaller room 0 items items
+  smaller_none items = less_none (map room items)
+
+  pub smaller_more : (i : ℕ) (old items next : List L) → AreSmaller room i old items → map room next ≡ map (λ n. n - 1) (map room items) → AreSmaller room (i + 1) old next
+  smaller_more i old items next before is = is ∙ ap (map (λ n. n - 1)) before ∙ less_more (map room old) i

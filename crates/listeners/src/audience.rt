@@ -4,7 +4,8 @@ ghost use Rattle.std.specs.Prelude.{◌≡◌, ℕ, ◌<◌, ◌≤◌, ◌+◌,
 ghost use Rattle.std.specs.List.{All};
 ghost use Rattle.resource_locks.specs.Plans.{most_events};
 ghost use Rattle.plan_events.specs.declared.event.Event.{Event};
-ghost use Rattle.listeners.specs.Listeners.{text_told};
+ghost use Rattle.std.specs.Option.{option_map};
+ghost use Rattle.listeners.specs.Listeners.{text_told, tellings_of, HasHeardMore, EachPlace};
 
 use crate::listener::Listener;
 use plan_events::{Event, EventKind, Texts};
@@ -52,12 +53,14 @@ impl Audience {
     }
 
     /// Lets each listener make room for the events of an execution of the plan. After want of memory some may have more
-    /// room than before.
+    /// room than before, and none has less.
     pub fn prepare(&mut self, plan: &Plan) -> Result<(), AllocError>
         ensures len { length self.new.listeners.items ≡ length self.old.listeners.items }
         ensures got { map got self.new.listeners.items ≡ map got self.old.listeners.items }
         ensures all_got { (heard : List Event) → All (λ l. got l ≡ heard) self.old.listeners.items → All (λ l. got l ≡ heard) self.new.listeners.items }
         ensures room { OnOk result (All (λ l. most_events plan.now ≤ room l) self.new.listeners.items) }
+        ensures grown { EachPlace (λ a b. room a ≤ room b) self.old.listeners.items self.new.listeners.items }
+        ensures heard { EachPlace (λ a b. HasHeardMore heard [] a b) self.old.listeners.items self.new.listeners.items }
     {
         for index in 0..self.listeners.len() {
             prepare_one(&mut self.listeners[index], plan)?;
@@ -97,6 +100,7 @@ impl Audience {
         ensures room { map room self.new.listeners.items ≡ map (λ n. n - 1) (map room self.old.listeners.items) }
         ensures all_got { (heard : List Event) → All (λ l. got l ≡ heard) self.old.listeners.items → All (λ l. got l ≡ heard ++ event ∷ []) self.new.listeners.items }
         ensures all_room { (n : ℕ) → All (λ l. n + 1 ≤ room l) self.old.listeners.items → All (λ l. n ≤ room l) self.new.listeners.items }
+        ensures heard { EachPlace (λ a b. HasHeardMore heard (record { event = event; text = option_map (λ t. t.now) text.entry } ∷ []) a b) self.old.listeners.items self.new.listeners.items }
     {
         let event = &event;
         for index in 0..self.listeners.len() {
@@ -109,6 +113,8 @@ impl Audience {
         requires { All (λ l. length events.now ≤ room l) self.old.listeners.items }
         ensures len { length self.new.listeners.items ≡ length self.old.listeners.items }
         ensures got { map got self.new.listeners.items ≡ map (λ (heard : List Event). heard ++ events.now) (map got self.old.listeners.items) }
+        ensures room { map room self.new.listeners.items ≡ map (λ n. n - length events.now) (map room self.old.listeners.items) }
+        ensures heard { EachPlace (λ a b. HasHeardMore heard (tellings_of texts.now events.now) a b) self.old.listeners.items self.new.listeners.items }
     {
         for event in events {
             self.tell(*event, text_with(texts, *event));
@@ -134,8 +140,7 @@ impl Audience {
 
 /// What is told with an event: the reason of a skipped node, and what the job of a finished one said.
 fn text_with(texts: &Texts, event: Event) -> Option<&str>
-    ensures some { IfSome result (λ text. text_told texts.now event ≡ Some text.now) }
-    ensures none { IsNone result ↔ (text_told texts.now event ≡ None) }
+    ensures { option_map (λ t. t.now) result ≡ text_told texts.now event }
 {
     match event.kind {
         EventKind::Skipped | EventKind::Finished => texts.of(event.node),
@@ -146,6 +151,8 @@ fn text_with(texts: &Texts, event: Event) -> Option<&str>
 fn prepare_one(listener: &mut Box<dyn Listener>, plan: &Plan) -> Result<(), AllocError>
     ensures got { got listener.new ≡ got listener.old }
     ensures room { OnOk result (most_events plan.now ≤ room listener.new) }
+    ensures grown { room listener.old ≤ room listener.new }
+    ensures heard { HasHeardMore (λ l ts. heard l ts) [] listener.old listener.new }
 {
     listener.prepare(plan)
 }
@@ -154,6 +161,7 @@ fn tell_one(listener: &mut Box<dyn Listener>, event: Event, text: Option<&str>)
     requires { 0 < room listener.old }
     ensures got { got listener.new ≡ got listener.old ++ event ∷ [] }
     ensures room { room listener.new ≡ room listener.old - 1 }
+    ensures heard { HasHeardMore (λ l ts. heard l ts) (record { event = event; text = option_map (λ t. t.now) text.entry } ∷ []) listener.old listener.new }
 {
     listener.told(event, text)
 }

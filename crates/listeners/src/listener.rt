@@ -10,6 +10,8 @@ use std::alloc::AllocError;
 pub trait Listener: Drop {
     ghost use Rattle.plan_events.specs.declared.event.Event.{Event};
     ghost use Rattle.resource_locks.specs.Plans.{most_events};
+    ghost use Rattle.listeners.specs.Listeners.{Telling, HasHeardMore};
+    ghost use Rattle.std.specs.Option.{option_map};
 
     /// The events that it was told, in order.
     ghost got: { Self → List Event };
@@ -17,17 +19,23 @@ pub trait Listener: Drop {
     /// How many more it can be told without taking memory.
     ghost room: { Self → ℕ };
 
+    /// That it is as one that was told these events with these texts, in order. One that makes nothing of the texts
+    /// need not say what this is.
+    ghost heard: { Self → List Telling → Type 0 } = { λ _ _. Unit {0} };
+
     /// Makes room for the events of an execution of the plan. Refused or not, the room has not become smaller.
     fn prepare(&mut self, plan: &Plan) -> Result<(), AllocError>
         ensures got { got self.new ≡ got self.old }
         ensures room { OnOk result (most_events plan.now ≤ room self.new) }
-        ensures grown { room self.old ≤ room self.new };
+        ensures grown { room self.old ≤ room self.new }
+        ensures heard { HasHeardMore heard [] self.old self.new };
 
     /// Is told the next event. The text is the reason of a skipped node, and what the job of a finished node said.
     fn told(&mut self, event: Event, text: Option<&str>)
         requires { 0 < room self.old }
         ensures got { got self.new ≡ got self.old ++ event ∷ [] }
-        ensures room { room self.new + 1 ≡ room self.old };
+        ensures room { room self.new + 1 ≡ room self.old }
+        ensures heard { HasHeardMore heard (record { event = event; text = option_map (λ t. t.now) text.entry } ∷ []) self.old self.new };
 
     /// The events that it was told, in order.
     fn got(&self) -> &[Event]
