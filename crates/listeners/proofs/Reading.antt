@@ -1,19 +1,22 @@
 -- What is read from the tally of a plan's tree.
-use Rattle.std.proofs.Common.{◌≡◌, ℕ, zero, suc, ◌<◌, ◌&&◌, nat_lt, Bool, true, List, length, Some, Result, Ok, Err, IfOk, refl, sym, ap, ◌∙◌, arith}
+use Rattle.std.proofs.Common.{◌≡◌, ℕ, zero, suc, ◌<◌, ◌&&◌, nat_lt, Bool, true, false, List, length, get_or, Option, Some, None, Result, Ok, Err, IfOk, refl, sym, ap, ◌∙◌, arith, zero-add}
+use Rattle.std.specs.List.{range_with_len}
+use Rattle.std.proofs.lemmas.List.Folds.{Any-from_list_any, list_any_at}
 use Rattle.std.proofs.lemmas.Bool.Decides.{nat_tests}
-use Rattle.std.proofs.lemmas.List.FromFn.{get_or-map-range_with_len}
-use Rattle.descriptor.specs.declared.kind.Kind.{Kind}
+use Rattle.std.proofs.lemmas.List.FromFn.{get_or-map-range_with_len, get_or-range_with_len, length-range_with_len}
 use Rattle.descriptor.specs.Kinds.{is_test}
 use Rattle.descriptor.specs.Nodes.{Nodes, IsTree, size, kind_of, count_below}
 use Rattle.plan_events.specs.declared.event.Event.{Event}
-use Rattle.plan_events.specs.declared.status.Status.TheVariants.{Failed}
+use Rattle.plan_events.specs.declared.status.Status.{Status}
+use Rattle.plan_events.specs.declared.status.Status.TheVariants.{Successful, Aborted, Failed}
+use Rattle.plan_events.specs.Statuses.{is_failed}
 use Rattle.resource_locks.specs.Plans.{PlanParts}
 use Rattle.listeners.specs.declared.outline.Place.{Place}
 use Rattle.listeners.specs.declared.told.Told.{Told}
 use Rattle.listeners.specs.Counts.{place_of, outline_of, place_in, is_counted}
-use Rattle.listeners.specs.Results.{HasFailed}
+use Rattle.listeners.specs.Results.{is_failure, has_failed, HasFailed}
 use Rattle.listeners.specs.Tallies.{TellsFailure}
-use Rattle.listeners.specs.Told.{status_of, all_told, told_at}
+use Rattle.listeners.specs.Told.{status_of, all_told, told_at, ended}
 use Rattle.listeners.proofs.Places.{places_len}
 use Rattle.listeners.proofs.ToldMore.{told_get, told_each}
 
@@ -38,6 +41,50 @@ module _ (p : PlanParts) (events : List Event) (told : List Told) (is : told ≡
 
   pub told_failed : HasFailed p events → TellsFailure told
   told_failed f = (f.0, f.1, omega (arith, f.2, told_each (size p.tree) events told is), status_is f.0 f.2 ∙ f.3)
+
+-- what is so by the one test and by the other
+same_truth : (a b : Bool) → (a ≡ true → b ≡ true) → (b ≡ true → a ≡ true) → a ≡ b
+same_truth true b to from = sym (to refl)
+same_truth false true to from = from refl
+same_truth false false to from = refl
+
+left_of : (a b : Bool) → (a && b) ≡ true → a ≡ true
+left_of true b h = refl
+left_of false b h = h
+
+right_of : (a b : Bool) → (a && b) ≡ true → b ≡ true
+right_of true b h = h
+right_of false b h = cc
+
+failed_is : (status : Option Status) → ended is_failed status ≡ true → status ≡ Some Failed
+failed_is (Some Failed) h = refl
+failed_is (Some Successful) h = cc
+failed_is (Some Aborted) h = cc
+failed_is None h = cc
+
+module _ (p : PlanParts) (events : List Event) where
+  test_failed : HasFailed p events → has_failed p events ≡ true
+  test_failed f =
+      let place : get_or (range_with_len 0 (size p.tree)) f.0 0 ≡ f.0 = get_or-range_with_len 0 (size p.tree) f.0 0 f.2 ∙ zero-add f.0 in
+      let above : nat_lt 0 f.0 ≡ true = grind (arith, nat_tests, f.1) in
+      list_any_at (is_failure events) (range_with_len 0 (size p.tree)) f.0 0 (rw (length-range_with_len 0 (size p.tree)) f.2)
+      (ap (is_failure events) place ∙ ap (λ (b : Bool). b && ended is_failed (status_of events f.0)) above ∙ ap (ended is_failed) f.3)
+
+  failed_test : has_failed p events ≡ true → HasFailed p events
+  failed_test h =
+      let any = Any-from_list_any (is_failure events) (range_with_len 0 (size p.tree)) h in
+      let inside : any.0 < size p.tree = omega (arith, any.2, length-range_with_len 0 (size p.tree)) in
+      let place : any.1 ≡ any.0 = sym any.3 ∙ get_or-range_with_len 0 (size p.tree) any.0 any.1 inside ∙ zero-add any.0 in
+      let above : nat_lt 0 any.1 ≡ true = left_of (nat_lt 0 any.1) (ended is_failed (status_of events any.1)) any.4 in (
+        any.1,
+        grind (arith, nat_tests, above),
+        omega (arith, place, inside),
+        failed_is (status_of events any.1) (right_of (nat_lt 0 any.1) (ended is_failed (status_of events any.1)) any.4),
+      )
+
+  -- the test and what it tests
+  pub failure_is : (b : Bool) → (b ≡ true → HasFailed p events) → (HasFailed p events → b ≡ true) → b ≡ has_failed p events
+  failure_is b to from = same_truth b (has_failed p events) (λ h. test_failed (to h)) (λ h. from (failed_test h))
 
 count_same : (p q : ℕ → Bool) (k : ℕ) → ((n : ℕ) → n < k → p n ≡ q n) → count_below p k ≡ count_below q k
 count_same p q zero same = refl

@@ -1,5 +1,5 @@
 -- How listeners change one after the other, where a relation is all that is known of each.
-use Rattle.std.proofs.Common.{◌≡◌, ◌≢◌, ℕ, ◌+◌, ◌<◌, ◌≤◌, ◌++◌, ◌∷◌, [], List, Option, length, map, take, get_or, set, inl, inr, refl, sym, ap, subst, ◌∙◌, arith, append_assoc, append-nil, length-set, get_or-set_other}
+use Rattle.std.proofs.Common.{◌≡◌, ℕ, ◌+◌, ◌<◌, ◌≤◌, ◌++◌, ◌∷◌, [], List, Option, length, take, get_or, set, inl, inr, refl, sym, ap, subst, ◌∙◌, arith, append_assoc, append-nil, length-set, get_or-set_other}
 use Rattle.std.proofs.lemmas.Bool.{cases_eq, cases_lt}
 use Rattle.std.proofs.lemmas.Grind.{get_or-set_at}
 use Rattle.std.proofs.lemmas.List.{get_or_default, map-append, take_more, take_all}

@@ -57,7 +57,7 @@ impl Audience {
     pub fn prepare(&mut self, plan: &Plan) -> Result<(), AllocError>
         ensures len { length self.new.listeners.items ≡ length self.old.listeners.items }
         ensures got { map got self.new.listeners.items ≡ map got self.old.listeners.items }
-        ensures all_got { (heard : List Event) → All (λ l. got l ≡ heard) self.old.listeners.items → All (λ l. got l ≡ heard) self.new.listeners.items }
+        ensures all_got { (before : List Event) → All (λ l. got l ≡ before) self.old.listeners.items → All (λ l. got l ≡ before) self.new.listeners.items }
         ensures room { OnOk result (All (λ l. most_events plan.now ≤ room l) self.new.listeners.items) }
         ensures grown { EachPlace (λ a b. room a ≤ room b) self.old.listeners.items self.new.listeners.items }
         ensures heard { EachPlace (λ a b. HasHeardMore heard [] a b) self.old.listeners.items self.new.listeners.items }
@@ -96,9 +96,9 @@ impl Audience {
     pub fn tell(&mut self, event: Event, text: Option<&str>)
         requires { All (λ l. 1 ≤ room l) self.old.listeners.items }
         ensures len { length self.new.listeners.items ≡ length self.old.listeners.items }
-        ensures got { map got self.new.listeners.items ≡ map (λ (heard : List Event). heard ++ event ∷ []) (map got self.old.listeners.items) }
+        ensures got { map got self.new.listeners.items ≡ map (λ (before : List Event). before ++ event ∷ []) (map got self.old.listeners.items) }
         ensures room { map room self.new.listeners.items ≡ map (λ n. n - 1) (map room self.old.listeners.items) }
-        ensures all_got { (heard : List Event) → All (λ l. got l ≡ heard) self.old.listeners.items → All (λ l. got l ≡ heard ++ event ∷ []) self.new.listeners.items }
+        ensures all_got { (before : List Event) → All (λ l. got l ≡ before) self.old.listeners.items → All (λ l. got l ≡ before ++ event ∷ []) self.new.listeners.items }
         ensures all_room { (n : ℕ) → All (λ l. n + 1 ≤ room l) self.old.listeners.items → All (λ l. n ≤ room l) self.new.listeners.items }
         ensures heard { EachPlace (λ a b. HasHeardMore heard (record { event = event; text = option_map (λ t. t.now) text.entry } ∷ []) a b) self.old.listeners.items self.new.listeners.items }
     {
@@ -112,7 +112,7 @@ impl Audience {
     pub fn tell_all(&mut self, texts: &Texts, events: &[Event])
         requires { All (λ l. length events.now ≤ room l) self.old.listeners.items }
         ensures len { length self.new.listeners.items ≡ length self.old.listeners.items }
-        ensures got { map got self.new.listeners.items ≡ map (λ (heard : List Event). heard ++ events.now) (map got self.old.listeners.items) }
+        ensures got { map got self.new.listeners.items ≡ map (λ (before : List Event). before ++ events.now) (map got self.old.listeners.items) }
         ensures room { map room self.new.listeners.items ≡ map (λ n. n - length events.now) (map room self.old.listeners.items) }
         ensures heard { EachPlace (λ a b. HasHeardMore heard (tellings_of texts.now events.now) a b) self.old.listeners.items self.new.listeners.items }
     {

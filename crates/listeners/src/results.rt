@@ -3,11 +3,13 @@
 ghost use Rattle.std.specs.Prelude.{◌≡◌, ◌≤◌, ℕ, ◌↔◌, [], IfOk, IsTrue, string_bytes};
 ghost use Rattle.descriptor.specs.Nodes.{size};
 ghost use Rattle.listeners.specs.Counts.{counts_of, SkipsReachBelow};
-ghost use Rattle.listeners.specs.Results.{tests_found, HasFailed};
+ghost use Rattle.listeners.specs.Feed.{feed_of};
+ghost use Rattle.listeners.specs.Results.{tests_found, has_failed, HasFailed};
 ghost use Rattle.listeners.specs.SummaryTexts.{summary_of};
 ghost use Rattle.listeners.specs.TreeTexts.{tree_of, drawn_of, lines_below};
 
 use crate::drawing::draw;
+use crate::feed::feed_text;
 use crate::summary_lines::push_counts;
 use crate::tally::Tally;
 use crate::theme::Theme;
@@ -69,7 +71,8 @@ impl<'a> Results<'a> {
 
     /// Whether a container or a test failed. It takes no memory.
     pub fn failed(&self) -> bool
-        ensures { IsTrue result ↔ HasFailed self.now.plan self.now.events }
+        ensures failed { result ≡ has_failed self.now.plan self.now.events }
+        ensures node { IsTrue result ↔ HasFailed self.now.plan self.now.events }
     {
         tells_failure(self.tally.told())
     }
@@ -96,6 +99,13 @@ impl<'a> Results<'a> {
         ensures levels { IfOk result (λ text. (levels : ℕ) → size self.now.plan.tree ≤ levels → string_bytes text ≡ lines_below (drawn_of theme self.now.plan texts.now self.now.events) levels [] 0) }
     {
         draw(alloc, self.plan.tree(), self.tally.told(), texts, theme)
+    }
+
+    /// The feed: one line for each event, in their order.
+    pub fn feed_text(&self, alloc: Global, texts: &Texts) -> Result<String, AllocError>
+        ensures { IfOk result (λ feed. string_bytes feed ≡ feed_of self.now.plan texts.now self.now.events) }
+    {
+        feed_text(alloc, self.plan, self.events, texts)
     }
 }
 

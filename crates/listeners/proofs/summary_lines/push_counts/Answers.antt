@@ -1,5 +1,5 @@
 -- One line more.
-use Rattle.std.proofs.Common.{string_bytes, length, arith, ◌<◌}
+use Rattle.std.proofs.Common.{string_bytes, arith, ◌<◌}
 use Rattle.std.proofs.lemmas.Grind.{common_steps}
 use Rattle.listeners.specs.SummaryTexts.{phrases}
 use Rattle.listeners.proofs.Printing.{line_more}

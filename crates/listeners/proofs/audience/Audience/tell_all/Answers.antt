@@ -1,5 +1,5 @@
 -- One more event is told to each, with its text.
-use Rattle.std.proofs.Common.{◌≡◌, ◌∙◌, length, refl, arith}
+use Rattle.std.proofs.Common.{◌∙◌, length, refl, arith}
 use Rattle.std.proofs.lemmas.Grind.{common_steps}
 use Rattle.listeners.proofs.Retelling.{told_none, told_more, room_less, smaller_none, smaller_more}
 use Rattle.listeners.proofs.Stepping.{heard_none, heard_more, heard_all}

@@ -1,7 +1,6 @@
 -- What was told of each node is what the events tell, however many levels are allowed.
-use Rattle.std.proofs.Common.{◌≡◌, ◌∙◌, ℕ, ◌≤◌, List, [], IfOk, string_bytes, subst, arith}
+use Rattle.std.proofs.Common.{◌≡◌, ℕ, ◌≤◌, [], string_bytes, subst, arith}
 use Rattle.descriptor.specs.Nodes.{size}
-use Rattle.listeners.specs.Drawings.{drawn_from}
 use Rattle.listeners.specs.Results.{ResultParts}
 use Rattle.listeners.specs.TreeTexts.{drawn_of, lines_below}
 use Rattle.listeners.proofs.Reading.{if_ok, told_tree}
