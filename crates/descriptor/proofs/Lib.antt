@@ -3,6 +3,7 @@ pub mod Belows
 pub mod Distinct
 pub mod Grown
 pub mod Accepted
+pub mod AfterBodies
 pub mod Sets
 pub mod Children
 pub mod Counts

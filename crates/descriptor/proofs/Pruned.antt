@@ -1,6 +1,6 @@
 -- The tree of the kept nodes, one node at a time.
-use Rattle.std.proofs.Common.{◌≡◌, ℕ, zero, suc, ◌+◌, ◌-◌, ◌<◌, ◌≤◌, ◌&&◌, not, Bool, true, false, cond, eqb, ltb, List, [], ◌∷◌, ◌++◌, length, map, get_or, refl, ap, sym, ◌∙◌, arith, inl, inr, subst, Option, Some, None}
-use Rattle.std.specs.Prelude.{slice_get}
+use Rattle.std.proofs.Common.{◌≡◌, ℕ, zero, suc, ◌-◌, ◌<◌, ◌≤◌, ◌&&◌, not, Bool, true, false, cond, eqb, ltb, List, [], ◌∷◌, ◌++◌, length, map, get_or, refl, ap, sym, ◌∙◌, arith, inl, inr, ◌⊎◌, subst, Option, Some, None}
+use Rattle.std.specs.Prelude.{slice_get, ◌||◌}
 use Rattle.std.specs.List.{filter_map, cons_option}
 use Rattle.std.specs.Str.{bytes_eq}
 use Rattle.std.proofs.lemmas.List.{append-nil, map-append, length-map}
@@ -9,11 +9,14 @@ use Rattle.std.proofs.lemmas.Bool.{ne_eqb}
 use Rattle.std.proofs.lemmas.Slice.Eq.{bytes_eq-Decides}
 use Rattle.unique_id.specs.Spelling.{spelling}
 use Rattle.descriptor.specs.declared.node.Node.{Node}
-use Rattle.descriptor.specs.Nodes.{Nodes, IsTree, IsChild, Below, child, under, MayTake, size, parent_of, node_at, text_or, text_of, body_or, body_of, kind_or, is_leaf_at, depth_of, steps_up, numbers_where, count_below, appended, plan_alone}
+use Rattle.descriptor.specs.Nodes.{Nodes, IsTree, IsChild, Below, child, under, MayTake, size, parent_of, node_at, text_or, text_of, body_or, body_of, after_or, after_of, kind_or, role_or, role_of, mode_or, locks_or, isolated_or, is_leaf_at, is_factory_at, is_spare_at, depth_of, steps_up, numbers_where, count_below, appended, plan_alone}
 use Rattle.descriptor.specs.Kinds.{is_container}
-use Rattle.descriptor.specs.Refusals.{refusal, has_text, has_body, is_body}
+use Rattle.descriptor.specs.Bodies.{is_body, is_same_body}
+use Rattle.descriptor.specs.Declarations.{declares}
+use Rattle.descriptor.specs.Refusals.{refusal, has_text, has_body, uses_body}
+use Rattle.descriptor.specs.Roles.{is_factory, is_spare, is_misplaced}
 use Rattle.descriptor.specs.Pruned.{is_kept, is_kept_node, new_number, IsClosed, KeepsNodes, tree_of, pruned_below, pruned}
-use Rattle.descriptor.proofs.Accepted.{get_early, none_holds, tree_grown}
+use Rattle.descriptor.proofs.Accepted.{IsPlaced, node_before, node_last, pass_by, not_misplaced, nothing_declared, after_is_placed, tree_grown}
 use Rattle.descriptor.proofs.Between.{between}
 use Rattle.descriptor.proofs.Children.{counted}
 use Rattle.descriptor.proofs.Counts.{cases_bool, above_zero, count_most, count_increases, count_last, count_reached, count_without_first}
@@ -32,19 +35,9 @@ get_some [] i h = absurd (omega arith)
 get_some (x ∷ xs) zero h = (x, refl)
 get_some (x ∷ xs) (suc i) h = get_some xs i (omega arith)
 
-get_end : (xs : List Node) (x : Node) (i : ℕ) → i ≡ length xs → slice_get (xs ++ x ∷ []) i ≡ Some x
-get_end [] x zero e = refl
-get_end [] x (suc i) e = absurd (omega arith)
-get_end (y ∷ xs) x zero e = absurd (omega arith)
-get_end (y ∷ xs) x (suc i) e = get_end xs x i (omega arith)
-
-node_before : (u : Nodes) (a : ℕ) (node : Node) (k : ℕ) → length u.nodes + 1 ≡ size u → k < size u → node_at (appended u a node) k ≡ node_at u k
-node_before u a node zero len h = refl
-node_before u a node (suc k) len h = get_early u.nodes node k (omega arith)
-
-node_last : (u : Nodes) (a : ℕ) (node : Node) (k : ℕ) → length u.nodes + 1 ≡ size u → k ≡ size u → node_at (appended u a node) k ≡ Some node
-node_last u a node zero len e = absurd (omega arith)
-node_last u a node (suc k) len e = get_end u.nodes node k (omega arith)
+zero_or_more : (n : ℕ) → (n ≡ 0) ⊎ (0 < n)
+zero_or_more zero = inl refl
+zero_or_more (suc n) = inr (omega arith)
 
 step_up : (ps : List ℕ) (i j x : ℕ) → j ≡ suc i → 0 < x → steps_up ps j x ≡ suc (steps_up ps i (get_or ps x 0))
 step_up ps i zero x e h = absurd (omega arith)
@@ -58,6 +51,13 @@ no_step ps (suc j) = refl
 body_from : (b : ℕ) (body : Option ℕ) → is_body b body ≡ true → body ≡ Some b
 body_from b None e = absurd (cc)
 body_from b (Some other) e = let same : other ≡ b = grind (arith, e) in ap Some same
+
+either : (a b : Bool) → (a || b) ≡ true → (a ≡ true) ⊎ (b ≡ true)
+either true b e = inl refl
+either false b e = inr e
+
+none_of : (a b c : Bool) → a ≡ false → b ≡ false → c ≡ false → (a || b || c) ≡ false
+none_of a b c e d f = rw (e, d, f) refl
 
 less_eqb : (m n : ℕ) → m < n → eqb m n ≡ false
 less_eqb m n h = ne_eqb m n (λ e. omega arith)
@@ -77,6 +77,18 @@ no_body_alone : (m b : ℕ) → body_of plan_alone m ≡ Some b → ⊥
 no_body_alone zero b e = cc
 no_body_alone (suc m) b e = cc
 
+no_after_alone : (m b : ℕ) → after_of plan_alone m ≡ Some b → ⊥
+no_after_alone zero b e = cc
+no_after_alone (suc m) b e = cc
+
+no_factory_alone : (m : ℕ) → is_factory_at plan_alone m ≡ true → ⊥
+no_factory_alone zero e = cc
+no_factory_alone (suc m) e = cc
+
+no_spare_alone : (m : ℕ) → is_spare_at plan_alone m ≡ true → ⊥
+no_spare_alone zero e = cc
+no_spare_alone (suc m) e = cc
+
 no_node_alone : (m : ℕ) (node : Node) → node_at plan_alone m ≡ Some node → ⊥
 no_node_alone zero node e = cc
 no_node_alone (suc m) node e = cc
@@ -85,8 +97,8 @@ shallow_alone : (n : ℕ) → n < 1 → depth_of plan_alone n ≤ 64
 shallow_alone zero h = omega arith
 shallow_alone (suc n) h = absurd (omega arith)
 
-no_child_alone : (n c : ℕ) → IsChild plan_alone n c → is_leaf_at plan_alone n ≡ false
-no_child_alone n c e = absurd (let inside : c < 1 = e.inside in omega (arith, e.above_zero))
+no_child_alone : (n c : ℕ) → IsChild plan_alone n c → ⊥
+no_child_alone n c e = let inside : c < 1 = e.inside in omega (arith, e.above_zero)
 
 plan_tree : IsTree plan_alone
 plan_tree = record {
@@ -96,9 +108,16 @@ plan_tree = record {
   up = λ n above h. absurd (omega arith);
   preorder = λ n above h. absurd (omega arith);
   shallow = shallow_alone;
-  leaf = no_child_alone;
+  leaf = λ n c e. absurd (no_child_alone n c e);
   ids = λ m n text d e. absurd (no_text_alone m text d);
   bodies = λ m n b d e. absurd (no_body_alone m b d);
+  afters = λ m n b d e. absurd (no_after_alone m b d);
+  apart = λ m n b d e. no_body_alone m b d;
+  after_placed = λ n b e. absurd (no_after_alone n b e);
+  spares = λ n c e. absurd (no_child_alone n c e);
+  spare_tests = λ n e. absurd (no_spare_alone n e);
+  factories = λ n e. absurd (no_factory_alone n e);
+  engines = λ n e. absurd (no_child_alone 0 n e);
   short = λ n node e. absurd (no_node_alone n node e);
 }
 
@@ -141,6 +160,14 @@ module _ (t : Nodes) (keep : List Bool) where
         let less : parent_of t (suc n) < suc n = tree.up (suc n) above inside in
         ap suc (steps_enough t.parents tree.up n (parent_of t (suc n)) (parent_of t (suc n)) (omega arith) (omega arith) (omega arith))
 
+    -- a node stands where its role and kind let it
+    placed_so : (n : ℕ) (node : Node) → IsChild t (parent_of t n) n → node_at t n ≡ Some node → IsPlaced (role_of t (parent_of t n)) node.kind node.role
+    placed_so n node stands told = record {
+      spare = ap (λ x. is_spare (role_or x)) (sym told) ∙ tree.spares (parent_of t n) n stands;
+      spare_test = λ e. ap (λ x. not (is_container (kind_or x))) (sym told) ∙ tree.spare_tests n (ap (λ x. is_spare (role_or x)) told ∙ e);
+      factory = λ e. ap (λ x. not (is_container (kind_or x))) (sym told) ∙ tree.factories n (ap (λ x. is_factory (role_or x)) told ∙ e);
+    }
+
     -- what holds of the tree of the kept nodes below n
     pub record Upto (n : ℕ) : Type 0 where
       pub grown : IsTree (pruned_below t keep n)
@@ -168,30 +195,49 @@ module _ (t : Nodes) (keep : List Bool) where
               ∙ has_text_grown (pruned_below t keep (suc n)) (new_number keep (parent_of t (suc n))) node.0 text ∙ cond_no _ _ other before
         ]
 
-    -- no node before has this body
-    no_body : (i b : ℕ) → i < size t → body_of t i ≡ Some b → (n : ℕ) → 0 < n → n ≤ i → has_body (pruned_below t keep n) (Some b) ≡ false
-    no_body i b inside is zero above h = absurd (omega arith)
-    no_body i b inside is (suc zero) above h = refl
-    no_body i b inside is (suc (suc n)) above h =
-        let before : has_body (pruned_below t keep (suc n)) (Some b) ≡ false = no_body i b inside is (suc n) (omega arith) (omega arith) in
+    -- whether b is a body or an after-body of a node is told by the tree
+    used : (m b : ℕ) (node : Node) → node_at t m ≡ Some node → uses_body b node ≡ true → (body_of t m ≡ Some b) ⊎ (after_of t m ≡ Some b)
+    used m b node told passes = elim (either (is_body b node.body) (is_body b node.after) passes) [
+      | inl body ↦ inl (ap body_or told ∙ body_from b node.body body)
+      | inr after ↦ inr (ap after_or told ∙ body_from b node.after after)
+    ]
+
+    -- no node before has this body, where only node i may have it
+    no_body : (i b : ℕ) → ((m : ℕ) → m < i → body_of t m ≡ Some b → ⊥) → ((m : ℕ) → m < i → after_of t m ≡ Some b → ⊥) → i < size t → (n : ℕ) → 0 < n → n ≤ i → has_body (pruned_below t keep n) (Some b) ≡ false
+    no_body i b never nor inside zero above h = absurd (omega arith)
+    no_body i b never nor inside (suc zero) above h = refl
+    no_body i b never nor inside (suc (suc n)) above h =
+        let before : has_body (pruned_below t keep (suc n)) (Some b) ≡ false = no_body i b never nor inside (suc n) (omega arith) (omega arith) in
         elim (cases_bool (is_kept keep (suc n))) [
           | inr left ↦ ap (λ (u : Nodes). has_body u (Some b)) (step_left (suc n) left) ∙ before
           | inl kept ↦
               let node = told_of (suc n) (omega arith) (omega arith) in
-              let other : is_body b node.0.body ≡ false = elim (cases_bool (is_body b node.0.body)) [
+              let other : uses_body b node.0 ≡ false = elim (cases_bool (uses_body b node.0)) [
                 | inr fails ↦ fails
-                | inl passes ↦
-                    let same : node.0.body ≡ Some b = body_from b node.0.body passes in
-                    let one : suc n ≡ i = tree.bodies (suc n) i b (ap body_or node.1 ∙ same) is in
-                    absurd (omega arith)
+                | inl passes ↦ absurd (elim (used (suc n) b node.0 node.1 passes) [ inl body ↦ never (suc n) (omega arith) body | inr after ↦ nor (suc n) (omega arith) after ])
               ] in
               ap (λ (u : Nodes). has_body u (Some b)) (step_kept (suc n) node.0 (omega arith) kept node.1)
               ∙ has_body_grown (pruned_below t keep (suc n)) (new_number keep (parent_of t (suc n))) node.0 b ∙ cond_no _ _ other before
         ]
 
+    not_here : (m i : ℕ) → m < i → m ≡ i → ⊥
+    not_here m i h e = omega arith
+
     no_body_or : (i : ℕ) (body : Option ℕ) → 0 < i → i < size t → body_of t i ≡ body → has_body (pruned_below t keep i) body ≡ false
     no_body_or i None above inside is = refl
-    no_body_or i (Some b) above inside is = no_body i b inside is i above (omega arith)
+    no_body_or i (Some b) above inside is = no_body i b (λ m h e. not_here m i h (tree.bodies m i b e is)) (λ m h e. tree.apart i m b is e) inside i above (omega arith)
+
+    no_after_or : (i : ℕ) (body : Option ℕ) → 0 < i → i < size t → after_of t i ≡ body → has_body (pruned_below t keep i) body ≡ false
+    no_after_or i None above inside is = refl
+    no_after_or i (Some b) above inside is = no_body i b (λ m h e. tree.apart m i b e is) (λ m h e. not_here m i h (tree.afters m i b e is)) inside i above (omega arith)
+
+    -- a node's body is not its after-body
+    own_body : (n : ℕ) (body after : Option ℕ) → body_of t n ≡ body → after_of t n ≡ after → is_same_body body after ≡ false
+    own_body n None after d e = refl
+    own_body n (Some b) after d e = elim (cases_bool (is_body b after)) [
+      | inr fails ↦ fails
+      | inl passes ↦ absurd (tree.apart n n b d (e ∙ body_from b after passes))
+    ]
 
     module _ (n : ℕ) (above : 0 < n) (most : n ≤ size t) (upto : Upto n) where
       size_so_far : size (pruned_below t keep n) ≡ new_number keep n
@@ -251,6 +297,15 @@ module _ (t : Nodes) (keep : List Bool) where
             ],
           )
 
+      -- as a child of the plan it declares nothing
+      no_engine : (node : Node) → node_at t n ≡ Some node → (eqb (new_number keep (parent_of t n)) 0 && declares node) ≡ false
+      no_engine node told = elim (zero_or_more (parent_of t n)) [
+        | inr more ↦ ap (λ x. x && declares node) (ne_eqb (new_number keep (parent_of t n)) 0 (λ e. omega (arith, count_increases (is_kept keep) 0 (parent_of t n) more closed.root)))
+        | inl top ↦
+            let was = tree.engines n (record { above_zero = above; inside = inside; parent = top }) in
+            and_no _ _ (nothing_declared node (record { no_mode = ap mode_or (sym told) ∙ was.no_mode; no_locks = ap locks_or (sym told) ∙ was.no_locks; not_isolated = ap isolated_or (sym told) ∙ was.not_isolated }))
+      ]
+
       -- and nothing refuses it
       pub no_refusal : (node : Node) → node_at t n ≡ Some node → refusal (pruned_below t keep n) (new_number keep (parent_of t n)) node ≡ None
       no_refusal node told =
@@ -261,8 +316,16 @@ module _ (t : Nodes) (keep : List Bool) where
           let deeper : depth_of t n ≡ suc (depth_of t (parent_of t n)) = depth_down n above inside in
           let deep : depth_of (pruned_below t keep n) (new_number keep (parent_of t n)) ≡ depth_of t (parent_of t n) = depth_kept n above (omega arith) upto (parent_of t n) smaller parent_kept in
           let shallow : eqb (depth_of (pruned_below t keep n) (new_number keep (parent_of t n))) 64 ≡ false = less_eqb _ _ (rw deep (omega (arith, tree.shallow n inside))) in
-          let container : is_leaf_at (pruned_below t keep n) (new_number keep (parent_of t n)) ≡ false = ap (λ x. not (is_container (kind_or x))) (upto.told (parent_of t n) smaller parent_kept) ∙ tree.leaf (parent_of t n) n (record { above_zero = above; inside = inside; parent = refl }) in
-          none_holds _ _ _ _ _ _ _ _ _ _ _ _ few shallow (no_text n (spelling node.id) inside (ap text_or told) n above (omega arith)) container (no_body_or n node.body above inside (ap body_or told)) (tree.short n node told)
+          let stands : IsChild t (parent_of t n) n = record { above_zero = above; inside = inside; parent = refl } in
+          let parent_told : node_at (pruned_below t keep n) (new_number keep (parent_of t n)) ≡ node_at t (parent_of t n) = upto.told (parent_of t n) smaller parent_kept in
+          let container : is_leaf_at (pruned_below t keep n) (new_number keep (parent_of t n)) ≡ false = ap (λ x. not (is_container (kind_or x))) parent_told ∙ tree.leaf (parent_of t n) n stands in
+          let body = none_of _ _ _ (no_body_or n node.body above inside (ap body_or told)) (no_after_or n node.after above inside (ap after_or told)) (own_body n node.body node.after (ap body_or told) (ap after_or told)) in
+          let misplaced : is_misplaced (role_of (pruned_below t keep n) (new_number keep (parent_of t n))) node.kind node.role ≡ false =
+          ap (λ x. is_misplaced (role_or x) node.kind node.role) parent_told ∙ not_misplaced _ _ _ (placed_so n node stands told) in
+          let after = after_is_placed node.kind node.role node.after (λ b e. (let was = tree.after_placed n b (ap after_or told ∙ e) in (ap (λ x. not (is_container (kind_or x))) (sym told) ∙ was.0, ap (λ x. is_factory (role_or x)) (sym told) ∙ was.1))) in
+          pass_by _ _ _ few (pass_by _ _ _ shallow (pass_by _ _ _ (no_text n (spelling node.id) inside (ap text_or told) n above (omega arith)) (
+          pass_by _ _ _ container (pass_by _ _ _ (no_engine node told) (pass_by _ _ _ body (pass_by _ _ _ misplaced (
+          pass_by _ _ _ (tree.short n node told) (pass_by _ _ _ after refl))))))))
 
       one_more : (node : Node) → node_at t n ≡ Some node → Upto (suc n)
       one_more node told =

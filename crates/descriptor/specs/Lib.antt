@@ -1,9 +1,13 @@
 -- The definitions that contracts cite.
+pub mod Bodies
 pub mod BuilderFields
 pub mod Children
+pub mod Declarations
 pub mod Fields
 pub mod Kinds
 pub mod Limits
 pub mod Nodes
+pub mod PlainNodes
 pub mod Pruned
 pub mod Refusals
+pub mod Roles

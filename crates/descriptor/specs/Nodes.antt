@@ -2,11 +2,17 @@
 use Rattle.std.specs.Prelude.{◌≡◌, ℕ, zero, suc, ◌+◌, ◌-◌, ◌<◌, ◌≤◌, ◌&&◌, ◌==◌, nat_lt, not, Bool, true, false, cond, List, [], ◌∷◌, ◌++◌, length, Option, Some, None, slice_get, slice_index_or, ◌⊎◌}
 use Rattle.std.specs.Option.{is_some}
 use Rattle.unique_id.specs.Spelling.{spelling}
-use Rattle.descriptor.specs.declared.node.Node.{Node}
-use Rattle.descriptor.specs.Limits.{is_over_limit}
 use Rattle.descriptor.specs.declared.kind.Kind.TheVariants.{Container}
 use Rattle.descriptor.specs.declared.kind.Kind.{Kind}
+use Rattle.descriptor.specs.declared.lock.Lock.{Lock}
+use Rattle.descriptor.specs.declared.mode.Mode.{Mode}
+use Rattle.descriptor.specs.declared.node.Node.{Node}
+use Rattle.descriptor.specs.declared.role.Role.TheVariants.{Plain}
+use Rattle.descriptor.specs.declared.role.Role.{Role}
+use Rattle.descriptor.specs.Declarations.{DeclaresNothing}
 use Rattle.descriptor.specs.Kinds.{is_container}
+use Rattle.descriptor.specs.Limits.{is_over_limit}
+use Rattle.descriptor.specs.Roles.{is_factory, is_spare}
 
 -- `parents` has a number for node 0 too, which says nothing; `nodes` begins with node 1
 pub record Nodes : Type 0 where
@@ -87,6 +93,50 @@ kind_of t n = kind_or (node_at t n)
 abbrev pub is_leaf_at : Nodes → ℕ → Bool
 is_leaf_at t n = not (is_container (kind_of t n))
 
+-- the role of a node; where there is none, no special one
+abbrev pub role_or : Option Node → Role
+role_or None = Plain
+role_or (Some node) = node.role
+
+-- the role of node n; the plan has no special one
+abbrev pub role_of : Nodes → ℕ → Role
+role_of t n = role_or (node_at t n)
+
+-- whether node n is a factory; the plan is none
+abbrev pub is_factory_at : Nodes → ℕ → Bool
+is_factory_at t n = is_factory (role_of t n)
+
+-- whether node n is a spare; the plan is none
+abbrev pub is_spare_at : Nodes → ℕ → Bool
+is_spare_at t n = is_spare (role_of t n)
+
+-- the mode that a node declares; where there is none, no mode
+abbrev pub mode_or : Option Node → Option Mode
+mode_or None = None
+mode_or (Some node) = node.mode
+
+-- the mode that node n declares, if any; the plan declares none
+abbrev pub mode_of : Nodes → ℕ → Option Mode
+mode_of t n = mode_or (node_at t n)
+
+-- the locks that a node declares; where there is none, no locks
+abbrev pub locks_or : Option Node → List Lock
+locks_or None = []
+locks_or (Some node) = node.locks
+
+-- the locks that node n declares; the plan declares none
+abbrev pub locks_of : Nodes → ℕ → List Lock
+locks_of t n = locks_or (node_at t n)
+
+-- whether a node is isolated; where there is none, it is not
+abbrev pub isolated_or : Option Node → Bool
+isolated_or None = false
+isolated_or (Some node) = node.isolated
+
+-- whether node n is isolated; the plan is not
+abbrev pub is_isolated_at : Nodes → ℕ → Bool
+is_isolated_at t n = isolated_or (node_at t n)
+
 -- the body of a node; where there is none, no body
 abbrev pub body_or : Option Node → Option ℕ
 body_or None = None
@@ -95,6 +145,15 @@ body_or (Some node) = node.body
 -- what runs for node n; the plan has no body
 abbrev pub body_of : Nodes → ℕ → Option ℕ
 body_of t n = body_or (node_at t n)
+
+-- the after-body of a node; where there is none, no after-body
+abbrev pub after_or : Option Node → Option ℕ
+after_or None = None
+after_or (Some node) = node.after
+
+-- what runs after the nodes below node n; the plan has no after-body
+abbrev pub after_of : Nodes → ℕ → Option ℕ
+after_of t n = after_or (node_at t n)
 
 -- why a node is disabled; where there is none, no reason
 abbrev pub reason_or : Option Node → Option (List ℕ)
@@ -147,7 +206,21 @@ pub record IsTree (t : Nodes) : Type 0 where
   pub ids : (m n : ℕ) (text : List ℕ) → text_of t m ≡ Some text → text_of t n ≡ Some text → m ≡ n
   -- no two nodes have one body
   pub bodies : (m n b : ℕ) → body_of t m ≡ Some b → body_of t n ≡ Some b → m ≡ n
-  -- no node's name or reason is too long
+  -- nor one after-body
+  pub afters : (m n b : ℕ) → after_of t m ≡ Some b → after_of t n ≡ Some b → m ≡ n
+  -- and what is a body is no after-body
+  pub apart : (m n b : ℕ) → body_of t m ≡ Some b → after_of t n ≡ Some b → ⊥
+  -- an after-body is that of a node which may hold nodes and is no factory
+  pub after_placed : (n b : ℕ) → after_of t n ≡ Some b → (is_leaf_at t n ≡ false) × (is_factory_at t n ≡ false)
+  -- a node is a spare exactly where its parent is a factory
+  pub spares : (n c : ℕ) → IsChild t n c → is_spare_at t c ≡ is_factory_at t n
+  -- a spare is a test that may hold no other node
+  pub spare_tests : (n : ℕ) → is_spare_at t n ≡ true → is_leaf_at t n ≡ true
+  -- a factory may hold nodes
+  pub factories : (n : ℕ) → is_factory_at t n ≡ true → is_leaf_at t n ≡ false
+  -- an engine declares no mode and no locks, and is not isolated
+  pub engines : (n : ℕ) → IsChild t 0 n → DeclaresNothing (mode_of t n) (locks_of t n) (is_isolated_at t n)
+  -- no node's name, reason or key is too long, and none declares too many locks
   pub short : (n : ℕ) (node : Node) → node_at t n ≡ Some node → is_over_limit node ≡ false
 
 -- the plan alone

@@ -1,6 +1,6 @@
 //! Building a tree node by node.
 
-ghost use Rattle.std.specs.Prelude.{◌≡◌, ◌≢◌, ℕ, ◌<◌, ◌↔◌, IsTrue, None, Some, OnOk, OnErr, IfOk, IfErr};
+ghost use Rattle.std.specs.Prelude.{◌≡◌, ◌≢◌, ℕ, ◌+◌, ◌<◌, ◌≤◌, ◌↔◌, IsTrue, None, Some, OnOk, OnErr, IfOk, IfErr, IfSome};
 
 use crate::body_id::BodyId;
 use crate::fault::TreeFault;
@@ -41,7 +41,8 @@ impl Model for TreeBuilder {
 impl TreeBuilder {
     ghost use Rattle.descriptor.specs.Children.{ListsChildren};
     ghost use Rattle.descriptor.specs.Nodes.{size, plan_alone, appended, MayTake, IsTree};
-    ghost use Rattle.descriptor.specs.Refusals.{refusal, has_body};
+    ghost use Rattle.descriptor.specs.Bodies.{with_after};
+    ghost use Rattle.descriptor.specs.Refusals.{refusal, after_refusal, has_body, repeats_body};
 
     /// The builder of a tree of the plan alone.
     pub fn new(alloc: Global) -> Result<TreeBuilder, AllocError>
@@ -65,7 +66,7 @@ impl TreeBuilder {
 
     /// Adds the next node as the last child of a node that may take it, and returns its number.
     ///
-    /// Errors: the first of refusals 10, 11, 12, 13, 15 and 17 that holds, and else want of memory.
+    /// Errors: the first of refusals 10 to 18 that holds, and else want of memory.
     pub fn add(&mut self, alloc: Global, parent: NodeId, node: Node) -> Result<NodeId, TreeFault>
         requires { MayTake self.old parent }
         ensures ok { IfOk result (λ number. (number ≡ size self.old) × (refusal self.old parent node ≡ None)) }
@@ -78,20 +79,38 @@ impl TreeBuilder {
             return Err(fault);
         }
         let id = String::from_str(alloc, node.id.text())?;
-        let body = node.body;
+        let (body, after) = (node.body, node.after);
         self.ids.reserve(1)?;
-        self.bodies.reserve(1)?;
+        self.bodies.reserve(2)?;
         let number = self.tree.push(alloc, parent, node)?;
         // nothing below can fail, so that an `Err` leaves the builder as it was
         let Ok(_) = self.ids.insert(id) else {
             unreachable!()
         };
-        if let Some(body) = body {
-            let Ok(_) = self.bodies.insert(body) else {
-                unreachable!()
-            };
-        }
+        put_body(&mut self.bodies, body);
+        put_body(&mut self.bodies, after);
         Ok(number)
+    }
+
+    /// Gives a node of the tree an after-body, for a caller that learns of it after the nodes below.
+    ///
+    /// Errors: refusal 15 where the body is one already; else 18 where the node is the plan, a factory, or a test that
+    /// holds no other node, or has an after-body; else want of memory.
+    pub fn set_after(&mut self, node: NodeId, body: BodyId) -> Result<(), TreeFault>
+        requires { node < size self.old }
+        ensures ok { IfOk result (λ _. after_refusal self.old node body ≡ None) }
+        ensures set { OnOk result (self.new ≡ with_after self.old node body) }
+        ensures refused { IfErr result (λ fault. fault ≢ TreeFault.NoMemory → after_refusal self.old node body ≡ Some fault) }
+        ensures no_memory { IfErr result (λ fault. fault ≡ TreeFault.NoMemory → after_refusal self.old node body ≡ None) }
+        ensures err { OnErr result (self.new ≡ self.old) }
+    {
+        if let Some(fault) = self.after_refusal(node, body) {
+            return Err(fault);
+        }
+        self.bodies.reserve(1)?;
+        self.tree.set_after(node, body);
+        put_body(&mut self.bodies, Some(body));
+        Ok(())
     }
 
     /// The tree so far.
@@ -117,7 +136,8 @@ impl TreeBuilder {
 
     fn refusal(&self, parent: NodeId, node: &Node) -> Option<TreeFault>
         requires { parent < size self.now }
-        ensures { result ≡ refusal self.now parent node.now }
+        ensures first { result ≡ refusal self.now parent node.now }
+        ensures no_memory { IfSome result (λ fault. fault ≢ TreeFault.NoMemory) }
     {
         if self.tree.len() == MOST_NODES {
             Some(TreeFault::TooMany)
@@ -125,15 +145,40 @@ impl TreeBuilder {
             Some(TreeFault::TooDeep)
         } else if self.ids.contains(node.id.text()) {
             Some(TreeFault::DoubleId)
-        } else if self.tree.is_leaf(parent) {
+        } else if !self.tree.kind(parent).is_container() {
             Some(TreeFault::ParentIsTest)
-        } else if self.has_body(node.body) {
+        } else if parent == NodeId::ROOT && node.declares() {
+            Some(TreeFault::EngineLock)
+        } else if self.repeats_body(node) {
             Some(TreeFault::BodyTwice)
+        } else if node.is_misplaced(self.tree.role(parent)) {
+            Some(TreeFault::SpareOutsideFactory)
         } else if node.is_over_limit() {
             Some(TreeFault::OverLimit)
+        } else if node.has_misplaced_after() {
+            Some(TreeFault::AfterMisplaced)
         } else {
             None
         }
+    }
+
+    fn after_refusal(&self, node: NodeId, body: BodyId) -> Option<TreeFault>
+        requires { node < size self.now }
+        ensures { result ≡ after_refusal self.now node body }
+    {
+        if self.has_body(Some(body)) {
+            Some(TreeFault::BodyTwice)
+        } else if node != NodeId::ROOT && self.tree.node(node).may_get_after() {
+            None
+        } else {
+            Some(TreeFault::AfterMisplaced)
+        }
+    }
+
+    fn repeats_body(&self, node: &Node) -> bool
+        ensures { result ≡ repeats_body self.now node.now }
+    {
+        self.has_body(node.body) || self.has_body(node.after) || node.repeats_itself()
     }
 
     fn has_body(&self, body: Option<BodyId>) -> bool
@@ -143,5 +188,22 @@ impl TreeBuilder {
             Some(body) => self.bodies.contains(&body),
             None => false,
         }
+    }
+}
+
+ghost use Rattle.std.specs.Prelude.{nat_eq, cond, true};
+ghost use Rattle.std.specs.HashSet.{contains_by, spare};
+ghost use Rattle.descriptor.specs.Bodies.{is_body};
+
+/// Puts a body, if there is one, into a set that has room for it.
+fn put_body(bodies: &mut HashSet<BodyId>, body: Option<BodyId>)
+    requires { 0 < spare bodies.old }
+    ensures has { (b : ℕ) → contains_by (nat_eq b) bodies.new ≡ cond (is_body b body) true (contains_by (nat_eq b) bodies.old) }
+    ensures room { spare bodies.old ≤ spare bodies.new + 1 }
+{
+    if let Some(body) = body {
+        let Ok(_) = bodies.insert(body) else {
+            unreachable!()
+        };
     }
 }

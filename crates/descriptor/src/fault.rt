@@ -25,12 +25,22 @@ pub enum TreeFault {
     /// Refusal 13: the parent is a test, which holds no other node.
     #[error("the parent takes no children")]
     ParentIsTest,
-    /// Refusal 15: a node has the same body.
-    #[error("a node has this body")]
+    /// Refusal 14: a child of the plan declares a mode or a lock, or is isolated.
+    #[error("an engine with a mode, a lock or isolation")]
+    EngineLock,
+    /// Refusal 15: its body or its after-body is one already, of another node or of the same.
+    #[error("a body or an after-body that is one already")]
     BodyTwice,
-    /// Refusal 17: the name or the reason has more than 1,024 bytes.
-    #[error("a name or a reason of more than 1024 bytes")]
+    /// Refusal 16: a spare whose parent is no factory or that may hold other nodes, another node below a factory, or a
+    /// factory that may hold none.
+    #[error("a spare outside a factory, another node in one, or a factory that takes no children")]
+    SpareOutsideFactory,
+    /// Refusal 17: the name, the reason or a key has more than 1,024 bytes, or there are more than 16 locks.
+    #[error("a name, a reason or a key of more than 1024 bytes, or more than 16 locks")]
     OverLimit,
+    /// Refusal 18: a node that takes no after-body has one: a factory, or a test that holds no other node.
+    #[error("an after-body where there may be none")]
+    AfterMisplaced,
 }
 
 impl TreeFault {
@@ -46,8 +56,11 @@ impl TreeFault {
             TreeFault::TooDeep => 11,
             TreeFault::DoubleId => 12,
             TreeFault::ParentIsTest => 13,
+            TreeFault::EngineLock => 14,
             TreeFault::BodyTwice => 15,
+            TreeFault::SpareOutsideFactory => 16,
             TreeFault::OverLimit => 17,
+            TreeFault::AfterMisplaced => 18,
         }
     }
 }

@@ -4,8 +4,11 @@ ghost use Rattle.std.specs.Prelude.{◌≡◌, ℕ, ◌<◌, ◌≤◌, ◌-◌,
 
 use crate::body_id::BodyId;
 use crate::kind::Kind;
+use crate::lock::Lock;
+use crate::mode::Mode;
 use crate::node::Node;
 use crate::node_id::NodeId;
+use crate::role::Role;
 use std::alloc::{AllocError, Global};
 use std::marker::Model;
 use tag_expr::TagSet;
@@ -38,8 +41,9 @@ impl Tree {
     ghost use Rattle.std.specs.Option.{is_some};
     ghost use Rattle.descriptor.specs.Children.{ListsChildren};
     ghost use Rattle.descriptor.specs.Pruned.{IsClosed, KeepsNodes, pruned};
-    ghost use Rattle.descriptor.specs.Refusals.{refusal};
-    ghost use Rattle.descriptor.specs.Nodes.{size, plan_alone, parent_of, children_of, node_at, kind_of, body_of, reason_of, is_disabled, tags_of, is_leaf_at, depth_of, appended, Below, MayTake, IsTree, IsChild};
+    ghost use Rattle.descriptor.specs.Bodies.{with_after};
+    ghost use Rattle.descriptor.specs.Refusals.{refusal, after_refusal};
+    ghost use Rattle.descriptor.specs.Nodes.{size, plan_alone, parent_of, children_of, node_at, kind_of, role_of, mode_of, locks_of, is_isolated_at, body_of, after_of, reason_of, is_disabled, tags_of, depth_of, appended, Below, MayTake, IsTree, IsChild};
 
     /// How many nodes there are, the plan included.
     pub fn len(&self) -> usize
@@ -93,6 +97,50 @@ impl Tree {
         }
     }
 
+    /// What a node does in a plan that grows while it runs; the plan itself has no special role.
+    pub fn role(&self, node: NodeId) -> Role
+        requires { node < size self.now }
+        ensures { result ≡ role_of self.now node }
+    {
+        if node == NodeId::ROOT {
+            Role::Plain
+        } else {
+            self.node(node).role
+        }
+    }
+
+    /// The execution mode that a node declares, if any; the plan declares none.
+    pub fn mode(&self, node: NodeId) -> Option<Mode>
+        requires { node < size self.now }
+        ensures { result ≡ mode_of self.now node }
+    {
+        if node == NodeId::ROOT {
+            None
+        } else {
+            self.node(node).mode
+        }
+    }
+
+    /// The locks that a node declares, in order; the plan declares none.
+    pub fn locks(&self, node: NodeId) -> &[Lock]
+        requires { node < size self.now }
+        ensures { result.now ≡ locks_of self.now node }
+    {
+        if node == NodeId::ROOT {
+            &[]
+        } else {
+            self.node(node).locks.as_slice()
+        }
+    }
+
+    /// Whether a node is isolated; the plan is not.
+    pub fn is_isolated(&self, node: NodeId) -> bool
+        requires { node < size self.now }
+        ensures { result ≡ is_isolated_at self.now node }
+    {
+        node != NodeId::ROOT && self.node(node).isolated
+    }
+
     /// What runs for a node, if anything; nothing runs for the plan.
     pub fn body(&self, node: NodeId) -> Option<BodyId>
         requires { node < size self.now }
@@ -102,6 +150,18 @@ impl Tree {
             None
         } else {
             self.node(node).body
+        }
+    }
+
+    /// What runs after the nodes below a node, if anything; nothing does for the plan.
+    pub fn after(&self, node: NodeId) -> Option<BodyId>
+        requires { node < size self.now }
+        ensures { result ≡ after_of self.now node }
+    {
+        if node == NodeId::ROOT {
+            None
+        } else {
+            self.node(node).after
         }
     }
 
@@ -225,6 +285,16 @@ impl Tree {
         Ok(next)
     }
 
+    /// Gives a node an after-body.
+    pub(crate) fn set_after(&mut self, node: NodeId, body: BodyId)
+        requires above_zero { 0 < node }
+        requires inside { node < size self.old }
+        requires accepted { after_refusal self.old node body ≡ None }
+        ensures { self.new ≡ with_after self.old node body }
+    {
+        self.nodes[node.index() - 1].after = Some(body);
+    }
+
     /// The last node.
     pub(crate) fn last(&self) -> NodeId
         ensures last { result ≡ size self.now - 1 }
@@ -232,14 +302,6 @@ impl Tree {
         ensures few { size self.now ≤ 4096 }
     {
         NodeId::new((self.parents.len() - 1) as u16)
-    }
-
-    /// Whether the node takes no children, as a test that is no container.
-    pub(crate) fn is_leaf(&self, node: NodeId) -> bool
-        requires { node < size self.now }
-        ensures { result ≡ is_leaf_at self.now node }
-    {
-        !self.kind(node).is_container()
     }
 
     /// How many steps lead from the plan to the node.

@@ -9,6 +9,7 @@ use Rattle.descriptor.specs.declared.node.Node.{Node}
 use Rattle.descriptor.specs.declared.fault.TreeFault.{TreeFault}
 use Rattle.descriptor.specs.declared.fault.TreeFault.TheVariants.{OverLimit}
 use Rattle.descriptor.specs.Nodes.{Nodes, size, node_at, appended}
+use Rattle.descriptor.specs.PlainNodes.{plain}
 use Rattle.descriptor.specs.Refusals as trees
 use Rattle.suite_text.specs.declared.script.Script.{Script}
 use Rattle.suite_text.specs.declared.suite_words.Word.{Word}
@@ -52,12 +53,13 @@ body_declared verdict n = option_map (λ status. n) (status_declared verdict)
 abbrev pub script_declared : Declaration → ℕ → Option Script
 script_declared d n = option_map (λ status. ending n (spin_said d.attributes) status d.text) (status_declared d.verdict)
 
+-- the id of what is declared below a node with this word and these segments
+abbrev pub id_declared : Option Word → List Segment → Declaration → List Segment
+id_declared parent segments d = segments ++ record { kind = segment_kind parent d.word; value = d.name } ∷ []
+
 -- the node of number n that is declared below one with this word and these segments
 abbrev pub node_declared : ℕ → Option Word → List Segment → Declaration → Node
-node_declared n parent segments d = record {
-  id = segments ++ record { kind = segment_kind parent d.word; value = d.name } ∷ [];
-  name = d.name;
-  kind = kind_declared d.word;
+node_declared n parent segments d = record plain (id_declared parent segments d) d.name (kind_declared d.word) {
   body = body_declared d.verdict n;
   disabled = reason_declared d.verdict d.text;
   tags = d.attributes.tags;

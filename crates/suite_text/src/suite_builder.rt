@@ -82,13 +82,12 @@ fn node_below(
         Err(UidFault::NoMemory) => return Err(TreeFault::NoMemory),
         Err(_) => return Err(TreeFault::OverLimit),
     };
+    let name = Text::new(alloc, declared.name)?;
     Ok(Node {
-        id,
-        name: Text::new(alloc, declared.name)?,
-        kind: declared.word.kind(),
         body: declared.body(number),
         disabled: declared.reason(alloc)?,
         tags: declared.attributes.tags,
+        ..Node::plain(alloc, id, name, declared.word.kind())
     })
 }
 

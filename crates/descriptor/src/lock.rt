@@ -1,0 +1,35 @@
+//! Resource locks.
+
+ghost use Rattle.std.specs.Prelude.{◌≡◌, IfOk};
+
+use crate::lock_mode::LockMode;
+use std::alloc::{AllocError, Global};
+use unique_id::Text;
+
+/// A declaration that a node uses a shared resource, which is named by a key, and how it uses it.
+#[derive(Debug, Drop)]
+pub struct Lock {
+    /// What the resource is called.
+    pub key: Text,
+    /// Whether the resource is only read.
+    pub mode: LockMode,
+}
+
+impl Lock {
+    /// The lock of this key, in memory of its own.
+    pub fn new(alloc: Global, key: &str, mode: LockMode) -> Result<Lock, AllocError>
+        ensures { IfOk result (λ lock. lock ≡ record { key = key.now; mode = mode }) }
+    {
+        Ok(Lock {
+            key: Text::new(alloc, key)?,
+            mode,
+        })
+    }
+
+    /// The same lock, in memory of its own.
+    pub fn copy(&self, alloc: Global) -> Result<Lock, AllocError>
+        ensures { IfOk result (λ lock. lock ≡ self.now) }
+    {
+        Lock::new(alloc, self.key.as_str(), self.mode)
+    }
+}
