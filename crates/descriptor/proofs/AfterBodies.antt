@@ -12,7 +12,7 @@ use Rattle.descriptor.specs.Declarations.{DeclaresNothing}
 use Rattle.descriptor.specs.Fields.{IsKept}
 use Rattle.descriptor.specs.Kinds.{is_container}
 use Rattle.descriptor.specs.Limits.{is_over_limit}
-use Rattle.descriptor.specs.Nodes.{Nodes, IsTree, IsChild, Below, child, under, size, node_at, kind_or, role_or, mode_or, locks_or, isolated_or, body_or, after_or, text_or, body_of, after_of, mode_of, locks_of, is_isolated_at, is_leaf_at, is_factory_at}
+use Rattle.descriptor.specs.Nodes.{Nodes, IsTree, IsChild, Below, child, under, MayTake, size, node_at, kind_or, role_or, mode_or, locks_or, isolated_or, body_or, after_or, text_or, body_of, after_of, mode_of, locks_of, is_isolated_at, is_leaf_at, is_factory_at}
 use Rattle.descriptor.specs.Refusals.{has_text, has_body, uses_body, after_refusal}
 use Rattle.descriptor.specs.Roles.{is_factory, is_spare}
 use Rattle.descriptor.specs.declared.fault.TreeFault.{TreeFault}
@@ -222,3 +222,28 @@ with_after_is t u (suc n) i b x tree inside place at ps ns =
     let same : i ≡ n = omega arith in
     let is : slice_set t.nodes i (given_after b x) ≡ given_after_at b i t.nodes = set_given b t.nodes i x (omega (arith, tree.nodes_len)) at in
     nodes_as _ _ _ _ ps (ap (λ j. given_after_at b j t.nodes) (sym same) ∙ sym is ∙ sym ns)
+
+-- for callers: what has nothing to do with after-bodies is as it was
+pub told_as_before : {V : Type 0} (g : Option Node → V) (t : Nodes) (n b : ℕ) → ((node : Node) → g (Some (given_after b node)) ≡ g (Some node)) → (m : ℕ) → g (node_at (with_after t n b) m) ≡ g (node_at t m)
+told_as_before g t zero b same m = refl
+told_as_before g t (suc i) b same m = same_at t b i g same m
+
+-- what was below a node is below it
+pub below_as_before : (t : Nodes) (n b a c : ℕ) → Below t a c → Below (with_after t n b) a c
+below_as_before t zero b a c e = e
+below_as_before t (suc i) b a c e = below_is t b i a c e
+
+-- and a node that could take the next one can
+pub may_take_as_before : (t : Nodes) (n b a : ℕ) → MayTake t a → MayTake (with_after t n b) a
+may_take_as_before t zero b a m = m
+may_take_as_before t (suc i) b a m = (m.0, elim m.1 [ inl last ↦ inl last | inr below ↦ inr (below_is t b i _ _ below) ])
+
+given_there : (b i : ℕ) (xs : List Node) → i < length xs → after_or (slice_get (given_after_at b i xs) i) ≡ Some b
+given_there b i [] h = absurd (omega arith)
+given_there b zero (x ∷ xs) h = refl
+given_there b (suc i) (x ∷ xs) h = given_there b i xs (omega arith)
+
+-- the node has the after-body that it was given
+pub after_given : (t : Nodes) (n b : ℕ) → IsTree t → 0 < n → n < size t → after_of (with_after t n b) n ≡ Some b
+after_given t zero b tree above inside = absurd (omega arith)
+after_given t (suc i) b tree above inside = given_there b i t.nodes (omega (arith, tree.nodes_len))
