@@ -1,2 +1,6 @@
 -- The definitions that contracts cite.
 pub mod Plans
+pub mod Wants
+pub mod LockSets
+pub mod Conflicts
+pub mod Places
