@@ -13,7 +13,7 @@ use Rattle.resource_locks.specs.LockSets.{key_cmp, IsBelowAll, IsLockSet}
 use Rattle.resource_locks.specs.Conflicts.{AreInConflict}
 use Rattle.resource_locks.proofs.Places.{turned}
 use Rattle.resource_locks.proofs.SetLaws.{below_none}
-use Rattle.resource_locks.proofs.Wants.{first_or_later}
+use Rattle.resource_locks.proofs.Wants.{is_write_use, first_or_later}
 
 -- the order of the two does not matter
 pub conflict_back : (a b : List Lock) → AreInConflict a b → AreInConflict b a
@@ -25,10 +25,6 @@ conflict_back a b c = record {
   there = c.here;
   writes = elim c.writes [ inl w ↦ inr w | inr w ↦ inl w ];
 }
-
-is_write_use : (m : LockMode) → is_write m ≡ true → m ≡ ReadWrite
-is_write_use Read t = absurd (false≢true t)
-is_write_use ReadWrite t = refl
 
 some_writes : (a b : LockMode) → (is_write a || is_write b) ≡ true → (a ≡ ReadWrite) ⊎ (b ≡ ReadWrite)
 some_writes a b t = elim (or_cases (is_write a) (is_write b) t) [ inl w ↦ inl (is_write_use a w) | inr w ↦ inr (is_write_use b w) ]

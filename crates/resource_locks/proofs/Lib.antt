@@ -4,3 +4,9 @@ pub mod SetLaws
 pub mod Places
 pub mod Puts
 pub mod Conflicts
+pub mod Lines
+pub mod Walks
+pub mod Tops
+pub mod Holders
+pub mod Gathering
+pub mod Hoisted

@@ -1,16 +1,17 @@
 -- In which mode lists of locks want a key.
-use Rattle.std.proofs.Common.{◌≡◌, ℕ, zero, suc, Bool, true, false, List, [], ◌∷◌, cond, Option, Some, None, inl, inr, ◌⊎◌, refl, sym, ap, ◌∙◌, subst}
-use Rattle.std.proofs.lemmas.Bool.{cond-true}
+use Rattle.std.proofs.Common.{◌≡◌, ℕ, zero, suc, Bool, true, false, List, [], ◌∷◌, cond, Option, Some, None, slice_get, inl, inr, ◌⊎◌, ◌||◌, refl, sym, ap, ◌∙◌, subst}
+use Rattle.std.proofs.lemmas.Bool.{cond-true, false≢true, or_cases, or_left, or_right}
 use Rattle.std.proofs.lemmas.Option.{none-some, same_Some, cond_some}
 use Rattle.std.proofs.lemmas.Map.Lookups.{exact_bytes}
 use Rattle.std.proofs.lemmas.Slice.Eq.{bytes_eq-Decides}
+use Rattle.std.specs.List.{list_any}
 use Rattle.std.specs.Str.{bytes_eq}
 use Rattle.std.specs.declared.cmp.Ordering.{Ordering}
 use Rattle.std.specs.declared.cmp.Ordering.TheVariants.{Less, Equal, Greater}
 use Rattle.descriptor.specs.declared.lock.Lock.{Lock}
 use Rattle.descriptor.specs.declared.lock_mode.LockMode.{LockMode}
 use Rattle.descriptor.specs.declared.lock_mode.LockMode.TheVariants.{Read, ReadWrite}
-use Rattle.resource_locks.specs.Wants.{stronger, either, mode_by, mode_for, HasLock}
+use Rattle.resource_locks.specs.Wants.{is_write, writes, stronger, either, mode_by, mode_for, HasLock}
 use Rattle.resource_locks.specs.LockSets.{key_cmp, put_by, put, join, of}
 
 pub stronger_comm : (a b : LockMode) → stronger a b ≡ stronger b a
@@ -158,3 +159,29 @@ wants_all (l ∷ s) key m h =
       | inl e ↦ at_least_left m (mode_by key l) (mode_for key s) (subst (AtLeast m) (sym (ap (mode_by key) e ∙ mode_by_itself key m)) (at_least_itself m))
       | inr later ↦ at_least_right m (mode_by key l) (mode_for key s) (wants_all s key m later)
     ]
+
+pub any_from : (q : Lock → Bool) (s : List Lock) (i : ℕ) (l : Lock) → slice_get s i ≡ Some l → q l ≡ true → list_any q s ≡ true
+any_from q [] i l e t = absurd (none-some l e)
+any_from q (x ∷ s) zero l e t = or_left (q x) (list_any q s) (ap q (same_Some x l e) ∙ t)
+any_from q (x ∷ s) (suc i) l e t = or_right (q x) (list_any q s) (any_from q s i l e t)
+
+pub any_use : (q : Lock → Bool) (s : List Lock) → list_any q s ≡ true → (i : ℕ) × (l : Lock) × ((slice_get s i ≡ Some l) × (q l ≡ true))
+any_use q [] t = absurd (false≢true t)
+any_use q (x ∷ s) t =
+    elim (or_cases (q x) (list_any q s) t) [
+      | inl h ↦ (zero, x, (refl, h))
+      | inr later ↦ (let r = any_use q s later in (suc r.0, r.1, r.2))
+    ]
+
+pub is_write_use : (m : LockMode) → is_write m ≡ true → m ≡ ReadWrite
+is_write_use Read t = absurd (false≢true t)
+is_write_use ReadWrite t = refl
+
+-- a list of locks that writes has a key in READ_WRITE
+pub writes_use : (s : List Lock) → writes s ≡ true → (key : List ℕ) × HasLock s key ReadWrite
+writes_use s t =
+    let r = any_use (λ l. is_write l.mode) s t in
+    (r.1.key, (r.0, r.2.0 ∙ ap (λ (m : LockMode). Some (record { key = r.1.key; mode = m })) (is_write_use r.1.mode r.2.1)))
+
+pub writes_from : (s : List Lock) (key : List ℕ) → HasLock s key ReadWrite → writes s ≡ true
+writes_from s key h = any_from (λ l. is_write l.mode) s h.0 (record { key = key; mode = ReadWrite }) h.1 refl

@@ -4,3 +4,6 @@ pub mod Wants
 pub mod LockSets
 pub mod Conflicts
 pub mod Places
+pub mod Declarations
+pub mod Hoisted
+pub mod Held

@@ -1,0 +1,33 @@
+-- When declared locks are moved up to the nodes that are to hold them.
+use Rattle.std.specs.Prelude.{◌≡◌, ℕ, List, [], slice_index_or}
+use Rattle.descriptor.specs.Nodes.{Below}
+use Rattle.descriptor.specs.declared.lock.Lock.{Lock}
+use Rattle.descriptor.specs.declared.lock_mode.LockMode.{LockMode}
+use Rattle.descriptor.specs.declared.lock_mode.LockMode.TheVariants.{Read, ReadWrite}
+use Rattle.descriptor.specs.declared.mode.Mode.{Mode}
+use Rattle.descriptor.specs.declared.mode.Mode.TheVariants.{SameThread}
+use Rattle.resource_locks.specs.Wants.{HasLock}
+use Rattle.resource_locks.specs.Declarations.{Declared, IsToHold}
+
+-- for each node the set of locks that it holds while it runs, and its execution mode
+pub record Hoisting : Type 0 where
+  pub held : List (List Lock)
+  pub modes : List Mode
+
+abbrev pub held_of : Hoisting → ℕ → List Lock
+held_of h n = slice_index_or h.held n []
+
+abbrev pub mode_of : Hoisting → ℕ → Mode
+mode_of h n = slice_index_or h.modes n SameThread
+
+-- the held sets and the modes are those of nodes that declare this and were given these modes
+pub record IsHoisted (d : Declared) (given : ℕ → Mode) (h : Hoisting) : Type 0 where
+  -- what a node is to hold in READ_WRITE it holds so, and what it is to hold in READ it holds in one mode
+  pub writes : (n : ℕ) (key : List ℕ) → IsToHold d n key ReadWrite → HasLock (held_of h n) key ReadWrite
+  pub reads : (n : ℕ) (key : List ℕ) → IsToHold d n key Read → (mode : LockMode) × HasLock (held_of h n) key mode
+  -- it holds nothing else, and no key in two modes
+  pub only : (n : ℕ) (key : List ℕ) (mode : LockMode) → HasLock (held_of h n) key mode → IsToHold d n key mode
+  pub one_mode : (n : ℕ) (key : List ℕ) (a b : LockMode) → HasLock (held_of h n) key a → HasLock (held_of h n) key b → a ≡ b
+  -- below a node that holds a key in READ_WRITE all run on one thread; else each node has the mode that it was given
+  pub forced : (a n : ℕ) (key : List ℕ) → HasLock (held_of h a) key ReadWrite → Below d.tree a n → mode_of h n ≡ SameThread
+  pub free : (n : ℕ) → ((a : ℕ) (key : List ℕ) → HasLock (held_of h a) key ReadWrite → Below d.tree a n → ⊥) → mode_of h n ≡ given n
