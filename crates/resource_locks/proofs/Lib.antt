@@ -10,3 +10,5 @@ pub mod Tops
 pub mod Holders
 pub mod Gathering
 pub mod Hoisted
+pub mod Guarded
+pub mod Worked

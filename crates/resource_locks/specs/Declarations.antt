@@ -43,6 +43,18 @@ pub record IsLockTree (d : Declared) : Type 0 where
   pub locked : (n : ℕ) → d.locks n ≢ [] → IsDeep d.tree n
   pub isolated : (n : ℕ) → d.isolated n ≡ true → IsDeep d.tree n
 
+-- A lock that is declared at node n itself: one of its own; the global one in READ_WRITE where it is isolated; and in
+-- READ below an engine.
+abbrev pub DeclaresItself : Declared → ℕ → List ℕ → LockMode → Type 0
+DeclaresItself d n key mode =
+    HasLock (d.locks n) key mode
+    ⊎ (((d.isolated n ≡ true) × (key ≡ global) × (mode ≡ ReadWrite))
+    ⊎ (((c : ℕ) × IsTop d.tree c × AtOrBelow d.tree c n) × (key ≡ global) × (mode ≡ Read)))
+
+-- a lock that is declared at node n or at a node above it
+abbrev pub Declares : Declared → ℕ → List ℕ → LockMode → Type 0
+Declares d n key mode = (a : ℕ) × (AtOrBelow d.tree a n × DeclaresItself d a key mode)
+
 -- a lock that is declared by a node at or below n
 abbrev pub DeclaredWithin : Declared → ℕ → List ℕ → LockMode → Type 0
 DeclaredWithin d n key mode = (m : ℕ) × (AtOrBelow d.tree n m × HasLock (d.locks m) key mode)

@@ -7,7 +7,7 @@ use Rattle.descriptor.specs.declared.lock_mode.LockMode.TheVariants.{Read, ReadW
 use Rattle.descriptor.specs.declared.mode.Mode.{Mode}
 use Rattle.descriptor.specs.declared.mode.Mode.TheVariants.{SameThread}
 use Rattle.resource_locks.specs.Wants.{HasLock}
-use Rattle.resource_locks.specs.Declarations.{Declared, IsToHold}
+use Rattle.resource_locks.specs.Declarations.{Declared, AtOrBelow, Declares, IsToHold}
 
 -- for each node the set of locks that it holds while it runs, and its execution mode
 pub record Hoisting : Type 0 where
@@ -31,3 +31,17 @@ pub record IsHoisted (d : Declared) (given : ℕ → Mode) (h : Hoisting) : Type
   -- below a node that holds a key in READ_WRITE all run on one thread; else each node has the mode that it was given
   pub forced : (a n : ℕ) (key : List ℕ) → HasLock (held_of h a) key ReadWrite → Below d.tree a n → mode_of h n ≡ SameThread
   pub free : (n : ℕ) → ((a : ℕ) (key : List ℕ) → HasLock (held_of h a) key ReadWrite → Below d.tree a n → ⊥) → mode_of h n ≡ given n
+
+-- a node at or above n that holds the key, and in READ_WRITE where that is asked for
+pub record IsHeldFor (d : Declared) (h : Hoisting) (n : ℕ) (key : List ℕ) (mode : LockMode) : Type 0 where
+  pub node : ℕ
+  pub above : AtOrBelow d.tree node n
+  pub held_mode : LockMode
+  pub holds : HasLock (held_of h node) key held_mode
+  pub writes : mode ≡ ReadWrite → held_mode ≡ ReadWrite
+
+-- what keeps two nodes whose declared locks conflict from running side by side: all that a node declares, itself or
+-- above it, is held at or above it, and below a holder in READ_WRITE all run on one thread
+pub record IsGuarded (d : Declared) (h : Hoisting) : Type 0 where
+  pub holder : (n : ℕ) (key : List ℕ) (mode : LockMode) → Declares d n key mode → IsHeldFor d h n key mode
+  pub forced : (a n : ℕ) (key : List ℕ) → HasLock (held_of h a) key ReadWrite → Below d.tree a n → mode_of h n ≡ SameThread
