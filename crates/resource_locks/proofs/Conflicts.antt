@@ -7,7 +7,7 @@ use Rattle.std.proofs.lemmas.Map.Lookups.{exact_bytes}
 use Rattle.std.specs.declared.cmp.Ordering.TheVariants.{Less, Equal, Greater}
 use Rattle.descriptor.specs.declared.lock.Lock.{Lock}
 use Rattle.descriptor.specs.declared.lock_mode.LockMode.{LockMode}
-use Rattle.descriptor.specs.declared.lock_mode.LockMode.TheVariants.{Read, ReadWrite}
+use Rattle.descriptor.specs.declared.lock_mode.LockMode.TheVariants.{ReadWrite}
 use Rattle.resource_locks.specs.Wants.{is_write, HasLock}
 use Rattle.resource_locks.specs.LockSets.{key_cmp, IsBelowAll, IsLockSet}
 use Rattle.resource_locks.specs.Conflicts.{AreInConflict}

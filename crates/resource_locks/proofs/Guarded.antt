@@ -1,5 +1,5 @@
 -- What is declared is held at or above.
-use Rattle.std.proofs.Common.{◌≡◌, ◌≢◌, ℕ, zero, suc, ◌<◌, Bool, true, List, [], ◌∷◌, slice_get, inl, inr, ◌⊎◌, refl, sym, ap, ◌∙◌, arith}
+use Rattle.std.proofs.Common.{◌≡◌, ◌≢◌, ℕ, zero, suc, ◌<◌, true, List, [], ◌∷◌, slice_get, inl, inr, ◌⊎◌, refl, sym, ap, ◌∙◌, arith}
 use Rattle.std.proofs.lemmas.Bool.{cases_eq, cases_lt, cases_Bool}
 use Rattle.std.proofs.lemmas.Option.{none-some}
 use Rattle.descriptor.specs.Nodes.{size, parent_of, IsChild, Below}
@@ -8,7 +8,7 @@ use Rattle.descriptor.specs.declared.lock_mode.LockMode.{LockMode}
 use Rattle.descriptor.specs.declared.lock_mode.LockMode.TheVariants.{Read, ReadWrite}
 use Rattle.descriptor.specs.declared.mode.Mode.{Mode}
 use Rattle.resource_locks.specs.Wants.{HasLock}
-use Rattle.resource_locks.specs.Declarations.{Declared, AtOrBelow, IsTop, IsLockTree, HasIsolated, IsFirstToDeclare, IsToHold, isolated_all, global_read, first, global}
+use Rattle.resource_locks.specs.Declarations.{Declared, AtOrBelow, IsTop, IsLockTree, IsFirstToDeclare, IsToHold, isolated_all, global_read, first, global}
 use Rattle.resource_locks.specs.Hoisted.{Hoisting, IsHoisted, IsHeldFor, IsGuarded}
 use Rattle.resource_locks.specs.Held.{is_whole}
 use Rattle.resource_locks.proofs.Lines.{at_through, at_child, last_step}

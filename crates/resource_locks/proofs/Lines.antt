@@ -1,5 +1,5 @@
 -- How nodes lie at, above and below each other.
-use Rattle.std.proofs.Common.{◌≡◌, ℕ, inl, inr, ◌⊎◌, refl, sym, subst}
+use Rattle.std.proofs.Common.{ℕ, inl, inr, refl, sym, subst}
 use Rattle.descriptor.specs.Nodes.{Nodes, parent_of, IsChild, Below, child, under}
 use Rattle.resource_locks.specs.Declarations.{AtOrBelow}
 

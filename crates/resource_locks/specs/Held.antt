@@ -1,5 +1,5 @@
 -- The walk down that hoists: which locks each node holds, and its mode, from the root down.
-use Rattle.std.specs.Prelude.{◌≡◌, ℕ, zero, suc, nat_lt, ◌==◌, ◌&&◌, ◌||◌, Bool, false, cond, List, [], ◌∷◌, ◌++◌, Option, Some, None, length, slice_index_or}
+use Rattle.std.specs.Prelude.{ℕ, zero, suc, nat_lt, ◌==◌, ◌&&◌, ◌||◌, Bool, false, cond, List, [], ◌∷◌, ◌++◌, Option, Some, None, length, slice_index_or}
 use Rattle.descriptor.specs.Nodes.{Nodes, size, parent_of}
 use Rattle.descriptor.specs.declared.lock.Lock.{Lock}
 use Rattle.descriptor.specs.declared.lock_mode.LockMode.{LockMode}

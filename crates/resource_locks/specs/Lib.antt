@@ -7,3 +7,4 @@ pub mod Places
 pub mod Declarations
 pub mod Hoisted
 pub mod Held
+pub mod Unions
