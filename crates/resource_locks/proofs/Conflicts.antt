@@ -119,30 +119,22 @@ both_passed l r s u same f set other = (forth, back)
 abbrev pub Remains : List Lock → List Lock → List Lock → List Lock → Type 0
 Remains one other mine theirs = IsLockSet mine × IsLockSet theirs × (AreInConflict one other ↔ AreInConflict mine theirs)
 
-through : (A B C : Type 0) → (A ↔ B) → (B ↔ C) → (A ↔ C)
-through A B C first second = (λ a. second.0 (first.0 a), λ c. first.1 (second.1 c))
+through : {A B C : Type 0} → (A ↔ B) → (B ↔ C) → (A ↔ C)
+through first second = (λ a. second.0 (first.0 a), λ c. first.1 (second.1 c))
 
-pub less_remains : (one other mine theirs : List Lock) (l r : Lock) (s u : List Lock) → Remains one other mine theirs → mine ≡ l ∷ s → theirs ≡ r ∷ u → key_cmp l.key r.key ≡ Less → Remains one other s theirs
-less_remains one other mine theirs l r s u so_far e f less =
-    let set : IsLockSet (l ∷ s) = subst IsLockSet e so_far.0 in
-    let rival_set : IsLockSet (r ∷ u) = subst IsLockSet f so_far.1 in
-    let here : AreInConflict one other ↔ AreInConflict (l ∷ s) (r ∷ u) = subst (λ (x : List Lock). AreInConflict one other ↔ AreInConflict (l ∷ s) x) f (subst (λ (x : List Lock). AreInConflict one other ↔ AreInConflict x theirs) e so_far.2) in
-    (set.1, so_far.1, subst (λ (x : List Lock). AreInConflict one other ↔ AreInConflict s x) (sym f) (through (AreInConflict one other) (AreInConflict (l ∷ s) (r ∷ u)) (AreInConflict s (r ∷ u)) here (passed l r s u less rival_set)))
+-- one turn: l and r are the first locks that were read, s and u what comes after them
+module _ (one other mine theirs : List Lock) (l r : Lock) (s u : List Lock) (so_far : Remains one other mine theirs) (e : mine ≡ l ∷ s) (f : theirs ≡ r ∷ u) where
+  as_read : Remains one other (l ∷ s) (r ∷ u)
+  as_read = subst (Remains one other (l ∷ s)) f (subst (λ (x : List Lock). Remains one other x theirs) e so_far)
 
-pub greater_remains : (one other mine theirs : List Lock) (l r : Lock) (s u : List Lock) → Remains one other mine theirs → mine ≡ l ∷ s → theirs ≡ r ∷ u → key_cmp l.key r.key ≡ Greater → Remains one other mine u
-greater_remains one other mine theirs l r s u so_far e f greater =
-    let set : IsLockSet (l ∷ s) = subst IsLockSet e so_far.0 in
-    let rival_set : IsLockSet (r ∷ u) = subst IsLockSet f so_far.1 in
-    let here : AreInConflict one other ↔ AreInConflict (l ∷ s) (r ∷ u) = subst (λ (x : List Lock). AreInConflict one other ↔ AreInConflict (l ∷ s) x) f (subst (λ (x : List Lock). AreInConflict one other ↔ AreInConflict x theirs) e so_far.2) in
-    (so_far.0, rival_set.1, subst (λ (x : List Lock). AreInConflict one other ↔ AreInConflict x u) (sym e) (through (AreInConflict one other) (AreInConflict (l ∷ s) (r ∷ u)) (AreInConflict (l ∷ s) u) here (passed_back l r s u greater set)))
+  pub less_remains : key_cmp l.key r.key ≡ Less → Remains one other s theirs
+  less_remains less = subst (Remains one other s) (sym f) (as_read.0.1, as_read.1, through as_read.2 (passed l r s u less as_read.1))
 
-pub both_remain : (one other mine theirs : List Lock) (l r : Lock) (s u : List Lock) → Remains one other mine theirs → mine ≡ l ∷ s → theirs ≡ r ∷ u → key_cmp l.key r.key ≡ Equal → (is_write l.mode || is_write r.mode) ≡ false → Remains one other s u
-both_remain one other mine theirs l r s u so_far e f same peace =
-    let set : IsLockSet (l ∷ s) = subst IsLockSet e so_far.0 in
-    let rival_set : IsLockSet (r ∷ u) = subst IsLockSet f so_far.1 in
-    let here : AreInConflict one other ↔ AreInConflict (l ∷ s) (r ∷ u) = subst (λ (x : List Lock). AreInConflict one other ↔ AreInConflict (l ∷ s) x) f (subst (λ (x : List Lock). AreInConflict one other ↔ AreInConflict x theirs) e so_far.2) in
-    (set.1, rival_set.1, through (AreInConflict one other) (AreInConflict (l ∷ s) (r ∷ u)) (AreInConflict s u) here (both_passed l r s u same peace set rival_set))
+  pub greater_remains : key_cmp l.key r.key ≡ Greater → Remains one other mine u
+  greater_remains greater = subst (λ (x : List Lock). Remains one other x u) (sym e) (as_read.0, as_read.1.1, through as_read.2 (passed_back l r s u greater as_read.0))
 
-pub conflict_met : (one other mine theirs : List Lock) (l r : Lock) (s u : List Lock) → Remains one other mine theirs → mine ≡ l ∷ s → theirs ≡ r ∷ u → key_cmp l.key r.key ≡ Equal → (is_write l.mode || is_write r.mode) ≡ true → AreInConflict one other
-conflict_met one other mine theirs l r s u so_far e f same writes =
-    so_far.2.1 (subst (λ (x : List Lock). AreInConflict x theirs) (sym e) (subst (AreInConflict (l ∷ s)) (sym f) (met l r s u same writes)))
+  pub both_remain : key_cmp l.key r.key ≡ Equal → (is_write l.mode || is_write r.mode) ≡ false → Remains one other s u
+  both_remain same peace = (as_read.0.1, as_read.1.1, through as_read.2 (both_passed l r s u same peace as_read.0 as_read.1))
+
+  pub conflict_met : key_cmp l.key r.key ≡ Equal → (is_write l.mode || is_write r.mode) ≡ true → AreInConflict one other
+  conflict_met same writes = as_read.2.1 (met l r s u same writes)
