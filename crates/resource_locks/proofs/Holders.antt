@@ -90,7 +90,7 @@ module _ (told : Declared) (tree : IsLockTree told) where
       ∙ cond-false (eqb (top_of told.tree n) 0) 0 (cond (is_whole told (top_of told.tree n)) (top_of told.tree n) light) (ne_eqb (top_of told.tree n) 0 ne)
       ∙ cond-false (is_whole told (top_of told.tree n)) (top_of told.tree n) light f
 
-  none_at_plan : told.locks 0 ≡ []
+  pub none_at_plan : told.locks 0 ≡ []
   none_at_plan = elim (empty_cases (told.locks 0)) [ inl e ↦ e | inr ne ↦ absurd (let pos = (tree.locked 0 ne).above_zero in omega (arith, pos)) ]
 
   none_at_root : (a n : ℕ) → n ≡ 0 → AtOrBelow told.tree a n → told.locks a ≡ []

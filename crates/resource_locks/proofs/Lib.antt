@@ -11,5 +11,6 @@ pub mod Tops
 pub mod Holders
 pub mod Gathering
 pub mod Hoisted
+pub mod Turns
 pub mod Guarded
 pub mod Worked
