@@ -1,4 +1,5 @@
 pub mod StepAnswers
+pub mod StepFaults
 pub mod StepSpelling
 pub mod StepTexts
 pub mod SuiteAttributes

@@ -7,20 +7,20 @@ ghost use Rattle.suite_text.specs.StepTexts.{step_of, is_bad_word, steps_of};
 ghost use Rattle.suite_text.specs.StepSpelling.{spelled_step, AreNamable};
 ghost use Rattle.sched_core.specs.declared.step.Step.{Step};
 ghost use Rattle.suite_text.specs.StepAnswers.{GivesSteps};
+ghost use Rattle.suite_text.specs.StepFaults.{number_of, place_of};
 ghost use Rattle.suite_text.specs.declared.steps.StepsFault.TheVariants.{NoMemory};
 
 use crate::step_words::step_of;
 use sched_core::Step;
-use std::alloc::{AllocError, AllocFailed, Global};
+use std::alloc::{AllocError, Global};
 use thiserror::Error;
 
 /// Why a text of steps was not read.
 #[derive(Clone, Copy, PartialEq, Eq, Debug, Error)]
 pub enum StepsFault {
-    /// Refusal 0.
     #[error("no memory")]
     NoMemory,
-    /// Refusal 104: the word of this number, from 1, names no step.
+    /// The word of this number, from 1, names no step.
     #[error("no step at {0}")]
     BadStep(usize),
 }
@@ -33,11 +33,25 @@ impl From<AllocError> for StepsFault {
     }
 }
 
-impl<T: Drop> From<AllocFailed<T>> for StepsFault {
-    ghost from_gives = { λ _ e. e ≡ NoMemory };
+impl StepsFault {
+    /// The refusal's number.
+    pub fn number(&self) -> u8
+        ensures { result ≡ number_of self.now }
+    {
+        match self {
+            StepsFault::NoMemory => 0,
+            StepsFault::BadStep(_) => 104,
+        }
+    }
 
-    fn from(_error: AllocFailed<T>) -> StepsFault {
-        StepsFault::NoMemory
+    /// The number of the step, from 1, that the refusal is about, where it is about one.
+    pub fn place(&self) -> Option<u64>
+        ensures { result ≡ place_of self.now }
+    {
+        match self {
+            StepsFault::NoMemory => None,
+            StepsFault::BadStep(number) => Some(*number as u64),
+        }
     }
 }
 

@@ -1,6 +1,7 @@
 //! The suite of a text.
 
 ghost use Rattle.std.specs.Prelude.{◌≡◌, ◌≢◌, ◌≤◌, ◌+◌, ◌==◌, length, count_by, IfOk, IfErr, Err};
+ghost use Rattle.std.specs.Str.{IsUtf8};
 ghost use Rattle.suite_text.specs.SuiteBytes.{suite_read};
 ghost use Rattle.suite_text.specs.SuiteFaults.{Gives};
 ghost use Rattle.suite_text.specs.SuiteIds.{IdsFollow};
@@ -67,7 +68,9 @@ impl Suite {
     /// The suite that these bytes are. Refusals: 103 for more than 1,048,576 of them, then 100 at
     /// the line of the first byte that is not UTF-8, else those of `parse`.
     pub fn read(alloc: Global, bytes: &[u8]) -> Result<Suite, SuiteFault>
-        ensures { Gives suite_parts result (suite_read bytes.now) }
+        ensures exact { Gives suite_parts result (suite_read bytes.now) }
+        // Memory is taken only for bytes that are a text, and not too large a one.
+        ensures no_memory { IfErr result (λ fault. fault ≡ SuiteFault.NoMemory → (length bytes.now ≤ 1048576) × IsUtf8 bytes.now) }
     {
         if bytes.len() > LONGEST_SUITE {
             return Err(SuiteFault::TooLarge);

@@ -5,7 +5,7 @@ ghost use Rattle.suite_text.specs.SuiteFaults.{number_of, place_of};
 ghost use Rattle.suite_text.specs.declared.suite_fault.SuiteFault.TheVariants.{NoMemory};
 
 use descriptor::TreeFault;
-use std::alloc::{AllocError, AllocFailed};
+use std::alloc::AllocError;
 use thiserror::Error;
 
 /// Why a text is no suite. Lines are counted from 1.
@@ -29,14 +29,6 @@ impl From<AllocError> for SuiteFault {
     ghost from_gives = { λ _ e. e ≡ NoMemory };
 
     fn from(_error: AllocError) -> SuiteFault {
-        SuiteFault::NoMemory
-    }
-}
-
-impl<T: Drop> From<AllocFailed<T>> for SuiteFault {
-    ghost from_gives = { λ _ e. e ≡ NoMemory };
-
-    fn from(_error: AllocFailed<T>) -> SuiteFault {
         SuiteFault::NoMemory
     }
 }

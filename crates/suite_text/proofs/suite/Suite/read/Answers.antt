@@ -6,13 +6,13 @@ use Rattle.suite_text.specs.SuiteBytes.{line_of_fault}
 use Rattle.suite_text.proofs.SuiteReading.{read_text, read_not_text}
 use Rattle.suite_text.proofs.suite.Suite.read.Goals as goal
 
-pub returns-in-Ok : goal.returns-in-Ok
-returns-in-Ok c =
+pub returns-in-Ok-clause-exact : goal.returns-in-Ok-clause-exact
+returns-in-Ok-clause-exact c =
     let small : nat_lt 1048576 (length c.args.bytes.now) ≡ false = search (rules, tests) in
     rw (read_text c.args.bytes.now small c.in-Ok.ensures.cases.1, sym c.in-Ok.ensures.cases.0) c.parse.ensures.exact
 
-pub returns-in-Err : goal.returns-in-Err
-returns-in-Err c =
+pub returns-in-Err-clause-exact : goal.returns-in-Err-clause-exact
+returns-in-Err-clause-exact c =
     let small : nat_lt 1048576 (length c.args.bytes.now) ≡ false = search (rules, tests) in
     let place = c.valid_up_to.ensures ∙ c.in-Err.ensures.valid_len in
     let line : c.line_after-line.result ≡ line_of_fault c.args.bytes.now = c.line_after-line.ensures ∙ ap (λ n. 1 + count_by (λ byte. byte == 10) (take n c.args.bytes.now)) place in
