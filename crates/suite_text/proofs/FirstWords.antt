@@ -26,11 +26,11 @@ drop_one : (n b : ℕ) (bs : List ℕ) → drop (1 + n) (b ∷ bs) ≡ drop n bs
 drop_one n b bs = let e : 1 + n ≡ suc n = omega arith in rw e refl
 
 -- a text that begins with a space
-spaced : (b : ℕ) (bs : List ℕ) → is_space b ≡ true → without_front (b ∷ bs) ≡ without_front bs
+pub spaced : (b : ℕ) (bs : List ℕ) → is_space b ≡ true → without_front (b ∷ bs) ≡ without_front bs
 spaced b bs e = ap (λ z. drop (cond z (1 + prefix_len is_space bs) 0) (b ∷ bs)) e ∙ drop_one (prefix_len is_space bs) b bs
 
 -- and one that does not
-unspaced : (b : ℕ) (bs : List ℕ) → is_space b ≡ false → without_front (b ∷ bs) ≡ b ∷ bs
+pub unspaced : (b : ℕ) (bs : List ℕ) → is_space b ≡ false → without_front (b ∷ bs) ≡ b ∷ bs
 unspaced b bs e = ap (λ z. drop (cond z (1 + prefix_len is_space bs) 0) (b ∷ bs)) e
 
 keeps_more : (b : ℕ) (bs : List ℕ) (z : Bool) → is_space b ≡ z → words_in (without_front bs) ≡ words_in bs → words_in (without_front (b ∷ bs)) ≡ words_in (b ∷ bs)

@@ -12,3 +12,7 @@ pub mod SuitePaths
 pub mod SuiteReading
 pub mod SuiteSpaces
 pub mod SuiteSteps
+mod WrittenWords
+mod WrittenTexts
+mod WrittenLines
+pub mod WrittenSuites

@@ -14,7 +14,7 @@ use Rattle.suite_text.proofs.FirstWords.{Front, blank, begins, front}
 use Rattle.suite_text.proofs.SuiteSteps.{fails_then, fails_as}
 
 -- no word is no attribute
-of_nothing : (kind : Word) → attribute_of kind [] ≡ None
+pub of_nothing : (kind : Word) → attribute_of kind [] ≡ None
 of_nothing Engine = refl
 of_nothing Class = refl
 of_nothing Test = refl

@@ -16,3 +16,5 @@ pub mod SuiteVerdicts
 pub mod SuiteWords
 pub mod Suites
 pub mod Words
+pub mod WrittenLines
+pub mod WrittenSuites

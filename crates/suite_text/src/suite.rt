@@ -1,12 +1,13 @@
 //! The suite of a text.
 
-ghost use Rattle.std.specs.Prelude.{◌≡◌, ◌≢◌, ◌≤◌, ◌+◌, ◌==◌, length, count_by, IfOk, IfErr, Err};
+ghost use Rattle.std.specs.Prelude.{◌≡◌, ◌≢◌, ◌≤◌, ◌+◌, ◌==◌, length, count_by, IfOk, IfErr, Ok, Err};
 ghost use Rattle.std.specs.Str.{IsUtf8};
 ghost use Rattle.suite_text.specs.SuiteBytes.{suite_read};
 ghost use Rattle.suite_text.specs.SuiteFaults.{Gives};
 ghost use Rattle.suite_text.specs.SuiteIds.{IdsFollow};
-ghost use Rattle.suite_text.specs.SuiteParts.{bodies_of, bodies_answered};
+ghost use Rattle.suite_text.specs.SuiteParts.{SuiteParts, bodies_of, bodies_answered};
 ghost use Rattle.suite_text.specs.Suites.{suite_of, suite_parts};
+ghost use Rattle.suite_text.specs.WrittenSuites.{IsSuite};
 
 use crate::script::Script;
 use crate::suite_builder::SuiteBuilder;
@@ -31,6 +32,24 @@ fn line_after(bytes: &[u8]) -> usize
     line
 }
 
+/// The suite of a text, line by line.
+fn suite_in(alloc: Global, text: &str) -> Result<Suite, SuiteFault>
+    ensures exact { Gives suite_parts result (suite_of text.now) }
+    ensures ids { IfOk result (λ suite. IdsFollow suite.tree) }
+    ensures answered { IfOk result (λ suite. bodies_answered suite.scripts.items ≡ bodies_of suite.tree.nodes) }
+    ensures no_memory { IfErr result (λ fault. fault ≡ SuiteFault.NoMemory → length text.now ≤ 1048576) }
+{
+    if text.len() > LONGEST_SUITE {
+        return Err(SuiteFault::TooLarge);
+    }
+    let lines = lines_in(alloc, text)?;
+    let mut builder = SuiteBuilder::new(alloc)?;
+    for (index, line) in lines.iter().enumerate() {
+        builder.read_line(alloc, index + 1, line)?;
+    }
+    Ok(builder.finish())
+}
+
 /// A tree of tests, and what its bodies answer.
 #[derive(Drop)]
 pub struct Suite {
@@ -42,9 +61,10 @@ impl Suite {
     /// The suite of a text. Lines end at a line feed, before which a carriage return is dropped;
     /// the last may go without. Refusals: 103 for more than 1,048,576 bytes, else the first
     /// faulty line's: 101, 100, 102, 17 (its id), 10, 12 and 17 (its reason), in this order.
-    #[tactic(auto, using(crate::proofs::SuiteNever::never_no_memory))]
     pub fn parse(alloc: Global, text: &str) -> Result<Suite, SuiteFault>
         ensures exact { Gives suite_parts result (suite_of text.now) }
+        // A text that may be written for a suite is read as that suite.
+        ensures reads_back { (suite : SuiteParts) → IsSuite text.now suite → Gives suite_parts result (Ok suite) }
         // Want of memory is no property of a text.
         ensures never { suite_of text.now ≢ Err SuiteFault.NoMemory }
         // Each node's unique id is its parent's with one more segment, whose value is its name.
@@ -54,15 +74,7 @@ impl Suite {
         // Memory is taken only for a text that is not too large.
         ensures no_memory { IfErr result (λ fault. fault ≡ SuiteFault.NoMemory → length text.now ≤ 1048576) }
     {
-        if text.len() > LONGEST_SUITE {
-            return Err(SuiteFault::TooLarge);
-        }
-        let lines = lines_in(alloc, text)?;
-        let mut builder = SuiteBuilder::new(alloc)?;
-        for (index, line) in lines.iter().enumerate() {
-            builder.read_line(alloc, index + 1, line)?;
-        }
-        Ok(builder.finish())
+        suite_in(alloc, text)
     }
 
     /// The suite that these bytes are. Refusals: 103 for more than 1,048,576 of them, then 100 at

@@ -2,7 +2,7 @@ use Rattle.std.proofs.Common.{◌≡◌, ◌+◌, drop}
 use Rattle.suite_text.specs.SuiteLines.{texts}
 use Rattle.suite_text.specs.SuiteParts.{no_lines}
 use Rattle.suite_text.specs.Suites.{suite_from}
-use Rattle.suite_text.proofs.suite.Suite.parse.Given as goal
+use Rattle.suite_text.proofs.suite.suite_in.Given as goal
 
 -- the lines that are left, from this number and these nodes on, give what all give
 abbrev pub invariant-loop-index : goal.invariant-loop-index

@@ -1,0 +1,141 @@
+-- A written suite is read back.
+use Rattle.std.proofs.Common.{◌≡◌, ℕ, zero, suc, ◌+◌, ◌<◌, ◌≤◌, List, [], ◌∷◌, ◌++◌, length, take, Bool, true, false, cond, if◌then◌else◌, ◌||◌, ◌==◌, inl, inr, Option, Some, None, Result, Ok, refl, ap, sym, subst, ◌∙◌, arith, append-nil}
+use Rattle.std.specs.Prelude.{slice_get}
+use Rattle.std.specs.List.{AllByRecursion}
+use Rattle.std.specs.Option.{is_some}
+use Rattle.std.proofs.lemmas.List.{append_assoc}
+use Rattle.descriptor.specs.declared.fault.TreeFault.TheVariants.{OverLimit}
+use Rattle.descriptor.specs.Nodes.{size}
+use Rattle.descriptor.specs.Refusals as trees
+use Rattle.suite_text.specs.declared.suite_builder.Opened.{Opened}
+use Rattle.suite_text.specs.declared.suite.Suite.{Suite}
+use Rattle.suite_text.specs.declared.suite_fault.SuiteFault.{SuiteFault}
+use Rattle.suite_text.specs.SuiteFaults.{Gives, ◌>>=◌}
+use Rattle.suite_text.specs.SuiteLines.{says_nothing, begins_with_sign}
+use Rattle.suite_text.specs.SuiteNodes.{parent_on, word_on, node_on, refusal_on, grown, unless_refused}
+use Rattle.suite_text.specs.SuiteParts.{SuiteParts, LinesRead, no_lines, parts_of, above, word_of_opened}
+use Rattle.suite_text.specs.Suites.{with_declared, with_declaration, with_words, with_line, suite_from, suite_of, suite_parts}
+use Rattle.suite_text.specs.WrittenLines.{NodeLine, node_text, declares, IsNodeLine}
+use Rattle.suite_text.specs.WrittenSuites.{Line, SaysNothing, Items, NoMore, Item, lines_of_items, Written, lines_of_written, text_of_written, with_item, in_item, with_items, no_parts, meant, IsTaken, AreItems, IsWritten, IsSuite}
+use Rattle.suite_text.proofs.SuiteSteps.{suite_small}
+use Rattle.suite_text.proofs.WrittenLines.{line_says, line_level, line_declares}
+use Rattle.suite_text.proofs.WrittenTexts.{texts_of, lines_back}
+use Rattle.suite_text.proofs.WrittenWords.{all_spaces}
+
+abbrev goes : ℕ → LinesRead → List Line → Result LinesRead SuiteFault
+goes number read ls = suite_from number read (texts_of ls)
+
+-- lines that say nothing
+or_true : (b : Bool) → (b || true) ≡ true
+or_true true = refl
+or_true false = refl
+
+nothing_said : (line : Line) → SaysNothing line → says_nothing line.text ≡ true
+nothing_said line (inl sign) = ap says_nothing sign.1
+nothing_said line (inr spaces) = ap (λ t. begins_with_sign line.text || (length t == 0)) (all_spaces line.text spaces) ∙ or_true (begins_with_sign line.text)
+
+passed : (number : ℕ) (read : LinesRead) (before rest : List Line) → AllByRecursion SaysNothing before → (n : ℕ) × (goes number read (before ++ rest) ≡ goes n read rest)
+passed number read [] rest h = (number, refl)
+passed number read (line ∷ more) rest h =
+    let next = passed (number + 1) read more rest h.1 in (
+      next.0,
+      ap (λ b. (if b then Ok read else with_words number read line.text) >>= (λ r. goes (number + 1) r (more ++ rest))) (nothing_said line h.0) ∙ next.1,
+    )
+
+-- a line that declares a node
+module _ (number level : ℕ) (read : LinesRead) (line : NodeLine) (fits : level ≤ length read.path) where
+  refused_not : IsTaken (parts_of read) (above read.path level) line → refusal_on read level (declares line) ≡ None
+  refused_not taken = ap (λ r. cond (is_some r) (Some OverLimit) (trees.refusal read.tree (parent_on read level) (node_on read level (declares line)))) taken.id ∙ taken.tree
+
+  line_taken : IsNodeLine (word_of_opened (above read.path level)) line → IsTaken (parts_of read) (above read.path level) line → with_line number read (node_text level line) ≡ Ok (grown read level (declares line))
+  line_taken is taken =
+      let text = node_text level line in
+      ap (λ b. if b then Ok read else with_words number read text) (line_says number level line)
+      ∙ ap (λ r. r >>= (λ l. with_declaration number read l text)) (line_level number level line (length read.path) fits)
+      ∙ ap (λ r. r >>= (λ d. with_declared number read level d)) (line_declares number level line (word_on read level) is)
+      ∙ ap (λ why. unless_refused number why (grown read level (declares line))) (refused_not taken)
+
+-- the path up to a level stays
+record Kept (level : ℕ) (before after : List Opened) : Type 0 where
+  pub fits : level ≤ length after
+  pub same : (l : ℕ) → l < level → slice_get after l ≡ slice_get before l
+
+above_kept : (level : ℕ) (p q : List Opened) → Kept level p q → above q level ≡ above p level
+above_kept zero p q kept = refl
+above_kept (suc l) p q kept = kept.same l (omega arith)
+
+grown_get : (p : List Opened) (level l : ℕ) (o : Opened) → level ≤ length p → l < level → slice_get (take level p ++ o ∷ []) l ≡ slice_get p l
+grown_get p zero l o h k = absurd (omega (arith, k))
+grown_get [] (suc level) l o h k = absurd (omega (arith, h))
+grown_get (x ∷ p) (suc level) zero o h k = refl
+grown_get (x ∷ p) (suc level) (suc l) o h k = grown_get p level l o (omega (arith, h)) (omega (arith, k))
+
+grown_new : (p : List Opened) (level : ℕ) (o : Opened) → level ≤ length p → slice_get (take level p ++ o ∷ []) level ≡ Some o
+grown_new p zero o h = refl
+grown_new [] (suc level) o h = absurd (omega (arith, h))
+grown_new (x ∷ p) (suc level) o h = grown_new p level o (omega (arith, h))
+
+grown_fits : (p : List Opened) (level : ℕ) (o : Opened) → level ≤ length p → suc level ≤ length (take level p ++ o ∷ [])
+grown_fits p zero o h = omega arith
+grown_fits [] (suc level) o h = absurd (omega (arith, h))
+grown_fits (x ∷ p) (suc level) o h = let more = grown_fits p level o (omega (arith, h)) in omega (arith, more)
+
+-- items are read, and what follows them is read on from there
+record ItemsRead (number level : ℕ) (read : LinesRead) (parts : SuiteParts) (place : Option Opened) (items : Items) (rest : List Line) : Type 0 where
+  pub next : ℕ
+  pub made : LinesRead
+  pub goes_on : goes number read (lines_of_items level items ++ rest) ≡ goes next made rest
+  pub parts_are : parts_of made ≡ with_items parts place items
+  pub kept : Kept level read.path made.path
+
+items_back : (items : Items) (number level : ℕ) (read : LinesRead) (parts : SuiteParts) (place : Option Opened) (rest : List Line) → parts_of read ≡ parts → above read.path level ≡ place → level ≤ length read.path
+    → AreItems parts place items → ItemsRead number level read parts place items rest
+items_back NoMore number level read parts place rest same at fits are = record {
+  next = number;
+  made = read;
+  goes_on = refl;
+  parts_are = same;
+  kept = record { fits = fits; same = λ l h. refl };
+}
+items_back (Item before line end inside after) number level read parts place rest same at fits are =
+    let own : Line = record { text = node_text level line; end = end } in
+    let within = lines_of_items (suc level) inside in
+    let behind = lines_of_items level after in
+    let shape : (before ++ (own ∷ (within ++ behind))) ++ rest ≡ before ++ (own ∷ (within ++ (behind ++ rest))) =
+    append_assoc before (own ∷ (within ++ behind)) rest ∙ ap (λ l. before ++ (own ∷ l)) (append_assoc within behind rest) in
+    let front = passed number read before (own ∷ (within ++ (behind ++ rest))) are.0 in
+    let with_own = grown read level (declares line) in
+    let is : IsNodeLine (word_of_opened (above read.path level)) line = subst (λ (p : Option Opened). IsNodeLine (word_of_opened p) line) (sym at) are.1 in
+    let taken : IsTaken (parts_of read) (above read.path level) line = subst (λ (p : Option Opened). IsTaken (parts_of read) p line) (sym at) (subst (λ (q : SuiteParts). IsTaken q place line) (sym same) are.2) in
+    let step : goes front.0 read (own ∷ (within ++ (behind ++ rest))) ≡ goes (front.0 + 1) with_own (within ++ (behind ++ rest)) =
+    ap (λ r. r >>= (λ x. goes (front.0 + 1) x (within ++ (behind ++ rest)))) (line_taken front.0 level read line fits is taken) in
+    let parts_now : parts_of with_own ≡ with_item parts place line = ap (λ q. with_item q (above read.path level) line) same ∙ ap (λ p. with_item parts p line) at in
+    let opened : Opened = record { node = size read.tree; word = line.word } in
+    let place_now : above with_own.path (suc level) ≡ in_item parts line = grown_new read.path level opened fits ∙ ap (λ q. in_item q line) same in
+    let first = items_back inside (front.0 + 1) (suc level) with_own (with_item parts place line) (in_item parts line) (behind ++ rest) parts_now place_now (grown_fits read.path level opened fits) are.3 in
+    let kept : Kept level read.path first.made.path = record {
+      fits = let more = first.kept.fits in omega (arith, more);
+      same = λ l h. first.kept.same l (omega (arith, h)) ∙ grown_get read.path level l opened fits h;
+    } in
+    let second = items_back after first.next level first.made (with_items (with_item parts place line) (in_item parts line) inside) place rest first.parts_are (above_kept level read.path first.made.path kept ∙ at) kept.fits are.4 in
+    record {
+      next = second.next;
+      made = second.made;
+      goes_on = ap (goes number read) shape ∙ front.1 ∙ step ∙ first.goes_on ∙ second.goes_on;
+      parts_are = second.parts_are;
+      kept = record { fits = second.kept.fits; same = λ l h. second.kept.same l h ∙ kept.same l h };
+    }
+
+suite_back : (written : Written) → IsWritten written → suite_of (text_of_written written) ≡ Ok (meant written)
+suite_back written is =
+    let items = items_back written.engines 1 0 no_lines no_parts None written.after refl refl (omega arith) is.items in
+    let end = passed items.next items.made written.after [] is.after in
+    suite_small (text_of_written written) is.short
+    ∙ ap (λ ls. suite_from 1 no_lines ls >>= (λ read. Ok (parts_of read))) (lines_back (lines_of_written written) is.lines)
+    ∙ ap (λ r. r >>= (λ read. Ok (parts_of read))) (items.goes_on ∙ ap (goes items.next items.made) (sym (append-nil written.after)) ∙ end.1)
+    ∙ ap Ok items.parts_are
+
+-- what gives the suite of a text gives the one that the text is written for
+pub reads_back : (result : Result Suite SuiteFault) (text : List ℕ) → Gives suite_parts result (suite_of text) → (parts : SuiteParts) → IsSuite text parts → Gives suite_parts result (Ok parts)
+reads_back result text gives parts is =
+    subst (Gives suite_parts result) (ap suite_of is.text_is ∙ suite_back is.written is.is_written ∙ ap Ok (sym is.parts_are)) gives

@@ -1,0 +1,125 @@
+-- What may be written as a suite: nodes that stand in nodes, each with its line, the texts that spell it, and the suite that it means.
+use Rattle.std.specs.Prelude.{◌≡◌, ◌≢◌, ◌<◌, ◌≤◌, ℕ, suc, ◌-◌, ◌==◌, ◌⊎◌, true, false, List, [], ◌∷◌, ◌++◌, length, slice_index, Option, Some, None, option_to_list}
+use Rattle.std.specs.List.{AllByRecursion, flat_map}
+use Rattle.descriptor.specs.declared.node.Node.{Node}
+use Rattle.descriptor.specs.Nodes.{plan_alone, size, appended}
+use Rattle.descriptor.specs.Refusals as trees
+use Rattle.unique_id.specs.Spelling as ids
+use Rattle.suite_text.specs.declared.suite_builder.Opened.{Opened}
+use Rattle.suite_text.specs.SuiteNodes.{id_at, node_declared, script_declared, segment_kind}
+use Rattle.suite_text.specs.SuiteParts.{SuiteParts, word_of_opened, node_of_opened}
+use Rattle.suite_text.specs.Words.{is_space}
+use Rattle.suite_text.specs.WrittenLines.{NodeLine, node_text, declares, IsNodeLine}
+
+-- how a line ends: with a line feed, with a carriage return before it, or, the last one, with the text
+pub data LineEnd : Type 0 where
+  Feed : LineEnd
+  ReturnFeed : LineEnd
+  TextEnd : LineEnd
+
+abbrev pub end_text : LineEnd → List ℕ
+end_text Feed = 10 ∷ []
+end_text ReturnFeed = 13 ∷ 10 ∷ []
+end_text TextEnd = []
+
+-- a line and its end
+pub record Line : Type 0 where
+  pub text : List ℕ
+  pub end : LineEnd
+
+-- the text of lines
+abbrev pub text_of_lines : List Line → List ℕ
+text_of_lines lines = flat_map (λ line. line.text ++ end_text line.end) lines
+
+-- a line with this end may stand before these: a carriage return at its end would be read as a part of its line feed, and only
+-- the last line, which is not empty, may do without an end
+abbrev pub MayEndWith : LineEnd → List ℕ → List Line → Type 0
+MayEndWith Feed text more = slice_index text (length text - 1) ≢ 13
+MayEndWith ReturnFeed text more = Unit {0}
+MayEndWith TextEnd text more = (more ≡ []) × (0 < length text)
+
+-- lines hold no line feed, and end as they may
+abbrev pub AreLines : List Line → Type 0
+AreLines [] = Unit {0}
+AreLines (line ∷ more) = AllByRecursion (λ byte. (byte == 10) ≡ false) line.text × MayEndWith line.end line.text more × AreLines more
+
+-- a line that says nothing: it begins with a number sign, or all of it are spaces
+abbrev pub SaysNothing : Line → Type 0
+SaysNothing line = ((rest : List ℕ) × (line.text ≡ 35 ∷ rest)) ⊎ AllByRecursion (λ byte. is_space byte ≡ true) line.text
+
+-- nodes that stand in one node: none, or one behind lines that say nothing, with those in it, and those after it
+pub data Items : Type 0 where
+  NoMore : Items
+  Item : (before : List Line) → (line : NodeLine) → (end : LineEnd) → (inside after : Items) → Items
+
+-- their lines, on a level; what stands in a node stands one level below it
+abbrev pub lines_of_items : ℕ → Items → List Line
+lines_of_items level NoMore = []
+lines_of_items level (Item before line end inside after) =
+    before ++ (record { text = node_text level line; end = end } ∷ (lines_of_items (suc level) inside ++ lines_of_items level after))
+
+-- a suite as it is written: its engines, and at the end lines that say nothing
+pub record Written : Type 0 where
+  pub engines : Items
+  pub after : List Line
+
+abbrev pub lines_of_written : Written → List Line
+lines_of_written written = lines_of_items 0 written.engines ++ written.after
+
+abbrev pub text_of_written : Written → List ℕ
+text_of_written written = text_of_lines (lines_of_written written)
+
+-- the node that a line declares in this one, or at level 0 where there is none: it has the next number
+abbrev pub node_in : SuiteParts → Option Opened → NodeLine → Node
+node_in parts place line = node_declared (size parts.tree) (word_of_opened place) (id_at parts.tree (node_of_opened place)) (declares line)
+
+-- with that node as the last of the tree, and its script
+abbrev pub with_item : SuiteParts → Option Opened → NodeLine → SuiteParts
+with_item parts place line = record {
+  tree = appended parts.tree (node_of_opened place) (node_in parts place line);
+  scripts = parts.scripts ++ option_to_list (script_declared (declares line) (size parts.tree));
+}
+
+-- that node, for those in it
+abbrev pub in_item : SuiteParts → NodeLine → Option Opened
+in_item parts line = Some (record { node = size parts.tree; word = line.word })
+
+-- with all nodes of these items: a node, those in it, those after it
+abbrev pub with_items : SuiteParts → Option Opened → Items → SuiteParts
+with_items parts place NoMore = parts
+with_items parts place (Item before line end inside after) = with_items (with_items (with_item parts place line) (in_item parts line) inside) place after
+
+-- the plan alone
+abbrev pub no_parts : SuiteParts
+no_parts = record { tree = plan_alone; scripts = [] }
+
+-- the suite that is meant
+abbrev pub meant : Written → SuiteParts
+meant written = with_items no_parts None written.engines
+
+-- no limit refuses the node: its unique id is within the limits of ids, and the tree takes it
+pub record IsTaken (parts : SuiteParts) (place : Option Opened) (line : NodeLine) : Type 0 where
+  pub id : ids.refusal (id_at parts.tree (node_of_opened place)) (segment_kind (word_of_opened place) line.word) line.name ≡ None
+  pub tree : trees.refusal parts.tree (node_of_opened place) (node_in parts place line) ≡ None
+
+-- each of these items may be written in this node
+abbrev pub AreItems : SuiteParts → Option Opened → Items → Type 0
+AreItems parts place NoMore = Unit {0}
+AreItems parts place (Item before line end inside after) =
+    AllByRecursion SaysNothing before × IsNodeLine (word_of_opened place) line × IsTaken parts place line
+    × AreItems (with_item parts place line) (in_item parts line) inside
+    × AreItems (with_items (with_item parts place line) (in_item parts line) inside) place after
+
+-- a suite may be written so
+pub record IsWritten (written : Written) : Type 0 where
+  pub items : AreItems no_parts None written.engines
+  pub after : AllByRecursion SaysNothing written.after
+  pub lines : AreLines (lines_of_written written)
+  pub short : length (text_of_written written) ≤ 1048576
+
+-- the text is one that may be written for this suite
+pub record IsSuite (text : List ℕ) (parts : SuiteParts) : Type 0 where
+  pub written : Written
+  pub is_written : IsWritten written
+  pub text_is : text ≡ text_of_written written
+  pub parts_are : parts ≡ meant written
