@@ -16,3 +16,4 @@ mod WrittenWords
 mod WrittenTexts
 mod WrittenLines
 pub mod WrittenSuites
+mod WrittenTrees

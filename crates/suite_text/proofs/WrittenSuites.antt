@@ -1,24 +1,30 @@
 -- A written suite is read back.
-use Rattle.std.proofs.Common.{◌≡◌, ℕ, zero, suc, ◌+◌, ◌<◌, ◌≤◌, List, [], ◌∷◌, ◌++◌, length, take, Bool, true, false, cond, if◌then◌else◌, ◌||◌, ◌==◌, inl, inr, Option, Some, None, Result, Ok, refl, ap, sym, subst, ◌∙◌, arith, append-nil}
+use Rattle.std.proofs.Common.{◌≡◌, ℕ, zero, suc, ◌+◌, ◌<◌, ◌≤◌, List, [], ◌∷◌, ◌++◌, length, take, Bool, true, false, cond, if◌then◌else◌, ◌||◌, ◌==◌, inl, inr, Option, Some, None, Result, Ok, refl, ap, sym, subst, ◌∙◌, arith, append-nil, length-append}
 use Rattle.std.specs.Prelude.{slice_get}
 use Rattle.std.specs.List.{AllByRecursion}
 use Rattle.std.specs.Option.{is_some}
+use Rattle.std.proofs.lemmas.Bool.{ne_eqb}
 use Rattle.std.proofs.lemmas.List.{append_assoc}
 use Rattle.descriptor.specs.declared.fault.TreeFault.TheVariants.{OverLimit}
-use Rattle.descriptor.specs.Nodes.{size}
+use Rattle.descriptor.specs.declared.node.Node.{Node}
+use Rattle.descriptor.specs.Nodes.{Nodes, IsTree, size}
 use Rattle.descriptor.specs.Refusals as trees
+use Rattle.unique_id.specs.Spelling as ids
 use Rattle.suite_text.specs.declared.suite_builder.Opened.{Opened}
 use Rattle.suite_text.specs.declared.suite.Suite.{Suite}
 use Rattle.suite_text.specs.declared.suite_fault.SuiteFault.{SuiteFault}
+use Rattle.suite_text.specs.declared.suite_words.Word.{Word}
+use Rattle.suite_text.specs.declared.suite_words.Word.TheVariants.{Engine, Class, Test}
 use Rattle.suite_text.specs.SuiteFaults.{Gives, ◌>>=◌}
 use Rattle.suite_text.specs.SuiteLines.{says_nothing, begins_with_sign}
-use Rattle.suite_text.specs.SuiteNodes.{parent_on, word_on, node_on, refusal_on, grown, unless_refused}
-use Rattle.suite_text.specs.SuiteParts.{SuiteParts, LinesRead, no_lines, parts_of, above, word_of_opened}
+use Rattle.suite_text.specs.SuiteNodes.{id_at, segment_kind, parent_on, word_on, node_on, refusal_on, grown, unless_refused}
+use Rattle.suite_text.specs.SuiteParts.{SuiteParts, LinesRead, no_lines, parts_of, above, word_of_opened, node_of_opened}
 use Rattle.suite_text.specs.Suites.{with_declared, with_declaration, with_words, with_line, suite_from, suite_of, suite_parts}
-use Rattle.suite_text.specs.WrittenLines.{NodeLine, node_text, declares, IsNodeLine}
-use Rattle.suite_text.specs.WrittenSuites.{Line, SaysNothing, Items, NoMore, Item, lines_of_items, Written, lines_of_written, text_of_written, with_item, in_item, with_items, no_parts, meant, IsTaken, AreItems, IsWritten, IsSuite}
+use Rattle.suite_text.specs.WrittenLines.{IsWord, NodeLine, node_text, declares, IsNodeLine}
+use Rattle.suite_text.specs.WrittenSuites.{Line, SaysNothing, Items, NoMore, Item, lines_of_items, Written, lines_of_written, text_of_written, with_item, in_item, with_items, no_parts, meant, node_in, IsShortId, AreItems, IsWritten, IsSuite}
 use Rattle.suite_text.proofs.SuiteSteps.{suite_small}
 use Rattle.suite_text.proofs.WrittenLines.{line_says, line_level, line_declares}
+use Rattle.suite_text.proofs.WrittenTrees.{Extends, extends_self, extends_one, extends_then, taken_next, id_next, id_short}
 use Rattle.suite_text.proofs.WrittenTexts.{texts_of, lines_back}
 use Rattle.suite_text.proofs.WrittenWords.{all_spaces}
 
@@ -41,6 +47,53 @@ passed number read (line ∷ more) rest h =
       next.0,
       ap (λ b. (if b then Ok read else with_words number read line.text) >>= (λ r. goes (number + 1) r (more ++ rest))) (nothing_said line h.0) ∙ next.1,
     )
+
+-- no limit refuses the node that a line declares in a place
+record IsTaken (parts : SuiteParts) (place : Option Opened) (line : NodeLine) : Type 0 where
+  pub id : ids.refusal (id_at parts.tree (node_of_opened place)) (segment_kind (word_of_opened place) line.word) line.name ≡ None
+  pub tree : trees.refusal parts.tree (node_of_opened place) (node_in parts place line) ≡ None
+
+some_kind : (above : Option Word) (w : Word) → (length (segment_kind above w) == 0) ≡ false
+some_kind above Engine = refl
+some_kind None Class = refl
+some_kind (Some Engine) Class = refl
+some_kind (Some Class) Class = refl
+some_kind (Some Test) Class = refl
+some_kind above Test = refl
+
+-- the items of a tree are taken one by one
+extends_items : (items : Items) (parts : SuiteParts) (place : Option Opened) → Extends parts.tree (with_items parts place items).tree
+extends_items NoMore parts place = extends_self parts.tree
+extends_items (Item before line end inside after) parts place =
+    let own = with_item parts place line in
+    let within = with_items own (in_item parts line) inside in
+    extends_then parts.tree own.tree _ (extends_one parts.tree (node_of_opened place) (node_in parts place line))
+    (extends_then own.tree within.tree _ (extends_items inside own (in_item parts line)) (extends_items after within place))
+
+-- one node has no number in the list of nodes: the plan
+abbrev IsCounted : SuiteParts → Type 0
+IsCounted parts = length parts.tree.nodes + 1 ≡ size parts.tree
+
+counted_item : (parts : SuiteParts) (place : Option Opened) (line : NodeLine) → IsCounted parts → IsCounted (with_item parts place line)
+counted_item parts place line h =
+    let nodes = length-append parts.tree.nodes (node_in parts place line ∷ []) in
+    let parents = length-append parts.tree.parents (node_of_opened place ∷ []) in
+    omega (arith, h, nodes, parents)
+
+counted_items : (items : Items) (parts : SuiteParts) (place : Option Opened) → IsCounted parts → IsCounted (with_items parts place items)
+counted_items NoMore parts place h = h
+counted_items (Item before line end inside after) parts place h =
+    let own = with_item parts place line in
+    let within = with_items own (in_item parts line) inside in
+    counted_items after within place (counted_items inside own (in_item parts line) (counted_item parts place line h))
+
+taken_item : (parts : SuiteParts) (place : Option Opened) (line : NodeLine) (final : Nodes) → IsCounted parts → IsWord line.name → Extends (with_item parts place line).tree final → IsTree final
+    → AllByRecursion (λ (node : Node). IsShortId node.id) final.nodes → IsTaken parts place line
+taken_item parts place line final counted name more tree ids = record {
+  id = id_short (id_at parts.tree (node_of_opened place)) (segment_kind (word_of_opened place) line.word) line.name (some_kind (word_of_opened place) line.word)
+      (ne_eqb (length line.name) 0 (λ e. omega (arith, e, name.0))) (id_next parts.tree final (node_of_opened place) (node_in parts place line) more ids);
+  tree = taken_next parts.tree final (node_of_opened place) (node_in parts place line) counted more tree;
+}
 
 -- a line that declares a node
 module _ (number level : ℕ) (read : LinesRead) (line : NodeLine) (fits : level ≤ length read.path) where
@@ -88,47 +141,55 @@ record ItemsRead (number level : ℕ) (read : LinesRead) (parts : SuiteParts) (p
   pub parts_are : parts_of made ≡ with_items parts place items
   pub kept : Kept level read.path made.path
 
-items_back : (items : Items) (number level : ℕ) (read : LinesRead) (parts : SuiteParts) (place : Option Opened) (rest : List Line) → parts_of read ≡ parts → above read.path level ≡ place → level ≤ length read.path
-    → AreItems parts place items → ItemsRead number level read parts place items rest
-items_back NoMore number level read parts place rest same at fits are = record {
-  next = number;
-  made = read;
-  goes_on = refl;
-  parts_are = same;
-  kept = record { fits = fits; same = λ l h. refl };
-}
-items_back (Item before line end inside after) number level read parts place rest same at fits are =
-    let own : Line = record { text = node_text level line; end = end } in
-    let within = lines_of_items (suc level) inside in
-    let behind = lines_of_items level after in
-    let shape : (before ++ (own ∷ (within ++ behind))) ++ rest ≡ before ++ (own ∷ (within ++ (behind ++ rest))) =
-    append_assoc before (own ∷ (within ++ behind)) rest ∙ ap (λ l. before ++ (own ∷ l)) (append_assoc within behind rest) in
-    let front = passed number read before (own ∷ (within ++ (behind ++ rest))) are.0 in
-    let with_own = grown read level (declares line) in
-    let is : IsNodeLine (word_of_opened (above read.path level)) line = subst (λ (p : Option Opened). IsNodeLine (word_of_opened p) line) (sym at) are.1 in
-    let taken : IsTaken (parts_of read) (above read.path level) line = subst (λ (p : Option Opened). IsTaken (parts_of read) p line) (sym at) (subst (λ (q : SuiteParts). IsTaken q place line) (sym same) are.2) in
-    let step : goes front.0 read (own ∷ (within ++ (behind ++ rest))) ≡ goes (front.0 + 1) with_own (within ++ (behind ++ rest)) =
-    ap (λ r. r >>= (λ x. goes (front.0 + 1) x (within ++ (behind ++ rest)))) (line_taken front.0 level read line fits is taken) in
-    let parts_now : parts_of with_own ≡ with_item parts place line = ap (λ q. with_item q (above read.path level) line) same ∙ ap (λ p. with_item parts p line) at in
-    let opened : Opened = record { node = size read.tree; word = line.word } in
-    let place_now : above with_own.path (suc level) ≡ in_item parts line = grown_new read.path level opened fits ∙ ap (λ q. in_item q line) same in
-    let first = items_back inside (front.0 + 1) (suc level) with_own (with_item parts place line) (in_item parts line) (behind ++ rest) parts_now place_now (grown_fits read.path level opened fits) are.3 in
-    let kept : Kept level read.path first.made.path = record {
-      fits = let more = first.kept.fits in omega (arith, more);
-      same = λ l h. first.kept.same l (omega (arith, h)) ∙ grown_get read.path level l opened fits h;
-    } in
-    let second = items_back after first.next level first.made (with_items (with_item parts place line) (in_item parts line) inside) place rest first.parts_are (above_kept level read.path first.made.path kept ∙ at) kept.fits are.4 in
-    record {
-      next = second.next;
-      made = second.made;
-      goes_on = ap (goes number read) shape ∙ front.1 ∙ step ∙ first.goes_on ∙ second.goes_on;
-      parts_are = second.parts_are;
-      kept = record { fits = second.kept.fits; same = λ l h. second.kept.same l h ∙ kept.same l h };
-    }
+module _ (final : Nodes) (tree : IsTree final) (short : AllByRecursion (λ (node : Node). IsShortId node.id) final.nodes) where
+  items_back : (items : Items) (number level : ℕ) (read : LinesRead) (parts : SuiteParts) (place : Option Opened) (rest : List Line) → parts_of read ≡ parts → above read.path level ≡ place → level ≤ length read.path
+      → IsCounted parts → Extends (with_items parts place items).tree final → AreItems (word_of_opened place) items → ItemsRead number level read parts place items rest
+  items_back NoMore number level read parts place rest same at fits counted more are = record {
+    next = number;
+    made = read;
+    goes_on = refl;
+    parts_are = same;
+    kept = record { fits = fits; same = λ l h. refl };
+  }
+  items_back (Item before line end inside after) number level read parts place rest same at fits counted more are =
+      let own : Line = record { text = node_text level line; end = end } in
+      let within = lines_of_items (suc level) inside in
+      let behind = lines_of_items level after in
+      let shape : (before ++ (own ∷ (within ++ behind))) ++ rest ≡ before ++ (own ∷ (within ++ (behind ++ rest))) =
+      append_assoc before (own ∷ (within ++ behind)) rest ∙ ap (λ l. before ++ (own ∷ l)) (append_assoc within behind rest) in
+      let front = passed number read before (own ∷ (within ++ (behind ++ rest))) are.0 in
+      let with_own = grown read level (declares line) in
+      let parts_own = with_item parts place line in
+      let parts_within = with_items parts_own (in_item parts line) inside in
+      let more_within : Extends parts_within.tree final = extends_then parts_within.tree _ final (extends_items after parts_within place) more in
+      let more_own : Extends parts_own.tree final = extends_then parts_own.tree parts_within.tree final (extends_items inside parts_own (in_item parts line)) more_within in
+      let is : IsNodeLine (word_of_opened (above read.path level)) line = subst (λ (p : Option Opened). IsNodeLine (word_of_opened p) line) (sym at) are.1 in
+      let taken : IsTaken (parts_of read) (above read.path level) line =
+      subst (λ (p : Option Opened). IsTaken (parts_of read) p line) (sym at) (subst (λ (q : SuiteParts). IsTaken q place line) (sym same) (taken_item parts place line final counted are.1.name more_own tree short)) in
+      let step : goes front.0 read (own ∷ (within ++ (behind ++ rest))) ≡ goes (front.0 + 1) with_own (within ++ (behind ++ rest)) =
+      ap (λ r. r >>= (λ x. goes (front.0 + 1) x (within ++ (behind ++ rest)))) (line_taken front.0 level read line fits is taken) in
+      let parts_now : parts_of with_own ≡ parts_own = ap (λ q. with_item q (above read.path level) line) same ∙ ap (λ p. with_item parts p line) at in
+      let opened : Opened = record { node = size read.tree; word = line.word } in
+      let place_now : above with_own.path (suc level) ≡ in_item parts line = grown_new read.path level opened fits ∙ ap (λ q. in_item q line) same in
+      let first = items_back inside (front.0 + 1) (suc level) with_own parts_own (in_item parts line) (behind ++ rest) parts_now place_now (grown_fits read.path level opened fits)
+      (counted_item parts place line counted) more_within are.2 in
+      let kept : Kept level read.path first.made.path = record {
+        fits = let deep = first.kept.fits in omega (arith, deep);
+        same = λ l h. first.kept.same l (omega (arith, h)) ∙ grown_get read.path level l opened fits h;
+      } in
+      let second = items_back after first.next level first.made parts_within place rest first.parts_are (above_kept level read.path first.made.path kept ∙ at) kept.fits
+      (counted_items inside parts_own (in_item parts line) (counted_item parts place line counted)) more are.3 in
+      record {
+        next = second.next;
+        made = second.made;
+        goes_on = ap (goes number read) shape ∙ front.1 ∙ step ∙ first.goes_on ∙ second.goes_on;
+        parts_are = second.parts_are;
+        kept = record { fits = second.kept.fits; same = λ l h. second.kept.same l h ∙ kept.same l h };
+      }
 
 suite_back : (written : Written) → IsWritten written → suite_of (text_of_written written) ≡ Ok (meant written)
 suite_back written is =
-    let items = items_back written.engines 1 0 no_lines no_parts None written.after refl refl (omega arith) is.items in
+    let items = items_back (meant written).tree is.tree is.ids written.engines 1 0 no_lines no_parts None written.after refl refl (omega arith) refl (extends_self (meant written).tree) is.items in
     let end = passed items.next items.made written.after [] is.after in
     suite_small (text_of_written written) is.short
     ∙ ap (λ ls. suite_from 1 no_lines ls >>= (λ read. Ok (parts_of read))) (lines_back (lines_of_written written) is.lines)

@@ -2,11 +2,12 @@
 use Rattle.std.specs.Prelude.{◌≡◌, ◌≢◌, ◌<◌, ◌≤◌, ℕ, suc, ◌-◌, ◌==◌, ◌⊎◌, true, false, List, [], ◌∷◌, ◌++◌, length, slice_index, Option, Some, None, option_to_list}
 use Rattle.std.specs.List.{AllByRecursion, flat_map}
 use Rattle.descriptor.specs.declared.node.Node.{Node}
-use Rattle.descriptor.specs.Nodes.{plan_alone, size, appended}
-use Rattle.descriptor.specs.Refusals as trees
-use Rattle.unique_id.specs.Spelling as ids
+use Rattle.descriptor.specs.Nodes.{IsTree, plan_alone, size, appended}
+use Rattle.unique_id.specs.declared.unique_id.Segment.{Segment}
+use Rattle.unique_id.specs.Spelling.{spelling}
+use Rattle.suite_text.specs.declared.suite_words.Word.{Word}
 use Rattle.suite_text.specs.declared.suite_builder.Opened.{Opened}
-use Rattle.suite_text.specs.SuiteNodes.{id_at, node_declared, script_declared, segment_kind}
+use Rattle.suite_text.specs.SuiteNodes.{id_at, node_declared, script_declared}
 use Rattle.suite_text.specs.SuiteParts.{SuiteParts, word_of_opened, node_of_opened}
 use Rattle.suite_text.specs.Words.{is_space}
 use Rattle.suite_text.specs.WrittenLines.{NodeLine, node_text, declares, IsNodeLine}
@@ -97,24 +98,23 @@ no_parts = record { tree = plan_alone; scripts = [] }
 abbrev pub meant : Written → SuiteParts
 meant written = with_items no_parts None written.engines
 
--- no limit refuses the node: its unique id is within the limits of ids, and the tree takes it
-pub record IsTaken (parts : SuiteParts) (place : Option Opened) (line : NodeLine) : Type 0 where
-  pub id : ids.refusal (id_at parts.tree (node_of_opened place)) (segment_kind (word_of_opened place) line.word) line.name ≡ None
-  pub tree : trees.refusal parts.tree (node_of_opened place) (node_in parts place line) ≡ None
+-- items may be written right in a node of this word, or at level 0 where there is none
+abbrev pub AreItems : Option Word → Items → Type 0
+AreItems above NoMore = Unit {0}
+AreItems above (Item before line end inside after) = AllByRecursion SaysNothing before × IsNodeLine above line × AreItems (Some line.word) inside × AreItems above after
 
--- each of these items may be written in this node
-abbrev pub AreItems : SuiteParts → Option Opened → Items → Type 0
-AreItems parts place NoMore = Unit {0}
-AreItems parts place (Item before line end inside after) =
-    AllByRecursion SaysNothing before × IsNodeLine (word_of_opened place) line × IsTaken parts place line
-    × AreItems (with_item parts place line) (in_item parts line) inside
-    × AreItems (with_items (with_item parts place line) (in_item parts line) inside) place after
+-- a unique id within its limits: 64 segments, and 1,024 bytes as it is spelled
+abbrev pub IsShortId : List Segment → Type 0
+IsShortId id = (length id ≤ 64) × (length (spelling id) ≤ 1024)
 
--- a suite may be written so
+-- a suite may be written so: each line may stand where it stands, the nodes are a tree within its limits, of which no two have one unique id,
+-- and no unique id and no text is too long
 pub record IsWritten (written : Written) : Type 0 where
-  pub items : AreItems no_parts None written.engines
+  pub items : AreItems None written.engines
   pub after : AllByRecursion SaysNothing written.after
   pub lines : AreLines (lines_of_written written)
+  pub tree : IsTree (meant written).tree
+  pub ids : AllByRecursion (λ node. IsShortId node.id) (meant written).tree.nodes
   pub short : length (text_of_written written) ≤ 1048576
 
 -- the text is one that may be written for this suite

@@ -1,0 +1,181 @@
+-- A node of a tree is one that the nodes before it take.
+use borrow.Author.Tests.{tests}
+use Rattle.std.proofs.Common.{rules, ◌≡◌, ℕ, zero, suc, ◌+◌, ◌<◌, ◌≤◌, ◌||◌, ◌==◌, nat_lt, Bool, true, false, cond, List, [], ◌∷◌, ◌++◌, length, Option, Some, None, refl, ap, sym, subst, ◌∙◌, arith, length-append, append-nil}
+use Rattle.std.specs.Prelude.{slice_get, slice_index_or}
+use Rattle.std.specs.List.{list_any, AllByRecursion}
+use Rattle.std.specs.Str.{bytes_eq}
+use Rattle.std.proofs.lemmas.Bool.{ne_eqb, eqb-true}
+use Rattle.std.proofs.lemmas.List.{append_assoc}
+use Rattle.std.proofs.lemmas.Slice.Eq.{bytes_eq-Decides}
+use Rattle.unique_id.specs.declared.unique_id.Segment.{Segment}
+use Rattle.unique_id.specs.declared.fault.UidFault.TheVariants.{EmptyPart, TooLong}
+use Rattle.unique_id.specs.Spelling.{spelling}
+use Rattle.unique_id.specs.Spelling as ids
+use Rattle.descriptor.specs.declared.node.Node.{Node}
+use Rattle.descriptor.specs.declared.fault.TreeFault.TheVariants.{TooMany, TooDeep, DoubleId, ParentIsTest, BodyTwice, OverLimit}
+use Rattle.descriptor.specs.Limits.{is_over_limit}
+use Rattle.descriptor.specs.Nodes.{Nodes, IsTree, size, parent_of, node_at, depth_of, steps_up, is_test_at, is_test_kind, kind_or, body_or, text_or, appended}
+use Rattle.descriptor.specs.Refusals.{refusal, has_id, has_body, is_body}
+use Rattle.descriptor.proofs.Accepted.{none_holds}
+use Rattle.suite_text.specs.WrittenSuites.{IsShortId}
+
+-- u is t with more behind it
+pub record Extends (t u : Nodes) : Type 0 where
+  pub more_parents : List ℕ
+  pub more_nodes : List Node
+  pub parents : u.parents ≡ t.parents ++ more_parents
+  pub nodes : u.nodes ≡ t.nodes ++ more_nodes
+
+pub extends_self : (t : Nodes) → Extends t t
+extends_self t = record { more_parents = []; more_nodes = []; parents = sym (append-nil t.parents); nodes = sym (append-nil t.nodes) }
+
+pub extends_one : (t : Nodes) (a : ℕ) (node : Node) → Extends t (appended t a node)
+extends_one t a node = record { more_parents = a ∷ []; more_nodes = node ∷ []; parents = refl; nodes = refl }
+
+pub extends_then : (t u v : Nodes) → Extends t u → Extends u v → Extends t v
+extends_then t u v first second = record {
+  more_parents = first.more_parents ++ second.more_parents;
+  more_nodes = first.more_nodes ++ second.more_nodes;
+  parents = second.parents ∙ ap (λ l. l ++ second.more_parents) first.parents ∙ append_assoc t.parents first.more_parents second.more_parents;
+  nodes = second.nodes ∙ ap (λ l. l ++ second.more_nodes) first.nodes ∙ append_assoc t.nodes first.more_nodes second.more_nodes;
+}
+
+-- what stands at a place of a list
+index_early : (xs ys : List ℕ) (n : ℕ) → n < length xs → slice_index_or (xs ++ ys) n 0 ≡ slice_index_or xs n 0
+index_early [] ys n h = absurd (omega (arith, h))
+index_early (x ∷ xs) ys zero h = refl
+index_early (x ∷ xs) ys (suc n) h = index_early xs ys n (omega (arith, h))
+
+index_next : (xs ys : List ℕ) (y : ℕ) → slice_index_or (xs ++ y ∷ ys) (length xs) 0 ≡ y
+index_next [] ys y = refl
+index_next (x ∷ xs) ys y = index_next xs ys y
+
+get_early : (xs ys : List Node) (n : ℕ) → n < length xs → slice_get (xs ++ ys) n ≡ slice_get xs n
+get_early [] ys n h = absurd (omega (arith, h))
+get_early (x ∷ xs) ys zero h = refl
+get_early (x ∷ xs) ys (suc n) h = get_early xs ys n (omega (arith, h))
+
+get_next : (xs ys : List Node) (y : Node) → slice_get (xs ++ y ∷ ys) (length xs) ≡ Some y
+get_next [] ys y = refl
+get_next (x ∷ xs) ys y = get_next xs ys y
+
+get_inside : (xs : List Node) (n : ℕ) (x : Node) → slice_get xs n ≡ Some x → n < length xs
+get_inside [] n x e = absurd (cc)
+get_inside (y ∷ xs) zero x e = omega arith
+get_inside (y ∷ xs) (suc n) x e = let less = get_inside xs n x e in omega (arith, less)
+
+none_of : (q : Node → Bool) (xs : List Node) → ((n : ℕ) (x : Node) → slice_get xs n ≡ Some x → q x ≡ false) → list_any q xs ≡ false
+none_of q [] h = refl
+none_of q (x ∷ xs) h = ap (λ b. b || list_any q xs) (h 0 x refl) ∙ none_of q xs (λ n y e. h (suc n) y e)
+
+not_true : (b : Bool) → (b ≡ true → ⊥) → b ≡ false
+not_true true h = absurd (h refl)
+not_true false h = refl
+
+body_from : (b : ℕ) (body : Option ℕ) → is_body b body ≡ true → body ≡ Some b
+body_from b None e = absurd (cc)
+body_from b (Some other) e = ap Some (eqb-true other b e)
+
+no_step : (ps : List ℕ) (j : ℕ) → steps_up ps j 0 ≡ 0
+no_step ps zero = refl
+no_step ps (suc j) = refl
+
+module _ (t : Nodes) (a : ℕ) (node : Node) (ps : List ℕ) (ns : List Node) (len : length t.nodes + 1 ≡ size t) where
+  abbrev whole : Nodes
+  whole = record { parents = t.parents ++ a ∷ ps; nodes = t.nodes ++ node ∷ ns }
+
+  parent_before : (n : ℕ) → n < size t → parent_of whole n ≡ parent_of t n
+  parent_before n h = index_early t.parents (a ∷ ps) n h
+
+  parent_here : parent_of whole (size t) ≡ a
+  parent_here = index_next t.parents ps a
+
+  node_before : (n : ℕ) → n < size t → node_at whole n ≡ node_at t n
+  node_before zero h = refl
+  node_before (suc n) h = get_early t.nodes (node ∷ ns) n (omega (arith, len, h))
+
+  node_here : node_at whole (size t) ≡ Some node
+  node_here = let next : size t ≡ suc (length t.nodes) = omega (arith, len) in ap (node_at whole) next ∙ get_next t.nodes ns node
+
+  module _ (tree : IsTree whole) where
+    inside : size t < size whole
+    inside = let all = length-append t.parents (a ∷ ps) in omega (arith, all)
+
+    parent_less : a < size t
+    parent_less = let up = tree.up (size t) (omega (arith, len)) inside in omega (arith, up, parent_here)
+
+    same_steps : (k j x : ℕ) → x ≤ k → x ≤ j → x < size t → steps_up whole.parents k x ≡ steps_up t.parents j x
+    same_steps zero j zero h i l = sym (no_step t.parents j)
+    same_steps zero j (suc x) h i l = absurd (omega (arith, h))
+    same_steps (suc k) zero zero h i l = refl
+    same_steps (suc k) zero (suc x) h i l = absurd (omega (arith, i))
+    same_steps (suc k) (suc j) zero h i l = refl
+    same_steps (suc k) (suc j) (suc x) h i l =
+        let less = tree.up (suc x) (omega arith) (omega (arith, l, inside)) in
+        let same = parent_before (suc x) l in
+        ap suc (same_steps k j (parent_of whole (suc x)) (omega (arith, less, h)) (omega (arith, less, i)) (omega (arith, less, l)) ∙ ap (steps_up t.parents j) same)
+
+    depth_here : depth_of whole (size t) ≡ suc (depth_of t a)
+    depth_here =
+        let next : size t ≡ suc (length t.nodes) = omega (arith, len) in
+        ap (λ n. steps_up whole.parents n n) next
+        ∙ ap (λ p. suc (steps_up whole.parents (length t.nodes) p)) (ap (parent_of whole) (sym next) ∙ parent_here)
+        ∙ ap suc (same_steps (length t.nodes) a a (omega (arith, parent_less, len)) (omega arith) parent_less)
+
+    told_before : (n : ℕ) (x : Node) → slice_get t.nodes n ≡ Some x → node_at whole (suc n) ≡ Some x
+    told_before n x e = let less = get_inside t.nodes n x e in node_before (suc n) (omega (arith, less, len)) ∙ e
+
+    other : (n : ℕ) (x : Node) → slice_get t.nodes n ≡ Some x → suc n ≡ size t → ⊥
+    other n x e same = let less = get_inside t.nodes n x e in omega (arith, less, len, same)
+
+    new_id : has_id t node.id ≡ false
+    new_id = none_of (λ x. bytes_eq (spelling x.id) (spelling node.id)) t.nodes (λ n x e. not_true _ (λ same.
+        other n x e (tree.ids (suc n) (size t) (spelling node.id) (ap text_or (told_before n x e) ∙ ap Some ((bytes_eq-Decides (spelling x.id) (spelling node.id)).0 same)) (ap text_or node_here))))
+
+    new_body : (body : Option ℕ) → node.body ≡ body → has_body t body ≡ false
+    new_body None is = refl
+    new_body (Some b) is = none_of (λ x. is_body b x.body) t.nodes (λ n x e. not_true _ (λ same.
+        other n x e (tree.bodies (suc n) (size t) b (ap body_or (told_before n x e) ∙ body_from b x.body same) (ap body_or node_here ∙ is))))
+
+    container : is_test_at t a ≡ false
+    container =
+        sym (ap (λ o. is_test_kind (kind_or o)) (node_before a parent_less))
+        ∙ tree.leaf a (size t) (record { above_zero = omega (arith, len); inside = inside; parent = parent_here })
+
+    takes_next : refusal t a node ≡ None
+    takes_next =
+        let shallow = tree.shallow (size t) inside in
+        none_holds (size t == 4096) (depth_of t a == 64) (has_id t node.id) (is_test_at t a) (has_body t node.body) (is_over_limit node) TooMany TooDeep DoubleId ParentIsTest BodyTwice OverLimit
+        (ne_eqb (size t) 4096 (λ e. let few = tree.few in omega (arith, e, few, inside)))
+        (ne_eqb (depth_of t a) 64 (λ e. omega (arith, e, shallow, depth_here)))
+        new_id container (new_body node.body refl) (tree.short (size t) node node_here)
+
+nodes_same : (p q : List ℕ) (m n : List Node) → p ≡ q → m ≡ n → (let left : Nodes = record { parents = p; nodes = m } in let right : Nodes = record { parents = q; nodes = n } in left ≡ right)
+nodes_same p q m n e d = cc
+
+pub taken_next : (t u : Nodes) (a : ℕ) (node : Node) → length t.nodes + 1 ≡ size t → Extends (appended t a node) u → IsTree u → refusal t a node ≡ None
+taken_next t u a node len more tree =
+    let ps = more.more_parents in
+    let ns = more.more_nodes in
+    let same : u ≡ whole t a node ps ns len = nodes_same u.parents (t.parents ++ a ∷ ps) u.nodes (t.nodes ++ node ∷ ns) (more.parents ∙ append_assoc t.parents (a ∷ []) ps) (more.nodes ∙ append_assoc t.nodes (node ∷ []) ns) in
+    takes_next t a node ps ns len (subst IsTree same tree)
+
+all_next : (xs ys : List Node) (x : Node) → AllByRecursion (λ node. IsShortId node.id) (xs ++ x ∷ ys) → IsShortId x.id
+all_next [] ys x h = h.0
+all_next (y ∷ xs) ys x h = all_next xs ys x h.1
+
+-- and its unique id is within the limits
+pub id_next : (t u : Nodes) (a : ℕ) (node : Node) → Extends (appended t a node) u → AllByRecursion (λ (n : Node). IsShortId n.id) u.nodes → IsShortId node.id
+id_next t u a node more all = all_next t.nodes more.more_nodes node (subst (λ (l : List Node). AllByRecursion (λ (n : Node). IsShortId n.id) l) (more.nodes ∙ append_assoc t.nodes (node ∷ []) more.more_nodes) all)
+
+pub id_short : (segments : List Segment) (kind value : List ℕ) → (length kind == 0) ≡ false → (length value == 0) ≡ false → IsShortId (segments ++ record { kind = kind; value = value } ∷ []) → ids.refusal segments kind value ≡ None
+id_short segments kind value some named short =
+    let last : Segment = record { kind = kind; value = value } in
+    let all = length-append segments (last ∷ []) in
+    let few : length segments + 1 ≤ 64 = omega (arith, all, short.0) in
+    let long : nat_lt 64 (length segments + 1) ≡ false = search (rules, tests) in
+    let text : nat_lt 1024 (length (spelling (segments ++ last ∷ []))) ≡ false = search (rules, tests) in
+    ap (λ b. cond b (Some (EmptyPart 0)) (cond (length value == 0) (Some (EmptyPart 1)) (cond (nat_lt 64 (length segments + 1) || nat_lt 1024 (length (spelling (segments ++ last ∷ [])))) (Some TooLong) None))) some
+    ∙ ap (λ b. cond b (Some (EmptyPart 1)) (cond (nat_lt 64 (length segments + 1) || nat_lt 1024 (length (spelling (segments ++ last ∷ [])))) (Some TooLong) None)) named
+    ∙ ap (λ b. cond (b || nat_lt 1024 (length (spelling (segments ++ last ∷ [])))) (Some TooLong) None) long
+    ∙ ap (λ b. cond b (Some TooLong) None) text
