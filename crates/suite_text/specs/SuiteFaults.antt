@@ -2,6 +2,8 @@
 use Rattle.std.specs.Prelude.{◌≡◌, ℕ, Option, Some, None, Result, Ok, Err}
 use Rattle.suite_text.specs.declared.suite_fault.SuiteFault.{SuiteFault}
 use Rattle.suite_text.specs.declared.suite_fault.SuiteFault.TheVariants.{NoMemory, BadLine, BadIndent, MissingVerdict, TooLarge, Refused}
+use Rattle.descriptor.specs.declared.fault.TreeFault.{TreeFault}
+use Rattle.descriptor.specs.declared.fault.TreeFault.TheVariants as tree_faults
 use Rattle.descriptor.specs.Refusals as trees
 
 -- the number of a refusal
@@ -21,6 +23,11 @@ place_of (BadIndent line) = Some line
 place_of (MissingVerdict line) = Some line
 place_of TooLarge = None
 place_of (Refused fault line) = Some line
+
+-- what a node's refusal is at this line; want of memory is about no line
+abbrev pub at_line : ℕ → TreeFault → SuiteFault
+at_line line tree_faults.NoMemory = NoMemory
+at_line line fault = Refused fault line
 
 -- the refusal is the one that the definition gives, unless memory ran out
 abbrev pub Fails : {Y : Type 0} → SuiteFault → Result Y SuiteFault → Type 0

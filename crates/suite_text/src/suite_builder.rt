@@ -204,11 +204,7 @@ impl SuiteBuilder {
     {
         match self.add(alloc, level, declared) {
             Ok(()) => Ok(()),
-            Err(TreeFault::NoMemory) => Err(SuiteFault::NoMemory),
-            Err(fault) => Err(SuiteFault::Refused {
-                fault,
-                line: number,
-            }),
+            Err(fault) => Err(SuiteFault::at_line(number, fault)),
         }
     }
 

@@ -1,7 +1,7 @@
 //! Why a text is no suite.
 
 ghost use Rattle.std.specs.Prelude.{◌≡◌};
-ghost use Rattle.suite_text.specs.SuiteFaults.{number_of, place_of};
+ghost use Rattle.suite_text.specs.SuiteFaults.{at_line, number_of, place_of};
 ghost use Rattle.suite_text.specs.declared.suite_fault.SuiteFault.TheVariants.{NoMemory};
 
 use descriptor::TreeFault;
@@ -34,6 +34,16 @@ impl From<AllocError> for SuiteFault {
 }
 
 impl SuiteFault {
+    /// What a node's refusal is at a line.
+    pub(crate) fn at_line(line: usize, fault: TreeFault) -> SuiteFault
+        ensures { result ≡ at_line line fault }
+    {
+        match fault {
+            TreeFault::NoMemory => SuiteFault::NoMemory,
+            fault => SuiteFault::Refused { fault, line },
+        }
+    }
+
     /// The refusal's number.
     pub fn number(&self) -> u8
         ensures { result ≡ number_of self.now }
