@@ -1,8 +1,10 @@
 -- A written suite is read back.
-use Rattle.std.proofs.Common.{◌≡◌, ℕ, zero, suc, ◌+◌, ◌<◌, ◌≤◌, List, [], ◌∷◌, ◌++◌, length, take, Bool, true, false, cond, if◌then◌else◌, ◌||◌, ◌==◌, inl, inr, Option, Some, None, Result, Ok, refl, ap, sym, subst, ◌∙◌, arith, append-nil, length-append}
+use borrow.Author.Tests.{tests}
+use Rattle.std.proofs.Common.{rules, nat_lt, ◌≡◌, ℕ, zero, suc, ◌+◌, ◌<◌, ◌≤◌, List, [], ◌∷◌, ◌++◌, length, take, Bool, true, false, cond, if◌then◌else◌, ◌||◌, ◌==◌, inl, inr, Option, Some, None, Result, Ok, refl, ap, sym, subst, ◌∙◌, arith, append-nil, length-append}
 use Rattle.std.specs.Prelude.{slice_get}
 use Rattle.std.specs.List.{AllByRecursion}
 use Rattle.std.specs.Option.{is_some}
+use Rattle.std.specs.Str.{IsUtf8}
 use Rattle.std.proofs.lemmas.Bool.{ne_eqb}
 use Rattle.std.proofs.lemmas.List.{append_assoc}
 use Rattle.descriptor.specs.declared.fault.TreeFault.TheVariants.{OverLimit}
@@ -15,6 +17,7 @@ use Rattle.suite_text.specs.declared.suite.Suite.{Suite}
 use Rattle.suite_text.specs.declared.suite_fault.SuiteFault.{SuiteFault}
 use Rattle.suite_text.specs.declared.suite_words.Word.{Word}
 use Rattle.suite_text.specs.declared.suite_words.Word.TheVariants.{Engine, Class, Test}
+use Rattle.suite_text.specs.SuiteBytes.{suite_read}
 use Rattle.suite_text.specs.SuiteFaults.{Gives, ◌>>=◌}
 use Rattle.suite_text.specs.SuiteLines.{says_nothing, begins_with_sign}
 use Rattle.suite_text.specs.SuiteNodes.{id_at, segment_kind, parent_on, word_on, node_on, refusal_on, grown, unless_refused}
@@ -22,6 +25,7 @@ use Rattle.suite_text.specs.SuiteParts.{SuiteParts, LinesRead, no_lines, parts_o
 use Rattle.suite_text.specs.Suites.{with_declared, with_declaration, with_words, with_line, suite_from, suite_of, suite_parts}
 use Rattle.suite_text.specs.WrittenLines.{IsWord, NodeLine, node_text, declares, IsNodeLine}
 use Rattle.suite_text.specs.WrittenSuites.{Line, SaysNothing, Items, NoMore, Item, lines_of_items, Written, lines_of_written, text_of_written, with_item, in_item, with_items, no_parts, meant, node_in, IsShortId, AreItems, IsWritten, IsSuite}
+use Rattle.suite_text.proofs.SuiteReading.{read_text}
 use Rattle.suite_text.proofs.SuiteSteps.{suite_small}
 use Rattle.suite_text.proofs.WrittenLines.{line_says, line_level, line_declares}
 use Rattle.suite_text.proofs.WrittenTrees.{Extends, extends_self, extends_one, extends_then, taken_next, id_next, id_short}
@@ -200,3 +204,10 @@ suite_back written is =
 pub reads_back : (result : Result Suite SuiteFault) (text : List ℕ) → Gives suite_parts result (suite_of text) → (parts : SuiteParts) → IsSuite text parts → Gives suite_parts result (Ok parts)
 reads_back result text gives parts is =
     subst (Gives suite_parts result) (ap suite_of is.text_is ∙ suite_back is.written is.is_written ∙ ap Ok (sym is.parts_are)) gives
+
+-- and so for bytes that are a text
+pub reads_bytes_back : (result : Result Suite SuiteFault) (bytes : List ℕ) → Gives suite_parts result (suite_read bytes) → IsUtf8 bytes → (parts : SuiteParts) → IsSuite bytes parts → Gives suite_parts result (Ok parts)
+reads_bytes_back result bytes gives text parts is =
+    let few : length bytes ≤ 1048576 = subst (λ (l : List ℕ). length l ≤ 1048576) (sym is.text_is) is.is_written.short in
+    let small : nat_lt 1048576 (length bytes) ≡ false = search (rules, tests) in
+    reads_back result bytes (subst (Gives suite_parts result) (read_text bytes small text) gives) parts is

@@ -50,6 +50,23 @@ fn suite_in(alloc: Global, text: &str) -> Result<Suite, SuiteFault>
     Ok(builder.finish())
 }
 
+/// The suite of bytes, which are judged before their lines.
+fn suite_of_bytes(alloc: Global, bytes: &[u8]) -> Result<Suite, SuiteFault>
+    ensures exact { Gives suite_parts result (suite_read bytes.now) }
+    ensures no_memory { IfErr result (λ fault. fault ≡ SuiteFault.NoMemory → (length bytes.now ≤ 1048576) × IsUtf8 bytes.now) }
+{
+    if bytes.len() > LONGEST_SUITE {
+        return Err(SuiteFault::TooLarge);
+    }
+    match std::str::from_utf8(bytes) {
+        Ok(text) => suite_in(alloc, text),
+        Err(fault) => {
+            let line = line_after(&bytes[..fault.valid_up_to()]);
+            Err(SuiteFault::BadLine(line))
+        }
+    }
+}
+
 /// A tree of tests, and what its bodies answer.
 #[derive(Drop)]
 pub struct Suite {
@@ -81,18 +98,11 @@ impl Suite {
     /// the line of the first byte that is not UTF-8, else those of `parse`.
     pub fn read(alloc: Global, bytes: &[u8]) -> Result<Suite, SuiteFault>
         ensures exact { Gives suite_parts result (suite_read bytes.now) }
+        // Bytes that may be written for a suite are read as that suite.
+        ensures reads_back { IsUtf8 bytes.now → (suite : SuiteParts) → IsSuite bytes.now suite → Gives suite_parts result (Ok suite) }
         // Memory is taken only for bytes that are a text, and not too large a one.
         ensures no_memory { IfErr result (λ fault. fault ≡ SuiteFault.NoMemory → (length bytes.now ≤ 1048576) × IsUtf8 bytes.now) }
     {
-        if bytes.len() > LONGEST_SUITE {
-            return Err(SuiteFault::TooLarge);
-        }
-        match std::str::from_utf8(bytes) {
-            Ok(text) => Suite::parse(alloc, text),
-            Err(fault) => {
-                let line = line_after(&bytes[..fault.valid_up_to()]);
-                Err(SuiteFault::BadLine(line))
-            }
-        }
+        suite_of_bytes(alloc, bytes)
     }
 }
