@@ -1,0 +1,9 @@
+pub mod Blanks
+pub mod Faults
+pub mod Numbers
+pub mod Pairs
+pub mod Parameters
+pub mod Properties
+pub mod Settings
+pub mod SettingsFaults
+pub mod Tables

@@ -1,0 +1,25 @@
+//! Configuration parameters: where they come from, and what they ask of a run.
+#![tactic(auto)]
+
+mod blanks;
+mod fault;
+mod mode;
+mod numbers;
+mod pair;
+mod params;
+mod properties;
+mod settings;
+mod settings_fault;
+mod source;
+mod strategy;
+mod table;
+mod warnings;
+
+pub use fault::ParamsFault;
+pub use mode::Mode;
+pub use pair::{Pair, pair_of, property_of};
+pub use params::Params;
+pub use settings::Settings;
+pub use settings_fault::SettingsFault;
+pub use source::Source;
+pub use warnings::Warnings;

@@ -1,0 +1,116 @@
+//! The parameters of three sources.
+
+ghost use Rattle.std.specs.Prelude.{◌≡◌, ◌≢◌, List, ℕ, None, Some, IfErr, OnOk, OnErr};
+ghost use Rattle.std.specs.Option.{option_map, option_or};
+ghost use Rattle.std.specs.Str.Lines.{lines};
+ghost use Rattle.config_params.specs.Parameters.{nothing_said, with_value, with_table, answer, answer_before};
+ghost use Rattle.config_params.specs.Properties.{refusal_of, pairs_of};
+ghost use Rattle.config_params.specs.Tables.{table_of, value_in, last_value};
+ghost use Rattle.config_params.specs.declared.source.Source.TheVariants.{File};
+
+use crate::fault::ParamsFault;
+use crate::properties::{refusal_of, table_of};
+use crate::source::Source;
+use crate::table::{Table, new_table, put, value_of};
+use std::alloc::{AllocError, Global};
+use std::marker::Model;
+
+/// Parameters: what a request, the system and a text of properties say of keys.
+#[derive(Drop)]
+pub struct Params {
+    request: Table,
+    system: Table,
+    file: Table,
+}
+
+impl Model for Params {
+    ghost use Rattle.config_params.specs.Parameters.{Parameters};
+    ghost use Rattle.config_params.specs.Tables.{pairs_in};
+
+    ghost Value = { Parameters };
+
+    ghost view = { λ p. record { request = pairs_in p.request; system = pairs_in p.system; file = pairs_in p.file } };
+}
+
+impl Params {
+    /// Puts a pair into the table of a source.
+    fn put(
+        &mut self,
+        alloc: Global,
+        source: Source,
+        key: &str,
+        value: &str,
+    ) -> Result<(), AllocError>
+        ensures ok { OnOk result (self.new ≡ with_value self.old source (key.now, value.now)) }
+        ensures err { OnErr result (self.new ≡ self.old) }
+    {
+        match source {
+            Source::Request => put(alloc, &mut self.request, key, value),
+            Source::System => put(alloc, &mut self.system, key, value),
+            Source::File => put(alloc, &mut self.file, key, value),
+        }
+    }
+}
+
+impl Params {
+    /// No parameters.
+    pub fn new(alloc: Global) -> Params
+        ensures { result ≡ nothing_said }
+    {
+        Params {
+            request: new_table(alloc),
+            system: new_table(alloc),
+            file: new_table(alloc),
+        }
+    }
+
+    /// Adds a parameter. A later value replaces an earlier one of the same source.
+    pub fn add(
+        &mut self,
+        alloc: Global,
+        source: Source,
+        key: &str,
+        value: &str,
+    ) -> Result<(), AllocError>
+        ensures ok { OnOk result (self.new ≡ with_value self.old source (key.now, value.now)) }
+        ensures err { OnErr result (self.new ≡ self.old) }
+        // The key has this value then, unless a source before this one has the key.
+        ensures seen { OnOk result (answer self.new key.now ≡ option_or (answer_before self.old source key.now) (Some value.now)) }
+        // Other keys have the values that they had.
+        ensures others { OnOk result ((other : List ℕ) → other ≢ key.now → answer self.new other ≡ answer self.old other) }
+    {
+        self.put(alloc, source, key, value)
+    }
+
+    /// Replaces what the file says by what a text of properties says. Refusals, at the first faulty
+    /// line: 30 where it has no equals sign, 31 where its key is empty.
+    pub fn parse_properties(&mut self, alloc: Global, text: &str) -> Result<(), ParamsFault>
+        ensures ok { OnOk result (self.new ≡ with_table self.old File (table_of (pairs_of text.now))) }
+        ensures err { OnErr result (self.new ≡ self.old) }
+        ensures accepted { OnOk result (refusal_of text.now ≡ None) }
+        ensures refused { IfErr result (λ fault. fault ≢ ParamsFault.NoMemory → refusal_of text.now ≡ Some fault) }
+        // Memory is taken only for a text that is not refused.
+        ensures no_memory { IfErr result (λ fault. fault ≡ ParamsFault.NoMemory → refusal_of text.now ≡ None) }
+        // Of a repeated key the last value counts.
+        ensures last { OnOk result ((key : List ℕ) → value_in self.new.file key ≡ last_value (pairs_of text.now) key) }
+    {
+        if let Some(fault) = refusal_of(text) {
+            return Err(fault);
+        }
+        self.file = table_of(alloc, text)?;
+        Ok(())
+    }
+
+    /// The value of a key: that of the first source that has the key.
+    pub fn get(&self, key: &str) -> Option<&str>
+        ensures { option_map (λ value. value.now) result ≡ answer self.now key.now }
+    {
+        if let Some(value) = value_of(&self.request, key) {
+            return Some(value);
+        }
+        if let Some(value) = value_of(&self.system, key) {
+            return Some(value);
+        }
+        value_of(&self.file, key)
+    }
+}

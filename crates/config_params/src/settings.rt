@@ -1,0 +1,104 @@
+//! What a configuration asks of a run.
+
+ghost use Rattle.std.specs.Prelude.{◌≡◌, ◌≤◌, IfOk, false};
+ghost use Rattle.config_params.specs.Parameters.{answer};
+ghost use Rattle.config_params.specs.Settings.{settings_of, is_enabled, mode_spelled, mode_named, mode_or, is_no_mode, enabled_key};
+
+use crate::blanks::{Blanks, without_ends};
+use crate::mode::Mode;
+use crate::params::Params;
+use crate::settings_fault::SettingsFault;
+use crate::strategy::workers_of;
+use crate::warnings::Warnings;
+
+const ENABLED: &str = "junit.jupiter.execution.parallel.enabled";
+
+const DEFAULT_MODE: &str = "junit.jupiter.execution.parallel.mode.default";
+
+const CLASSES_MODE: &str = "junit.jupiter.execution.parallel.mode.classes.default";
+
+/// What a configuration asks of a run.
+#[derive(Clone, Copy, Debug, Drop)]
+pub struct Settings {
+    /// Whether nodes may run side by side.
+    pub parallel: bool,
+    /// How many workers there are, 1 where nothing runs side by side.
+    pub workers: u32,
+    /// The mode of nodes that have none of their own.
+    pub default_mode: Mode,
+    /// The same for the children of engines.
+    pub classes_mode: Mode,
+    pub warnings: Warnings,
+}
+
+fn is_enabled(params: &Params) -> bool
+    ensures { result ≡ is_enabled (answer params.now enabled_key) }
+{
+    match params.get(ENABLED) {
+        Some(value) => value.eq_ignore_ascii_case("true"),
+        None => false,
+    }
+}
+
+/// The mode that a value names.
+fn mode_named(value: &str) -> Option<Mode>
+    ensures { result ≡ mode_named value.now }
+{
+    let name = without_ends(Blanks::Spaces, value);
+    if name.eq_ignore_ascii_case("same_thread") {
+        return Some(Mode::SameThread);
+    }
+    if name.eq_ignore_ascii_case("concurrent") {
+        return Some(Mode::Concurrent);
+    }
+    None
+}
+
+/// The mode that a key has, or else the default, and whether its value is no mode.
+fn mode_at(params: &Params, key: &str, default: Mode) -> (Mode, bool)
+    ensures mode { result.0 ≡ mode_or default (answer params.now key.now) }
+    ensures warning { result.1 ≡ is_no_mode (answer params.now key.now) }
+{
+    let Some(value) = params.get(key) else {
+        return (default, false);
+    };
+    match mode_named(value) {
+        Some(mode) => (mode, false),
+        None => (default, true),
+    }
+}
+
+impl Settings {
+    /// What the parameters ask for, with so many processors. Refusals, only where parallel execution
+    /// is enabled: 34 for an unknown strategy, 32 for the number of the fixed one, 33 for the factor
+    /// of the dynamic one.
+    pub fn read(params: &Params, processors: u32) -> Result<Settings, SettingsFault>
+        ensures exact { result ≡ settings_of (answer params.now) processors }
+        // Where parallel execution is not enabled, one worker takes every node in its turn.
+        ensures off { IfOk result (λ s. s.parallel ≡ false → (s.workers ≡ 1) × (s.default_mode ≡ Mode.SameThread) × (s.classes_mode ≡ Mode.SameThread)) }
+        ensures some { IfOk result (λ s. 1 ≤ s.workers) }
+    {
+        let (default_mode, bad_default) = mode_at(params, DEFAULT_MODE, Mode::SameThread);
+        let (classes_mode, bad_classes) = mode_at(params, CLASSES_MODE, default_mode);
+        let warnings = Warnings {
+            default_mode: bad_default,
+            classes_mode: bad_classes,
+        };
+        if !is_enabled(params) {
+            return Ok(Settings {
+                parallel: false,
+                workers: 1,
+                default_mode: Mode::SameThread,
+                classes_mode: Mode::SameThread,
+                warnings,
+            });
+        }
+        Ok(Settings {
+            parallel: true,
+            workers: workers_of(params, processors)?,
+            default_mode,
+            classes_mode,
+            warnings,
+        })
+    }
+}

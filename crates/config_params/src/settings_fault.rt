@@ -1,0 +1,40 @@
+//! Why parameters give no settings.
+
+ghost use Rattle.std.specs.Prelude.{◌≡◌};
+ghost use Rattle.config_params.specs.SettingsFaults.{number};
+
+use thiserror::Error;
+
+/// Why parameters give no settings.
+#[derive(Clone, Copy, PartialEq, Eq, Debug, Error)]
+pub enum SettingsFault {
+    /// No strategy has this name (refusal 34).
+    #[error("an unknown strategy")]
+    BadStrategy,
+    /// The number of workers is missing or unreadable (refusal 32).
+    #[error("no number of workers for the fixed strategy")]
+    BadParallelism,
+    /// The factor is unreadable (refusal 33).
+    #[error("an unreadable factor of the dynamic strategy")]
+    BadFactor,
+}
+
+impl SettingsFault {
+    /// The refusal's number.
+    pub fn number(self) -> u8
+        ensures { result ≡ number self }
+    {
+        match self {
+            SettingsFault::BadStrategy => 34,
+            SettingsFault::BadParallelism => 32,
+            SettingsFault::BadFactor => 33,
+        }
+    }
+
+    /// Where: none of these refusals has a place.
+    pub fn place(self) -> Option<u64>
+        ensures { result ≡ None }
+    {
+        None
+    }
+}

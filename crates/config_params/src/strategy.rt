@@ -1,0 +1,81 @@
+//! How many workers a parallel run has.
+
+ghost use Rattle.std.specs.Prelude.{◌≡◌, ◌≤◌, ◌<◌, IfOk};
+ghost use Rattle.config_params.specs.Parameters.{answer};
+ghost use Rattle.config_params.specs.Settings.{strategy_of, fixed_workers, factor_of, scaled, workers_of, strategy_key, parallelism_key, factor_key};
+
+use crate::blanks::{Blanks, without_ends};
+use crate::numbers::{factor_in, parallelism_in};
+use crate::params::Params;
+use crate::settings_fault::SettingsFault;
+
+const STRATEGY: &str = "junit.jupiter.execution.parallel.config.strategy";
+
+const PARALLELISM: &str = "junit.jupiter.execution.parallel.config.fixed.parallelism";
+
+const FACTOR: &str = "junit.jupiter.execution.parallel.config.dynamic.factor";
+
+/// The most workers that the dynamic strategy gives.
+const MOST_WORKERS: u128 = 64;
+
+/// How the number of workers is found.
+#[derive(Clone, Copy, Drop)]
+pub(crate) enum Strategy {
+    /// So many for each processor.
+    Dynamic,
+    /// A number that is given.
+    Fixed,
+}
+
+fn strategy_of(params: &Params) -> Result<Strategy, SettingsFault>
+    ensures { result ≡ strategy_of (answer params.now strategy_key) }
+{
+    let Some(value) = params.get(STRATEGY) else {
+        return Ok(Strategy::Dynamic);
+    };
+    let name = without_ends(Blanks::Spaces, value);
+    if name.eq_ignore_ascii_case("dynamic") {
+        return Ok(Strategy::Dynamic);
+    }
+    if name.eq_ignore_ascii_case("fixed") {
+        return Ok(Strategy::Fixed);
+    }
+    Err(SettingsFault::BadStrategy)
+}
+
+fn fixed_workers(params: &Params) -> Result<u32, SettingsFault>
+    ensures { result ≡ fixed_workers (answer params.now parallelism_key) }
+{
+    let Some(value) = params.get(PARALLELISM) else {
+        return Err(SettingsFault::BadParallelism);
+    };
+    parallelism_in(value).ok_or(SettingsFault::BadParallelism)
+}
+
+/// The factor of the dynamic strategy, in ten-thousandths.
+fn factor_of(params: &Params) -> Result<u64, SettingsFault>
+    ensures { result ≡ factor_of (answer params.now factor_key) }
+{
+    let Some(value) = params.get(FACTOR) else {
+        return Ok(10_000);
+    };
+    factor_in(value).ok_or(SettingsFault::BadFactor)
+}
+
+/// So many ten-thousandths of a worker for each processor, cut to a whole number from 1 to 64.
+fn scaled(processors: u32, factor: u64) -> u32
+    ensures { result ≡ scaled processors factor }
+{
+    let workers = processors as u128 * factor as u128 / 10_000;
+    workers.min(MOST_WORKERS).max(1) as u32
+}
+
+/// The workers of a parallel run. Refusals: 34, then 32 or 33, which the strategy decides.
+pub(crate) fn workers_of(params: &Params, processors: u32) -> Result<u32, SettingsFault>
+    ensures { result ≡ workers_of (answer params.now) processors }
+{
+    match strategy_of(params)? {
+        Strategy::Dynamic => Ok(scaled(processors, factor_of(params)?)),
+        Strategy::Fixed => fixed_workers(params),
+    }
+}
