@@ -1,5 +1,5 @@
 -- What std's reading of a number gives for a text of digits.
-use Rattle.std.proofs.Common.{◌≡◌, ℕ, ◌+◌, ◌-◌, ◌*◌, ◌<◌, ◌≤◌, ◌^◌, ◌∙◌, List, [], length, take, Bool, true, false, Result, Ok, refl, sym, ap, subst, rules, arith}
+use Rattle.std.proofs.Common.{◌≡◌, ℕ, ◌+◌, ◌-◌, ◌*◌, ◌<◌, ◌≤◌, ◌^◌, ◌∙◌, List, [], length, take, Bool, true, false, Result, Ok, refl, sym, ap, rules, arith}
 use Rattle.std.specs.Prelude.{if◌then◌else◌, Some, None, unwrap_or}
 use Rattle.std.specs.Char.{is_ascii_digit}
 use Rattle.std.specs.List.{list_all, position_or_len}

@@ -1,6 +1,5 @@
 -- The blanks at the ends of a text, taken off one by one.
-use Rattle.std.proofs.Common.{◌≡◌, ◌≢◌, ℕ, suc, ◌+◌, ◌-◌, ◌==◌, List, [], ◌∷◌, ◌++◌, length, take, drop, reverse, Bool, true, false, refl, ap, sym, subst, ◌∙◌, arith, Bor, Option, None, Some, MatchOption}
-use Rattle.std.specs.Prelude.{◌||◌, if◌then◌else◌}
+use Rattle.std.proofs.Common.{◌≡◌, ◌≢◌, ℕ, suc, ◌+◌, ◌-◌, List, [], ◌∷◌, ◌++◌, length, take, drop, reverse, true, false, refl, ap, sym, ◌∙◌, arith, Bor, Option, None, Some, MatchOption}
 use Rattle.std.specs.List.{prefix_len, suffix_len}
 use Rattle.std.proofs.lemmas.Bool.{ne_eqb}
 use Rattle.std.proofs.lemmas.List.{reverse-append, reverse-reverse, take_all, take-append-le, length-append}

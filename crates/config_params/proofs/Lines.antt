@@ -1,19 +1,17 @@
 -- The lines that an iterator still has to give, read one by one.
-use Rattle.std.proofs.Common.{◌≡◌, ◌≢◌, ℕ, ◌+◌, ◌<◌, ◌≤◌, ◌^◌, List, [], ◌∷◌, ◌++◌, length, fold, count_by, Bool, true, false, Option, None, Some, Result, Ok, Err, Bor, refl, ap, sym, subst, ◌∙◌, arith}
+use Rattle.std.proofs.Common.{◌≡◌, ◌≢◌, ℕ, ◌+◌, ◌≤◌, List, [], ◌∷◌, length, fold, Bool, true, false, Option, None, Some, Result, Ok, Err, Bor, refl, ap, sym, subst, ◌∙◌, arith}
 use Rattle.std.specs.Prelude.{◌==◌, if◌then◌else◌}
 use Rattle.std.specs.declared.str.Lines.{Lines}
 use Rattle.std.specs.Iterator.{AlwaysYields}
-use Rattle.std.specs.List.{slice_split, flat_map}
+use Rattle.std.specs.List.{slice_split}
 use Rattle.std.specs.Str.Iter.{lines_steps, lines_rest}
 use Rattle.std.specs.Str.Lines.{lines, lines_of_parts}
-use Rattle.std.proofs.lemmas.Iterator.{YieldsList}
 use Rattle.std.proofs.lemmas.Iterator.Splits.{YieldsList-from_lines}
-use Rattle.std.proofs.lemmas.List.{length-append}
 use Rattle.std.proofs.lemmas.List.Sums.{fold-append, count_by-le-length}
 use Rattle.std.proofs.lemmas.List.Splits.{length-slice_split}
 use Rattle.config_params.specs.declared.fault.ParamsFault.{ParamsFault}
 use Rattle.config_params.specs.declared.fault.ParamsFault.TheVariants.{NoMemory, NoEquals, EmptyKey}
-use Rattle.config_params.specs.Pairs.{Pair, is_equals_sign, key_of, value_of, pair_of, said, says_nothing, property_of}
+use Rattle.config_params.specs.Pairs.{Pair, key_of, value_of, pair_of, said, says_nothing, property_of}
 use Rattle.config_params.specs.Properties.{fault_or, fault_from, pairs_said, pairs_of_lines}
 use Rattle.config_params.specs.Tables.{with_pair}
 

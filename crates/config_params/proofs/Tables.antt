@@ -1,5 +1,5 @@
 -- What tables have for keys, and the bytes of a map's entries.
-use Rattle.std.proofs.Common.{◌≡◌, ◌≢◌, ℕ, List, [], ◌∷◌, ◌++◌, map, reverse, fold, Bool, true, false, cond, Option, None, Some, refl, ap, sym, subst, ◌∙◌, true≢false, inl, inr, String, Global, string_bytes}
+use Rattle.std.proofs.Common.{◌≡◌, ◌≢◌, ℕ, List, [], ◌∷◌, ◌++◌, map, reverse, fold, Bool, true, false, cond, Option, None, Some, refl, ap, sym, subst, ◌∙◌, true≢false, String, Global, string_bytes}
 use Rattle.std.specs.Prelude.{if◌then◌else◌}
 use Rattle.std.specs.Map.{lookup}
 use Rattle.std.specs.Option.{option_or, option_map}

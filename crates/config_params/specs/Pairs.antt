@@ -1,5 +1,5 @@
 -- What a word `KEY=VALUE`, and a line of a text of properties, says.
-use Rattle.std.specs.Prelude.{ℕ, ◌==◌, ◌||◌, not, Bool, true, false, List, [], ◌∷◌, length, if◌then◌else◌, Option, None, Some, Result, Ok, Err}
+use Rattle.std.specs.Prelude.{ℕ, ◌==◌, ◌||◌, not, Bool, false, List, [], ◌∷◌, length, if◌then◌else◌, Option, None, Some, Result, Ok, Err}
 use Rattle.std.specs.List.{list_any, before_first, after_first}
 use Rattle.config_params.specs.declared.blanks.Blanks.TheVariants.{SpacesAndTabs}
 use Rattle.config_params.specs.declared.fault.ParamsFault.{ParamsFault}

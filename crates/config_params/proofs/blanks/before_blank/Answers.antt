@@ -1,4 +1,4 @@
-use Rattle.std.proofs.Common.{None, sym, lit<}
+use Rattle.std.proofs.Common.{None, lit<}
 use Rattle.std.proofs.lemmas.Str.Pattern.{strip_suffix_char}
 use Rattle.config_params.proofs.Ends.{end_tabs}
 use Rattle.config_params.proofs.blanks.before_blank.Goals as goal

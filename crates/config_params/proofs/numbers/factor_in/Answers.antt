@@ -1,4 +1,4 @@
-use Rattle.std.proofs.Common.{◌≡◌, ◌∙◌, ap, Some, None, subst, ◌<◌, lit<, arith}
+use Rattle.std.proofs.Common.{◌∙◌, ap, Some, None, subst, ◌<◌, lit<, arith}
 use Rattle.std.proofs.lemmas.Str.Pattern.{split_once_first}
 use Rattle.config_params.proofs.Digits.{factor_with, factor_without}
 use Rattle.config_params.proofs.numbers.factor_in.Goals as goal

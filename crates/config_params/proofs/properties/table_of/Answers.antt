@@ -1,4 +1,4 @@
-use Rattle.std.proofs.Common.{◌≡◌, ◌∙◌, ap, sym, fold}
+use Rattle.std.proofs.Common.{◌∙◌, ap, sym, fold}
 use Rattle.std.specs.Str.Iter.{lines_rest}
 use Rattle.std.specs.Str.Lines.{lines}
 use Rattle.config_params.specs.Properties.{pairs_of_lines}

@@ -1,4 +1,4 @@
-use Rattle.std.proofs.Common.{◌≡◌, ◌∙◌, ap, string_bytes, map}
+use Rattle.std.proofs.Common.{◌∙◌, ap, map}
 use Rattle.config_params.specs.Tables.{with_pair, pairs_in}
 use Rattle.config_params.proofs.Tables.{bytes_of, inserted}
 use Rattle.config_params.proofs.table.put.Goals as goal

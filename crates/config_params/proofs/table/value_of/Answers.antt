@@ -1,5 +1,5 @@
-use Rattle.std.proofs.Common.{◌≡◌, ◌∙◌, ap, sym, Some, None}
-use Rattle.std.specs.Option.{option_map, option_copied}
+use Rattle.std.proofs.Common.{◌∙◌, ap, Some}
+use Rattle.std.specs.Option.{option_map}
 use Rattle.std.specs.String.{string_bytes}
 use Rattle.config_params.proofs.Tables.{found}
 use Rattle.config_params.proofs.table.value_of.Goals as goal

@@ -1,4 +1,4 @@
-use Rattle.std.proofs.Common.{◌≡◌, ◌∙◌, ap, sym, Some}
+use Rattle.std.proofs.Common.{◌∙◌, ap, sym, Some}
 use Rattle.std.specs.Str.Lines.{lines}
 use Rattle.config_params.specs.Properties.{pairs_of}
 use Rattle.config_params.specs.Tables.{value_in}
