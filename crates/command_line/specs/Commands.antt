@@ -1,0 +1,36 @@
+-- The program's options, as clap is told of them.
+use Rattle.std.specs.Prelude.{ℕ, List, [], ◌∷◌, codes, fold, Some}
+use Rattle.clap.specs.Words.{App, Rule, new_app, new_rule, with_rule}
+use Rattle.clap.specs.declared.builder.action.ArgAction.TheVariants.{Append, SetTrue}
+
+-- an option with one value, that is given once
+abbrev pub single : List ℕ → Rule
+single name = record (new_rule name) { long = Some name }
+
+-- an option with one value, that may be given again
+abbrev pub repeated : List ℕ → Rule
+repeated name = record (new_rule name) { long = Some name; action = Some Append }
+
+-- an option without a value, that is given once
+abbrev pub flag : List ℕ → Rule
+flag name = record (new_rule name) { long = Some name; action = Some SetTrue }
+
+-- the program and the options that say what runs
+abbrev pub selecting : App
+selecting = fold with_rule (new_app (codes "console")) (
+    repeated (codes "select-unique-id")
+    ∷ repeated (codes "select-class")
+    ∷ repeated (codes "select-method")
+    ∷ repeated (codes "select-package")
+    ∷ repeated (codes "include-tag")
+    ∷ repeated (codes "exclude-tag")
+    ∷ [])
+
+-- the program and its options
+abbrev pub program : App
+program = fold with_rule selecting (
+    single (codes "details")
+    ∷ single (codes "details-theme")
+    ∷ flag (codes "fail-if-no-tests")
+    ∷ single (codes "replay")
+    ∷ [])

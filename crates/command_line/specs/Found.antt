@@ -1,0 +1,38 @@
+-- The values that clap finds for the options.
+use Rattle.std.specs.Prelude.{ℕ, Bool, false, List, [], codes, Option, Some, None}
+use Rattle.std.specs.Str.{bytes_eq}
+use Rattle.clap.specs.Words.{Row, Text, all_of, first_of}
+use Rattle.launcher.specs.Given.{Values}
+
+-- the values of an option that may be missing: none
+abbrev pub texts_or_none : Option (List Text) → List Text
+texts_or_none None = []
+texts_or_none (Some texts) = texts
+
+-- the values that clap found for an option
+abbrev pub all_found : List ℕ → List Row → List Text
+all_found name rows = texts_or_none (all_of name rows)
+
+-- whether a text is `true`, which clap puts where a flag is given
+abbrev pub says_true : Option Text → Bool
+says_true None = false
+says_true (Some text) = bytes_eq text (codes "true")
+
+-- whether clap found a flag
+abbrev pub is_found : List ℕ → List Row → Bool
+is_found name rows = says_true (first_of name rows)
+
+-- what clap finds for the options
+abbrev pub values_in : List Row → Values
+values_in rows = record {
+  unique_ids = all_found (codes "select-unique-id") rows;
+  classes = all_found (codes "select-class") rows;
+  methods = all_found (codes "select-method") rows;
+  packages = all_found (codes "select-package") rows;
+  include_tags = all_found (codes "include-tag") rows;
+  exclude_tags = all_found (codes "exclude-tag") rows;
+  details = first_of (codes "details") rows;
+  theme = first_of (codes "details-theme") rows;
+  replay = first_of (codes "replay") rows;
+  fail_if_no_tests = is_found (codes "fail-if-no-tests") rows;
+}

@@ -1,0 +1,4 @@
+pub mod Commands
+pub mod Found
+pub mod Runs
+pub mod Words

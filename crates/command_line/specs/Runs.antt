@@ -1,0 +1,32 @@
+-- What the program reads and writes by the words of its command line.
+use Rattle.std.specs.Prelude.{◌≡◌, ℕ, List, Option, Some, None, Result, Ok, Err, ◌⊎◌}
+use Rattle.clap.specs.Words.{Text}
+use Rattle.launcher.specs.Asked.{Asked, AreAsked}
+use Rattle.launcher.specs.Runs.{IsRun}
+use Rattle.launcher.specs.declared.exit_status.ExitStatus.{ExitStatus}
+use Rattle.launcher.specs.declared.fault.LaunchFault.{LaunchFault}
+use Rattle.launcher.specs.declared.fault.LaunchFault.TheVariants.{NoMemory}
+use Rattle.suite_text.specs.SuiteParts.{SuiteParts}
+use Rattle.suite_text.specs.declared.suite_fault.SuiteFault.{SuiteFault}
+use Rattle.command_line.specs.Words.{values_given}
+
+-- words that give no options are refused, and nothing else is done
+abbrev pub RefusesWords : LaunchFault → Result ExitStatus LaunchFault → Type 0
+RefusesWords refusal (Ok status) = ⊥
+RefusesWords refusal (Err fault) = (fault ≡ NoMemory) ⊎ (fault ≡ refusal)
+
+-- the words ask for something, and this is the answer of its run
+pub record IsRunAsAsked (words : List Text) (read : Result SuiteParts SuiteFault) (old new : Option (List ℕ)) (result : Result ExitStatus LaunchFault) : Type 0 where
+  pub asked : Asked
+  pub are : AreAsked (values_given words) asked
+  pub run : IsRun asked read old new result
+
+-- the same unless memory ran out
+abbrev pub RunsAsAsked : List Text → Result SuiteParts SuiteFault → Option (List ℕ) → Option (List ℕ) → Result ExitStatus LaunchFault → Type 0
+RunsAsAsked words read old new (Err NoMemory) = Unit {0}
+RunsAsAsked words read old new result = IsRunAsAsked words read old new result
+
+-- the answer of a run by these words, by why they are refused, if they are
+abbrev pub IsRunBy : Option LaunchFault → List Text → Result SuiteParts SuiteFault → Option (List ℕ) → Option (List ℕ) → Result ExitStatus LaunchFault → Type 0
+IsRunBy (Some refusal) words read old new result = RefusesWords refusal result
+IsRunBy None words read old new result = RunsAsAsked words read old new result

@@ -1,0 +1,74 @@
+//! What clap finds for each option.
+
+ghost use Rattle.std.specs.Prelude.{◌≡◌, IfOk, map, option_map};
+ghost use Rattle.clap.specs.Words.{all_of, found_of, first_of, rows_of};
+ghost use Rattle.launcher.specs.Given.{behind, values_of};
+ghost use Rattle.command_line.specs.Found.{all_found as all_in, is_found, values_in};
+
+use crate::option_names::{
+    DETAILS, DETAILS_THEME, EXCLUDE_TAG, FAIL_IF_NO_TESTS, INCLUDE_TAG, REPLAY, SELECT_CLASS,
+    SELECT_METHOD, SELECT_PACKAGE, SELECT_UNIQUE_ID,
+};
+use clap::ArgMatches;
+use launcher::Given;
+use std::alloc::{AllocError, Global};
+
+/// The values of an option that may be given again, if it is given.
+fn values<'m, 'a>(matches: &'m ArgMatches<'a>, name: &str) -> Option<&'m [&'a str]>
+    ensures { option_map (λ texts. map (λ text. text.now) texts.now) result ≡ all_of name.now (rows_of (found_of matches.now)) }
+{
+    matches.get_strs(name)
+}
+
+/// The values of an option that may be given again.
+fn all_found<'a>(
+    alloc: Global,
+    matches: &ArgMatches<'a>,
+    name: &str,
+) -> Result<Vec<&'a str>, AllocError>
+    ensures { IfOk result (λ texts. behind texts.items ≡ all_in name.now (rows_of (found_of matches.now))) }
+{
+    let mut texts = Vec::new(alloc);
+    if let Some(values) = values(matches, name) {
+        texts.extend_from_slice(values)?;
+    }
+    Ok(texts)
+}
+
+/// The value of an option, if it is given.
+fn found<'a>(matches: &ArgMatches<'a>, name: &str) -> Option<&'a str>
+    ensures { option_map (λ text. text.now) result ≡ first_of name.now (rows_of (found_of matches.now)) }
+{
+    matches.get_str(name)
+}
+
+/// Whether a flag is given.
+fn is_found(matches: &ArgMatches<'_>, name: &str) -> bool
+    ensures { result ≡ is_found name.now (rows_of (found_of matches.now)) }
+{
+    match found(matches, name) {
+        Some(text) => text == "true",
+        None => false,
+    }
+}
+
+/// What clap finds for the options: here each of them is read.
+pub(crate) fn given_in<'a>(
+    alloc: Global,
+    matches: &ArgMatches<'a>,
+) -> Result<Given<'a>, AllocError>
+    ensures { IfOk result (λ given. values_of given ≡ values_in (rows_of (found_of matches.now))) }
+{
+    Ok(Given {
+        unique_ids: all_found(alloc, matches, SELECT_UNIQUE_ID)?,
+        classes: all_found(alloc, matches, SELECT_CLASS)?,
+        methods: all_found(alloc, matches, SELECT_METHOD)?,
+        packages: all_found(alloc, matches, SELECT_PACKAGE)?,
+        include_tags: all_found(alloc, matches, INCLUDE_TAG)?,
+        exclude_tags: all_found(alloc, matches, EXCLUDE_TAG)?,
+        details: found(matches, DETAILS),
+        theme: found(matches, DETAILS_THEME),
+        replay: found(matches, REPLAY),
+        fail_if_no_tests: is_found(matches, FAIL_IF_NO_TESTS),
+    })
+}

@@ -1,0 +1,11 @@
+//! The command line: what its words give the options, and the program over any reader and writer.
+#![tactic(auto)]
+
+
+mod found;
+mod option_names;
+mod program;
+mod words;
+
+pub use program::run_console;
+pub use words::read_options;

@@ -1,0 +1,61 @@
+//! The words of the command line.
+
+ghost use Rattle.std.specs.Prelude.{◌≡◌, ◌≢◌, [], Some, None, IfOk, IfErr, map, string_bytes};
+ghost use Rattle.clap.specs.Words.{fault_of, found_of, kind_of, rows_of};
+ghost use Rattle.launcher.specs.Asked.{asked_by, AreAsked};
+ghost use Rattle.launcher.specs.Given.{values_of};
+ghost use Rattle.launcher.specs.declared.fault.LaunchFault.TheVariants.{NoMemory};
+ghost use Rattle.command_line.specs.Commands.{program};
+ghost use Rattle.command_line.specs.Found.{values_in};
+ghost use Rattle.command_line.specs.Words.{values_given, words_refusal, IsWordsFault};
+
+use crate::found::given_in;
+use crate::option_names::command;
+use clap::ArgMatches;
+use clap::error::ErrorKind;
+use launcher::{Given, LaunchFault, Options};
+use std::alloc::Global;
+
+/// What a refusal of clap means: 105, but for want of memory.
+fn words_fault(error: &clap::Error) -> LaunchFault
+    ensures { IsWordsFault (kind_of error.now) result }
+{
+    match error.kind() {
+        ErrorKind::OutOfMemory => LaunchFault::NoMemory,
+        _ => LaunchFault::BadWords,
+    }
+}
+
+/// What clap finds in the words.
+fn matches_of<'a>(alloc: Global, words: &'a [String]) -> Result<ArgMatches<'a>, LaunchFault>
+    ensures found { IfOk result (λ matches. values_in (rows_of (found_of matches)) ≡ values_given (map string_bytes words.entry.now)) }
+    ensures accepted { IfOk result (λ _. fault_of program (map string_bytes words.entry.now) ≡ []) }
+    ensures refused { IfErr result (λ fault. fault ≢ NoMemory → (fault ≡ LaunchFault.BadWords) × (fault_of program (map string_bytes words.entry.now) ≢ [])) }
+{
+    match command(alloc)?.try_get_matches_from(words) {
+        Ok(matches) => Ok(matches),
+        Err(error) => Err(words_fault(&error)),
+    }
+}
+
+/// What the words give the options, each value as text.
+fn given_by<'a>(alloc: Global, words: &'a [String]) -> Result<Given<'a>, LaunchFault>
+    ensures given { IfOk result (λ given. values_of given ≡ values_given (map string_bytes words.entry.now)) }
+    ensures accepted { IfOk result (λ _. fault_of program (map string_bytes words.entry.now) ≡ []) }
+    ensures refused { IfErr result (λ fault. fault ≢ NoMemory → (fault ≡ LaunchFault.BadWords) × (fault_of program (map string_bytes words.entry.now) ≢ [])) }
+{
+    let matches = matches_of(alloc, words)?;
+    Ok(given_in(alloc, &matches)?)
+}
+
+/// The options that the words give. The first word is the program's name, whatever it is. Words
+/// that clap refuses are refusal 105; others ask for what `Options::of` says, and are refused as it
+/// says. Memory is taken before any word is judged.
+pub fn read_options(alloc: Global, words: &[String]) -> Result<Options, LaunchFault>
+    ensures asked { IfOk result (λ options. AreAsked (values_given (map string_bytes words.now)) (asked_by options)) }
+    ensures accepted { IfOk result (λ _. words_refusal (map string_bytes words.now) ≡ None) }
+    ensures refused { IfErr result (λ fault. fault ≢ NoMemory → words_refusal (map string_bytes words.now) ≡ Some fault) }
+{
+    let given = given_by(alloc, words)?;
+    Options::of(alloc, &given)
+}

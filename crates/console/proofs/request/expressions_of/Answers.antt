@@ -1,9 +1,0 @@
--- One expression more.
-use Rattle.console.proofs.Requesting.{expressions_next, tags_next}
-use Rattle.console.proofs.request.expressions_of.Goals as goal
-
-pub loop-value-preserved : goal.loop-value-preserved
-loop-value-preserved c = record {
-  spelled = rw c.in_ok-push.ensures.items (expressions_next c.in-Some.values.now c.loop-value.value-index _ c.loop-value-test.true c.loop-value.expressions.items _ c.loop-value.invariant.spelled c.in_ok-parse.ensures.spelled);
-  left = tags_next c.in-Some.values.now c.loop-value.value-index _ c.loop-value-test.true _ c.loop-value.invariant.left c.in_ok-parse.ensures.accepted;
-}

@@ -1,0 +1,138 @@
+-- What the values of the options ask for, and why they ask for nothing.
+use Rattle.std.specs.Prelude.{◌≡◌, ℕ, ◌+◌, Bool, List, [], ◌∷◌, ◌++◌, codes, map, if◌then◌else◌, Option, Some, None, option_map, Result, Ok, Err}
+use Rattle.std.specs.List.{filter_map}
+use Rattle.std.specs.Option.{option_or}
+use Rattle.std.specs.Str.{bytes_eq}
+use Rattle.listeners.specs.declared.theme.Theme.{Theme}
+use Rattle.listeners.specs.declared.theme.Theme.TheVariants as themes
+use Rattle.sched_core.specs.declared.step.Step.{Step}
+use Rattle.selectors.specs.declared.request.Request.{Request}
+use Rattle.selectors.specs.declared.selector.Selector.{Selector}
+use Rattle.selectors.specs.declared.selector.SelectorKind.{SelectorKind}
+use Rattle.selectors.specs.declared.selector.SelectorKind.TheVariants as selector_kinds
+use Rattle.selectors.specs.Selectors.{selector_of}
+use Rattle.tag_expr.specs.Expressions.{Expression}
+use Rattle.tag_expr.specs.Grammar.{or_phrase, Spells}
+use Rattle.tag_expr.specs.Tokens.{tokens, token_of}
+use Rattle.tag_expr.specs.ExpressionFaults.{expression_refusal}
+use Rattle.launcher.specs.declared.details.Details.{Details}
+use Rattle.launcher.specs.declared.details.Details.TheVariants as details
+use Rattle.launcher.specs.declared.options.Options.{Options}
+use Rattle.launcher.specs.declared.fault.LaunchFault.{LaunchFault}
+use Rattle.launcher.specs.declared.fault.LaunchFault.TheVariants.{BadWords, BadStep, BadSelector, BadTags}
+use Rattle.suite_text.specs.StepTexts.{steps_of}
+use Rattle.launcher.specs.Given.{Text, Values}
+
+-- what is asked for: what is to run, what is printed and how, whether there have to be tests, and the steps that are to be
+-- replayed, if any are
+pub record Asked : Type 0 where
+  pub request : Request
+  pub details : Details
+  pub theme : Theme
+  pub fail_if_no_tests : Bool
+  pub replay : Option (List Step)
+
+-- options, without where they lie in memory
+abbrev pub asked_by : Options → Asked
+asked_by options = record {
+  request = options.request;
+  details = options.details;
+  theme = options.theme;
+  fail_if_no_tests = options.fail_if_no_tests;
+  replay = option_map (λ steps. steps.items) options.replay;
+}
+
+-- what `--details` asks for: there are four, and it is the tree where it is not given
+abbrev pub details_named : Option Text → Option Details
+details_named None = Some details.Tree
+details_named (Some name) =
+    if bytes_eq name (codes "none") then Some details.None
+    else (if bytes_eq name (codes "summary") then Some details.Summary
+    else (if bytes_eq name (codes "tree") then Some details.Tree
+    else (if bytes_eq name (codes "testfeed") then Some details.Testfeed else None)))
+
+-- what `--details-theme` asks for: there are two, and it is Unicode where it is not given
+abbrev pub theme_named : Option Text → Option Theme
+theme_named None = Some themes.Unicode
+theme_named (Some name) =
+    if bytes_eq name (codes "unicode") then Some themes.Unicode
+    else (if bytes_eq name (codes "ascii") then Some themes.Ascii else None)
+
+-- refused where the words name nothing
+abbrev pub unless_named : {A : Type 0} → Option A → Option LaunchFault
+unless_named None = Some BadWords
+unless_named (Some named) = None
+
+-- refused at the first word that names no step
+abbrev pub unless_steps : Result (List Step) ℕ → Option LaunchFault
+unless_steps (Ok steps) = None
+unless_steps (Err number) = Some (BadStep number)
+
+-- why the text of a replay is refused, if one is given
+abbrev pub replay_refusal : Option Text → Option LaunchFault
+replay_refusal None = None
+replay_refusal (Some text) = unless_steps (steps_of text)
+
+-- the steps that are to be replayed are those that the text names
+abbrev pub IsReplay : Option Text → Option (List Step) → Type 0
+IsReplay None steps = steps ≡ None
+IsReplay (Some text) None = ⊥
+IsReplay (Some text) (Some steps) = steps_of text ≡ Ok steps
+
+-- the texts of the selectors, each with its kind, in the order of their numbers
+abbrev pub selector_texts : Values → List (SelectorKind × Text)
+selector_texts given =
+    map (λ text. (selector_kinds.UniqueId, text)) given.unique_ids
+    ++ map (λ text. (selector_kinds.Class, text)) given.classes
+    ++ map (λ text. (selector_kinds.Method, text)) given.methods
+    ++ map (λ text. (selector_kinds.Package, text)) given.packages
+
+-- the selector that such a text spells, if it spells one
+abbrev pub spelled : SelectorKind × Text → Option Selector
+spelled text = selector_of text.0 text.1
+
+-- refused where a text of this number spells no selector, and else where another is
+abbrev pub unless_spelled : ℕ → Option Selector → Option LaunchFault → Option LaunchFault
+unless_spelled number None others = Some (BadSelector number)
+unless_spelled number (Some selector) others = others
+
+-- why texts of selectors, of which the first has this number, are refused: the number of the first that spells none
+abbrev pub selectors_refusal : ℕ → List (SelectorKind × Text) → Option LaunchFault
+selectors_refusal number [] = None
+selectors_refusal number (text ∷ texts) = unless_spelled number (spelled text) (selectors_refusal (number + 1) texts)
+
+-- why texts of tag expressions are refused: what is the matter with the first that is none
+abbrev pub tags_refusal : List Text → Option LaunchFault
+tags_refusal [] = None
+tags_refusal (text ∷ texts) = option_or (option_map BadTags (expression_refusal text)) (tags_refusal texts)
+
+-- a text spells an expression
+abbrev pub IsExpression : Text → Expression → Type 0
+IsExpression text e = Spells or_phrase (map token_of (tokens text)) e
+
+-- each text spells the expression at its place, and there are no others
+abbrev pub AreExpressions : List Text → List Expression → Type 0
+AreExpressions [] [] = Unit {0}
+AreExpressions (text ∷ texts) (e ∷ expressions) = IsExpression text e × AreExpressions texts expressions
+AreExpressions texts expressions = ⊥
+
+-- why the values are refused: other details, other themes, what names no step, what spells no selector, and what is the
+-- matter with a tag expression
+abbrev pub refusal_of : Values → Option LaunchFault
+refusal_of given =
+    option_or (unless_named (details_named given.details)) (
+    option_or (unless_named (theme_named given.theme)) (
+    option_or (replay_refusal given.replay) (
+    option_or (selectors_refusal 1 (selector_texts given)) (
+    option_or (tags_refusal given.include_tags) (
+    tags_refusal given.exclude_tags)))))
+
+-- the values ask for this
+pub record AreAsked (given : Values) (asked : Asked) : Type 0 where
+  pub details : details_named given.details ≡ Some asked.details
+  pub theme : theme_named given.theme ≡ Some asked.theme
+  pub tests : asked.fail_if_no_tests ≡ given.fail_if_no_tests
+  pub replay : IsReplay given.replay asked.replay
+  pub selectors : asked.request.selectors.items ≡ filter_map spelled (selector_texts given)
+  pub include : AreExpressions given.include_tags asked.request.include.items
+  pub exclude : AreExpressions given.exclude_tags asked.request.exclude.items

@@ -1,0 +1,15 @@
+-- What the program does after a run.
+use Rattle.std.specs.Prelude.{Option, Some, None, Result, Ok, Err}
+use Rattle.launcher.specs.declared.exit_status.ExitStatus.{ExitStatus}
+use Rattle.launcher.specs.declared.fault.LaunchFault.{LaunchFault}
+use Rattle.launcher.specs.declared.fault.LaunchFault.TheVariants.{Writing}
+
+-- the refusal that a line is printed for: none where the output failed, since a line on it is of no use
+abbrev pub line_of : LaunchFault → Option LaunchFault
+line_of (Writing fault) = None
+line_of fault = Some fault
+
+-- the refusal that a line is printed for, after this answer
+abbrev pub line_after : Result ExitStatus LaunchFault → Option LaunchFault
+line_after (Ok status) = None
+line_after (Err fault) = line_of fault

@@ -1,0 +1,9 @@
+pub mod Asked
+pub mod Bytes
+pub mod Closings
+pub mod ExitStatuses
+pub mod Faults
+pub mod Given
+pub mod ReplayTexts
+pub mod Reports
+pub mod Runs

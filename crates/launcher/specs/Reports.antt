@@ -1,0 +1,100 @@
+-- What is printed of a run or of a replay, and its status.
+use Rattle.std.specs.Prelude.{◌≡◌, ℕ, ◌==◌, ◌&&◌, not, List, [], ◌++◌, length, Bool, true, false, if◌then◌else◌, Option, Some, None}
+use Rattle.descriptor.specs.Nodes.{size, kind_of, count_below}
+use Rattle.std.specs.List.{list_any}
+use Rattle.plan_events.specs.declared.event.Event.{Event}
+use Rattle.plan_events.specs.declared.event.EventKind.{EventKind}
+use Rattle.plan_events.specs.declared.event.EventKind.TheVariants.{Finished}
+use Rattle.plan_events.specs.declared.status.Status.{Status}
+use Rattle.plan_events.specs.declared.status.Status.TheVariants.{Failed}
+use Rattle.plan_events.specs.declared.outcome.Reply.{Reply}
+use Rattle.plan_events.specs.Texts.{TextParts}
+use Rattle.resource_locks.specs.Plans.{PlanParts}
+use Rattle.sched_core.specs.declared.step.Step.{Step}
+use Rattle.sched_core.specs.Machine.{State, opening, given_list}
+use Rattle.sched_core.specs.Runs.{run, passed_over}
+use Rattle.sched_core.specs.Drives.{Drives}
+use Rattle.sched_core.specs.Texts.{AreTexts}
+use Rattle.listeners.specs.declared.theme.Theme.{Theme}
+use Rattle.listeners.specs.Counts.{counts_of as node_counts, is_test}
+use Rattle.listeners.specs.Feed.{feed_of}
+use Rattle.listeners.specs.SummaryTexts.{summary_of}
+use Rattle.listeners.specs.TreeTexts.{tree_of}
+use Rattle.launcher.specs.declared.details.Details.{Details}
+use Rattle.launcher.specs.declared.exit_status.ExitStatus.{ExitStatus}
+use Rattle.launcher.specs.declared.exit_status.ExitStatus.TheVariants.{Success}
+use Rattle.launcher.specs.ExitStatuses.{status_of_run}
+use Rattle.launcher.specs.declared.details.Details.TheVariants as details
+use Rattle.launcher.specs.declared.replay.ReplayCounts.{ReplayCounts}
+use Rattle.launcher.specs.ReplayTexts.{replay_line}
+use Rattle.launcher.specs.Asked.{Asked}
+
+-- the history is what the fixed schedule of one worker publishes
+pub record IsHistory (p : PlanParts) (answers : List (ℕ × Reply)) (history : List Event) : Type 0 where
+  pub final : State
+  pub drives : Drives p answers (opening p 1) final
+  pub published : history ≡ final.published
+
+-- what is printed of these events with these texts: nothing; the summary; the tree, and then the summary; or the feed
+abbrev pub details_of : Details → Theme → PlanParts → TextParts → List Event → List ℕ
+details_of details.None theme p texts events = []
+details_of details.Summary theme p texts events = summary_of (node_counts p events)
+details_of details.Tree theme p texts events = tree_of theme p texts events ++ summary_of (node_counts p events)
+details_of details.Testfeed theme p texts events = feed_of p texts events
+
+-- the text is what is printed of a history, with the texts of its nodes
+pub record ArePrinted (details : Details) (theme : Theme) (p : PlanParts) (answers : List (ℕ × Reply)) (history : List Event) (text : List ℕ) : Type 0 where
+  pub texts : TextParts
+  pub are : AreTexts p answers history texts
+  pub printed : text ≡ details_of details theme p texts history
+
+-- whether what happened is a finish that failed
+abbrev pub is_failed : EventKind → Option Status → Bool
+is_failed Finished (Some Failed) = true
+is_failed _ _ = false
+
+-- whether the event says that a node other than the plan failed
+abbrev pub is_failure : Event → Bool
+is_failure e = not (e.node == 0) && is_failed e.kind e.status
+
+-- how many tests a plan has, one that may hold other nodes counted
+abbrev pub tests_found : PlanParts → ℕ
+tests_found p = count_below (λ n. is_test (kind_of p.tree n)) (size p.tree)
+
+-- whether a node other than the plan failed
+abbrev pub has_failure : List Event → Bool
+has_failure history = list_any is_failure history
+
+-- the fixed schedule runs the plan: its history is printed as the options say, and its failures make the status
+pub record IsRunOutput (asked : Asked) (p : PlanParts) (answers : List (ℕ × Reply)) (text : List ℕ) (status : ExitStatus) : Type 0 where
+  pub history : List Event
+  pub published : IsHistory p answers history
+  pub printed : ArePrinted asked.details asked.theme p answers history text
+  pub exits : status ≡ status_of_run asked.fail_if_no_tests (tests_found p) (has_failure history)
+
+-- the state in which a replay of these steps ends: there are 64 workers
+abbrev pub replayed : PlanParts → List (ℕ × Reply) → List Step → State
+replayed p answers steps = run p answers (opening p 64) steps
+
+-- what a replay that ends in this state counts
+abbrev pub counts_of : List Step → State → ℕ → ReplayCounts
+counts_of steps final missed = record { steps = length steps; passed_over = missed; published = length final.published; given = length (given_list final) }
+
+-- what a replay of these steps counts
+abbrev pub replay_counts : PlanParts → List (ℕ × Reply) → List Step → ReplayCounts
+replay_counts p answers steps = counts_of steps (replayed p answers steps) (passed_over p answers (opening p 64) steps)
+
+-- the steps are replayed: the feed of what they gave is printed, then the line of counts, and the status is success
+pub record IsReplayOutput (steps : List Step) (p : PlanParts) (answers : List (ℕ × Reply)) (text : List ℕ) (status : ExitStatus) : Type 0 where
+  pub texts : TextParts
+  pub are : AreTexts p answers (given_list (replayed p answers steps)) texts
+  pub printed : text ≡ feed_of p texts (given_list (replayed p answers steps)) ++ replay_line (replay_counts p answers steps)
+  pub exits : status ≡ Success
+
+-- what is printed of a plan, and the status: where there are steps to be replayed, nothing else counts
+abbrev pub IsOutputWith : Option (List Step) → Asked → PlanParts → List (ℕ × Reply) → List ℕ → ExitStatus → Type 0
+IsOutputWith None asked p answers text status = IsRunOutput asked p answers text status
+IsOutputWith (Some steps) asked p answers text status = IsReplayOutput steps p answers text status
+
+abbrev pub IsOutput : Asked → PlanParts → List (ℕ × Reply) → List ℕ → ExitStatus → Type 0
+IsOutput asked p answers text status = IsOutputWith asked.replay asked p answers text status

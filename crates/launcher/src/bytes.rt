@@ -1,0 +1,46 @@
+//! Bytes in from a reader.
+
+ghost use Rattle.std.specs.Prelude.{◌≡◌, take, IfOk, IfSome};
+ghost use Rattle.launcher.specs.Bytes.{ReadsFront};
+ghost use Rattle.launcher.specs.declared.bytes.ReadFault.TheVariants.{NoMemory};
+
+use std::alloc::{AllocError, Global};
+use std::io::Read;
+
+/// How many bytes one read asks for at most.
+const BUFFER_SIZE: usize = 4096;
+
+/// Why the front of a reader was not read.
+#[derive(Clone, Copy, Debug, PartialEq, Eq)]
+pub enum ReadFault {
+    NoMemory,
+    /// The reader failed (refusal 106).
+    Failed,
+}
+
+impl From<AllocError> for ReadFault {
+    ghost from_gives = { λ _ fault. fault ≡ NoMemory };
+
+    fn from(_error: AllocError) -> ReadFault {
+        ReadFault::NoMemory
+    }
+}
+
+/// The reader's next bytes, at most `most`: fewer only where it ends. The first error of the
+/// reader ends it (refusal 106).
+pub fn read_front<R: Read>(alloc: Global, reader: &mut R, most: usize) -> Result<Vec<u8>, ReadFault>
+    ensures reads { IfOk result (λ v. ReadsFront (R.remaining reader.old) (R.remaining reader.new) most v.items) }
+    ensures front { IfOk result (λ v. IfSome (R.remaining reader.old) (λ bytes. v.items ≡ take most bytes)) }
+{
+    let mut bytes = Vec::new(alloc);
+    let mut buffer = [0u8; BUFFER_SIZE];
+    while bytes.len() < most {
+        let want = (most - bytes.len()).min(buffer.len());
+        match reader.read(&mut buffer[..want]) {
+            Ok(0) => return Ok(bytes),
+            Ok(count) => bytes.extend_from_slice(&buffer[..count])?,
+            Err(_) => return Err(ReadFault::Failed),
+        }
+    }
+    Ok(bytes)
+}

@@ -1,0 +1,34 @@
+//! What the program does after a run.
+
+ghost use Rattle.std.specs.Prelude.{◌≡◌};
+ghost use Rattle.launcher.specs.Closings.{line_after};
+ghost use Rattle.launcher.specs.ExitStatuses.{status_after};
+
+use crate::exit_status::ExitStatus;
+use crate::fault::LaunchFault;
+
+/// What the program does after a run: it prints a line or none, and ends.
+#[derive(Clone, Copy, Debug, PartialEq, Eq)]
+pub struct Closing {
+    /// The refusal whose line is printed. Where the output failed there is none, since a line on it
+    /// is of no use.
+    pub line: Option<LaunchFault>,
+    pub status: ExitStatus,
+}
+
+impl Closing {
+    /// What is done after this answer.
+    pub fn after(answer: Result<ExitStatus, LaunchFault>) -> Closing
+        ensures line { result.line ≡ line_after answer }
+        ensures status { result.status ≡ status_after answer }
+    {
+        let line = match answer {
+            Ok(_) | Err(LaunchFault::Writing(_)) => None,
+            Err(fault) => Some(fault),
+        };
+        Closing {
+            line,
+            status: ExitStatus::after(answer),
+        }
+    }
+}

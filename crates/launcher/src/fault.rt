@@ -1,0 +1,169 @@
+//! The refusals of a launch, with their numbers and places.
+
+ghost use Rattle.std.specs.Prelude.{◌≡◌};
+ghost use Rattle.launcher.specs.Faults.{number_of, place_of, IsReadFault, IsSelectFault, IsStepsFault, IsSuiteFault, IsTagFault};
+ghost use Rattle.launcher.specs.declared.fault.LaunchFault.TheVariants.{NoMemory, Writing};
+
+use crate::bytes::ReadFault;
+use listeners::WriteFault;
+use selectors::SelectFault;
+use std::alloc::{AllocError, AllocFailed};
+use std::error::Error;
+use std::fmt;
+use suite_text::{StepsFault, SuiteFault};
+use tag_expr::TagFault;
+
+/// Why a launch was refused, or broke off. `{}` writes `error`, the number, and behind `at`
+/// the place where there is one.
+#[derive(Clone, Copy, Debug, PartialEq, Eq)]
+pub enum LaunchFault {
+    /// Refusal 0.
+    NoMemory,
+    /// Refusals 10 to 17 and 100 to 103, at the suite's line where it is about one.
+    Suite(SuiteFault),
+    /// Refusal 105: words that give no options.
+    BadWords,
+    /// Refusal 104: the word of this number, from 1, in the text of a replay names no step.
+    BadStep(usize),
+    /// Refusal 40: the selector of this number, from 1, is none of its kind.
+    BadSelector(usize),
+    /// Refusals 20 to 26, at a place in the tag expression.
+    BadTags(TagFault),
+    /// Refusal 41: the selector of this number, from 1, covers nothing of the suite.
+    NothingMatches(usize),
+    /// Refusal 106: the reader failed.
+    Reading,
+    /// Refusal 81, at the number of bytes that the writer took.
+    Writing(WriteFault),
+}
+
+impl From<AllocError> for LaunchFault {
+    ghost from_gives = { λ _ fault. fault ≡ NoMemory };
+
+    fn from(_error: AllocError) -> LaunchFault {
+        LaunchFault::NoMemory
+    }
+}
+
+impl From<SuiteFault> for LaunchFault {
+    ghost from_gives = { IsSuiteFault };
+
+    fn from(fault: SuiteFault) -> LaunchFault {
+        match fault {
+            SuiteFault::NoMemory => LaunchFault::NoMemory,
+            _ => LaunchFault::Suite(fault),
+        }
+    }
+}
+
+impl From<StepsFault> for LaunchFault {
+    ghost from_gives = { IsStepsFault };
+
+    fn from(fault: StepsFault) -> LaunchFault {
+        match fault {
+            StepsFault::NoMemory => LaunchFault::NoMemory,
+            StepsFault::BadStep(number) => LaunchFault::BadStep(number),
+        }
+    }
+}
+
+impl From<TagFault> for LaunchFault {
+    ghost from_gives = { IsTagFault };
+
+    fn from(fault: TagFault) -> LaunchFault {
+        match fault {
+            TagFault::NoMemory => LaunchFault::NoMemory,
+            _ => LaunchFault::BadTags(fault),
+        }
+    }
+}
+
+impl From<SelectFault> for LaunchFault {
+    ghost from_gives = { IsSelectFault };
+
+    fn from(fault: SelectFault) -> LaunchFault {
+        match fault {
+            SelectFault::NoMemory => LaunchFault::NoMemory,
+            SelectFault::NothingMatches(number) => LaunchFault::NothingMatches(number),
+        }
+    }
+}
+
+impl<T: Drop> From<AllocFailed<T>> for LaunchFault {
+    ghost from_gives = { λ _ fault. fault ≡ NoMemory };
+
+    fn from(_error: AllocFailed<T>) -> LaunchFault {
+        LaunchFault::NoMemory
+    }
+}
+
+impl From<ReadFault> for LaunchFault {
+    ghost from_gives = { IsReadFault };
+
+    fn from(fault: ReadFault) -> LaunchFault {
+        match fault {
+            ReadFault::NoMemory => LaunchFault::NoMemory,
+            ReadFault::Failed => LaunchFault::Reading,
+        }
+    }
+}
+
+impl From<WriteFault> for LaunchFault {
+    ghost from_gives = { λ cause fault. fault ≡ Writing cause };
+
+    fn from(cause: WriteFault) -> LaunchFault {
+        LaunchFault::Writing(cause)
+    }
+}
+
+impl fmt::Display for LaunchFault {
+    ghost use Rattle.std.specs.Prelude.{Some};
+    ghost use Rattle.launcher.specs.Faults.{refusal_text};
+
+    ghost output = { λ fault. Some (refusal_text fault) };
+
+    fn fmt<W: fmt::Write>(&self, f: &mut fmt::Formatter<W>) -> fmt::Result {
+        let number = self.number();
+        match self.place() {
+            Some(place) => write!(f, "error {number} at {place}"),
+            None => write!(f, "error {number}"),
+        }
+    }
+}
+
+impl Error for LaunchFault {}
+
+impl LaunchFault {
+    /// The refusal's number: 0 for want of memory.
+    pub fn number(&self) -> u8
+        ensures { result ≡ number_of self.now }
+    {
+        match self {
+            LaunchFault::NoMemory => 0,
+            LaunchFault::Suite(fault) => fault.number(),
+            LaunchFault::BadWords => 105,
+            LaunchFault::BadStep(_) => 104,
+            LaunchFault::BadSelector(_) => 40,
+            LaunchFault::BadTags(fault) => fault.number(),
+            LaunchFault::NothingMatches(_) => 41,
+            LaunchFault::Reading => 106,
+            LaunchFault::Writing(_) => 81,
+        }
+    }
+
+    /// The line of the suite, or the number of the step or the selector, from 1, or the place in the
+    /// tag expression, or how many bytes went out.
+    pub fn place(&self) -> Option<u64>
+        ensures { result ≡ place_of self.now }
+    {
+        match self {
+            LaunchFault::Suite(fault) => fault.place(),
+            LaunchFault::BadStep(number)
+            | LaunchFault::BadSelector(number)
+            | LaunchFault::NothingMatches(number) => Some(*number as u64),
+            LaunchFault::BadTags(fault) => fault.place().map(|place| place as u64),
+            LaunchFault::Writing(fault) => Some(fault.sent as u64),
+            _ => None,
+        }
+    }
+}

@@ -1,0 +1,26 @@
+//! What the words of a command line give the options, each value as text.
+
+/// The values of the options, as texts that mean nothing yet: one field for each option.
+#[derive(Debug, Drop)]
+pub struct Given<'a> {
+    /// `--select-unique-id`, in the order of the words, as with each that may be given again.
+    pub unique_ids: Vec<&'a str>,
+    /// `--select-class`.
+    pub classes: Vec<&'a str>,
+    /// `--select-method`.
+    pub methods: Vec<&'a str>,
+    /// `--select-package`.
+    pub packages: Vec<&'a str>,
+    /// `--include-tag`.
+    pub include_tags: Vec<&'a str>,
+    /// `--exclude-tag`.
+    pub exclude_tags: Vec<&'a str>,
+    /// `--details`.
+    pub details: Option<&'a str>,
+    /// `--details-theme`.
+    pub theme: Option<&'a str>,
+    /// `--replay`.
+    pub replay: Option<&'a str>,
+    /// `--fail-if-no-tests`.
+    pub fail_if_no_tests: bool,
+}

@@ -1,0 +1,22 @@
+//! A launch: what is asked for, the run of a suite or the replay of steps, what is printed, and the exit status.
+#![tactic(auto)]
+
+mod bytes;
+mod closing;
+mod details;
+mod exit_status;
+mod fault;
+mod given;
+mod options;
+mod replay;
+mod report;
+mod run;
+
+pub use bytes::{ReadFault, read_front};
+pub use closing::Closing;
+pub use details::Details;
+pub use exit_status::ExitStatus;
+pub use fault::LaunchFault;
+pub use given::Given;
+pub use options::Options;
+pub use run::run_options;
