@@ -1,3 +1,3 @@
-pub mod Found
+pub mod ByClap
 pub mod Growing
 pub mod Refused

@@ -1,7 +1,6 @@
 //! The command line: what its words give the options, and the program over any reader and writer.
 #![tactic(auto)]
 
-
 mod found;
 mod option_names;
 mod program;

@@ -1,3 +1,5 @@
+pub mod Fronts
+pub mod Launching
 pub mod Reading
 pub mod Requesting
 pub mod Tests

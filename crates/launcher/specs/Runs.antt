@@ -1,6 +1,6 @@
 -- What a run reads and what it writes.
-use Rattle.std.specs.Prelude.{◌≡◌, ℕ, ◌<◌, List, length, take, map, Bool, true, false, Option, Some, None, Result, Ok, Err, ◌⊎◌}
-use Rattle.std.specs.Io.KnownBytes.{Appends}
+use Rattle.std.specs.Prelude.{◌≡◌, ℕ, ◌<◌, ◌≤◌, List, length, take, map, Bool, true, false, Option, Some, None, Result, Ok, Err, ◌⊎◌}
+use Rattle.std.specs.Io.KnownBytes.{Appends, Consumes, IsAtEnd}
 use Rattle.descriptor.specs.Nodes.{Nodes}
 use Rattle.plan_events.specs.declared.outcome.Reply.{Reply}
 use Rattle.resource_locks.specs.Plans.{PlanParts}
@@ -41,46 +41,31 @@ FailsSuite asked suite NoMemory = refusal suite.tree asked.request ≡ None
 FailsSuite asked suite (NothingMatches number) = LeavesNothing asked suite number
 FailsSuite asked suite _ = ⊥
 
--- a suite was read, and the writer took all of its output
-pub record IsWhole (asked : Asked) (read : Result SuiteParts SuiteFault) (old new : Option (List ℕ)) (status : ExitStatus) : Type 0 where
-  pub suite : SuiteParts
-  pub is_read : read ≡ Ok suite
+-- the writer took all of a suite's output
+pub record IsWhole (asked : Asked) (suite : SuiteParts) (old new : Option (List ℕ)) (status : ExitStatus) : Type 0 where
   pub text : List ℕ
   pub output : IsSuiteOutput asked suite text status
   pub written : Appends old new text
 
--- a suite was read, and the writer took the first so many bytes of its output, and not all
-pub record IsCutShort (asked : Asked) (read : Result SuiteParts SuiteFault) (old new : Option (List ℕ)) (sent : ℕ) : Type 0 where
-  pub suite : SuiteParts
-  pub is_read : read ≡ Ok suite
+-- the writer took the first so many bytes of a suite's output, and not all
+pub record IsCutShort (asked : Asked) (suite : SuiteParts) (old new : Option (List ℕ)) (sent : ℕ) : Type 0 where
   pub text : List ℕ
   pub status : ExitStatus
   pub output : IsSuiteOutput asked suite text status
   pub short : sent < length text
   pub written : Appends old new (take sent text)
 
--- a suite was read, and a selector covers nothing of it
-pub record IsUnmatched (asked : Asked) (read : Result SuiteParts SuiteFault) (number : ℕ) : Type 0 where
+-- the answer of a run of this suite, and what the writer held before and holds after
+abbrev pub IsSuiteRun : Asked → SuiteParts → Option (List ℕ) → Option (List ℕ) → Result ExitStatus LaunchFault → Type 0
+IsSuiteRun asked suite old new (Ok status) = IsWhole asked suite old new status
+IsSuiteRun asked suite old new (Err (Writing fault)) = IsCutShort asked suite old new fault.sent
+IsSuiteRun asked suite old new (Err fault) = FailsSuite asked suite fault
+
+-- a suite was read, and this is the answer of its run
+pub record IsReadAndRun (asked : Asked) (read : Result SuiteParts SuiteFault) (old new : Option (List ℕ)) (result : Result ExitStatus LaunchFault) : Type 0 where
   pub suite : SuiteParts
   pub is_read : read ≡ Ok suite
-  pub unmatched : LeavesNothing asked suite number
-
--- The refusal of a run: the suite's is the one that the definition gives. Of memory and of the reader nothing is known
-abbrev pub FailsRun : Asked → Result SuiteParts SuiteFault → Option (List ℕ) → Option (List ℕ) → LaunchFault → Type 0
-FailsRun asked read old new NoMemory = Unit {0}
-FailsRun asked read old new (Suite fault) = read ≡ Err fault
-FailsRun asked read old new BadWords = ⊥
-FailsRun asked read old new (BadStep number) = ⊥
-FailsRun asked read old new (BadSelector number) = ⊥
-FailsRun asked read old new (BadTags fault) = ⊥
-FailsRun asked read old new (NothingMatches number) = IsUnmatched asked read number
-FailsRun asked read old new Reading = Unit {0}
-FailsRun asked read old new (Writing fault) = IsCutShort asked read old new fault.sent
-
--- the answer of a run, and what its writer held before and holds after
-abbrev pub IsRun : Asked → Result SuiteParts SuiteFault → Option (List ℕ) → Option (List ℕ) → Result ExitStatus LaunchFault → Type 0
-IsRun asked read old new (Ok status) = IsWhole asked read old new status
-IsRun asked read old new (Err fault) = FailsRun asked read old new fault
+  pub run : IsSuiteRun asked suite old new result
 
 -- what the reading of a suite refuses: the suite's own refusal is the one that the definition gives
 abbrev pub FailsToRead : Result SuiteParts SuiteFault → LaunchFault → Type 0
@@ -99,7 +84,35 @@ abbrev pub ReadsSuite : Result SuiteParts SuiteFault → Result suites.Suite Lau
 ReadsSuite read (Ok suite) = read ≡ Ok (suite_parts suite)
 ReadsSuite read (Err fault) = FailsToRead read fault
 
+-- the answer of a run: the suite's refusal is the one that the definition gives, and else the suite is run. Of memory and
+-- of a reader that failed nothing is known
+abbrev pub IsRun : Asked → Result SuiteParts SuiteFault → Option (List ℕ) → Option (List ℕ) → Result ExitStatus LaunchFault → Type 0
+IsRun asked read old new (Ok status) = IsReadAndRun asked read old new (Ok status)
+IsRun asked read old new (Err (NothingMatches number)) = IsReadAndRun asked read old new (Err (NothingMatches number))
+IsRun asked read old new (Err (Writing fault)) = IsReadAndRun asked read old new (Err (Writing fault))
+IsRun asked read old new (Err fault) = FailsToRead read fault
+
 -- the fault is the writer's
 abbrev pub is_writing : LaunchFault → Bool
 is_writing (Writing fault) = true
 is_writing _ = false
+
+-- the fault of an answer, if it is one
+abbrev pub fault_in : {A : Type 0} → Result A LaunchFault → Option LaunchFault
+fault_in (Ok a) = None
+fault_in (Err fault) = Some fault
+
+-- how far a reader was read that gave so many bytes: where it failed not to the end of what may be read, and else, but for
+-- want of memory, to that end or to its own
+abbrev pub EndsAs : Option LaunchFault → ℕ → Option (List ℕ) → Type 0
+EndsAs (Some Reading) count new = count < 1048577
+EndsAs (Some NoMemory) count new = Unit {0}
+EndsAs fault count new = count < 1048577 → IsAtEnd new
+
+-- some bytes were taken from the reader, at most 1,048,577, and these are what was judged
+pub record TakesFrom (old new : Option (List ℕ)) (fault : Option LaunchFault) (Judged : List ℕ → Type 0) : Type 0 where
+  pub bytes : List ℕ
+  pub consumed : Consumes old new bytes
+  pub fits : length bytes ≤ 1048577
+  pub ends : EndsAs fault (length bytes) new
+  pub judged : Judged bytes

@@ -1,7 +1,7 @@
 //! Bytes in from a reader.
 
-ghost use Rattle.std.specs.Prelude.{◌≡◌, take, IfOk, IfSome};
-ghost use Rattle.launcher.specs.Bytes.{ReadsFront};
+ghost use Rattle.std.specs.Prelude.{◌≡◌, take, IfOk, IfErr, IfSome};
+ghost use Rattle.launcher.specs.Bytes.{ReadsFront, BreaksOff};
 ghost use Rattle.launcher.specs.declared.bytes.ReadFault.TheVariants.{NoMemory};
 
 use std::alloc::{AllocError, Global};
@@ -30,6 +30,7 @@ impl From<AllocError> for ReadFault {
 /// reader ends it (refusal 106).
 pub fn read_front<R: Read>(alloc: Global, reader: &mut R, most: usize) -> Result<Vec<u8>, ReadFault>
     ensures reads { IfOk result (λ v. ReadsFront (R.remaining reader.old) (R.remaining reader.new) most v.items) }
+    ensures broken { IfErr result (λ fault. BreaksOff (R.remaining reader.old) (R.remaining reader.new) most fault) }
     ensures front { IfOk result (λ v. IfSome (R.remaining reader.old) (λ bytes. v.items ≡ take most bytes)) }
 {
     let mut bytes = Vec::new(alloc);

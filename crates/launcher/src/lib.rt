@@ -19,4 +19,4 @@ pub use exit_status::ExitStatus;
 pub use fault::LaunchFault;
 pub use given::Given;
 pub use options::Options;
-pub use run::run_options;
+pub use run::{read_suite, run_options, run_suite};

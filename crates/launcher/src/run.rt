@@ -1,10 +1,11 @@
 //! A run: from the bytes of a reader to the bytes of a writer.
 
-ghost use Rattle.std.specs.Prelude.{◌≡◌, IfOk, IfErr, IfSome, false, take, string_bytes};
+ghost use Rattle.std.specs.Prelude.{◌≡◌, None, IfOk, IfErr, IfSome, false, take, string_bytes};
 ghost use Rattle.std.specs.Io.KnownBytes.{Keeps};
 ghost use Rattle.suite_text.specs.SuiteBytes.{suite_read};
 ghost use Rattle.suite_text.specs.Suites.{suite_parts};
-ghost use Rattle.launcher.specs.Runs.{IsRun, IsSuiteOutput, FailsSuite, ReadsSuite, answers_of as answers_in, is_writing};
+ghost use Rattle.launcher.specs.Runs.{IsRun, IsSuiteOutput, IsSuiteRun, FailsSuite, ReadsSuite, TakesFrom, answers_of as answers_in, fault_in, is_writing};
+ghost use Rattle.selectors.specs.Selections.{refusal};
 ghost use Rattle.launcher.specs.Asked.{asked_by};
 
 use crate::bytes::{ReadFault, read_front};
@@ -23,9 +24,11 @@ use suite_text::{Script, Suite};
 /// How many bytes are read at most: one more than a suite may have tells that there are too many.
 const MOST_READ: usize = 1_048_577;
 
-/// The suite that a reader holds.
-fn read_suite<R: Read>(alloc: Global, reader: &mut R) -> Result<Suite, LaunchFault>
-    ensures { IfSome (R.remaining reader.old) (λ bytes. ReadsSuite (suite_read (take 1048577 bytes)) result) }
+/// The suite that a reader holds. Refused are a reader that fails (106) and what is no suite (10 to
+/// 17 and 100 to 103).
+pub fn read_suite<R: Read>(alloc: Global, reader: &mut R) -> Result<Suite, LaunchFault>
+    ensures exact { IfSome (R.remaining reader.old) (λ bytes. ReadsSuite (suite_read (take 1048577 bytes)) result) }
+    ensures reads { TakesFrom (R.remaining reader.old) (R.remaining reader.new) (fault_in result) (λ bytes. ReadsSuite (suite_read bytes) result) }
 {
     let bytes = read_front(alloc, reader, MOST_READ)?;
     Ok(Suite::read(alloc, bytes.as_slice())?)
@@ -53,12 +56,27 @@ fn suite_report(alloc: Global, options: &Options, suite: Suite) -> Result<Report
     Ok(report_of(alloc, options, &plan, &answers)?)
 }
 
-/// Reads a suite, runs what the request selects of it by the fixed schedule, or by the steps of a
-/// replay, and writes what the options ask for. Answers the program's status: 2 where there have to
-/// be tests and none was found, else 1 where a node other than the plan failed, else 0; 0 for a
-/// replay. Refused are a reader that fails (106), a suite (10 to 17 and 100 to 103), a selector that
-/// covers nothing (41), and a writer that fails (81, when the first bytes of the output are written);
-/// on any other refusal nothing is written.
+/// Runs what the request selects of a suite by the fixed schedule, or by the steps of a replay, and
+/// writes what the options ask for. Refused are a selector that covers nothing (41), which is judged
+/// before any memory is taken, and a writer that fails (81, when the first bytes of the output are
+/// written); on any other refusal nothing is written.
+pub fn run_suite<W: Write>(
+    alloc: Global,
+    options: &Options,
+    suite: Suite,
+    writer: &mut W,
+) -> Result<ExitStatus, LaunchFault>
+    ensures exact { IsSuiteRun (asked_by options.now) (suite_parts suite) (W.contents writer.old) (W.contents writer.new) result }
+    ensures no_memory { IfErr result (λ fault. fault ≡ LaunchFault.NoMemory → refusal (suite_parts suite).tree (asked_by options.now).request ≡ None) }
+    ensures quiet { IfErr result (λ fault. is_writing fault ≡ false → Keeps (W.contents writer.old) (W.contents writer.new)) }
+{
+    let report = suite_report(alloc, options, suite)?;
+    print_to(writer, report.text.as_bytes())?;
+    Ok(report.status)
+}
+
+/// Reads a suite and runs it, as `read_suite` and `run_suite` say. The reading takes memory before
+/// anything is judged. On any refusal but 81 nothing is written.
 pub fn run_options<R: Read, W: Write>(
     alloc: Global,
     options: &Options,
@@ -66,10 +84,10 @@ pub fn run_options<R: Read, W: Write>(
     writer: &mut W,
 ) -> Result<ExitStatus, LaunchFault>
     ensures exact { IfSome (R.remaining reader.old) (λ bytes. IsRun (asked_by options.now) (suite_read (take 1048577 bytes)) (W.contents writer.old) (W.contents writer.new) result) }
+    // Also of a reader that tells nothing of its bytes: what is judged is what it gave, at most so many bytes.
+    ensures reads { TakesFrom (R.remaining reader.old) (R.remaining reader.new) (fault_in result) (λ bytes. IsRun (asked_by options.now) (suite_read bytes) (W.contents writer.old) (W.contents writer.new) result) }
     ensures quiet { IfErr result (λ fault. is_writing fault ≡ false → Keeps (W.contents writer.old) (W.contents writer.new)) }
 {
     let suite = read_suite(alloc, reader)?;
-    let report = suite_report(alloc, options, suite)?;
-    print_to(writer, report.text.as_bytes())?;
-    Ok(report.status)
+    run_suite(alloc, options, suite, writer)
 }

@@ -1,0 +1,123 @@
+-- From what was read to the answer of a run, whatever the reader tells of its bytes.
+use Rattle.std.proofs.Common.{◌≡◌, ◌≢◌, ℕ, ◌<◌, List, length, Option, Some, None, Result, Ok, Err, IfSome, refl, sym, ap, subst, ◌∙◌}
+use Rattle.std.specs.Result.{IsErrAnd}
+use Rattle.std.specs.Io.KnownBytes.{Consumes, IsAtEnd}
+use Rattle.suite_text.specs.SuiteBytes.{suite_read}
+use Rattle.suite_text.specs.SuiteFaults.{Fails}
+use Rattle.suite_text.specs.SuiteParts.{SuiteParts}
+use Rattle.suite_text.specs.Suites.{suite_parts}
+use Rattle.suite_text.specs.declared.suite.Suite.{Suite}
+use Rattle.suite_text.specs.declared.suite_fault.SuiteFault.{SuiteFault}
+use Rattle.suite_text.specs.declared.suite_fault.SuiteFault.TheVariants as causes
+use Rattle.launcher.specs.Asked.{Asked}
+use Rattle.launcher.specs.Bytes.{ReadsFront, BreaksOff}
+use Rattle.launcher.specs.Faults.{IsReadFault, IsSuiteFault}
+use Rattle.launcher.specs.Runs.{EndsAs, FailsToRead, IsRun, IsSuiteRun, ReadsSuite, TakesFrom, fault_in}
+use Rattle.launcher.specs.declared.bytes.ReadFault.{ReadFault}
+use Rattle.launcher.specs.declared.bytes.ReadFault.TheVariants as reads
+use Rattle.launcher.specs.declared.exit_status.ExitStatus.{ExitStatus}
+use Rattle.launcher.specs.declared.fault.LaunchFault.{LaunchFault}
+use Rattle.launcher.specs.declared.fault.LaunchFault.TheVariants.{NoMemory, Suite as OfSuite, BadWords, BadStep, BadSelector, BadTags, NothingMatches, Reading, Writing}
+use Rattle.launcher.proofs.Reading.{suite_fails}
+
+module _ (asked : Asked) (old new : Option (List ℕ)) where
+  -- a suite was read, and this is the answer of its run
+  pub run_read : (suite : SuiteParts) (read : Result SuiteParts SuiteFault) (result : Result ExitStatus LaunchFault) → read ≡ Ok suite → IsSuiteRun asked suite old new result → IsRun asked read old new result
+  run_read suite read (Ok status) is run = record { suite = suite; is_read = is; run = run }
+  run_read suite read (Err NoMemory) is run = tt
+  run_read suite read (Err (OfSuite f)) is run = absurd run
+  run_read suite read (Err BadWords) is run = absurd run
+  run_read suite read (Err (BadStep n)) is run = absurd run
+  run_read suite read (Err (BadSelector n)) is run = absurd run
+  run_read suite read (Err (BadTags f)) is run = absurd run
+  run_read suite read (Err (NothingMatches n)) is run = record { suite = suite; is_read = is; run = run }
+  run_read suite read (Err Reading) is run = absurd run
+  run_read suite read (Err (Writing f)) is run = record { suite = suite; is_read = is; run = run }
+
+  unread : (read : Result SuiteParts SuiteFault) (fault : LaunchFault) → FailsToRead read fault → IsRun asked read old new (Err fault)
+  unread read NoMemory fails = tt
+  unread read (OfSuite f) fails = fails
+  unread read BadWords fails = absurd fails
+  unread read (BadStep n) fails = absurd fails
+  unread read (BadSelector n) fails = absurd fails
+  unread read (BadTags f) fails = absurd fails
+  unread read (NothingMatches n) fails = absurd fails
+  unread read Reading fails = tt
+  unread read (Writing f) fails = absurd fails
+
+  -- no suite was read
+  pub run_unread : (fault : LaunchFault) (read : Result SuiteParts SuiteFault) (result : Result ExitStatus LaunchFault) → IsErrAnd result (λ e. e ≡ fault) → FailsToRead read fault → IsRun asked read old new result
+  run_unread fault read (Ok status) same fails = absurd same
+  run_unread fault read (Err e) same fails = rw same (unread read fault fails)
+
+-- what was read to the end of what may be read, or to the reader's own, was so whatever is answered but that it failed
+ends_whole : (fault : Option LaunchFault) (count : ℕ) (new : Option (List ℕ)) → fault ≢ Some Reading → (count < 1048577 → IsAtEnd new) → EndsAs fault count new
+ends_whole None count new other end = end
+ends_whole (Some NoMemory) count new other end = tt
+ends_whole (Some (OfSuite f)) count new other end = end
+ends_whole (Some BadWords) count new other end = end
+ends_whole (Some (BadStep n)) count new other end = end
+ends_whole (Some (BadSelector n)) count new other end = end
+ends_whole (Some (BadTags f)) count new other end = end
+ends_whole (Some (NothingMatches n)) count new other end = end
+ends_whole (Some Reading) count new other end = absurd (other refl)
+ends_whole (Some (Writing f)) count new other end = end
+
+module _ (old new : Option (List ℕ)) where
+  -- what was read whole is judged
+  pub takes_whole : (bytes : List ℕ) (fault : Option LaunchFault) (Judged : List ℕ → Type 0) → ReadsFront old new 1048577 bytes → fault ≢ Some Reading → Judged bytes → TakesFrom old new fault Judged
+  takes_whole bytes fault Judged front other judged =
+      record { bytes = bytes; consumed = front.consumed; fits = front.fits; ends = ends_whole fault (length bytes) new other front.end; judged = judged }
+
+  pub takes_broken : (cause : ReadFault) (result : Result Suite LaunchFault) → IsErrAnd result (IsReadFault cause) → BreaksOff old new 1048577 cause → TakesFrom old new (fault_in result) (λ bytes. ReadsSuite (suite_read bytes) result)
+  takes_broken cause (Ok suite) is broken = absurd is
+  takes_broken reads.NoMemory (Err fault) is broken = rw is (record { bytes = broken.bytes; consumed = broken.consumed; fits = broken.fits; ends = tt; judged = tt })
+  takes_broken reads.Failed (Err fault) is broken = rw is (record { bytes = broken.bytes; consumed = broken.consumed; fits = broken.fits; ends = broken.short refl; judged = tt })
+
+  -- the same judgement, and what it comes to
+  pub takes_as : (fault other : Option LaunchFault) (Judged Comes : List ℕ → Type 0) → ((bytes : List ℕ) → Judged bytes → Comes bytes) → ((count : ℕ) → EndsAs fault count new → EndsAs other count new) → TakesFrom old new fault Judged → TakesFrom old new other Comes
+  takes_as fault other Judged Comes comes ends taken =
+      record { bytes = taken.bytes; consumed = taken.consumed; fits = taken.fits; ends = ends (length taken.bytes) taken.ends; judged = comes taken.bytes taken.judged }
+
+  -- a suite's refusal is not the reader's
+  not_reading : (cause : SuiteFault) (fault : LaunchFault) → IsSuiteFault cause fault → Some fault ≢ Some Reading
+  not_reading causes.NoMemory fault is same = cc
+  not_reading (causes.BadLine n) fault is same = cc
+  not_reading (causes.BadIndent n) fault is same = cc
+  not_reading (causes.MissingVerdict n) fault is same = cc
+  not_reading causes.TooLarge fault is same = cc
+  not_reading (causes.Refused f n) fault is same = cc
+
+  -- bytes that were read and are no suite
+  pub takes_refused : (bytes : List ℕ) (cause : SuiteFault) (result : Result Suite LaunchFault) → IsErrAnd result (IsSuiteFault cause) → ReadsFront old new 1048577 bytes → ReadsSuite (suite_read bytes) result
+      → TakesFrom old new (fault_in result) (λ read. ReadsSuite (suite_read read) result)
+  takes_refused bytes cause (Ok suite) is front judged = absurd is
+  takes_refused bytes cause (Err fault) is front judged = takes_whole bytes (Some fault) (λ read. ReadsSuite (suite_read read) (Err fault)) front (not_reading cause fault is) judged
+
+  -- where no suite was read nothing is run
+  pub takes_unread : (asked : Asked) (was is : Option (List ℕ)) (fault : LaunchFault) (result : Result ExitStatus LaunchFault) → IsErrAnd result (λ e. e ≡ fault)
+      → TakesFrom old new (Some fault) (λ read. FailsToRead (suite_read read) fault) → TakesFrom old new (fault_in result) (λ read. IsRun asked (suite_read read) was is result)
+  takes_unread asked was is fault (Ok status) same taken = absurd same
+  takes_unread asked was is fault (Err e) same taken =
+      rw same (takes_as (Some fault) (Some fault) (λ read. FailsToRead (suite_read read) fault) (λ read. IsRun asked (suite_read read) was is (Err fault)) (λ read fails. run_unread asked was is fault (suite_read read) (Err fault) refl fails) (λ count ends. ends) taken)
+
+  -- a run of the suite that was read: it does not fail as a reader does
+  ends_run : (asked : Asked) (suite : SuiteParts) (was is : Option (List ℕ)) (result : Result ExitStatus LaunchFault) → IsSuiteRun asked suite was is result → fault_in result ≢ Some Reading
+  ends_run asked suite was is (Ok status) run same = cc
+  ends_run asked suite was is (Err NoMemory) run same = cc
+  ends_run asked suite was is (Err (OfSuite f)) run same = cc
+  ends_run asked suite was is (Err BadWords) run same = cc
+  ends_run asked suite was is (Err (BadStep n)) run same = cc
+  ends_run asked suite was is (Err (BadSelector n)) run same = cc
+  ends_run asked suite was is (Err (BadTags f)) run same = cc
+  ends_run asked suite was is (Err (NothingMatches n)) run same = cc
+  ends_run asked suite was is (Err Reading) run same = absurd run
+  ends_run asked suite was is (Err (Writing f)) run same = cc
+
+  -- a suite was read, and run
+  pub takes_run : (asked : Asked) (suite : Suite) (was is : Option (List ℕ)) (result : Result ExitStatus LaunchFault) → IsSuiteRun asked (suite_parts suite) was is result
+      → TakesFrom old new None (λ read. ReadsSuite (suite_read read) (Ok suite)) → TakesFrom old new (fault_in result) (λ read. IsRun asked (suite_read read) was is result)
+  takes_run asked suite was is result run taken =
+      takes_as None (fault_in result) (λ read. ReadsSuite (suite_read read) (Ok suite)) (λ read. IsRun asked (suite_read read) was is result)
+      (λ read ok. run_read asked was is (suite_parts suite) (suite_read read) result ok run)
+      (λ count end. ends_whole (fault_in result) count new (ends_run asked (suite_parts suite) was is result run) end) taken

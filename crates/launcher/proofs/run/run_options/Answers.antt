@@ -1,0 +1,21 @@
+-- What was read is run, or refused.
+use Rattle.launcher.specs.Asked.{asked_by}
+use Rattle.suite_text.specs.SuiteBytes.{suite_read}
+use Rattle.suite_text.specs.Suites.{suite_parts}
+use Rattle.launcher.proofs.Launching.{run_read, run_unread, takes_run, takes_unread}
+use Rattle.launcher.proofs.Reading.{if_known}
+use Rattle.launcher.proofs.run.run_options.Goals as goal
+
+pub returns-in_err-suite-clause-exact : goal.returns-in_err-suite-clause-exact
+returns-in_err-suite-clause-exact g c =
+    if_known (g.R.Read.remaining c.args.reader.now) (λ bytes fails. run_unread _ _ _ c.in_err-suite.field-0.0 _ c.from_residual.result c.from_residual.ensures.1 fails) c.in_err-suite.ensures.exact
+
+pub returns-in_err-suite-clause-reads : goal.returns-in_err-suite-clause-reads
+returns-in_err-suite-clause-reads g c = takes_unread _ _ _ _ _ c.in_err-suite.field-0.0 c.from_residual.result c.from_residual.ensures.1 c.in_err-suite.ensures.reads
+
+pub returns-clause-exact : goal.returns-clause-exact
+returns-clause-exact g c =
+    if_known (g.R.Read.remaining c.args.reader.now) (λ bytes read. run_read _ _ _ (suite_parts c.in_ok-suite.suite) _ c.run_suite.result read c.run_suite.ensures.exact) c.in_ok-suite.ensures.exact
+
+pub returns-clause-reads : goal.returns-clause-reads
+returns-clause-reads g c = takes_run _ _ (asked_by c.args.options.now) c.in_ok-suite.suite _ _ c.run_suite.result c.run_suite.ensures.exact c.in_ok-suite.ensures.reads
