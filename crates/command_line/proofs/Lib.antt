@@ -1,3 +1,4 @@
 pub mod ByClap
 pub mod Growing
+pub mod Listing
 pub mod Refused

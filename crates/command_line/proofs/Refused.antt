@@ -1,6 +1,8 @@
 -- Words that give no options are refused, and then nothing is run; others are run as they ask.
-use Rattle.std.proofs.Common.{◌≡◌, ◌≢◌, ℕ, List, inl, inr, Option, Some, None, IfSome, Result, Ok, Err, refl}
+use Rattle.std.proofs.Common.{◌≡◌, ◌≢◌, ◌∙◌, sym, arith, ℕ, List, [], inl, inr, Option, Some, None, IfSome, Result, Ok, Err, refl}
 use Rattle.std.specs.Result.{IsErrAnd}
+use Rattle.std.proofs.KnownBytes.{Consumes-nil}
+use Rattle.std.proofs.lemmas.Option.{none-some}
 use Rattle.clap.specs.Words.{Text}
 use Rattle.launcher.specs.declared.fault.LaunchFault.{LaunchFault}
 use Rattle.launcher.specs.declared.fault.LaunchFault.TheVariants.{NoMemory, Suite, BadWords, BadStep, BadSelector, BadTags, NothingMatches, Reading, Writing}
@@ -8,10 +10,10 @@ use Rattle.suite_text.specs.declared.suite_fault.SuiteFault.{SuiteFault}
 use Rattle.suite_text.specs.SuiteParts.{SuiteParts}
 use Rattle.suite_text.specs.SuiteBytes.{suite_read}
 use Rattle.launcher.specs.Asked.{Asked, AreAsked}
-use Rattle.launcher.specs.Runs.{IsRun}
+use Rattle.launcher.specs.Runs.{IsRun, TakesFrom, fault_in}
 use Rattle.launcher.specs.declared.exit_status.ExitStatus.{ExitStatus}
 use Rattle.command_line.specs.Runs.{IsRunBy, RunsAsAsked}
-use Rattle.command_line.specs.Words.{values_given}
+use Rattle.command_line.specs.Words.{values_given, words_refusal}
 
 module _ (words : List Text) (read : Result SuiteParts SuiteFault) (old new : Option (List ℕ)) where
   short_of_memory : (refusal : Option LaunchFault) → IsRunBy refusal words read old new (Err NoMemory)
@@ -58,3 +60,28 @@ pub words_asked : (words : List Text) (refusal : Option LaunchFault) (asked : As
     → IfSome known (λ bytes. IsRun asked (suite_read (most bytes)) old new result) → IfSome known (λ bytes. IsRunBy refusal words (suite_read (most bytes)) old new result)
 words_asked words refusal asked result None old new most none are run = tt
 words_asked words refusal asked result (Some bytes) old new most none are run = run_asked words (suite_read (most bytes)) old new refusal asked result none are run
+
+-- an answer that is no refusal of the words, where they are not refused, is want of memory
+only_memory : (words : List Text) (cause : LaunchFault) → (cause ≢ NoMemory → words_refusal words ≡ Some cause) → words_refusal words ≡ None → cause ≡ NoMemory
+only_memory words NoMemory is none = refl
+only_memory words (Suite f) is none = absurd (none-some _ (sym none ∙ is (λ same. cc)))
+only_memory words BadWords is none = absurd (none-some _ (sym none ∙ is (λ same. cc)))
+only_memory words (BadStep n) is none = absurd (none-some _ (sym none ∙ is (λ same. cc)))
+only_memory words (BadSelector n) is none = absurd (none-some _ (sym none ∙ is (λ same. cc)))
+only_memory words (BadTags f) is none = absurd (none-some _ (sym none ∙ is (λ same. cc)))
+only_memory words (NothingMatches n) is none = absurd (none-some _ (sym none ∙ is (λ same. cc)))
+only_memory words Reading is none = absurd (none-some _ (sym none ∙ is (λ same. cc)))
+only_memory words (Writing f) is none = absurd (none-some _ (sym none ∙ is (λ same. cc)))
+
+-- nothing was read where the options were not there
+pub takes_nothing : (words : List Text) (cause : LaunchFault) (result : Result ExitStatus LaunchFault) (known was is : Option (List ℕ)) → IsErrAnd result (λ e. e ≡ cause) → (cause ≢ NoMemory → words_refusal words ≡ Some cause)
+    → words_refusal words ≡ None → TakesFrom known known (fault_in result) (λ bytes. RunsAsAsked words (suite_read bytes) was is result)
+takes_nothing words cause (Ok status) known was is same refused none = absurd same
+takes_nothing words cause (Err e) known was is same refused none =
+    rw (same ∙ only_memory words cause refused none) (record { bytes = []; consumed = Consumes-nil known; fits = omega arith; ends = tt; judged = tt })
+
+-- what was read is run as the words ask
+pub takes_asked : (words : List Text) (asked : Asked) (result : Result ExitStatus LaunchFault) (known left was is : Option (List ℕ)) → AreAsked (values_given words) asked
+    → TakesFrom known left (fault_in result) (λ bytes. IsRun asked (suite_read bytes) was is result) → TakesFrom known left (fault_in result) (λ bytes. RunsAsAsked words (suite_read bytes) was is result)
+takes_asked words asked result known left was is are taken =
+    record { bytes = taken.bytes; consumed = taken.consumed; fits = taken.fits; ends = taken.ends; judged = as_asked words (suite_read taken.bytes) was is asked result are taken.judged }

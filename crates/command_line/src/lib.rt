@@ -4,7 +4,9 @@
 mod found;
 mod option_names;
 mod program;
+mod system_words;
 mod words;
 
 pub use program::run_console;
+pub use system_words::given_words;
 pub use words::read_options;

@@ -1,10 +1,10 @@
 //! The program over any reader and writer.
 
-ghost use Rattle.std.specs.Prelude.{◌≡◌, IfErr, IfSome, Some, false, take, map, string_bytes};
+ghost use Rattle.std.specs.Prelude.{◌≡◌, IfErr, IfSome, Some, None, false, take, map, string_bytes};
 ghost use Rattle.std.specs.Io.KnownBytes.{Keeps};
-ghost use Rattle.launcher.specs.Runs.{is_writing};
+ghost use Rattle.launcher.specs.Runs.{TakesFrom, fault_in, is_writing};
 ghost use Rattle.suite_text.specs.SuiteBytes.{suite_read};
-ghost use Rattle.command_line.specs.Runs.{IsRunBy, RefusesWords};
+ghost use Rattle.command_line.specs.Runs.{IsRunBy, RefusesWords, RunsAsAsked};
 ghost use Rattle.command_line.specs.Words.{words_refusal};
 
 use crate::words::read_options;
@@ -24,6 +24,7 @@ pub fn run_console<R: Read, W: Write>(
     ensures exact { IfSome (R.remaining reader.old) (λ bytes. IsRunBy (words_refusal (map string_bytes words.now)) (map string_bytes words.now) (suite_read (take 1048577 bytes)) (W.contents writer.old) (W.contents writer.new) result) }
     // Whatever the reader tells of its bytes.
     ensures refused { (refusal : LaunchFault) → words_refusal (map string_bytes words.now) ≡ Some refusal → RefusesWords refusal result × (reader.new ≡ reader.old) × (writer.new ≡ writer.old) }
+    ensures reads { words_refusal (map string_bytes words.now) ≡ None → TakesFrom (R.remaining reader.old) (R.remaining reader.new) (fault_in result) (λ bytes. RunsAsAsked (map string_bytes words.now) (suite_read bytes) (W.contents writer.old) (W.contents writer.new) result) }
     ensures quiet { IfErr result (λ fault. is_writing fault ≡ false → Keeps (W.contents writer.old) (W.contents writer.new)) }
 {
     let options = read_options(alloc, words)?;

@@ -1,0 +1,148 @@
+//! A run whose reader or writer fails.
+
+ghost use Rattle.std.specs.Prelude.{Some};
+
+use launcher::{Details, LaunchFault, Options, ReadFault, read_front, run_options};
+use listeners::Theme;
+use selectors::Request;
+use std::alloc::Global;
+use std::io::{Error, ErrorKind, Read, Result as IoResult, Write};
+use std::test::Fail;
+
+/// A suite of one passing test.
+const SUITE: &str = "engine e\n  class a.B\n    test t() pass\n";
+
+/// Its feed.
+const FEED: &str = "w1 plan started
+w1 started [engine:e]
+w1 started [engine:e]/[class:a.B]
+w1 started [engine:e]/[class:a.B]/[method:t()]
+w1 finished [engine:e]/[class:a.B]/[method:t()] SUCCESSFUL
+w1 finished [engine:e]/[class:a.B] SUCCESSFUL
+w1 finished [engine:e] SUCCESSFUL
+w1 plan finished
+";
+
+/// Takes so many bytes, a few at a time, and then fails.
+#[derive(Drop)]
+struct Failing {
+    taken: Vec<u8>,
+    room: usize,
+    step: usize,
+}
+
+impl Write for Failing {
+    ghost contents = { λ f. Some f.taken.items };
+
+    fn write(&mut self, buf: &[u8]) -> IoResult<usize> {
+        if self.room == 0 {
+            return Err(Error::from(ErrorKind::Interrupted));
+        }
+        let count = buf.len().min(self.room).min(self.step);
+        self.taken.extend_from_slice(&buf[..count])?;
+        self.room -= count;
+        Ok(count)
+    }
+
+    fn flush(&mut self) -> IoResult<()> {
+        Ok(())
+    }
+}
+
+/// Gives its text, so many bytes at a time, and then fails.
+#[derive(Drop)]
+struct Broken<'a> {
+    text: &'a [u8],
+    step: usize,
+}
+
+impl Read for Broken<'_> {
+    fn read(&mut self, buf: &mut [u8]) -> IoResult<usize> {
+        if self.text.is_empty() {
+            return Err(Error::from(ErrorKind::Other));
+        }
+        let count = self.text.len().min(buf.len()).min(self.step);
+        buf[..count].copy_from_slice(&self.text[..count]);
+        self.text = &self.text[count..];
+        Ok(count)
+    }
+}
+
+/// The feed of all tests.
+fn feed_options(alloc: Global) -> Options {
+    Options {
+        request: Request {
+            selectors: Vec::new(alloc),
+            include: Vec::new(alloc),
+            exclude: Vec::new(alloc),
+        },
+        details: Details::Testfeed,
+        theme: Theme::Unicode,
+        fail_if_no_tests: false,
+        replay: None,
+    }
+}
+
+/// What is read of at most so many bytes from a reader that gives this text, a few bytes at a time, and then fails.
+fn front_of(alloc: Global, text: &[u8], most: usize) -> Result<Vec<u8>, ReadFault> {
+    let mut reader = Broken { text, step: 2 };
+    read_front(alloc, &mut reader, most)
+}
+
+#[test]
+fn a_reader_that_fails_ends_the_reading(rt: HostRuntime) {
+    assert!(rt; matches!(front_of(rt.alloc(), b"", 99), Err(ReadFault::Failed)));
+    assert!(rt; matches!(front_of(rt.alloc(), b"engine e\n", 99), Err(ReadFault::Failed)));
+}
+
+#[test]
+fn a_reader_that_fails_later_gives_its_front(rt: HostRuntime) -> Result<(), Fail> {
+    let front = front_of(rt.alloc(), b"engine e\n", 6).ok().ok_or("not read")?;
+    assert_eq!(rt; front.as_slice(), b"engine".as_slice());
+    Ok(())
+}
+
+#[test]
+fn a_suite_that_is_not_read_is_refused(rt: HostRuntime) {
+    let mut reader = Broken {
+        text: SUITE.as_bytes(),
+        step: 9,
+    };
+    let mut written = Vec::new(rt.alloc());
+    let answer = run_options(
+        rt.alloc(),
+        &feed_options(rt.alloc()),
+        &mut reader,
+        &mut written,
+    );
+    assert_eq!(rt; answer, Err(LaunchFault::Reading));
+    assert!(rt; written.is_empty());
+}
+
+/// What the run answers that writes the feed to a writer which takes so many bytes, and whether these are the first of it.
+fn cut_at(alloc: Global, room: usize) -> (Option<u64>, bool) {
+    let mut reader = SUITE.as_bytes();
+    let mut writer = Failing {
+        taken: Vec::new(alloc),
+        room,
+        step: 7,
+    };
+    let answer = run_options(alloc, &feed_options(alloc), &mut reader, &mut writer);
+    let place = match answer {
+        Err(fault) if fault.number() == 81 => fault.place(),
+        _ => None,
+    };
+    (place, FEED.as_bytes().starts_with(writer.taken.as_slice()))
+}
+
+#[test]
+fn an_output_that_is_cut_short_is_refused(rt: HostRuntime) {
+    assert!(rt; cut_at(rt.alloc(), 0) == (Some(0), true));
+    assert!(rt; cut_at(rt.alloc(), 16) == (Some(16), true));
+    assert!(rt; cut_at(rt.alloc(), FEED.len() - 1) == (Some(274), true));
+}
+
+#[test]
+fn an_output_that_is_taken_is_no_refusal(rt: HostRuntime) {
+    assert!(rt; cut_at(rt.alloc(), FEED.len()) == (None, true));
+}
