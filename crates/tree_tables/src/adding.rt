@@ -1,0 +1,82 @@
+//! Adding a node to a tree: `PARENT KIND ID`, and behind it `body=N`, `tag=TAG`, `name=TEXT` and `disabled=TEXT` as wanted.
+//! A TEXT such as `r*1024` is an `r` so many times.
+
+use descriptor::{BodyId, Kind, Node, NodeId, TreeBuilder};
+use std::alloc::{AllocError, Global};
+use tag_expr::{TagSet, tag_of};
+use unique_id::{Text, UniqueId};
+
+fn kind_of(word: &str) -> Kind {
+    match word {
+        "test" => Kind::Test,
+        "both" => Kind::ContainerAndTest,
+        _ => Kind::Container,
+    }
+}
+
+/// A text, or so many times one.
+pub(crate) fn text_of(alloc: Global, text: &str) -> Result<Text, AllocError> {
+    match text.split_once('*') {
+        Some((item, times)) => {
+            let times = times.parse().unwrap_or(0);
+            Ok(Text::of_string(item.repeat(alloc, times)?))
+        }
+        None => Text::new(alloc, text),
+    }
+}
+
+/// Gives a node what a word says.
+fn attribute(alloc: Global, node: &mut Node, word: &str) -> Result<(), AllocError> {
+    let (key, value) = word.split_once('=').unwrap_or((word, ""));
+    match key {
+        "body" => node.body = value.parse().ok().map(BodyId::new),
+        "name" => node.name = text_of(alloc, value)?,
+        "disabled" => node.disabled = Some(text_of(alloc, value)?),
+        _ => {
+            if let Ok(tag) = tag_of(alloc, value) {
+                node.tags.add(tag)?;
+            }
+        }
+    }
+    Ok(())
+}
+
+/// A node of these words, named by its id.
+fn node_of(alloc: Global, kind: &str, id: UniqueId, words: &str) -> Result<Node, AllocError> {
+    let name = Text::new(alloc, id.text())?;
+    let mut node = Node {
+        id,
+        name,
+        kind: kind_of(kind),
+        body: None,
+        disabled: None,
+        tags: TagSet::new(alloc),
+    };
+    for word in words.split(' ') {
+        attribute(alloc, &mut node, word)?;
+    }
+    Ok(node)
+}
+
+/// The number of the node that a line adds, or the refusal.
+pub(crate) fn added(
+    alloc: Global,
+    builder: &mut TreeBuilder,
+    line: &str,
+) -> Result<String, AllocError> {
+    let (parent, line) = line.split_once(' ').unwrap_or((line, ""));
+    let (kind, line) = line.split_once(' ').unwrap_or((line, ""));
+    let (id, words) = line.split_once(' ').unwrap_or((line, ""));
+    let Ok(id) = UniqueId::parse(alloc, id) else {
+        return String::from_str(alloc, " => no id");
+    };
+    let node = node_of(alloc, kind, id, words)?;
+    let parent = NodeId::new(parent.parse().unwrap_or(0));
+    if !builder.may_take(parent) {
+        return String::from_str(alloc, " => closed");
+    }
+    match builder.add(alloc, parent, node) {
+        Ok(number) => format!(in alloc; " => {}", number.number()),
+        Err(fault) => format!(in alloc; " => error {}: {fault}", fault.number()),
+    }
+}

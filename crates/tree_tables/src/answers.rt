@@ -1,0 +1,72 @@
+//! What is answered to each kind of question.
+
+use crate::adding::text_of;
+use crate::nodes::{nodes_text, tags_text};
+use crate::selection::found;
+use descriptor::{NodeId, Tree};
+use std::alloc::{AllocError, Global};
+use suite_text::{Suite, SuiteFault};
+
+/// Why a text is no suite.
+pub(crate) fn refusal(alloc: Global, fault: SuiteFault) -> Result<String, AllocError> {
+    let number = fault.number();
+    match fault.place() {
+        Some(place) => format!(in alloc; " => error {number} at {place}: {fault}"),
+        None => format!(in alloc; " => error {number}: {fault}"),
+    }
+}
+
+/// A line for each script of a suite.
+pub(crate) fn scripts(alloc: Global, suite: &Suite) -> Result<String, AllocError> {
+    let mut text = String::new(alloc);
+    for script in &suite.scripts {
+        let (body, spin, pulls) = (script.body.number(), script.spin, script.reply.pulls);
+        let outcome = &script.reply.outcome;
+        let (status, said) = (outcome.status, outcome.text.as_str());
+        write!(
+            text,
+            "\nbody {body} spin {spin} pulls {pulls} {status} {said:?}"
+        )?;
+    }
+    Ok(text)
+}
+
+/// What is left of the tree where these digits have a 1.
+fn kept(alloc: Global, tree: &Tree, digits: &str) -> Result<String, AllocError> {
+    let mut keep = Vec::new(alloc);
+    for digit in text_of(alloc, digits)?.as_str().chars() {
+        keep.push(digit == '1')?;
+    }
+    if keep.len() != tree.len() {
+        return String::from_str(alloc, " => another length");
+    }
+    if !tree.is_closed(keep.as_slice()) {
+        return String::from_str(alloc, " => not closed");
+    }
+    nodes_text(alloc, &tree.pruned(alloc, keep.as_slice())?)
+}
+
+/// Whether the first of two nodes is below the second.
+fn below(alloc: Global, tree: &Tree, numbers: &str) -> Result<String, AllocError> {
+    let (node, ancestor) = numbers.split_once(' ').unwrap_or((numbers, ""));
+    let node = NodeId::new(node.parse().unwrap_or(0));
+    let ancestor = NodeId::new(ancestor.parse().unwrap_or(0));
+    if node.index() >= tree.len() {
+        return String::from_str(alloc, " => no node");
+    }
+    format!(in alloc; " => {}", tree.below(node, ancestor))
+}
+
+/// The answer to what is asked of a tree.
+pub(crate) fn answer(alloc: Global, tree: &Tree, asked: &str) -> Result<String, AllocError> {
+    let (asked, words) = asked.split_once(' ').unwrap_or((asked, ""));
+    match asked {
+        "size" => format!(in alloc; " => {} nodes", tree.len()),
+        "nodes" => nodes_text(alloc, tree),
+        "tags" => tags_text(alloc, tree, words),
+        "below" => below(alloc, tree, words),
+        "keep" => kept(alloc, tree, words),
+        "select" => found(alloc, tree, words),
+        _ => String::from_str(alloc, " => ?"),
+    }
+}
