@@ -1,0 +1,78 @@
+//! Events as words: the worker, `+` for a start, `-` for a finish, `~` for a skip and `*` for a registration, the node, and
+//! behind a finish `!` where it FAILED and `?` where it ABORTED.
+
+use descriptor::NodeId;
+use plan_events::{Event, EventKind, Status};
+use std::alloc::{AllocError, Global};
+
+/// Each event as a word behind a blank.
+pub(crate) fn words(alloc: Global, events: &[Event]) -> Result<String, AllocError> {
+    let mut words = String::new(alloc);
+    for event in events {
+        let sign = match event.kind {
+            EventKind::Started => '+',
+            EventKind::Finished => '-',
+            EventKind::Skipped => '~',
+            EventKind::Registered => '*',
+        };
+        let end = match event.status {
+            Some(Status::Failed) => "!",
+            Some(Status::Aborted) => "?",
+            _ => "",
+        };
+        write!(words, " {}{sign}{}{end}", event.worker, event.node.number())?;
+    }
+    Ok(words)
+}
+
+/// What stands before and behind the sign of a word, and the kind that it stands for.
+fn cut(word: &str) -> Option<(&str, EventKind, &str)> {
+    for (sign, kind) in [
+        ('+', EventKind::Started),
+        ('-', EventKind::Finished),
+        ('~', EventKind::Skipped),
+        ('*', EventKind::Registered),
+    ] {
+        if let Some((worker, node)) = word.split_once(sign) {
+            return Some((worker, kind, node));
+        }
+    }
+    None
+}
+
+/// The digits of a finished node, and how it ended.
+fn ended(node: &str) -> (&str, Status) {
+    if let Some(digits) = node.strip_suffix('!') {
+        (digits, Status::Failed)
+    } else if let Some(digits) = node.strip_suffix('?') {
+        (digits, Status::Aborted)
+    } else {
+        (node, Status::Successful)
+    }
+}
+
+/// The event that a word stands for.
+fn event_of(word: &str) -> Option<Event> {
+    let (worker, kind, node) = cut(word)?;
+    let (digits, status) = match kind {
+        EventKind::Finished => {
+            let (digits, status) = ended(node);
+            (digits, Some(status))
+        }
+        _ => (node, None),
+    };
+    Some(Event {
+        kind,
+        node: NodeId::new(digits.parse().ok()?),
+        status,
+        worker: worker.parse().ok()?,
+    })
+}
+
+/// The events of words between blanks.
+pub(crate) fn events_of(alloc: Global, words: &str) -> Result<Vec<Event>, AllocError> {
+    words
+        .split(' ')
+        .filter_map(|word| event_of(word))
+        .collect(alloc)
+}
