@@ -1,0 +1,69 @@
+//! Summaries of what no suite's text gives: a node that is a container and a test, and a change of plans.
+
+use crate::plans::{finished, plan_of, plan_of_one, started};
+use descriptor::Kind;
+use listeners::{Listener, Summary};
+use plan_events::{Event, Status};
+use resource_locks::Plan;
+use std::alloc::{AllocError, Global};
+use std::test::Fail;
+
+/// Tells a summary these events, as far as it has room.
+fn tell_all(summary: &mut Summary, events: &[Event]) {
+    for event in events {
+        if summary.room() > 0 {
+            summary.told(*event, None);
+        }
+    }
+}
+
+/// The counts of these events on the plan last prepared, where the summary is told them between two plans.
+fn counts(
+    alloc: Global,
+    first: &Plan,
+    events: &[Event],
+    last: &Plan,
+) -> Result<[u32; 12], AllocError> {
+    let mut summary = Summary::new(alloc);
+    summary.prepare(first)?;
+    tell_all(&mut summary, events);
+    summary.prepare(last)?;
+    Ok(summary.counts())
+}
+
+#[test]
+fn counts_nothing_before_it_is_prepared(rt: HostRuntime) {
+    assert_eq!(rt; Summary::new(rt.alloc()).counts(), [0; 12]);
+}
+
+#[test]
+fn counts_a_node_that_is_both_twice_and_a_double_event_once(rt: HostRuntime) -> Result<(), Fail> {
+    let plan = plan_of_one(rt.alloc(), "f()", Kind::ContainerAndTest)?;
+    let events = [started(1), started(1), finished(1, Status::Aborted)];
+    let counts = counts(rt.alloc(), &plan, events.as_slice(), &plan)?;
+    assert_eq!(rt; counts, [1, 0, 1, 1, 0, 0, 1, 0, 1, 1, 0, 0]);
+    Ok(())
+}
+
+#[test]
+fn counts_what_it_was_told_on_the_plan_last_prepared(rt: HostRuntime) -> Result<(), Fail> {
+    let two = "engine e\n  class a.B\n    test t() pass\n    test u() fail no\n";
+    let first = plan_of(rt.alloc(), two)?;
+    let one = "engine e\n  class a.B disabled later\n    test t() fail never run\n";
+    let last = plan_of(rt.alloc(), one)?;
+    let events = [
+        started(0),
+        started(1),
+        started(2),
+        started(3),
+        finished(3, Status::Successful),
+        started(4),
+        finished(4, Status::Failed),
+        finished(2, Status::Successful),
+        finished(1, Status::Successful),
+        finished(0, Status::Successful),
+    ];
+    let counts = counts(rt.alloc(), &first, events.as_slice(), &last)?;
+    assert_eq!(rt; counts, [2, 0, 2, 0, 2, 0, 1, 0, 1, 0, 1, 0]);
+    Ok(())
+}
