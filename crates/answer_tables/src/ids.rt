@@ -31,7 +31,7 @@ pub(crate) fn segments(alloc: Global, text: &str) -> Result<String, AllocError> 
     };
     let mut pairs = format!(in alloc; "{} segments", id.segments().len())?;
     for segment in id.segments() {
-        let (kind, value) = (segment.kind.as_str(), segment.value.as_str());
+        let (kind, value) = (segment.kind(), segment.value());
         write!(pairs, "; {kind:?} {value:?}")?;
     }
     Ok(pairs)

@@ -18,7 +18,9 @@ impl Run {
         let suite = Suite::parse(alloc, text)?;
         let mut replies = Vec::new(alloc);
         for script in suite.scripts {
-            replies.push((script.body, script.reply))?;
+            if replies.push((script.body, script.reply)).is_err() {
+                return Err(SuiteFault::NoMemory);
+            }
         }
         Ok(Run {
             plan: Plan::plain(suite.tree),

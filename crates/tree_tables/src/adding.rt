@@ -3,7 +3,7 @@
 
 use descriptor::{BodyId, Kind, Node, NodeId, TreeBuilder};
 use std::alloc::{AllocError, Global};
-use tag_expr::{TagSet, tag_of};
+use tag_expr::tag_of;
 use unique_id::{Text, UniqueId};
 
 fn kind_of(word: &str) -> Kind {
@@ -19,7 +19,7 @@ pub(crate) fn text_of(alloc: Global, text: &str) -> Result<Text, AllocError> {
     match text.split_once('*') {
         Some((item, times)) => {
             let times = times.parse().unwrap_or(0);
-            Ok(Text::of_string(item.repeat(alloc, times)?))
+            Text::new(alloc, item.repeat(alloc, times)?.as_str())
         }
         None => Text::new(alloc, text),
     }
@@ -44,14 +44,7 @@ fn attribute(alloc: Global, node: &mut Node, word: &str) -> Result<(), AllocErro
 /// A node of these words, named by its id.
 fn node_of(alloc: Global, kind: &str, id: UniqueId, words: &str) -> Result<Node, AllocError> {
     let name = Text::new(alloc, id.text())?;
-    let mut node = Node {
-        id,
-        name,
-        kind: kind_of(kind),
-        body: None,
-        disabled: None,
-        tags: TagSet::new(alloc),
-    };
+    let mut node = Node::plain(alloc, id, name, kind_of(kind));
     for word in words.split(' ') {
         attribute(alloc, &mut node, word)?;
     }
