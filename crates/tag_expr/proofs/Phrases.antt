@@ -5,13 +5,16 @@ use Rattle.std.specs.List.{list_any}
 use Rattle.std.specs.Str.{chars}
 use Rattle.std.specs.Char.{len_utf8}
 use Rattle.std.proofs.lemmas.Bool.Decides.{nat_tests}
+use Rattle.tag_expr.specs.declared.connective.Connective.{Connective}
+use Rattle.tag_expr.specs.declared.connective.Connective.TheVariants.{And, Or}
 use Rattle.tag_expr.specs.declared.fault.TagFault.TheVariants.{ParenClose, TooDeep}
-use Rattle.tag_expr.specs.Expressions.{Expression, tag, any_tag, no_tag, negation, conjunction, disjunction}
-use Rattle.tag_expr.specs.ExpressionFaults.{negating, opened, operand, operator, settled, at_word, first_fault}
-use Rattle.tag_expr.specs.Grammar.{or_phrase, and_phrase, not_phrase, one_and, more_or, one_not, more_and, negated, one_atom, a_tag, any_atom, none_atom, group}
-use Rattle.tag_expr.specs.Parsing.{IsRead, Begins}
+use Rattle.tag_expr.specs.Connectives.{phrase_of, part_of, sign_of, joins}
+use Rattle.tag_expr.specs.Expressions.{Expression, tag, any_tag, no_tag, negation}
+use Rattle.tag_expr.specs.ExpressionFaults.{Pending, negating, opened, operand, operator, settled, at_word, first_fault}
+use Rattle.tag_expr.specs.Grammar.{Spells, or_phrase, not_phrase, one_and, more_or, one_not, more_and, negated, one_atom, a_tag, any_atom, none_atom, group}
+use Rattle.tag_expr.specs.Parsing.{MayPend, IsRead, Begins}
 use Rattle.tag_expr.specs.Tags.{is_bad, first_bad}
-use Rattle.tag_expr.specs.Tokens.{Token, left_paren, right_paren, bang, ampersand, bar, any_call, none_call, word, PlacedToken, placed, token_of}
+use Rattle.tag_expr.specs.Tokens.{Token, left_paren, right_paren, bang, any_call, none_call, word, PlacedToken, placed, token_of}
 
 -- a word with no first bad character has none
 pub none_bad : (at : ℕ) (cs : List ℕ) → first_bad at cs ≡ None → list_any is_bad cs ≡ false
@@ -104,57 +107,60 @@ read_group end count place ts inner mid rest g is few read closed = record {
       ∙ ap (λ b. if b then Some (ParenClose closed.0) else first_fault end operator (settled (drop 1 (opened place ∷ pending))) rest) (some_open (length pending));
 }
 
-pub read_one_not : (end count : ℕ) (ts rest : List PlacedToken) (g : Option Expression) → IsRead not_phrase end count ts rest g → IsRead and_phrase end count ts rest g
-read_one_not end count ts rest g read = record {
-  front = read.front;
-  split = read.split;
-  expression = read.expression;
-  tree = one_not read.tree;
-  is = read.is;
-  faultless = λ pending len may. read.faultless pending len tt;
-}
-
-pub read_one_and : (end count : ℕ) (ts rest : List PlacedToken) (g : Option Expression) → IsRead and_phrase end count ts rest g → IsRead or_phrase end count ts rest g
-read_one_and end count ts rest g read = record {
-  front = read.front;
-  split = read.split;
-  expression = read.expression;
-  tree = one_and read.tree;
-  is = read.is;
-  faultless = λ pending len may. read.faultless pending len may;
-}
-
 joined : (front behind ts mid next rest : List Token) (sign : Token) → ts ≡ front ++ mid → mid ≡ sign ∷ next → next ≡ behind ++ rest → ts ≡ (front ++ sign ∷ behind) ++ rest
 joined front behind ts mid next rest sign a b c = a ∙ ap (λ l. front ++ l) (b ∙ ap (λ l. sign ∷ l) c) ∙ sym (append_assoc front (sign ∷ behind) rest)
 
-pub read_more_and : (end count : ℕ) (ts mid next rest : List PlacedToken) (a b h : Option Expression)
-    → IsRead and_phrase end count ts mid a → Begins ampersand mid next → IsRead not_phrase end count next rest b
-    → IfSome h (λ f. IsSomeAnd a (λ d. IsSomeAnd b (λ e. f ≡ conjunction d e))) → IsRead and_phrase end count ts rest h
-read_more_and end count ts mid next rest a b h left sign right same = record {
-  front = left.front ++ ampersand ∷ right.front;
-  split = joined left.front right.front (map token_of ts) (map token_of mid) (map token_of next) (map token_of rest) ampersand left.split (ap (map token_of) sign.1) right.split;
-  expression = conjunction left.expression right.expression;
-  tree = more_and left.tree right.tree;
-  is = given_two conjunction left.expression right.expression a b h left.is right.is same;
-  faultless = λ pending len may.
-      left.faultless pending len may
-      ∙ ap (first_fault end operator (settled pending)) sign.1
-      ∙ ap (λ p. first_fault end operand p next) may
-      ∙ right.faultless pending len tt;
-}
+-- what a connective makes of its operands
+one_part : (c : Connective) {ts : List Token} {e : Expression} → Spells (part_of c) ts e → Spells (phrase_of c) ts e
+one_part And tree = one_not tree
+one_part Or tree = one_and tree
 
-pub read_more_or : (end count : ℕ) (ts mid next rest : List PlacedToken) (a b h : Option Expression)
-    → IsRead or_phrase end count ts mid a → Begins bar mid next → IsRead and_phrase end count next rest b
-    → IfSome h (λ f. IsSomeAnd a (λ d. IsSomeAnd b (λ e. f ≡ disjunction d e))) → IsRead or_phrase end count ts rest h
-read_more_or end count ts mid next rest a b h left sign right same = record {
-  front = left.front ++ bar ∷ right.front;
-  split = joined left.front right.front (map token_of ts) (map token_of mid) (map token_of next) (map token_of rest) bar left.split (ap (map token_of) sign.1) right.split;
-  expression = disjunction left.expression right.expression;
-  tree = more_or left.tree right.tree;
-  is = given_two disjunction left.expression right.expression a b h left.is right.is same;
-  faultless = λ pending len may.
+more_parts : (c : Connective) {ts us : List Token} {d e : Expression} → Spells (phrase_of c) ts d → Spells (part_of c) us e → Spells (phrase_of c) (ts ++ sign_of c ∷ us) (joins c d e)
+more_parts And left right = more_and left right
+more_parts Or left right = more_or left right
+
+-- what may be pending before them
+may_settle : (c : Connective) (pending : List Pending) → MayPend (phrase_of c) pending → settled pending ≡ pending
+may_settle And pending may = may
+may_settle Or pending may = may
+
+may_part : (c : Connective) (pending : List Pending) → MayPend (phrase_of c) pending → MayPend (part_of c) pending
+may_part And pending may = tt
+may_part Or pending may = may
+
+-- behind the sign an operand must come
+on_sign : (c : Connective) (end place : ℕ) (pending : List Pending) (next : List PlacedToken) → first_fault end operator pending (placed place (sign_of c) ∷ next) ≡ first_fault end operand pending next
+on_sign And end place pending next = refl
+on_sign Or end place pending next = refl
+
+module _ (c : Connective) (end count : ℕ) where
+  pub read_one : (ts rest : List PlacedToken) (g : Option Expression) → IsRead (part_of c) end count ts rest g → IsRead (phrase_of c) end count ts rest g
+  read_one ts rest g read = record {
+    front = read.front;
+    split = read.split;
+    expression = read.expression;
+    tree = one_part c read.tree;
+    is = read.is;
+    faultless = λ pending len may. read.faultless pending len (may_part c pending may);
+  }
+
+  -- no fault comes as far as the operand behind the sign
+  so_far : (ts mid next : List PlacedToken) (a : Option Expression) → IsRead (phrase_of c) end count ts mid a → Begins (sign_of c) mid next
+      → (pending : List Pending) → length pending ≡ count → MayPend (phrase_of c) pending → first_fault end operand pending ts ≡ first_fault end operand pending next
+  so_far ts mid next a left sign pending len may =
       left.faultless pending len may
       ∙ ap (first_fault end operator (settled pending)) sign.1
-      ∙ ap (λ p. first_fault end operand p next) may
-      ∙ right.faultless pending len may;
-}
+      ∙ on_sign c end sign.0 (settled pending) next
+      ∙ ap (λ p. first_fault end operand p next) (may_settle c pending may)
+
+  pub read_more : (ts mid next rest : List PlacedToken) (a b h : Option Expression)
+      → IsRead (phrase_of c) end count ts mid a → Begins (sign_of c) mid next → IsRead (part_of c) end count next rest b
+      → IfSome h (λ f. IsSomeAnd a (λ d. IsSomeAnd b (λ e. f ≡ joins c d e))) → IsRead (phrase_of c) end count ts rest h
+  read_more ts mid next rest a b h left sign right same = record {
+    front = left.front ++ sign_of c ∷ right.front;
+    split = joined left.front right.front (map token_of ts) (map token_of mid) (map token_of next) (map token_of rest) (sign_of c) left.split (ap (map token_of) sign.1) right.split;
+    expression = joins c left.expression right.expression;
+    tree = more_parts c left.tree right.tree;
+    is = given_two (joins c) left.expression right.expression a b h left.is right.is same;
+    faultless = λ pending len may. so_far ts mid next a left sign pending len may ∙ right.faultless pending len (may_part c pending may);
+  }

@@ -1,4 +1,5 @@
 -- The definitions that contracts cite.
+pub mod Connectives
 pub mod ExpressionCodes
 pub mod ExpressionFaults
 pub mod Expressions

@@ -2,6 +2,7 @@
 #![tactic(auto)]
 
 mod characters;
+mod connective;
 mod expression;
 mod fault;
 mod node;

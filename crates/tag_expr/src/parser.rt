@@ -2,9 +2,10 @@
 
 ghost use Rattle.std.specs.Prelude.{◌≡◌, ◌≢◌, List, ◌+◌, ◌^◌, ◌≤◌, ◌<◌, ◌∷◌, length, None, Some, option_map, MatchOption, IfSome, IsSomeAnd, IfOk, IfErr, false};
 ghost use Rattle.std.specs.Str.{chars};
+ghost use Rattle.tag_expr.specs.Connectives.{phrase_of, part_of, sign_of, joins, begins, IsPartEnd, IsEnd};
 ghost use Rattle.tag_expr.specs.ExpressionFaults.{Pending, opened, operator, first_fault};
 ghost use Rattle.tag_expr.specs.Expressions.{tag, negation, conjunction, disjunction};
-ghost use Rattle.tag_expr.specs.Grammar.{or_phrase, and_phrase, not_phrase};
+ghost use Rattle.tag_expr.specs.Grammar.{or_phrase, not_phrase};
 ghost use Rattle.tag_expr.specs.Nodes.{expression_of};
 ghost use Rattle.tag_expr.specs.Parsing.{IsRead, IsRefused, Begins, begins_bar, begins_ampersand};
 ghost use Rattle.tag_expr.specs.Tags.{first_bad};
@@ -12,6 +13,7 @@ ghost use Rattle.tag_expr.specs.Tokens.{bar, ampersand, right_paren};
 ghost use Rattle.tag_expr.specs.TokenTexts.{tokens_left};
 
 use crate::characters::first_bad;
+use crate::connective::Connective;
 use crate::fault::TagFault;
 use crate::node::Node;
 use crate::tag::Tag;
@@ -67,6 +69,21 @@ fn disjunction(alloc: Global, left: Option<Node>, right: Option<Node>) -> Option
     }
 }
 
+/// Two operands and what joins them.
+fn joined(
+    alloc: Global,
+    connective: Connective,
+    left: Option<Node>,
+    right: Option<Node>,
+) -> Option<Node>
+    ensures { IfSome (option_map expression_of result) (λ f. IsSomeAnd (option_map expression_of left) (λ d. IsSomeAnd (option_map expression_of right) (λ e. f ≡ joins connective d e))) }
+{
+    match connective {
+        Connective::And => conjunction(alloc, left, right),
+        Connective::Or => disjunction(alloc, left, right),
+    }
+}
+
 /// What follows a bar at the front.
 fn after_bar<'a>(end: usize, left: &'a str) -> Option<&'a str>
     requires { length left.now ≤ end }
@@ -100,6 +117,18 @@ fn after_ampersand<'a>(end: usize, left: &'a str) -> Option<&'a str>
             },
         ) => Some(rest),
         _ => None,
+    }
+}
+
+/// What follows the sign of the connective at the front.
+fn after_sign<'a>(end: usize, connective: Connective, left: &'a str) -> Option<&'a str>
+    requires { length left.now ≤ end }
+    ensures cases { MatchOption result (begins connective (tokens_left end left.now) ≡ false) (λ rest. Begins (sign_of connective) (tokens_left end left.now) (tokens_left end rest.now)) }
+    ensures shorter { IfSome result (λ rest. length rest.now < length left.now) }
+{
+    match connective {
+        Connective::And => after_ampersand(end, left),
+        Connective::Or => after_bar(end, left),
     }
 }
 
@@ -177,7 +206,7 @@ fn operand<'a>(
             if pending == MOST_PENDING {
                 return Err(TagFault::TooDeep);
             }
-            let read = alternatives(alloc, end, pending + 1, rest)?;
+            let read = operands(alloc, end, pending + 1, Connective::Or, rest)?;
             let rest = after_group(end, found.place, read.rest)?;
             Ok(Read {
                 node: read.node,
@@ -190,35 +219,58 @@ fn operand<'a>(
     }
 }
 
-/// The operands at the front with `&` between them.
+/// An operand of the connective at the front.
+#[cycle(parser)]
+fn part<'a>(
+    alloc: Global,
+    end: usize,
+    pending: usize,
+    connective: Connective,
+    left: &'a str,
+) -> Result<Read<'a>, TagFault>
+    requires fits { length left.now ≤ end }
+    requires shallow { pending ≤ 64 }
+    ensures read { IfOk result (λ read. IsRead (part_of connective) end pending (tokens_left end left.now) (tokens_left end read.rest.now) (option_map expression_of read.node)) }
+    ensures real { IfErr result (λ fault. fault ≢ TagFault.NoMemory) }
+    ensures refused { IfErr result (λ fault. IsRefused (part_of connective) end pending (tokens_left end left.now) fault) }
+    ensures shorter { IfOk result (λ read. length read.rest.now < length left.now) }
+    ensures ended { IfOk result (λ read. IsPartEnd connective (tokens_left end read.rest.now)) }
+{
+    match connective {
+        Connective::And => operand(alloc, end, pending, left),
+        Connective::Or => operands(alloc, end, pending, Connective::And, left),
+    }
+}
+
+/// The operands at the front with the connective between them.
 #[cycle(parser)]
 fn operands<'a>(
     alloc: Global,
     end: usize,
     pending: usize,
+    connective: Connective,
     left: &'a str,
 ) -> Result<Read<'a>, TagFault>
     requires fits { length left.now ≤ end }
     requires shallow { pending ≤ 64 }
-    ensures read { IfOk result (λ read. IsRead and_phrase end pending (tokens_left end left.now) (tokens_left end read.rest.now) (option_map expression_of read.node)) }
+    ensures read { IfOk result (λ read. IsRead (phrase_of connective) end pending (tokens_left end left.now) (tokens_left end read.rest.now) (option_map expression_of read.node)) }
     ensures real { IfErr result (λ fault. fault ≢ TagFault.NoMemory) }
-    ensures refused { IfErr result (λ fault. IsRefused and_phrase end pending (tokens_left end left.now) fault) }
+    ensures refused { IfErr result (λ fault. IsRefused (phrase_of connective) end pending (tokens_left end left.now) fault) }
     ensures shorter { IfOk result (λ read. length read.rest.now < length left.now) }
-    ensures whole { IfOk result (λ read. begins_ampersand (tokens_left end read.rest.now) ≡ false) }
+    ensures ended { IfOk result (λ read. IsEnd connective (tokens_left end read.rest.now)) }
 {
-    let mut read = operand(alloc, end, pending, left)?;
-    while let Some(after) = after_ampersand(end, read.rest) {
-        let right = operand(alloc, end, pending, after)?;
+    let mut read = part(alloc, end, pending, connective, left)?;
+    while let Some(after) = after_sign(end, connective, read.rest) {
+        let right = part(alloc, end, pending, connective, after)?;
         read = Read {
-            node: conjunction(alloc, read.node, right.node),
+            node: joined(alloc, connective, read.node, right.node),
             rest: right.rest,
         };
     }
     Ok(read)
 }
 
-/// The ands at the front with `|` between them.
-#[cycle(parser)]
+/// The expression at the front.
 pub(crate) fn alternatives<'a>(
     alloc: Global,
     end: usize,
@@ -234,13 +286,5 @@ pub(crate) fn alternatives<'a>(
     ensures no_ampersand { IfOk result (λ read. begins_ampersand (tokens_left end read.rest.now) ≡ false) }
     ensures no_bar { IfOk result (λ read. begins_bar (tokens_left end read.rest.now) ≡ false) }
 {
-    let mut read = operands(alloc, end, pending, left)?;
-    while let Some(after) = after_bar(end, read.rest) {
-        let right = operands(alloc, end, pending, after)?;
-        read = Read {
-            node: disjunction(alloc, read.node, right.node),
-            rest: right.rest,
-        };
-    }
-    Ok(read)
+    operands(alloc, end, pending, Connective::Or, left)
 }

@@ -5,7 +5,7 @@ use Rattle.std.proofs.lemmas.Grind.{common_steps}
 use Rattle.tag_expr.specs.Tags.{first_bad}
 use Rattle.tag_expr.specs.Tokens.{placed}
 use Rattle.tag_expr.specs.TokenTexts.{token_read, tokens_left}
-use Rattle.tag_expr.proofs.Phrases.{read_tag, read_any, read_none, read_negation, read_group, read_one_not, read_one_and, read_more_and, read_more_or}
+use Rattle.tag_expr.proofs.Phrases.{read_tag, read_any, read_none, read_negation, read_group, read_one, read_more}
 use Rattle.tag_expr.proofs.parser.+parser.Goals as goal
 
 pub operand-returns-in_default-first_bad-clause-read : goal.operand-returns-in_default-first_bad-clause-read
@@ -35,20 +35,11 @@ operand-returns-in_ok-rest-in-LeftParen-clause-read t c =
     read_group _ _ _ _ _ _ _ _ is few c.in_ok-read-in-LeftParen.ensures.read c.in_ok-rest-in-LeftParen.ensures.closed
 
 pub operands-loop-after-init : goal.operands-loop-after-init
-operands-loop-after-init t c = (read_one_not _ _ _ _ _ c.in_ok-read.ensures.read, c.in_ok-read.ensures.shorter)
+operands-loop-after-init t c = (read_one c.args.connective _ _ _ _ _ c.in_ok-read.ensures.read, c.in_ok-read.ensures.shorter, c.in_ok-read.ensures.ended)
 
 pub operands-loop-after-preserved : goal.operands-loop-after-preserved
 operands-loop-after-preserved t c = (
-  read_more_and _ _ _ _ _ _ _ _ _ c.loop-after.invariant.0 c.in-Some.ensures.cases c.in_ok-right.ensures.read c.conjunction.ensures,
+  read_more c.args.connective _ _ _ _ _ _ _ _ _ c.loop-after.invariant.0 c.in-Some.ensures.cases c.in_ok-right.ensures.read c.joined.ensures,
   omega (arith, c.loop-after.invariant.1, c.in-Some.ensures.shorter, c.in_ok-right.ensures.shorter),
-)
-
-pub alternatives-loop-after-init : goal.alternatives-loop-after-init
-alternatives-loop-after-init t c = (read_one_and _ _ _ _ _ c.in_ok-read.ensures.read, c.in_ok-read.ensures.shorter, c.in_ok-read.ensures.whole)
-
-pub alternatives-loop-after-preserved : goal.alternatives-loop-after-preserved
-alternatives-loop-after-preserved t c = (
-  read_more_or _ _ _ _ _ _ _ _ _ c.loop-after.invariant.0 c.in-Some.ensures.cases c.in_ok-right.ensures.read c.disjunction.ensures,
-  omega (arith, c.loop-after.invariant.1, c.in-Some.ensures.shorter, c.in_ok-right.ensures.shorter),
-  c.in_ok-right.ensures.whole,
+  c.in_ok-right.ensures.ended,
 )
