@@ -7,7 +7,6 @@ pub mod SuiteAnswers
 pub mod SuiteAttributes
 pub mod SuiteIds
 pub mod SuiteNever
-pub mod SuiteNumbers
 pub mod SuitePaths
 pub mod SuiteReading
 pub mod SuiteSpaces

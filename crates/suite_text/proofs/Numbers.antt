@@ -3,10 +3,10 @@ use Rattle.std.proofs.Common.{◌≡◌, ℕ, ◌<◌, ◌≤◌, ◌^◌, List,
 use Rattle.std.proofs.lemmas.Bool.{cases_lt}
 use Rattle.std.specs.Char.{is_ascii_digit}
 use Rattle.std.specs.List.{list_all}
-use Rattle.std.specs.Result.{OkIff}
 use Rattle.std.specs.Str.Parse.{ParsesUnsigned, digits_value}
 use Rattle.std.proofs.lemmas.Str.Parse.{IsNumeralModel, numerals_by_value, parse_digits}
 use Rattle.suite_text.specs.StepTexts.{is_decimal, number_within}
+use Rattle.suite_text.specs.SuiteSpins.{is_number, number_up_to}
 
 pub own : IsNumeralModel (λ ds. list_all is_ascii_digit ds ≡ true) (digits_value 10)
 own = numerals_by_value _ (search rules)
@@ -14,12 +14,22 @@ own = numerals_by_value _ (search rules)
 pub decimal_parts : (ds : List ℕ) → is_decimal ds ≡ true → (0 < length ds) × (list_all is_ascii_digit ds ≡ true)
 decimal_parts ds h = (grind arith, grind arith)
 
-pub decimal_read : {E : Type 0} (ds : List ℕ) (r : Result ℕ E) → ParsesUnsigned 16 10 ds r → is_decimal ds ≡ true → OkIff r ((0 < length ds) × (digits_value 10 ds < 2 ^ 16)) (digits_value 10 ds)
-decimal_read ds r h d = parse_digits own 16 ds r h (decimal_parts ds d).1
+pub number_parts : (ds : List ℕ) → is_number ds ≡ true → (0 < length ds) × (list_all is_ascii_digit ds ≡ true)
+number_parts ds h = (grind arith, grind arith)
 
--- a number that std finds too large is out of range
-pub not_read : {E : Type 0} (least most : ℕ) (ds : List ℕ) (r : Result ℕ E) (e : E) → ParsesUnsigned 16 10 ds r → r ≡ Err e → is_decimal ds ≡ true → most < 2 ^ 16 → None ≡ number_within least most ds
-not_read least most ds r e h is d small =
-    let refused : (0 < length ds) × (digits_value 10 ds < 2 ^ 16) → ⊥ = decimal_read ds (Err e) (subst (ParsesUnsigned 16 10 ds) is h) d in
-    let large : 2 ^ 16 ≤ digits_value 10 ds = elim (cases_lt (digits_value 10 ds) (2 ^ 16)) [ inl lt ↦ absurd (refused ((decimal_parts ds d).0, lt)) | inr ge ↦ ge ] in
+-- what std does not read is too large for its type
+too_large : {E : Type 0} (bits : ℕ) (ds : List ℕ) (r : Result ℕ E) (e : E) → ParsesUnsigned bits 10 ds r → r ≡ Err e → (0 < length ds) × (list_all is_ascii_digit ds ≡ true) → 2 ^ bits ≤ digits_value 10 ds
+too_large bits ds r e h is digits =
+    let refused : (0 < length ds) × (digits_value 10 ds < 2 ^ bits) → ⊥ = parse_digits own bits ds (Err e) (subst (ParsesUnsigned bits 10 ds) is h) digits.1 in
+    elim (cases_lt (digits_value 10 ds) (2 ^ bits)) [ inl lt ↦ absurd (refused (digits.0, lt)) | inr ge ↦ ge ]
+
+-- and so it is out of range
+pub not_within : {E : Type 0} (least most : ℕ) (ds : List ℕ) (r : Result ℕ E) (e : E) → ParsesUnsigned 16 10 ds r → r ≡ Err e → is_decimal ds ≡ true → most < 2 ^ 16 → None ≡ number_within least most ds
+not_within least most ds r e h is d small =
+    let large : 2 ^ 16 ≤ digits_value 10 ds = too_large 16 ds r e h is (decimal_parts ds d) in
+    grind arith
+
+pub not_up_to : {E : Type 0} (most : ℕ) (ds : List ℕ) (r : Result ℕ E) (e : E) → ParsesUnsigned 32 10 ds r → r ≡ Err e → is_number ds ≡ true → most < 2 ^ 32 → None ≡ number_up_to most ds
+not_up_to most ds r e h is d small =
+    let large : 2 ^ 32 ≤ digits_value 10 ds = too_large 32 ds r e h is (number_parts ds d) in
     grind arith

@@ -24,6 +24,7 @@ use Rattle.suite_text.specs.SuiteVerdicts.{verdict_spelled, no_verdict, verdict_
 use Rattle.suite_text.specs.SuiteWords.{Declaration, word_of, placed, with_verdict, with_attributes, with_name, declared_by}
 use Rattle.suite_text.specs.Words.{is_space, words_in}
 use Rattle.suite_text.specs.WrittenLines.{spaces, indentation, IsWord, word_text, Said, Tagged, Counts, said_text, said_also, MaySay, Attribute, attributes_text, all_said, MaySayAll, Ending, verdict_text, ending_text, MayExplain, IsEnding, MayEnd, NodeLine, node_text, verdict_said, text_said, declares, IsNodeLine}
+use Rattle.suite_text.proofs.Numbers.{number_parts}
 use Rattle.suite_text.proofs.SuiteAttributes.{of_nothing, at_end, next_read}
 use Rattle.suite_text.proofs.WrittenWords.{Unspaced, Follows, first_is, after_is, first_none, after_none, text_is, follows_spaces, follows_text, front_is, prefix_spaces}
 
@@ -73,12 +74,9 @@ digits_unspaced : (ds : List ℕ) → list_all is_ascii_digit ds ≡ true → Un
 digits_unspaced [] h = tt
 digits_unspaced (d ∷ ds) h = let p = and_parts (is_ascii_digit d) (list_all is_ascii_digit ds) h in (digit_unspaced d p.0, digits_unspaced ds p.1)
 
-number_digits : (ds : List ℕ) → is_number ds ≡ true → list_all is_ascii_digit ds ≡ true
-number_digits ds h = (and_parts (nat_lt 0 (length ds)) (list_all is_ascii_digit ds) h).1
-
 said_word : (w : Word) (before : Attributes) (s : Said) → MaySay w before s → IsWord (said_text s)
 said_word w before (Tagged tag) h = (omega arith, (refl, h.0))
-said_word w before (Counts digits) h = (omega arith, (refl, (refl, (refl, (refl, (refl, digits_unspaced digits (number_digits digits h.2)))))))
+said_word w before (Counts digits) h = (omega arith, (refl, (refl, (refl, (refl, (refl, digits_unspaced digits (number_parts digits h.2).1))))))
 
 abbrev kind_of : Said → kinds.Attribute
 kind_of (Tagged tag) = Tag
