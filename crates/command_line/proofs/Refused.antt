@@ -16,7 +16,7 @@ use Rattle.command_line.specs.Runs.{IsRunBy, RunsAsAsked}
 use Rattle.command_line.specs.Words.{values_given, words_refusal}
 
 module _ (words : List Text) (read : Result SuiteParts SuiteFault) (old new : Option (List ℕ)) where
-  short_of_memory : (refusal : Option LaunchFault) → IsRunBy refusal words read old new (Err NoMemory)
+  pub short_of_memory : (refusal : Option LaunchFault) → IsRunBy refusal words read old new (Err NoMemory)
   short_of_memory None = tt
   short_of_memory (Some refusal) = inl refl
 

@@ -2,7 +2,10 @@
 use Rattle.std.specs.Prelude.{◌≡◌, ℕ, List, Option, Some, None, Result, Ok, Err, ◌⊎◌}
 use Rattle.clap.specs.Words.{Text}
 use Rattle.launcher.specs.Asked.{Asked, AreAsked}
+use Rattle.launcher.specs.Closings.{line_after}
+use Rattle.launcher.specs.ExitStatuses.{status_after}
 use Rattle.launcher.specs.Runs.{IsRun}
+use Rattle.launcher.specs.declared.closing.Closing.{Closing}
 use Rattle.launcher.specs.declared.exit_status.ExitStatus.{ExitStatus}
 use Rattle.launcher.specs.declared.fault.LaunchFault.{LaunchFault}
 use Rattle.launcher.specs.declared.fault.LaunchFault.TheVariants.{NoMemory}
@@ -30,3 +33,10 @@ RunsAsAsked words read old new result = IsRunAsAsked words read old new result
 abbrev pub IsRunBy : Option LaunchFault → List Text → Result SuiteParts SuiteFault → Option (List ℕ) → Option (List ℕ) → Result ExitStatus LaunchFault → Type 0
 IsRunBy (Some refusal) words read old new result = RefusesWords refusal result
 IsRunBy None words read old new result = RunsAsAsked words read old new result
+
+-- there is an answer of which this is so, and this is what is done after it
+pub record Closes (closing : Closing) (Answered : Result ExitStatus LaunchFault → Type 0) : Type 0 where
+  pub answer : Result ExitStatus LaunchFault
+  pub answered : Answered answer
+  pub line : closing.line ≡ line_after answer
+  pub status : closing.status ≡ status_after answer

@@ -7,6 +7,6 @@ mod program;
 mod system_words;
 mod words;
 
-pub use program::run_console;
+pub use program::{run_console, run_program};
 pub use system_words::given_words;
 pub use words::read_options;

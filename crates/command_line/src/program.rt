@@ -1,16 +1,22 @@
 //! The program over any reader and writer.
 
-ghost use Rattle.std.specs.Prelude.{◌≡◌, IfErr, IfSome, Some, None, false, take, map, string_bytes};
+ghost use Rattle.std.specs.Prelude.{◌≡◌, IfOk, IfErr, IfSome, Some, None, false, take, map, string_bytes};
 ghost use Rattle.std.specs.Io.KnownBytes.{Keeps};
+ghost use Rattle.std.specs.IoError.{error_kind};
+ghost use Rattle.std.specs.Result.{IsErrAnd};
+ghost use Rattle.std.specs.Vec.Iter.{into_iter_items};
 ghost use Rattle.launcher.specs.Runs.{TakesFrom, fault_in, is_writing};
 ghost use Rattle.suite_text.specs.SuiteBytes.{suite_read};
-ghost use Rattle.command_line.specs.Runs.{IsRunBy, RefusesWords, RunsAsAsked};
+ghost use Rattle.command_line.specs.GivenWords.{IsGivenFault};
+ghost use Rattle.command_line.specs.Runs.{Closes, IsRunBy, RefusesWords, RunsAsAsked};
 ghost use Rattle.command_line.specs.Words.{words_refusal};
 
+use crate::system_words::given_words;
 use crate::words::read_options;
-use launcher::{ExitStatus, LaunchFault, run_options};
+use launcher::{Closing, ExitStatus, LaunchFault, run_options};
 use std::alloc::Global;
-use std::io::{Read, Write};
+use std::env::Args;
+use std::io::{self, Read, Write};
 
 /// Runs the suite that the reader holds, with the options that the words give; the first word is
 /// the program's name. Words that give no options are refused as `read_options` says, and then
@@ -29,4 +35,35 @@ pub fn run_console<R: Read, W: Write>(
 {
     let options = read_options(alloc, words)?;
     run_options(alloc, &options, reader, writer)
+}
+
+/// What the program answers to the words that the system gave: as `run_console` says, or, where it
+/// gave none, as `given_words` says.
+fn answer_to<R: Read, W: Write>(
+    alloc: Global,
+    words: io::Result<Args>,
+    reader: &mut R,
+    writer: &mut W,
+) -> Result<ExitStatus, LaunchFault>
+    ensures run { IfOk words (λ given. IfSome (R.remaining reader.old) (λ bytes. IsRunBy (words_refusal (map string_bytes (into_iter_items given))) (map string_bytes (into_iter_items given)) (suite_read (take 1048577 bytes)) (W.contents writer.old) (W.contents writer.new) result)) }
+    ensures refused { IfErr words (λ error. IsErrAnd result (IsGivenFault (error_kind error))) }
+{
+    match given_words(alloc, words) {
+        Ok(words) => run_console(alloc, words.as_slice(), reader, writer),
+        Err(fault) => Err(fault),
+    }
+}
+
+/// The program: all that is left to do is to print the line of the closing, if there is one, and to
+/// end with its status.
+pub fn run_program<R: Read, W: Write>(
+    alloc: Global,
+    words: io::Result<Args>,
+    reader: &mut R,
+    writer: &mut W,
+) -> Closing
+    ensures run { Closes result (λ answer. IfOk words (λ given. IfSome (R.remaining reader.old) (λ bytes. IsRunBy (words_refusal (map string_bytes (into_iter_items given))) (map string_bytes (into_iter_items given)) (suite_read (take 1048577 bytes)) (W.contents writer.old) (W.contents writer.new) answer))) }
+    ensures refused { Closes result (λ answer. IfErr words (λ error. IsErrAnd answer (IsGivenFault (error_kind error)))) }
+{
+    Closing::after(answer_to(alloc, words, reader, writer))
 }

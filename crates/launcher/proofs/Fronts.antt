@@ -6,7 +6,7 @@ use Rattle.std.specs.Io.KnownBytes.{Consumes}
 use Rattle.std.specs.Result.{IsErrAnd}
 use Rattle.launcher.specs.Bytes.{BreaksOff}
 use Rattle.launcher.specs.declared.bytes.ReadFault.{ReadFault}
-use Rattle.launcher.specs.declared.bytes.ReadFault.TheVariants.{NoMemory, Failed}
+use Rattle.launcher.specs.declared.bytes.ReadFault.TheVariants.{NoMemory}
 
 pub breaks_off : {X : Type 0} (a b c : Option (List ℕ)) (most : ℕ) (xs buf : List ℕ) (n : ℕ) (result : Result X ReadFault) → IsErrAnd result (λ e. e ≡ NoMemory) → Consumes a b xs → Consumes b c (take n buf) → n ≤ length buf → length xs + n ≤ most
     → IfErr result (λ fault. BreaksOff a c most fault)

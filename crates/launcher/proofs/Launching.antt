@@ -1,9 +1,8 @@
 -- From what was read to the answer of a run, whatever the reader tells of its bytes.
-use Rattle.std.proofs.Common.{◌≡◌, ◌≢◌, ℕ, ◌<◌, List, length, Option, Some, None, Result, Ok, Err, IfSome, refl, sym, ap, subst, ◌∙◌}
+use Rattle.std.proofs.Common.{◌≡◌, ◌≢◌, ℕ, ◌<◌, List, length, Option, Some, None, Result, Ok, Err, refl}
 use Rattle.std.specs.Result.{IsErrAnd}
-use Rattle.std.specs.Io.KnownBytes.{Consumes, IsAtEnd}
+use Rattle.std.specs.Io.KnownBytes.{IsAtEnd}
 use Rattle.suite_text.specs.SuiteBytes.{suite_read}
-use Rattle.suite_text.specs.SuiteFaults.{Fails}
 use Rattle.suite_text.specs.SuiteParts.{SuiteParts}
 use Rattle.suite_text.specs.Suites.{suite_parts}
 use Rattle.suite_text.specs.declared.suite.Suite.{Suite}
@@ -18,7 +17,6 @@ use Rattle.launcher.specs.declared.bytes.ReadFault.TheVariants as reads
 use Rattle.launcher.specs.declared.exit_status.ExitStatus.{ExitStatus}
 use Rattle.launcher.specs.declared.fault.LaunchFault.{LaunchFault}
 use Rattle.launcher.specs.declared.fault.LaunchFault.TheVariants.{NoMemory, Suite as OfSuite, BadWords, BadStep, BadSelector, BadTags, NothingMatches, Reading, Writing}
-use Rattle.launcher.proofs.Reading.{suite_fails}
 
 module _ (asked : Asked) (old new : Option (List ℕ)) where
   -- a suite was read, and this is the answer of its run

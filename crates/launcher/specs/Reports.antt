@@ -1,5 +1,5 @@
 -- What is printed of a run or of a replay, and its status.
-use Rattle.std.specs.Prelude.{◌≡◌, ℕ, ◌==◌, ◌&&◌, not, List, [], ◌++◌, length, Bool, true, false, if◌then◌else◌, Option, Some, None}
+use Rattle.std.specs.Prelude.{◌≡◌, ℕ, ◌==◌, ◌&&◌, not, List, [], ◌++◌, length, Bool, true, false, Option, Some, None}
 use Rattle.descriptor.specs.Nodes.{size, kind_of, count_below}
 use Rattle.std.specs.List.{list_any}
 use Rattle.plan_events.specs.declared.event.Event.{Event}

@@ -92,7 +92,11 @@ fn selector_texts<'a>(
     ensures { IfOk result (λ texts. texts_of texts.items ≡ texts_given (values_of given.now)) }
 {
     let mut texts = Vec::new(alloc);
-    push_texts(&mut texts, SelectorKind::UniqueId, given.unique_ids.as_slice())?;
+    push_texts(
+        &mut texts,
+        SelectorKind::UniqueId,
+        given.unique_ids.as_slice(),
+    )?;
     push_texts(&mut texts, SelectorKind::Class, given.classes.as_slice())?;
     push_texts(&mut texts, SelectorKind::Method, given.methods.as_slice())?;
     push_texts(&mut texts, SelectorKind::Package, given.packages.as_slice())?;
@@ -119,10 +123,7 @@ fn selector(
 }
 
 /// The selectors of these texts, the first of which has number 1.
-fn selectors_of(
-    alloc: Global,
-    texts: &[(SelectorKind, &str)],
-) -> Result<Vec<Selector>, LaunchFault>
+fn selectors_of(alloc: Global, texts: &[(SelectorKind, &str)]) -> Result<Vec<Selector>, LaunchFault>
     ensures spelled { IfOk result (λ selectors. selectors.items ≡ filter_map spelled (texts_of texts.now)) }
     ensures accepted { IfOk result (λ _. selectors_refusal 1 (texts_of texts.now) ≡ None) }
     ensures refused { IfErr result (λ fault. fault ≢ NoMemory → selectors_refusal 1 (texts_of texts.now) ≡ Some fault) }

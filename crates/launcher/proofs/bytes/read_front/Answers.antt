@@ -1,5 +1,5 @@
 -- Where there is no room for what was read, it was taken all the same.
-use Rattle.std.proofs.Common.{◌+◌, ◌≤◌, length, rules}
+use Rattle.std.proofs.Common.{rules}
 use Rattle.launcher.proofs.Fronts.{breaks_off}
 use Rattle.launcher.proofs.bytes.read_front.Goals as goal
 

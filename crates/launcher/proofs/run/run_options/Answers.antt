@@ -1,6 +1,5 @@
 -- What was read is run, or refused.
 use Rattle.launcher.specs.Asked.{asked_by}
-use Rattle.suite_text.specs.SuiteBytes.{suite_read}
 use Rattle.suite_text.specs.Suites.{suite_parts}
 use Rattle.launcher.proofs.Launching.{run_read, run_unread, takes_run, takes_unread}
 use Rattle.launcher.proofs.Reading.{if_known}
