@@ -53,10 +53,7 @@ fn is_found(matches: &ArgMatches<'_>, name: &str) -> bool
 }
 
 /// What clap finds for the options: here each of them is read.
-pub(crate) fn given_in<'a>(
-    alloc: Global,
-    matches: &ArgMatches<'a>,
-) -> Result<Given<'a>, AllocError>
+pub(crate) fn given_in<'a>(alloc: Global, matches: &ArgMatches<'a>) -> Result<Given<'a>, AllocError>
     ensures { IfOk result (λ given. values_of given ≡ values_in (rows_of (found_of matches.now))) }
 {
     Ok(Given {
