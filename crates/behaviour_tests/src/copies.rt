@@ -11,10 +11,9 @@ use unique_id::{Segment, Text, UniqueId};
 /// Whether the copy of an id, of its last segment and of that one's value are the same.
 fn copies_ids(alloc: Global, id: &UniqueId) -> Result<bool, Fail> {
     let copy = id.copy(alloc)?;
-    let last = copy.segments().last().ok_or("no segment")?.copy(alloc)?;
-    let value = last.value.copy(alloc)?;
-    let made = Segment::new(alloc, last.kind.as_str(), value.as_str())?;
-    Ok(copy.same(id) && made.kind.as_str() == "class" && made.value.as_str() == "a/b")
+    let last = copy.segments().last().ok_or("no segment")?.copy()?;
+    let made = Segment::new(alloc, last.kind(), last.value())?;
+    Ok(copy.same(id) && made.kind() == "class" && made.value() == "a/b")
 }
 
 #[test]

@@ -6,7 +6,6 @@ use resource_locks::Plan;
 use std::alloc::Global;
 use std::test::Fail;
 use suite_text::Suite;
-use tag_expr::TagSet;
 use unique_id::{Text, UniqueId};
 
 /// The plan of the suite of a text.
@@ -16,14 +15,7 @@ pub(crate) fn plan_of(alloc: Global, text: &str) -> Result<Plan, Fail> {
 
 /// A node of this id, which has no body.
 pub(crate) fn node_of(alloc: Global, id: UniqueId, name: &str, kind: Kind) -> Result<Node, Fail> {
-    Ok(Node {
-        id,
-        name: Text::new(alloc, name)?,
-        kind,
-        body: None,
-        disabled: None,
-        tags: TagSet::new(alloc),
-    })
+    Ok(Node::plain(alloc, id, Text::new(alloc, name)?, kind))
 }
 
 /// The plan of one node with this name, which a suite's text may be unable to give.
