@@ -1,7 +1,6 @@
 //! The lines of a summary.
 
-ghost use Rattle.std.specs.Prelude.{◌≡◌, ◌++◌, ◌<◌, OnOk, string_bytes};
-ghost use Rattle.std.specs.Prelude.{slice_index_or, []};
+ghost use Rattle.std.specs.Prelude.{◌≡◌, ◌++◌, ◌<◌, [], OnOk, string_bytes, slice_index_or};
 ghost use Rattle.listeners.specs.SummaryTexts.{bracketed, count_lines, phrases, left_in};
 
 use std::alloc::AllocError;
