@@ -32,8 +32,7 @@ pub record Line : Type 0 where
 abbrev pub text_of_lines : List Line → List ℕ
 text_of_lines lines = flat_map (λ line. line.text ++ end_text line.end) lines
 
--- a line with this end may stand before these: a carriage return at its end would be read as a part of its line feed, and only
--- the last line, which is not empty, may do without an end
+-- a line with this end may stand before these: a return before a line feed belongs to the end, and only a last line that is not empty may do without one
 abbrev pub MayEndWith : LineEnd → List ℕ → List Line → Type 0
 MayEndWith Feed text more = slice_index text (length text - 1) ≢ 13
 MayEndWith ReturnFeed text more = Unit {0}
@@ -107,8 +106,7 @@ AreItems above (Item before line end inside after) = AllByRecursion SaysNothing 
 abbrev pub IsShortId : List Segment → Type 0
 IsShortId id = (length id ≤ 64) × (length (spelling id) ≤ 1024)
 
--- a suite may be written so: each line may stand where it stands, the nodes are a tree within its limits, of which no two have one unique id,
--- and no unique id and no text is too long
+-- a suite may be written so: each line may stand where it stands, and what they mean is a tree, with no id twice and nothing too long
 pub record IsWritten (written : Written) : Type 0 where
   pub items : AreItems None written.engines
   pub after : AllByRecursion SaysNothing written.after
