@@ -2,4 +2,3 @@ pub mod Fronts
 pub mod Launching
 pub mod Reading
 pub mod Requesting
-pub mod Tests

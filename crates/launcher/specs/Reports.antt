@@ -1,12 +1,6 @@
 -- What is printed of a run or of a replay, and its status.
-use Rattle.std.specs.Prelude.{◌≡◌, ℕ, ◌==◌, ◌&&◌, not, List, [], ◌++◌, length, Bool, true, false, Option, Some, None}
-use Rattle.descriptor.specs.Nodes.{size, kind_of, count_below}
-use Rattle.std.specs.List.{list_any}
+use Rattle.std.specs.Prelude.{◌≡◌, ℕ, List, [], ◌++◌, length, Option, Some, None}
 use Rattle.plan_events.specs.declared.event.Event.{Event}
-use Rattle.plan_events.specs.declared.event.EventKind.{EventKind}
-use Rattle.plan_events.specs.declared.event.EventKind.TheVariants.{Finished}
-use Rattle.plan_events.specs.declared.status.Status.{Status}
-use Rattle.plan_events.specs.declared.status.Status.TheVariants.{Failed}
 use Rattle.plan_events.specs.declared.outcome.Reply.{Reply}
 use Rattle.plan_events.specs.Texts.{TextParts}
 use Rattle.resource_locks.specs.Plans.{PlanParts}
@@ -16,8 +10,9 @@ use Rattle.sched_core.specs.Runs.{run, passed_over}
 use Rattle.sched_core.specs.Drives.{Drives}
 use Rattle.sched_core.specs.Texts.{AreTexts}
 use Rattle.listeners.specs.declared.theme.Theme.{Theme}
-use Rattle.listeners.specs.Counts.{counts_of as node_counts, is_test}
+use Rattle.listeners.specs.Counts.{counts_of as node_counts}
 use Rattle.listeners.specs.Feed.{feed_of}
+use Rattle.listeners.specs.Results.{tests_found, has_failed}
 use Rattle.listeners.specs.SummaryTexts.{summary_of}
 use Rattle.listeners.specs.TreeTexts.{tree_of}
 use Rattle.launcher.specs.declared.details.Details.{Details}
@@ -48,29 +43,12 @@ pub record ArePrinted (details : Details) (theme : Theme) (p : PlanParts) (answe
   pub are : AreTexts p answers history texts
   pub printed : text ≡ details_of details theme p texts history
 
--- whether what happened is a finish that failed
-abbrev pub is_failed : EventKind → Option Status → Bool
-is_failed Finished (Some Failed) = true
-is_failed _ _ = false
-
--- whether the event says that a node other than the plan failed
-abbrev pub is_failure : Event → Bool
-is_failure e = not (e.node == 0) && is_failed e.kind e.status
-
--- how many tests a plan has, one that may hold other nodes counted
-abbrev pub tests_found : PlanParts → ℕ
-tests_found p = count_below (λ n. is_test (kind_of p.tree n)) (size p.tree)
-
--- whether a node other than the plan failed
-abbrev pub has_failure : List Event → Bool
-has_failure history = list_any is_failure history
-
 -- the fixed schedule runs the plan: its history is printed as the options say, and its failures make the status
 pub record IsRunOutput (asked : Asked) (p : PlanParts) (answers : List (ℕ × Reply)) (text : List ℕ) (status : ExitStatus) : Type 0 where
   pub history : List Event
   pub published : IsHistory p answers history
   pub printed : ArePrinted asked.details asked.theme p answers history text
-  pub exits : status ≡ status_of_run asked.fail_if_no_tests (tests_found p) (has_failure history)
+  pub exits : status ≡ status_of_run asked.fail_if_no_tests (tests_found p) (has_failed p history)
 
 -- the state in which a replay of these steps ends: there are 64 workers
 abbrev pub replayed : PlanParts → List (ℕ × Reply) → List Step → State

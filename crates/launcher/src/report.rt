@@ -1,20 +1,18 @@
 //! What is printed of a run or of a replay, and its status.
 
 ghost use Rattle.std.specs.Prelude.{◌≡◌, ◌≤◌, IfOk, length, string_bytes};
-ghost use Rattle.std.specs.List.{list_any};
-ghost use Rattle.descriptor.specs.Nodes.{size, count_below, kind_of};
-ghost use Rattle.listeners.specs.Counts.{is_test as is_test_kind};
+ghost use Rattle.listeners.specs.Results.{tests_found, has_failed};
 ghost use Rattle.resource_locks.specs.Plans.{most_events};
 ghost use Rattle.launcher.specs.Asked.{asked_by};
-ghost use Rattle.launcher.specs.Reports.{is_failure, has_failure as has_failure_in, tests_found as tests_in, details_of, ArePrinted, IsRunOutput, IsReplayOutput, IsOutput};
+ghost use Rattle.launcher.specs.ExitStatuses.{status_of_run};
+ghost use Rattle.launcher.specs.Reports.{details_of, ArePrinted, IsRunOutput, IsReplayOutput, IsOutput};
 
 use crate::details::Details;
 use crate::exit_status::ExitStatus;
 use crate::options::Options;
 use crate::replay::{ReplayCounts, push_replay_line};
-use descriptor::{Kind, NodeId, Tree};
-use listeners::{Audience, Listener, Recorder, Theme, feed_text, summary_text, tree_text};
-use plan_events::{Event, EventKind, Status, Texts};
+use listeners::{Audience, Listener, Recorder, Results, Theme, feed_text};
+use plan_events::{Event, Texts};
 use resource_locks::Plan;
 use sched_core::{Answers, Step, drive, run_steps, texts_of};
 use std::alloc::{AllocError, Global};
@@ -29,81 +27,40 @@ pub(crate) struct Report {
     pub(crate) status: ExitStatus,
 }
 
-/// Whether the event says that a node other than the plan failed.
-fn is_failure(event: Event) -> bool
-    ensures { result ≡ is_failure event }
-{
-    event.node != NodeId::ROOT
-        && event.kind == EventKind::Finished
-        && event.status == Some(Status::Failed)
-}
-
-/// Whether an event says so.
-fn has_failure(history: &[Event]) -> bool
-    ensures { result ≡ has_failure_in history.now }
-{
-    history.iter().any(|event| is_failure(*event))
-}
-
-/// Whether a node of this kind counts as a test.
-fn is_test(kind: Kind) -> bool
-    ensures { result ≡ is_test_kind kind }
-{
-    match kind {
-        Kind::Test | Kind::ContainerAndTest => true,
-        Kind::Container => false,
-    }
-}
-
-/// How many tests the plan has.
-fn tests_found(plan: &Plan) -> usize
-    ensures { result ≡ tests_in plan.now }
-{
-    let tree = plan.tree();
-    let mut found = 0;
-    for number in 0..tree.len() {
-        if is_test(tree.kind(NodeId::new(number as u16))) {
-            found += 1;
-        }
-    }
-    found
-}
-
-/// What is printed of these events.
+/// What is printed of these results.
 fn details_text(
     alloc: Global,
     details: Details,
     theme: Theme,
-    plan: &Plan,
+    results: &Results<'_>,
     texts: &Texts,
-    events: &[Event],
 ) -> Result<String, AllocError>
-    ensures { IfOk result (λ text. string_bytes text ≡ details_of details theme plan.now texts.now events.now) }
+    ensures { IfOk result (λ text. string_bytes text ≡ details_of details theme results.now.plan texts.now results.now.events) }
 {
     match details {
         Details::None => Ok(String::new(alloc)),
-        Details::Summary => summary_text(alloc, plan, events),
+        Details::Summary => results.summary_text(alloc),
         Details::Tree => {
-            let mut text = tree_text(alloc, plan, events, texts, theme)?;
-            let summary = summary_text(alloc, plan, events)?;
+            let mut text = results.tree_text(alloc, texts, theme)?;
+            let summary = results.summary_text(alloc)?;
             text.push_str(summary.as_str())?;
             Ok(text)
         }
-        Details::Testfeed => feed_text(alloc, plan, events, texts),
+        Details::Testfeed => results.feed_text(alloc, texts),
     }
 }
 
-/// What is printed of what a recorder was told of this history.
-fn told_text(
+/// The report of what a recorder was told of this history.
+fn told_report(
     alloc: Global,
-    details: Details,
-    theme: Theme,
+    options: &Options,
     plan: &Plan,
     texts: &Texts,
     history: &[Event],
-) -> Result<String, AllocError>
+) -> Result<Report, AllocError>
     requires { length history.now ≤ most_events plan.now }
-    ensures { IfOk result (λ text. string_bytes text ≡ details_of details theme plan.now texts.now history.now) }
+    ensures text { IfOk result (λ report. string_bytes report.text ≡ details_of options.now.details options.now.theme plan.now texts.now history.now) }
+    ensures status { IfOk result (λ report. report.status ≡ status_of_run options.now.fail_if_no_tests (tests_found plan.now) (has_failed plan.now history.now)) }
 {
     let recorder: Box<dyn Listener> = Box::new(alloc, Recorder::new(alloc))?;
     let mut listeners = Vec::new(alloc);
@@ -116,7 +73,11 @@ fn told_text(
     let Some(events) = audience.got(0) else {
         unreachable!()
     };
-    details_text(alloc, details, theme, plan, texts, events)
+    let results = Results::of(alloc, plan, events)?;
+    let text = details_text(alloc, options.details, options.theme, &results, texts)?;
+    let needs_tests = options.fail_if_no_tests;
+    let status = ExitStatus::of_run(needs_tests, results.tests_found(), results.failed());
+    Ok(Report { text, status })
 }
 
 /// The report of the fixed schedule.
@@ -131,13 +92,7 @@ fn run_report(
     let trace = drive(alloc, plan, answers)?;
     let history = trace.published.as_slice();
     let texts = texts_of(alloc, plan, answers, history)?;
-    let text = told_text(alloc, options.details, options.theme, plan, &texts, history)?;
-    let status = ExitStatus::of_run(
-        options.fail_if_no_tests,
-        tests_found(plan),
-        has_failure(history),
-    );
-    Ok(Report { text, status })
+    told_report(alloc, options, plan, &texts, history)
 }
 
 /// The report of these steps.
