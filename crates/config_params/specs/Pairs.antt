@@ -46,5 +46,6 @@ abbrev pub said : Result Pair ParamsFault → Result (Option Pair) ParamsFault
 said (Ok pair) = Ok (Some pair)
 said (Err fault) = Err fault
 
+-- what the line of this number says: nothing where it is passed over, else its pair
 abbrev pub property_of : ℕ → List ℕ → Result (Option Pair) ParamsFault
 property_of number line = if says_nothing line then Ok None else said (pair_of number line)
