@@ -3,8 +3,8 @@ use Rattle.std.specs.Prelude.{ℕ, ◌*◌, ◌/◌, min, max, not, Bool, true, 
 use Rattle.std.specs.Char.{to_ascii_lowercase}
 use Rattle.std.specs.Str.{bytes_eq}
 use Rattle.config_params.specs.declared.blanks.Blanks.TheVariants.{Spaces}
-use Rattle.config_params.specs.declared.mode.Mode.{Mode}
-use Rattle.config_params.specs.declared.mode.Mode.TheVariants.{SameThread, Concurrent}
+use Rattle.descriptor.specs.declared.mode.Mode.{Mode}
+use Rattle.descriptor.specs.declared.mode.Mode.TheVariants.{SameThread, Concurrent}
 use Rattle.config_params.specs.declared.settings.Settings.{Settings}
 use Rattle.config_params.specs.declared.settings_fault.SettingsFault.{SettingsFault}
 use Rattle.config_params.specs.declared.settings_fault.SettingsFault.TheVariants.{BadStrategy, BadParallelism, BadFactor}

@@ -3,7 +3,6 @@
 
 mod blanks;
 mod fault;
-mod mode;
 mod numbers;
 mod pair;
 mod params;
@@ -15,8 +14,8 @@ mod strategy;
 mod table;
 mod warnings;
 
+pub use descriptor::Mode;
 pub use fault::ParamsFault;
-pub use mode::Mode;
 pub use pair::{Pair, pair_of, property_of};
 pub use params::Params;
 pub use settings::Settings;

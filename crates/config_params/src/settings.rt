@@ -5,11 +5,11 @@ ghost use Rattle.config_params.specs.Parameters.{answer};
 ghost use Rattle.config_params.specs.Settings.{settings_of, is_enabled, mode_spelled, mode_named, mode_or, is_no_mode, enabled_key};
 
 use crate::blanks::{Blanks, without_ends};
-use crate::mode::Mode;
 use crate::params::Params;
 use crate::settings_fault::SettingsFault;
 use crate::strategy::workers_of;
 use crate::warnings::Warnings;
+use descriptor::Mode;
 
 const ENABLED: &str = "junit.jupiter.execution.parallel.enabled";
 
