@@ -67,5 +67,6 @@ pub(crate) fn push_suite_line(
         return push_tests(alloc, suite, count.parse().unwrap_or(0));
     }
     suite.extend_from_slice(line.as_bytes())?;
-    suite.push(b'\n')
+    suite.push(b'\n')?;
+    Ok(())
 }
