@@ -14,7 +14,8 @@ use Rattle.plan_events.specs.declared.event.Event.{Event}
 use Rattle.plan_events.specs.declared.outcome.Reply.{Reply}
 use Rattle.resource_locks.specs.Plans.{PlanParts, most_events}
 use Rattle.sched_core.specs.Replies.{replies_of}
-use Rattle.sched_core.specs.History.{StandsAt, StandsBefore, IsSettledAt, FinishesAt, stops_by, IsLegal, IsComplete, EndsInPlan, part_of, IsPrefix}
+use Rattle.sched_core.specs.History.{StandsAt, StandsBefore, IsSettledAt, FinishesAt, stops_by, IsLegal, IsComplete, EndsInPlan, part_of}
+use Rattle.unique_id.specs.Prefixes.{IsPrefix}
 use Rattle.sched_core.specs.Following.{same_kind}
 use Rattle.sched_core.specs.Runs.{IsRight}
 use Rattle.sched_core.proofs.Histories.{get_front, stands_later, finishes_later, before_later, before_front, before_more, stands_within, finished_below}

@@ -98,7 +98,3 @@ pub record EndsInPlan (h : List Event) : Type 0 where
 -- the part of a worker: its events, in their order
 abbrev pub part_of : ℕ → List Event → List Event
 part_of worker h = filter (λ e. e.worker == worker) h
-
--- a list is a beginning of another
-abbrev pub IsPrefix : List Event → List Event → Type 0
-IsPrefix given h = (rest : List Event) × (given ++ rest ≡ h)

@@ -6,7 +6,8 @@ use Rattle.plan_events.specs.declared.outcome.Reply.{Reply}
 use Rattle.resource_locks.specs.Plans.{PlanParts, most_events}
 use Rattle.sched_core.specs.declared.step.Step.{Step}
 use Rattle.sched_core.specs.Replies.{replies_of}
-use Rattle.sched_core.specs.History.{IsLegal, IsComplete, IsPrefix, StandsAt, part_of}
+use Rattle.unique_id.specs.Prefixes.{IsPrefix}
+use Rattle.sched_core.specs.History.{IsLegal, IsComplete, StandsAt, part_of}
 use Rattle.sched_core.specs.Machine.{State, after}
 
 -- the state after a step; the same where the step is not enabled

@@ -7,7 +7,8 @@ use Rattle.suite_text.specs.declared.suite_attributes.Attribute.{Attribute}
 use Rattle.suite_text.specs.declared.suite_attributes.Attributes.{Attributes}
 use Rattle.suite_text.specs.declared.suite_fault.SuiteFault.{SuiteFault}
 use Rattle.suite_text.specs.SuiteAttributes.{attribute_of, with_attribute, attributes_from}
-use Rattle.suite_text.specs.SuiteFaults.{Fails, ◌>>=◌}
+use Rattle.suite_text.specs.SuiteFaults.{Fails}
+use Rattle.unique_id.specs.Answers.{◌>>=◌}
 use Rattle.suite_text.specs.SuiteLines.{first_word, after_word}
 use Rattle.suite_text.specs.Words.{words_in}
 use Rattle.suite_text.proofs.FirstWords.{Front, blank, begins, front}

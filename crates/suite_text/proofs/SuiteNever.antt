@@ -16,7 +16,7 @@ use Rattle.suite_text.specs.declared.suite_verdicts.Verdict.TheVariants.{Pass, F
 use Rattle.suite_text.specs.declared.suite_fault.SuiteFault.{SuiteFault}
 use Rattle.suite_text.specs.declared.suite_fault.SuiteFault.TheVariants.{NoMemory}
 use Rattle.suite_text.specs.SuiteAttributes.{after_sign, attribute_of, no_attributes, with_tag_of, with_spin_of, with_attribute, attributes_from, attributes_of}
-use Rattle.suite_text.specs.SuiteFaults.{◌>>=◌}
+use Rattle.unique_id.specs.Answers.{◌>>=◌}
 use Rattle.suite_text.specs.SuiteLines.{says_nothing, first_word, after_word, text_after_word, level_of, indentation_of}
 use Rattle.suite_text.specs.SuiteNodes.{word_on, refusal_on, grown, unless_refused}
 use Rattle.suite_text.specs.SuiteParts.{LinesRead, no_lines}

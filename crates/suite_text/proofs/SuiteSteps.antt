@@ -6,29 +6,19 @@ use borrow.Author.Tests.{tests}
 use Rattle.std.specs.Str.Lines.{lines}
 use denote.Ref.{Bor}
 use Rattle.suite_text.specs.declared.suite_fault.SuiteFault.{SuiteFault}
-use Rattle.suite_text.specs.declared.suite_fault.SuiteFault.TheVariants.{NoMemory, BadLine, BadIndent, MissingVerdict, TooLarge, Refused}
-use Rattle.suite_text.specs.SuiteFaults.{Fails, ◌>>=◌}
-use Rattle.suite_text.specs.SuiteLines.{texts}
+use Rattle.suite_text.specs.SuiteFaults.{Fails}
+use Rattle.unique_id.specs.Answers.{◌>>=◌}
+use Rattle.unique_id.specs.Answers.{texts}
 use Rattle.suite_text.specs.SuiteParts.{LinesRead, no_lines, parts_of}
 use Rattle.suite_text.specs.Suites.{with_line, suite_from, suite_of}
 
 -- a fault of the first step is one of both
 pub fails_then : {A B : Type 0} (fault : SuiteFault) (r : Result A SuiteFault) (f : A → Result B SuiteFault) → Fails fault r → Fails fault (r >>= f)
-fails_then NoMemory r f h = tt
-fails_then (BadLine line) r f h = ap (λ x. x >>= f) h
-fails_then (BadIndent line) r f h = ap (λ x. x >>= f) h
-fails_then (MissingVerdict line) r f h = ap (λ x. x >>= f) h
-fails_then TooLarge r f h = ap (λ x. x >>= f) h
-fails_then (Refused why line) r f h = ap (λ x. x >>= f) h
+fails_then fault r f h = λ other. ap (λ x. x >>= f) (h other)
 
 -- and of what equals them
 pub fails_as : {A : Type 0} (fault : SuiteFault) (r s : Result A SuiteFault) → r ≡ s → Fails fault r → Fails fault s
-fails_as NoMemory r s e h = tt
-fails_as (BadLine line) r s e h = sym e ∙ h
-fails_as (BadIndent line) r s e h = sym e ∙ h
-fails_as (MissingVerdict line) r s e h = sym e ∙ h
-fails_as TooLarge r s e h = sym e ∙ h
-fails_as (Refused why line) r s e h = sym e ∙ h
+fails_as fault r s e h = λ other. sym e ∙ h other
 
 texts_drop : (xs : List (Bor (List ℕ))) (i : ℕ) (d : Bor (List ℕ)) → i < length xs → drop i (texts xs) ≡ (get_or xs i d).now ∷ drop (i + 1) (texts xs)
 texts_drop xs i d h =

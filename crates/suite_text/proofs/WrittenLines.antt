@@ -17,7 +17,7 @@ use Rattle.suite_text.specs.declared.suite_attributes.Attributes.{Attributes}
 use Rattle.suite_text.specs.declared.suite_fault.SuiteFault.{SuiteFault}
 use Rattle.suite_text.specs.declared.suite_fault.SuiteFault.TheVariants.{BadLine, BadIndent}
 use Rattle.suite_text.specs.SuiteAttributes.{attribute_of, no_attributes, with_attribute, attributes_from}
-use Rattle.suite_text.specs.SuiteFaults.{◌>>=◌}
+use Rattle.unique_id.specs.Answers.{◌>>=◌}
 use Rattle.suite_text.specs.SuiteLines.{without_front, without_end, first_word, after_word, text_after_word, indentation_of, level_of, says_nothing, begins_with_sign}
 use Rattle.suite_text.specs.SuiteSpins.{is_number, or_bad_line, spin_of}
 use Rattle.suite_text.specs.SuiteVerdicts.{verdict_spelled, no_verdict, verdict_with, verdict_of}

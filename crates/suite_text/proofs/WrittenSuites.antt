@@ -18,7 +18,8 @@ use Rattle.suite_text.specs.declared.suite_fault.SuiteFault.{SuiteFault}
 use Rattle.suite_text.specs.declared.suite_words.Word.{Word}
 use Rattle.suite_text.specs.declared.suite_words.Word.TheVariants.{Engine, Class, Test}
 use Rattle.suite_text.specs.SuiteBytes.{suite_read}
-use Rattle.suite_text.specs.SuiteFaults.{Gives, ◌>>=◌}
+use Rattle.suite_text.specs.SuiteFaults.{Gives}
+use Rattle.unique_id.specs.Answers.{◌>>=◌}
 use Rattle.suite_text.specs.SuiteLines.{says_nothing, begins_with_sign}
 use Rattle.suite_text.specs.SuiteNodes.{id_at, segment_kind, parent_on, word_on, node_on, refusal_on, grown, unless_refused}
 use Rattle.suite_text.specs.SuiteParts.{SuiteParts, LinesRead, no_lines, parts_of, above, word_of_opened, node_of_opened}

@@ -12,7 +12,7 @@ use Rattle.suite_text.specs.declared.suite_attributes.Attributes.{Attributes}
 use Rattle.suite_text.specs.declared.suite_fault.SuiteFault.{SuiteFault}
 use Rattle.suite_text.specs.declared.suite_fault.SuiteFault.TheVariants.{BadLine}
 use Rattle.suite_text.specs.Words.{words_in}
-use Rattle.suite_text.specs.SuiteFaults.{◌>>=◌}
+use Rattle.unique_id.specs.Answers.{◌>>=◌}
 use Rattle.suite_text.specs.SuiteLines.{is_number_sign, begins_with_sign, after_word}
 use Rattle.suite_text.specs.SuiteSpins.{key_of, value_of, is_spin, spin_of}
 

@@ -1,5 +1,6 @@
 -- The refusals of a suite text: their numbers and lines, and what it says of a call that it refused.
-use Rattle.std.specs.Prelude.{◌≡◌, ℕ, Option, Some, None, Result, Ok, Err}
+use Rattle.std.specs.Prelude.{◌≡◌, ◌≢◌, ℕ, Option, Some, None, Result, Ok, Err}
+use Rattle.unique_id.specs.Answers as answers
 use Rattle.suite_text.specs.declared.suite_fault.SuiteFault.{SuiteFault}
 use Rattle.suite_text.specs.declared.suite_fault.SuiteFault.TheVariants.{NoMemory, BadLine, BadIndent, MissingVerdict, TooLarge, Refused}
 use Rattle.descriptor.specs.declared.fault.TreeFault.{TreeFault}
@@ -31,20 +32,8 @@ at_line line fault = Refused fault line
 
 -- the refusal is the one that the definition gives, unless memory ran out
 abbrev pub Fails : {Y : Type 0} → SuiteFault → Result Y SuiteFault → Type 0
-Fails NoMemory read = Unit {0}
-Fails (BadLine line) read = read ≡ Err (BadLine line)
-Fails (BadIndent line) read = read ≡ Err (BadIndent line)
-Fails (MissingVerdict line) read = read ≡ Err (MissingVerdict line)
-Fails TooLarge read = read ≡ Err TooLarge
-Fails (Refused fault line) read = read ≡ Err (Refused fault line)
+Fails fault read = fault ≢ NoMemory → read ≡ Err fault
 
 -- the answer, as `view` sees it, is the one that the definition gives, unless memory ran out
 abbrev pub Gives : {X Y : Type 0} → (X → Y) → Result X SuiteFault → Result Y SuiteFault → Type 0
-Gives view (Ok x) read = read ≡ Ok (view x)
-Gives view (Err fault) read = Fails fault read
-
--- a second step after a first that succeeded
-infixl 10 ◌>>=◌
-abbrev pub ◌>>=◌ : {A B : Type 0} → Result A SuiteFault → (A → Result B SuiteFault) → Result B SuiteFault
-(Ok x) >>= f = f x
-(Err fault) >>= f = Err fault
+Gives view result read = answers.Gives NoMemory view result read

@@ -1,14 +1,9 @@
 -- The lines of a suite text, and the indentation, the words and the end of one.
-use Rattle.std.specs.Prelude.{ℕ, ◌-◌, ◌/◌, ◌%◌, ◌==◌, ◌||◌, nat_lt, List, [], ◌∷◌, map, length, take, drop, not, Bool, false, if◌then◌else◌, Result, Ok, Err}
+use Rattle.std.specs.Prelude.{ℕ, ◌-◌, ◌/◌, ◌%◌, ◌==◌, ◌||◌, nat_lt, List, [], ◌∷◌, length, take, drop, not, Bool, false, if◌then◌else◌, Result, Ok, Err}
 use Rattle.std.specs.List.{prefix_len, suffix_len, before_first, after_first}
-use denote.Ref.{Bor}
 use Rattle.suite_text.specs.Words.{is_space}
 use Rattle.suite_text.specs.declared.suite_fault.SuiteFault.{SuiteFault}
 use Rattle.suite_text.specs.declared.suite_fault.SuiteFault.TheVariants.{BadIndent}
-
--- the texts that references lead to
-abbrev pub texts : List (Bor (List ℕ)) → List (List ℕ)
-texts xs = map (λ x. x.now) xs
 
 -- a text without the spaces in front
 abbrev pub without_front : List ℕ → List ℕ

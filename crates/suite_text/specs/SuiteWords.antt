@@ -8,7 +8,7 @@ use Rattle.suite_text.specs.declared.suite_attributes.Attributes.{Attributes}
 use Rattle.suite_text.specs.declared.suite_verdicts.Verdict.{Verdict}
 use Rattle.suite_text.specs.declared.suite_fault.SuiteFault.{SuiteFault}
 use Rattle.suite_text.specs.declared.suite_fault.SuiteFault.TheVariants.{BadLine}
-use Rattle.suite_text.specs.SuiteFaults.{◌>>=◌}
+use Rattle.unique_id.specs.Answers.{◌>>=◌}
 use Rattle.suite_text.specs.SuiteAttributes.{attributes_of}
 use Rattle.suite_text.specs.SuiteLines.{first_word, after_word, text_after_word}
 use Rattle.suite_text.specs.SuiteVerdicts.{verdict_of}

@@ -4,7 +4,7 @@ use Rattle.std.specs.Str.Lines.{lines}
 use Rattle.suite_text.specs.declared.suite_fault.SuiteFault.{SuiteFault}
 use Rattle.suite_text.specs.declared.suite_fault.SuiteFault.TheVariants.{TooLarge}
 use Rattle.suite_text.specs.declared.suite.Suite.{Suite}
-use Rattle.suite_text.specs.SuiteFaults.{◌>>=◌}
+use Rattle.unique_id.specs.Answers.{◌>>=◌}
 use Rattle.suite_text.specs.SuiteLines.{says_nothing, level_of}
 use Rattle.suite_text.specs.SuiteWords.{Declaration, declared_by}
 use Rattle.suite_text.specs.SuiteParts.{SuiteParts, LinesRead, no_lines, parts_of}

@@ -4,7 +4,8 @@ ghost use Rattle.std.specs.Prelude.{◌≡◌, ◌≤◌, IfOk};
 ghost use Rattle.std.specs.List.{before_first, after_first};
 ghost use Rattle.std.specs.Str.Lines.{lines};
 ghost use Rattle.suite_text.specs.Words.{is_space};
-ghost use Rattle.suite_text.specs.SuiteLines.{texts, without_front, without_end, first_word, after_word, text_after_word, indentation_of, level_of};
+ghost use Rattle.suite_text.specs.SuiteLines.{without_front, without_end, first_word, after_word, text_after_word, indentation_of, level_of};
+ghost use Rattle.unique_id.specs.Answers.{texts};
 ghost use Rattle.suite_text.specs.SuiteFaults.{Gives};
 
 use crate::suite_fault::SuiteFault;

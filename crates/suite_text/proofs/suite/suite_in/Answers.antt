@@ -1,7 +1,7 @@
 use Rattle.std.proofs.Common.{◌≡◌, arith, ◌<◌, length, ◌∙◌, ap}
 use Rattle.std.proofs.lemmas.Result.{err_from_is_err_and}
 use Rattle.std.specs.Str.Lines.{lines}
-use Rattle.suite_text.specs.SuiteLines.{texts}
+use Rattle.unique_id.specs.Answers.{texts}
 use Rattle.suite_text.proofs.SuiteSteps.{line_next, line_fails, suite_fails}
 use Rattle.suite_text.proofs.suite.suite_in.Goals as goal
 
