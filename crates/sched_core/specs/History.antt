@@ -1,5 +1,5 @@
 -- What a list of events must be like: every statement here is by the places of the list.
-use Rattle.std.specs.Prelude.{◌≡◌, ℕ, ◌+◌, ◌<◌, ◌≤◌, Bool, true, false, ◌&&◌, ◌==◌, not, List, ◌++◌, length, filter, Option, Some, None, is_some, slice_get, ◌⊎◌}
+use Rattle.std.specs.Prelude.{◌≡◌, ℕ, ◌+◌, ◌<◌, ◌≤◌, Bool, true, false, ◌&&◌, ◌==◌, not, List, length, filter, Option, Some, None, is_some, slice_get, ◌⊎◌}
 use Rattle.descriptor.specs.Nodes.{size, IsChild, Below, is_leaf_at, body_of, is_disabled}
 use Rattle.plan_events.specs.declared.event.EventKind.{EventKind}
 use Rattle.plan_events.specs.declared.event.EventKind.TheVariants.{Started, Finished, Skipped, Registered}
