@@ -78,7 +78,7 @@ pub takes_nothing : (words : List Text) (cause : LaunchFault) (result : Result E
     → words_refusal words ≡ None → TakesFrom known known (fault_in result) (λ bytes. RunsAsAsked words (suite_read bytes) was is result)
 takes_nothing words cause (Ok status) known was is same refused none = absurd same
 takes_nothing words cause (Err e) known was is same refused none =
-    rw (same ∙ only_memory words cause refused none) (record { bytes = []; consumed = Consumes-nil known; fits = omega arith; ends = tt; judged = tt })
+    rw (same ∙ only_memory words cause refused none) (record { bytes = []; consumed = Consumes-nil known; fits = omega arith; ends = omega arith; judged = tt })
 
 -- what was read is run as the words ask
 pub takes_asked : (words : List Text) (asked : Asked) (result : Result ExitStatus LaunchFault) (known left was is : Option (List ℕ)) → AreAsked (values_given words) asked

@@ -1,5 +1,7 @@
 -- From what was read to the answer of a run, whatever the reader tells of its bytes.
-use Rattle.std.proofs.Common.{◌≡◌, ◌≢◌, ℕ, ◌<◌, List, length, Option, Some, None, Result, Ok, Err, refl}
+use Rattle.std.proofs.Common.{◌≡◌, ◌≢◌, ℕ, ◌<◌, ◌≤◌, List, length, Option, Some, None, Result, Ok, Err, refl, rules, arith}
+use Rattle.std.specs.Prelude.{nat_lt, Bool, true, false, if◌then◌else◌}
+use borrow.Author.Tests.{tests}
 use Rattle.std.specs.Result.{IsErrAnd}
 use Rattle.std.specs.Io.KnownBytes.{IsAtEnd}
 use Rattle.suite_text.specs.SuiteBytes.{suite_read}
@@ -49,33 +51,41 @@ module _ (asked : Asked) (old new : Option (List ℕ)) where
   run_unread fault read (Err e) same fails = rw same (unread read fault fails)
 
 -- what was read to the end of what may be read, or to the reader's own, was so whatever is answered but that it failed
-ends_whole : (fault : Option LaunchFault) (count : ℕ) (new : Option (List ℕ)) → fault ≢ Some Reading → (count < 1048577 → IsAtEnd new) → EndsAs fault count new
-ends_whole None count new other end = end
-ends_whole (Some NoMemory) count new other end = tt
-ends_whole (Some (OfSuite f)) count new other end = end
-ends_whole (Some BadWords) count new other end = end
-ends_whole (Some (BadStep n)) count new other end = end
-ends_whole (Some (BadSelector n)) count new other end = end
-ends_whole (Some (BadTags f)) count new other end = end
-ends_whole (Some (NothingMatches n)) count new other end = end
-ends_whole (Some Reading) count new other end = absurd (other refl)
-ends_whole (Some (Writing f)) count new other end = end
+ends_whole : (fault : Option LaunchFault) (count : ℕ) (new : Option (List ℕ)) → fault ≢ Some Reading → (fault ≡ Some NoMemory → count < 1048577) → (count < 1048577 → IsAtEnd new) → EndsAs fault count new
+ends_whole None count new other few end = end
+ends_whole (Some NoMemory) count new other few end = few refl
+ends_whole (Some (OfSuite f)) count new other few end = end
+ends_whole (Some BadWords) count new other few end = end
+ends_whole (Some (BadStep n)) count new other few end = end
+ends_whole (Some (BadSelector n)) count new other few end = end
+ends_whole (Some (BadTags f)) count new other few end = end
+ends_whole (Some (NothingMatches n)) count new other few end = end
+ends_whole (Some Reading) count new other few end = absurd (other refl)
+ends_whole (Some (Writing f)) count new other few end = end
+
+-- what is read as a suite is not too large
+small_by : (count : ℕ) (b : Bool) (rest : Result SuiteParts SuiteFault) (suite : SuiteParts) → nat_lt 1048576 count ≡ b → (if b then Err causes.TooLarge else rest) ≡ Ok suite → count < 1048577
+small_by count true rest suite is same = cc
+small_by count false rest suite is same = search (rules, tests)
+
+read_small : (bytes : List ℕ) (suite : SuiteParts) → suite_read bytes ≡ Ok suite → length bytes < 1048577
+read_small bytes suite read = small_by (length bytes) (nat_lt 1048576 (length bytes)) _ suite refl read
 
 module _ (old new : Option (List ℕ)) where
   -- what was read whole is judged
-  pub takes_whole : (bytes : List ℕ) (fault : Option LaunchFault) (Judged : List ℕ → Type 0) → ReadsFront old new 1048577 bytes → fault ≢ Some Reading → Judged bytes → TakesFrom old new fault Judged
-  takes_whole bytes fault Judged front other judged =
-      record { bytes = bytes; consumed = front.consumed; fits = front.fits; ends = ends_whole fault (length bytes) new other front.end; judged = judged }
+  pub takes_whole : (bytes : List ℕ) (fault : Option LaunchFault) (Judged : List ℕ → Type 0) → ReadsFront old new 1048577 bytes → fault ≢ Some Reading → (fault ≡ Some NoMemory → length bytes < 1048577) → Judged bytes → TakesFrom old new fault Judged
+  takes_whole bytes fault Judged front other few judged =
+      record { bytes = bytes; consumed = front.consumed; fits = front.fits; ends = ends_whole fault (length bytes) new other few front.end; judged = judged }
 
-  pub takes_broken : (cause : ReadFault) (result : Result Suite LaunchFault) → IsErrAnd result (IsReadFault cause) → BreaksOff old new 1048577 cause → TakesFrom old new (fault_in result) (λ bytes. ReadsSuite (suite_read bytes) result)
+  pub takes_broken : (cause : ReadFault) (result : Result Suite LaunchFault) → IsErrAnd result (IsReadFault cause) → BreaksOff old new 1048577 → TakesFrom old new (fault_in result) (λ bytes. ReadsSuite (suite_read bytes) result)
   takes_broken cause (Ok suite) is broken = absurd is
-  takes_broken reads.NoMemory (Err fault) is broken = rw is (record { bytes = broken.bytes; consumed = broken.consumed; fits = broken.fits; ends = tt; judged = tt })
-  takes_broken reads.Failed (Err fault) is broken = rw is (record { bytes = broken.bytes; consumed = broken.consumed; fits = broken.fits; ends = broken.short refl; judged = tt })
+  takes_broken reads.NoMemory (Err fault) is broken = rw is (record { bytes = broken.bytes; consumed = broken.consumed; fits = omega (arith, broken.short); ends = broken.short; judged = tt })
+  takes_broken reads.Failed (Err fault) is broken = rw is (record { bytes = broken.bytes; consumed = broken.consumed; fits = omega (arith, broken.short); ends = broken.short; judged = tt })
 
   -- the same judgement, and what it comes to
-  pub takes_as : (fault other : Option LaunchFault) (Judged Comes : List ℕ → Type 0) → ((bytes : List ℕ) → Judged bytes → Comes bytes) → ((count : ℕ) → EndsAs fault count new → EndsAs other count new) → TakesFrom old new fault Judged → TakesFrom old new other Comes
+  pub takes_as : (fault other : Option LaunchFault) (Judged Comes : List ℕ → Type 0) → ((bytes : List ℕ) → Judged bytes → Comes bytes) → ((bytes : List ℕ) → Judged bytes → EndsAs fault (length bytes) new → EndsAs other (length bytes) new) → TakesFrom old new fault Judged → TakesFrom old new other Comes
   takes_as fault other Judged Comes comes ends taken =
-      record { bytes = taken.bytes; consumed = taken.consumed; fits = taken.fits; ends = ends (length taken.bytes) taken.ends; judged = comes taken.bytes taken.judged }
+      record { bytes = taken.bytes; consumed = taken.consumed; fits = taken.fits; ends = ends taken.bytes taken.judged taken.ends; judged = comes taken.bytes taken.judged }
 
   -- a suite's refusal is not the reader's
   not_reading : (cause : SuiteFault) (fault : LaunchFault) → IsSuiteFault cause fault → Some fault ≢ Some Reading
@@ -86,18 +96,27 @@ module _ (old new : Option (List ℕ)) where
   not_reading causes.TooLarge fault is same = cc
   not_reading (causes.Refused f n) fault is same = cc
 
+  -- memory runs out in reading a suite only where the suite's reading says so
+  out_of_memory : (bytes : List ℕ) (cause : SuiteFault) (fault : LaunchFault) → IsSuiteFault cause fault → (cause ≡ causes.NoMemory → length bytes ≤ 1048576) → Some fault ≡ Some NoMemory → length bytes < 1048577
+  out_of_memory bytes causes.NoMemory fault is few same = omega (arith, few refl)
+  out_of_memory bytes (causes.BadLine n) fault is few same = cc
+  out_of_memory bytes (causes.BadIndent n) fault is few same = cc
+  out_of_memory bytes (causes.MissingVerdict n) fault is few same = cc
+  out_of_memory bytes causes.TooLarge fault is few same = cc
+  out_of_memory bytes (causes.Refused f n) fault is few same = cc
+
   -- bytes that were read and are no suite
-  pub takes_refused : (bytes : List ℕ) (cause : SuiteFault) (result : Result Suite LaunchFault) → IsErrAnd result (IsSuiteFault cause) → ReadsFront old new 1048577 bytes → ReadsSuite (suite_read bytes) result
+  pub takes_refused : (bytes : List ℕ) (cause : SuiteFault) (result : Result Suite LaunchFault) → IsErrAnd result (IsSuiteFault cause) → (cause ≡ causes.NoMemory → length bytes ≤ 1048576) → ReadsFront old new 1048577 bytes → ReadsSuite (suite_read bytes) result
       → TakesFrom old new (fault_in result) (λ read. ReadsSuite (suite_read read) result)
-  takes_refused bytes cause (Ok suite) is front judged = absurd is
-  takes_refused bytes cause (Err fault) is front judged = takes_whole bytes (Some fault) (λ read. ReadsSuite (suite_read read) (Err fault)) front (not_reading cause fault is) judged
+  takes_refused bytes cause (Ok suite) is few front judged = absurd is
+  takes_refused bytes cause (Err fault) is few front judged = takes_whole bytes (Some fault) (λ read. ReadsSuite (suite_read read) (Err fault)) front (not_reading cause fault is) (out_of_memory bytes cause fault is few) judged
 
   -- where no suite was read nothing is run
   pub takes_unread : (asked : Asked) (was is : Option (List ℕ)) (fault : LaunchFault) (result : Result ExitStatus LaunchFault) → IsErrAnd result (λ e. e ≡ fault)
       → TakesFrom old new (Some fault) (λ read. FailsToRead (suite_read read) fault) → TakesFrom old new (fault_in result) (λ read. IsRun asked (suite_read read) was is result)
   takes_unread asked was is fault (Ok status) same taken = absurd same
   takes_unread asked was is fault (Err e) same taken =
-      rw same (takes_as (Some fault) (Some fault) (λ read. FailsToRead (suite_read read) fault) (λ read. IsRun asked (suite_read read) was is (Err fault)) (λ read fails. run_unread asked was is fault (suite_read read) (Err fault) refl fails) (λ count ends. ends) taken)
+      rw same (takes_as (Some fault) (Some fault) (λ read. FailsToRead (suite_read read) fault) (λ read. IsRun asked (suite_read read) was is (Err fault)) (λ read fails. run_unread asked was is fault (suite_read read) (Err fault) refl fails) (λ read fails ends. ends) taken)
 
   -- a run of the suite that was read: it does not fail as a reader does
   ends_run : (asked : Asked) (suite : SuiteParts) (was is : Option (List ℕ)) (result : Result ExitStatus LaunchFault) → IsSuiteRun asked suite was is result → fault_in result ≢ Some Reading
@@ -118,4 +137,4 @@ module _ (old new : Option (List ℕ)) where
   takes_run asked suite was is result run taken =
       takes_as None (fault_in result) (λ read. ReadsSuite (suite_read read) (Ok suite)) (λ read. IsRun asked (suite_read read) was is result)
       (λ read ok. run_read asked was is (suite_parts suite) (suite_read read) result ok run)
-      (λ count end. ends_whole (fault_in result) count new (ends_run asked (suite_parts suite) was is result run) end) taken
+      (λ read ok end. ends_whole (fault_in result) (length read) new (ends_run asked (suite_parts suite) was is result run) (λ same. read_small read (suite_parts suite) ok) end) taken

@@ -1,4 +1,3 @@
-pub mod Fronts
 pub mod Launching
 pub mod Reading
 pub mod Requesting

@@ -102,11 +102,11 @@ abbrev pub fault_in : {A : Type 0} → Result A LaunchFault → Option LaunchFau
 fault_in (Ok a) = None
 fault_in (Err fault) = Some fault
 
--- how far a reader was read that gave so many bytes: where it failed not to the end of what may be read, and else, but for
--- want of memory, to that end or to its own
+-- how far a reader was read that gave so many bytes: where it failed, or memory ran out, not to the end of what may be read,
+-- so neither stands in place of a suite that is too large; else to that end or to its own
 abbrev pub EndsAs : Option LaunchFault → ℕ → Option (List ℕ) → Type 0
 EndsAs (Some Reading) count new = count < 1048577
-EndsAs (Some NoMemory) count new = Unit {0}
+EndsAs (Some NoMemory) count new = count < 1048577
 EndsAs fault count new = count < 1048577 → IsAtEnd new
 
 -- some bytes were taken from the reader, at most 1,048,577, and these are what was judged

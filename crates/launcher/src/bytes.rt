@@ -30,16 +30,18 @@ impl From<AllocError> for ReadFault {
 /// reader ends it (refusal 106).
 pub fn read_front<R: Read>(alloc: Global, reader: &mut R, most: usize) -> Result<Vec<u8>, ReadFault>
     ensures reads { IfOk result (λ v. ReadsFront (R.remaining reader.old) (R.remaining reader.new) most v.items) }
-    ensures broken { IfErr result (λ fault. BreaksOff (R.remaining reader.old) (R.remaining reader.new) most fault) }
+    ensures broken { IfErr result (λ _. BreaksOff (R.remaining reader.old) (R.remaining reader.new) most) }
     ensures front { IfOk result (λ v. IfSome (R.remaining reader.old) (λ bytes. v.items ≡ take most bytes)) }
 {
     let mut bytes = Vec::new(alloc);
     let mut buffer = [0u8; BUFFER_SIZE];
     while bytes.len() < most {
         let want = (most - bytes.len()).min(buffer.len());
+        // room first, so that nothing is read for which there is none
+        bytes.reserve(want)?;
         match reader.read(&mut buffer[..want]) {
             Ok(0) => return Ok(bytes),
-            Ok(count) => bytes.extend_from_slice(&buffer[..count])?,
+            Ok(count) => bytes.extend_from_slice(&buffer[..count]).unwrap(),
             Err(_) => return Err(ReadFault::Failed),
         }
     }
