@@ -59,7 +59,7 @@ id_declared parent segments d = segments ++ record { kind = segment_kind parent 
 
 -- the node of number n that is declared below one with this word and these segments
 abbrev pub node_declared : ℕ → Option Word → List Segment → Declaration → Node
-node_declared n parent segments d = record plain (id_declared parent segments d) d.name (kind_declared d.word) {
+node_declared n parent segments d = record (plain (id_declared parent segments d) d.name (kind_declared d.word)) {
   body = body_declared d.verdict n;
   disabled = reason_declared d.verdict d.text;
   tags = d.attributes.tags;
