@@ -1,7 +1,7 @@
-//! Adding a node to a tree: `PARENT KIND ID`, and behind it `body=N`, `tag=TAG`, `name=TEXT` and `disabled=TEXT` as wanted.
-//! A TEXT such as `r*1024` is an `r` so many times.
+//! Adding a node to a tree: `PARENT KIND ID`, and behind it `body=N`, `after=N`, `role=ROLE`, `mode=MODE`, `lock=KEY`,
+//! `isolated=yes`, `tag=TAG`, `name=TEXT` and `disabled=TEXT` as wanted. A TEXT or a KEY such as `r*1024` is an `r` so many times.
 
-use descriptor::{BodyId, Kind, Node, NodeId, TreeBuilder};
+use descriptor::{BodyId, Kind, Lock, LockMode, Mode, Node, NodeId, Role, TreeBuilder};
 use std::alloc::{AllocError, Global};
 use tag_expr::tag_of;
 use unique_id::{Text, UniqueId};
@@ -12,6 +12,25 @@ fn kind_of(word: &str) -> Kind {
         "both" => Kind::ContainerAndTest,
         _ => Kind::Container,
     }
+}
+
+fn role_of(word: &str) -> Role {
+    match word {
+        "factory" => Role::Factory,
+        "spare" => Role::Spare,
+        _ => Role::Plain,
+    }
+}
+
+fn mode_of(word: &str) -> Mode {
+    match word {
+        "concurrent" => Mode::Concurrent,
+        _ => Mode::SameThread,
+    }
+}
+
+fn body_of(digits: &str) -> Option<BodyId> {
+    digits.parse().ok().map(BodyId::new)
 }
 
 /// A text, or so many times one.
@@ -29,7 +48,15 @@ pub(crate) fn text_of(alloc: Global, text: &str) -> Result<Text, AllocError> {
 fn attribute(alloc: Global, node: &mut Node, word: &str) -> Result<(), AllocError> {
     let (key, value) = word.split_once('=').unwrap_or((word, ""));
     match key {
-        "body" => node.body = value.parse().ok().map(BodyId::new),
+        "body" => node.body = body_of(value),
+        "after" => node.after = body_of(value),
+        "role" => node.role = role_of(value),
+        "mode" => node.mode = Some(mode_of(value)),
+        "isolated" => node.isolated = true,
+        "lock" => node.locks.push(Lock {
+            key: text_of(alloc, value)?,
+            mode: LockMode::ReadWrite,
+        })?,
         "name" => node.name = text_of(alloc, value)?,
         "disabled" => node.disabled = Some(text_of(alloc, value)?),
         _ => {
