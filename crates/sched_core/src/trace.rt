@@ -1,8 +1,8 @@
 //! What a run leaves.
 
-ghost use Rattle.std.specs.Prelude.{◌≡◌, ◌≤◌, IfOk, length};
+ghost use Rattle.std.specs.Prelude.{◌≡◌, ◌≤◌, ◌++◌, ◌∷◌, [], ℕ, IfOk, OnOk, List, length};
+ghost use Rattle.plan_events.specs.declared.event.Event.{Event};
 ghost use Rattle.sched_core.specs.Fields.{state_of, parts_upto};
-ghost use Rattle.sched_core.specs.History.{part_of};
 ghost use Rattle.sched_core.specs.Traces.{IsTraceOf, lists_of};
 
 use crate::machine::Machine;
@@ -22,25 +22,37 @@ pub struct Trace {
     pub passed_over: usize,
 }
 
-/// The events of the worker with this number.
-fn part(alloc: Global, events: &[Event], worker: u8) -> Result<Vec<Event>, AllocError>
-    ensures { IfOk result (λ v. v.items ≡ part_of worker events.now) }
+/// An empty list for each of so many workers.
+fn empty_lists(alloc: Global, workers: u8) -> Result<Vec<Vec<Event>>, AllocError>
+    ensures { IfOk result (λ v. lists_of v ≡ parts_upto workers []) }
 {
-    events
-        .iter()
-        .filter(|event| event.worker == worker)
-        .copied()
-        .collect(alloc)
+    let mut lists = Vec::new(alloc);
+    for _worker in 0..workers {
+        lists.push(Vec::new(alloc))?;
+    }
+    Ok(lists)
+}
+
+/// Puts one more event last in its worker's list. An event of a worker without a list changes none.
+fn put(lists: &mut Vec<Vec<Event>>, event: Event) -> Result<(), AllocError>
+    ensures { OnOk result ((n : ℕ) (h : List Event) → lists_of lists.old ≡ parts_upto n h → lists_of lists.new ≡ parts_upto n (h ++ event ∷ [])) }
+{
+    if event.worker == 0 {
+        return Ok(());
+    }
+    if let Some(list) = lists.get_mut(usize::from(event.worker - 1)) {
+        list.push(event)?;
+    }
+    Ok(())
 }
 
 /// The lists of so many workers.
 fn parts(alloc: Global, events: &[Event], workers: u8) -> Result<Vec<Vec<Event>>, AllocError>
-    requires { workers ≤ 64 }
     ensures { IfOk result (λ v. lists_of v ≡ parts_upto workers events.now) }
 {
-    let mut lists = Vec::new(alloc);
-    for worker in 0..workers {
-        lists.push(part(alloc, events, worker + 1)?)?;
+    let mut lists = empty_lists(alloc, workers)?;
+    for event in events {
+        put(&mut lists, *event)?;
     }
     Ok(lists)
 }
@@ -49,7 +61,6 @@ impl Machine {
     /// What the run has left so far.
     pub(crate) fn trace(&self, alloc: Global, passed_over: usize) -> Result<Trace, AllocError>
         requires given { self.now.given ≤ length self.now.published.items }
-        requires workers { self.now.workers ≤ 64 }
         ensures { IfOk result (λ t. IsTraceOf (state_of self.now) passed_over t) }
     {
         Ok(Trace {
