@@ -1,6 +1,6 @@
 -- A node of a tree is one that the nodes before it take.
 use borrow.Author.Tests.{tests}
-use Rattle.std.proofs.Common.{rules, ◌≡◌, ℕ, zero, suc, ◌+◌, ◌<◌, ◌≤◌, ◌||◌, ◌==◌, nat_lt, Bool, true, false, cond, List, [], ◌∷◌, ◌++◌, length, Option, Some, None, refl, ap, sym, subst, ◌∙◌, arith, length-append, append-nil}
+use Rattle.std.proofs.Common.{rules, ◌≡◌, ℕ, zero, suc, ◌+◌, ◌<◌, ◌≤◌, ◌||◌, ◌&&◌, ◌==◌, ◌⊎◌, inl, inr, not, nat_lt, Bool, true, false, cond, List, [], ◌∷◌, ◌++◌, length, Option, Some, None, refl, ap, sym, subst, ◌∙◌, arith, length-append, append-nil}
 use Rattle.std.specs.Prelude.{slice_get, slice_index_or}
 use Rattle.std.specs.List.{list_any, AllByRecursion}
 use Rattle.std.specs.Str.{bytes_eq}
@@ -12,11 +12,13 @@ use Rattle.unique_id.specs.declared.fault.UidFault.TheVariants.{EmptyPart, TooLo
 use Rattle.unique_id.specs.Spelling.{spelling}
 use Rattle.unique_id.specs.Spelling as ids
 use Rattle.descriptor.specs.declared.node.Node.{Node}
-use Rattle.descriptor.specs.declared.fault.TreeFault.TheVariants.{TooMany, TooDeep, DoubleId, ParentIsTest, BodyTwice, OverLimit}
-use Rattle.descriptor.specs.Limits.{is_over_limit}
-use Rattle.descriptor.specs.Nodes.{Nodes, IsTree, size, parent_of, node_at, depth_of, steps_up, is_test_at, is_test_kind, kind_or, body_or, text_or, appended}
-use Rattle.descriptor.specs.Refusals.{refusal, has_id, has_body, is_body}
-use Rattle.descriptor.proofs.Accepted.{none_holds}
+use Rattle.descriptor.specs.Bodies.{is_body, is_same_body, repeats_itself, has_misplaced_after}
+use Rattle.descriptor.specs.Declarations.{declares, DeclaresNothing}
+use Rattle.descriptor.specs.Kinds.{is_container}
+use Rattle.descriptor.specs.Roles.{is_factory, is_spare}
+use Rattle.descriptor.specs.Nodes.{Nodes, IsTree, IsChild, size, parent_of, node_at, depth_of, steps_up, is_leaf_at, kind_or, role_or, role_of, mode_or, locks_or, isolated_or, body_or, after_or, text_or, appended}
+use Rattle.descriptor.specs.Refusals.{refusal, has_id, has_body, uses_body}
+use Rattle.descriptor.proofs.Accepted.{IsPlaced, pass_by, not_misplaced, nothing_declared, after_is_placed}
 use Rattle.suite_text.specs.WrittenSuites.{IsShortId}
 
 -- u is t with more behind it
@@ -76,6 +78,21 @@ body_from : (b : ℕ) (body : Option ℕ) → is_body b body ≡ true → body �
 body_from b None e = absurd (cc)
 body_from b (Some other) e = ap Some (eqb-true other b e)
 
+either : (a b : Bool) → (a || b) ≡ true → (a ≡ true) ⊎ (b ≡ true)
+either true b e = inl refl
+either false b e = inr e
+
+none_of_three : (a b c : Bool) → a ≡ false → b ≡ false → c ≡ false → (a || b || c) ≡ false
+none_of_three a b c first second third = rw (first, second, third) refl
+
+not_both : (x : ℕ) (d : Bool) → (x ≡ 0 → d ≡ false) → ((x == 0) && d) ≡ false
+not_both zero d h = h refl
+not_both (suc x) d h = ap (λ b. b && d) (ne_eqb (suc x) 0 (λ e. omega (arith, e)))
+
+once_of : (body after : Option ℕ) → ((b : ℕ) → body ≡ Some b → after ≡ Some b → ⊥) → is_same_body body after ≡ false
+once_of None after h = refl
+once_of (Some b) after h = not_true (is_body b after) (λ same. h b refl (body_from b after same))
+
 no_step : (ps : List ℕ) (j : ℕ) → steps_up ps j 0 ≡ 0
 no_step ps zero = refl
 no_step ps (suc j) = refl
@@ -132,23 +149,61 @@ module _ (t : Nodes) (a : ℕ) (node : Node) (ps : List ℕ) (ns : List Node) (l
     new_id = none_of (λ x. bytes_eq (spelling x.id) (spelling node.id)) t.nodes (λ n x e. not_true _ (λ same.
         other n x e (tree.ids (suc n) (size t) (spelling node.id) (ap text_or (told_before n x e) ∙ ap Some ((bytes_eq-Decides (spelling x.id) (spelling node.id)).0 same)) (ap text_or node_here))))
 
+    -- what is a body or an after-body before is neither here
+    clash_body : (b n : ℕ) (x : Node) → slice_get t.nodes n ≡ Some x → node.body ≡ Some b → (is_body b x.body ≡ true) ⊎ (is_body b x.after ≡ true) → ⊥
+    clash_body b n x e is (inl same) = other n x e (tree.bodies (suc n) (size t) b (ap body_or (told_before n x e) ∙ body_from b x.body same) (ap body_or node_here ∙ is))
+    clash_body b n x e is (inr same) = tree.apart (size t) (suc n) b (ap body_or node_here ∙ is) (ap after_or (told_before n x e) ∙ body_from b x.after same)
+
+    clash_after : (b n : ℕ) (x : Node) → slice_get t.nodes n ≡ Some x → node.after ≡ Some b → (is_body b x.body ≡ true) ⊎ (is_body b x.after ≡ true) → ⊥
+    clash_after b n x e is (inl same) = tree.apart (suc n) (size t) b (ap body_or (told_before n x e) ∙ body_from b x.body same) (ap after_or node_here ∙ is)
+    clash_after b n x e is (inr same) = other n x e (tree.afters (suc n) (size t) b (ap after_or (told_before n x e) ∙ body_from b x.after same) (ap after_or node_here ∙ is))
+
     new_body : (body : Option ℕ) → node.body ≡ body → has_body t body ≡ false
     new_body None is = refl
-    new_body (Some b) is = none_of (λ x. is_body b x.body) t.nodes (λ n x e. not_true _ (λ same.
-        other n x e (tree.bodies (suc n) (size t) b (ap body_or (told_before n x e) ∙ body_from b x.body same) (ap body_or node_here ∙ is))))
+    new_body (Some b) is = none_of (uses_body b) t.nodes (λ n x e. not_true _ (λ used. clash_body b n x e is (either (is_body b x.body) (is_body b x.after) used)))
 
-    container : is_test_at t a ≡ false
-    container =
-        sym (ap (λ o. is_test_kind (kind_or o)) (node_before a parent_less))
-        ∙ tree.leaf a (size t) (record { above_zero = omega (arith, len); inside = inside; parent = parent_here })
+    new_after : (after : Option ℕ) → node.after ≡ after → has_body t after ≡ false
+    new_after None is = refl
+    new_after (Some b) is = none_of (uses_body b) t.nodes (λ n x e. not_true _ (λ used. clash_after b n x e is (either (is_body b x.body) (is_body b x.after) used)))
+
+    once : repeats_itself node ≡ false
+    once = once_of node.body node.after (λ b is too. tree.apart (size t) (size t) b (ap body_or node_here ∙ is) (ap after_or node_here ∙ too))
+
+    child : IsChild whole a (size t)
+    child = record { above_zero = omega (arith, len); inside = inside; parent = parent_here }
+
+    container : is_leaf_at t a ≡ false
+    container = sym (ap (λ o. not (is_container (kind_or o))) (node_before a parent_less)) ∙ tree.leaf a (size t) child
+
+    declared : a ≡ 0 → declares node ≡ false
+    declared is =
+        let at_plan : IsChild whole 0 (size t) = record { above_zero = omega (arith, len); inside = inside; parent = parent_here ∙ is } in
+        nothing_declared node (subst (λ (o : Option Node). DeclaresNothing (mode_or o) (locks_or o) (isolated_or o)) node_here (tree.engines (size t) at_plan))
+
+    placed : IsPlaced (role_of t a) node.kind node.role
+    placed = record {
+      spare = sym (ap (λ o. is_spare (role_or o)) node_here) ∙ tree.spares a (size t) child ∙ ap (λ o. is_factory (role_or o)) (node_before a parent_less);
+      spare_test = λ h. sym (ap (λ o. not (is_container (kind_or o))) node_here) ∙ tree.spare_tests (size t) (ap (λ o. is_spare (role_or o)) node_here ∙ h);
+      factory = λ h. sym (ap (λ o. not (is_container (kind_or o))) node_here) ∙ tree.factories (size t) (ap (λ o. is_factory (role_or o)) node_here ∙ h);
+    }
+
+    after_placed : has_misplaced_after node ≡ false
+    after_placed = after_is_placed node.kind node.role node.after (λ b e.
+        let was = tree.after_placed (size t) b (ap after_or node_here ∙ e) in
+        (sym (ap (λ o. not (is_container (kind_or o))) node_here) ∙ was.0, sym (ap (λ o. is_factory (role_or o)) node_here) ∙ was.1))
 
     takes_next : refusal t a node ≡ None
     takes_next =
         let shallow = tree.shallow (size t) inside in
-        none_holds (size t == 4096) (depth_of t a == 64) (has_id t node.id) (is_test_at t a) (has_body t node.body) (is_over_limit node) TooMany TooDeep DoubleId ParentIsTest BodyTwice OverLimit
-        (ne_eqb (size t) 4096 (λ e. let few = tree.few in omega (arith, e, few, inside)))
-        (ne_eqb (depth_of t a) 64 (λ e. omega (arith, e, shallow, depth_here)))
-        new_id container (new_body node.body refl) (tree.short (size t) node node_here)
+        pass_by _ _ _ (ne_eqb (size t) 4096 (λ e. let few = tree.few in omega (arith, e, few, inside))) (
+        pass_by _ _ _ (ne_eqb (depth_of t a) 64 (λ e. omega (arith, e, shallow, depth_here))) (
+        pass_by _ _ _ new_id (
+        pass_by _ _ _ container (
+        pass_by _ _ _ (not_both a (declares node) declared) (
+        pass_by _ _ _ (none_of_three (has_body t node.body) (has_body t node.after) (repeats_itself node) (new_body node.body refl) (new_after node.after refl) once) (
+        pass_by _ _ _ (not_misplaced (role_of t a) node.kind node.role placed) (
+        pass_by _ _ _ (tree.short (size t) node node_here) (
+        pass_by _ _ _ after_placed refl))))))))
 
 nodes_same : (p q : List ℕ) (m n : List Node) → p ≡ q → m ≡ n → (let left : Nodes = record { parents = p; nodes = m } in let right : Nodes = record { parents = q; nodes = n } in left ≡ right)
 nodes_same p q m n e d = cc

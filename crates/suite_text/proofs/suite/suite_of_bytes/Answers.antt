@@ -16,4 +16,4 @@ returns-in-Err-clause-exact c =
     let small : nat_lt 1048576 (length c.args.bytes.now) ≡ false = search (rules, tests) in
     let place = c.valid_up_to.ensures ∙ c.in-Err.ensures.valid_len in
     let line : c.line_after-line.result ≡ line_of_fault c.args.bytes.now = c.line_after-line.ensures ∙ ap (λ n. 1 + count_by (λ byte. byte == 10) (take n c.args.bytes.now)) place in
-    read_not_text c.args.bytes.now small c.in-Err.ensures.cases.0 ∙ ap (λ n. Err (BadLine n)) (sym line)
+    λ other. read_not_text c.args.bytes.now small c.in-Err.ensures.cases.0 ∙ ap (λ n. Err (BadLine n)) (sym line)
