@@ -13,11 +13,11 @@ use Rattle.launcher.specs.Runs.{FailsToRead, ReadsSuite}
 -- a suite's refusal is one of the reading
 pub suite_fails : (cause : SuiteFault) (fault : LaunchFault) (read : Result SuiteParts SuiteFault) → IsSuiteFault cause fault → Fails cause read → FailsToRead read fault
 suite_fails NoMemory fault read is fails = rw is tt
-suite_fails (BadLine line) fault read is fails = rw is fails
-suite_fails (BadIndent line) fault read is fails = rw is fails
-suite_fails (MissingVerdict line) fault read is fails = rw is fails
-suite_fails TooLarge fault read is fails = rw is fails
-suite_fails (Refused cause line) fault read is fails = rw is fails
+suite_fails (BadLine line) fault read is fails = rw is (fails (λ same. cc))
+suite_fails (BadIndent line) fault read is fails = rw is (fails (λ same. cc))
+suite_fails (MissingVerdict line) fault read is fails = rw is (fails (λ same. cc))
+suite_fails TooLarge fault read is fails = rw is (fails (λ same. cc))
+suite_fails (Refused cause line) fault read is fails = rw is (fails (λ same. cc))
 
 pub suite_refused : (cause : SuiteFault) (result : Result Suite LaunchFault) (read : Result SuiteParts SuiteFault) → IsErrAnd result (IsSuiteFault cause) → Fails cause read → ReadsSuite read result
 suite_refused cause (Ok suite) read is fails = absurd is
