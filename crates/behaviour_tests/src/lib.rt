@@ -10,6 +10,8 @@ mod copies;
 #[cfg(test)]
 mod cores;
 #[cfg(test)]
+mod failing;
+#[cfg(test)]
 mod faults;
 #[cfg(test)]
 mod plans;

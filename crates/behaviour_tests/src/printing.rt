@@ -1,44 +1,16 @@
 //! Writers that fail, and texts whose characters no line of a suite can have.
 
-ghost use Rattle.std.specs.Prelude.{Some};
-
+use crate::failing::Failing;
 use crate::plans::{event, finished, plan_of_one, started};
 use descriptor::{Kind, NodeId};
 use listeners::{Theme, feed_text, print_to, tree_text};
 use plan_events::{EventKind, Note, Status, Texts};
 use std::alloc::Global;
-use std::io::{Error, ErrorKind, Result as IoResult, Write};
 use std::test::Fail;
 use unique_id::Text;
 
 /// What is printed.
 const BYTES: &[u8] = b"w1 plan started\nw1 ";
-
-/// Takes so many bytes, a few at a time, and then fails.
-#[derive(Drop)]
-struct Failing {
-    taken: Vec<u8>,
-    room: usize,
-    step: usize,
-}
-
-impl Write for Failing {
-    ghost contents = { λ f. Some f.taken.items };
-
-    fn write(&mut self, buf: &[u8]) -> IoResult<usize> {
-        if self.room == 0 {
-            return Err(Error::from(ErrorKind::Interrupted));
-        }
-        let count = buf.len().min(self.room).min(self.step);
-        self.taken.extend_from_slice(&buf[..count])?;
-        self.room -= count;
-        Ok(count)
-    }
-
-    fn flush(&mut self) -> IoResult<()> {
-        Ok(())
-    }
-}
 
 /// The place at which printing to a writer of this room is refused, where it took what stands before that place.
 fn refused(alloc: Global, room: usize, step: usize) -> Option<usize> {

@@ -1,12 +1,11 @@
 //! A run whose reader or writer fails.
 
-ghost use Rattle.std.specs.Prelude.{Some};
-
+use crate::failing::Failing;
 use launcher::{Details, LaunchFault, Options, ReadFault, read_front, run_options};
 use listeners::Theme;
 use selectors::Request;
 use std::alloc::Global;
-use std::io::{Error, ErrorKind, Read, Result as IoResult, Write};
+use std::io::{Error, ErrorKind, Read, Result as IoResult};
 use std::test::Fail;
 
 /// A suite of one passing test.
@@ -22,32 +21,6 @@ w1 finished [engine:e]/[class:a.B] SUCCESSFUL
 w1 finished [engine:e] SUCCESSFUL
 w1 plan finished
 ";
-
-/// Takes so many bytes, a few at a time, and then fails.
-#[derive(Drop)]
-struct Failing {
-    taken: Vec<u8>,
-    room: usize,
-    step: usize,
-}
-
-impl Write for Failing {
-    ghost contents = { λ f. Some f.taken.items };
-
-    fn write(&mut self, buf: &[u8]) -> IoResult<usize> {
-        if self.room == 0 {
-            return Err(Error::from(ErrorKind::Interrupted));
-        }
-        let count = buf.len().min(self.room).min(self.step);
-        self.taken.extend_from_slice(&buf[..count])?;
-        self.room -= count;
-        Ok(count)
-    }
-
-    fn flush(&mut self) -> IoResult<()> {
-        Ok(())
-    }
-}
 
 /// Gives its text, so many bytes at a time, and then fails.
 #[derive(Drop)]
