@@ -1,6 +1,6 @@
 //! The bytes of a part while it is read.
 
-ghost use Rattle.std.specs.Prelude.{◌≡◌, ◌<◌, ◌≤◌, [], ◌∷◌, ◌++◌, length, IfSome};
+ghost use Rattle.std.specs.Prelude.{◌≡◌, ◌<◌, ◌≤◌, [], ◌∷◌, ◌++◌, length, IfSome, is_some};
 ghost use Rattle.std.specs.Str.{is_utf8};
 
 use std::marker::Model;
@@ -62,7 +62,8 @@ impl Decoded {
 
     /// The bytes as a text, if they are one.
     pub fn text(&self) -> Option<&str>
-        ensures { IfSome result (λ text. text.now ≡ self.now) }
+        ensures text { IfSome result (λ text. text.now ≡ self.now) }
+        ensures is_text { is_some result ≡ is_utf8 self.now }
     {
         std::str::from_utf8(self.as_slice()).ok()
     }
