@@ -30,11 +30,4 @@ impl SettingsFault {
             SettingsFault::BadFactor => 33,
         }
     }
-
-    /// Where: none of these refusals has a place.
-    pub fn place(self) -> Option<u64>
-        ensures { result ≡ None }
-    {
-        None
-    }
 }
