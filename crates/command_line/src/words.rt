@@ -50,7 +50,8 @@ fn given_by<'a>(alloc: Global, words: &'a [String]) -> Result<Given<'a>, LaunchF
 
 /// The options that the words give. The first word is the program's name, whatever it is. Words
 /// that clap refuses are refusal 105; others ask for what `Options::of` says, and are refused as it
-/// says. Memory is taken before any word is judged.
+/// says. Clap takes memory before it judges any word, so want of memory may stand in place of each
+/// of these refusals.
 pub fn read_options(alloc: Global, words: &[String]) -> Result<Options, LaunchFault>
     ensures asked { IfOk result (λ options. AreAsked (values_given (map string_bytes words.now)) (asked_by options)) }
     ensures accepted { IfOk result (λ _. words_refusal (map string_bytes words.now) ≡ None) }

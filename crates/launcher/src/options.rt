@@ -63,6 +63,7 @@ fn replay_named(alloc: Global, text: Option<&str>) -> Result<Option<Vec<Step>>, 
     ensures named { IfOk result (λ replay. IsReplay (maybe_behind text.entry) (option_map (λ steps. steps.items) replay)) }
     ensures accepted { IfOk result (λ _. replay_refusal (maybe_behind text.entry) ≡ None) }
     ensures refused { IfErr result (λ fault. fault ≢ NoMemory → replay_refusal (maybe_behind text.entry) ≡ Some fault) }
+    ensures no_memory { IfErr result (λ fault. fault ≡ NoMemory → replay_refusal (maybe_behind text.entry) ≡ None) }
 {
     match text {
         Some(text) => Ok(Some(parse_steps(alloc, text)?)),
@@ -112,8 +113,7 @@ fn selector(
 ) -> Result<Selector, LaunchFault>
     ensures spelled { IfOk result (λ selector. spelled (kind, text.now) ≡ Some selector) }
     ensures refused { IfErr result (λ fault. fault ≢ NoMemory → (spelled (kind, text.now) ≡ None) × (fault ≡ LaunchFault.BadSelector number)) }
-    // Of a unique id the length and the first characters alone are judged without memory.
-    ensures no_memory { IfErr result (λ fault. fault ≡ NoMemory → kind ≢ SelectorKind.UniqueId → IsSome (spelled (kind, text.now))) }
+    ensures no_memory { IfErr result (λ fault. fault ≡ NoMemory → IsSome (spelled (kind, text.now))) }
 {
     match Selector::parse(alloc, kind, text) {
         Ok(selector) => Ok(selector),
@@ -164,13 +164,13 @@ impl Options {
     /// then a text that spells no selector is refusal 40, at the selector's number; then an
     /// expression of `--include-tag`, and then of `--exclude-tag`, is one of 20 to 26, at a place
     /// in it. Selectors are numbered from 1 in the order of unique ids, classes, methods and
-    /// packages, those of one option in the order of the words. Details and theme are judged before
-    /// any memory is taken.
+    /// packages, those of one option in the order of the words. Details, the theme and the steps of a
+    /// replay are judged before any memory is taken, selectors and expressions in their turn.
     pub fn of(alloc: Global, given: &Given<'_>) -> Result<Options, LaunchFault>
         ensures asked { IfOk result (λ options. AreAsked (values_of given.now) (asked_by options)) }
         ensures accepted { IfOk result (λ _. refusal_of (values_of given.now) ≡ None) }
         ensures refused { IfErr result (λ fault. fault ≢ NoMemory → refusal_of (values_of given.now) ≡ Some fault) }
-        ensures no_memory { IfErr result (λ fault. fault ≡ NoMemory → IsSome (details_of_name (maybe_behind given.now.details)) × IsSome (theme_of_name (maybe_behind given.now.theme))) }
+        ensures no_memory { IfErr result (λ fault. fault ≡ NoMemory → IsSome (details_of_name (maybe_behind given.now.details)) × IsSome (theme_of_name (maybe_behind given.now.theme)) × (replay_refusal (maybe_behind given.now.replay) ≡ None)) }
     {
         let details = details_named(given.details)?;
         let theme = theme_named(given.theme)?;

@@ -76,8 +76,9 @@ pub fn run_suite<W: Write>(
 }
 
 /// Reads a suite and runs it, as `read_suite` and `run_suite` say. The reading takes memory before
-/// anything is judged, but want of memory never stands in place of a suite that is too large, nor of
-/// a selector that covers nothing. On any refusal but 81 nothing is written.
+/// anything is judged, but want of memory never stands in place of a suite that is too large, nor,
+/// once the suite was read, of a selector that covers nothing. On any refusal but 81 nothing is
+/// written.
 pub fn run_options<R: Read, W: Write>(
     alloc: Global,
     options: &Options,

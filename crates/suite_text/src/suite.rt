@@ -77,7 +77,9 @@ pub struct Suite {
 impl Suite {
     /// The suite of a text. Lines end at a line feed, before which a carriage return is dropped;
     /// the last may go without. Refusals: 103 for more than 1,048,576 bytes, else the first
-    /// faulty line's: 101, 100, 102, 17 (its id), 10, 12 and 17 (its reason), in this order.
+    /// faulty line's: 101, 100, 102, 17 (its id), 10, 12 and 17 (its reason), in this order. Memory
+    /// is taken before the first line is judged, so want of memory may stand in place of a line's
+    /// refusal.
     pub fn parse(alloc: Global, text: &str) -> Result<Suite, SuiteFault>
         ensures exact { Gives suite_parts result (suite_of text.now) }
         // A text that may be written for a suite is read as that suite.
