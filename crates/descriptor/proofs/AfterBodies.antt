@@ -205,7 +205,7 @@ module _ (t : Nodes) (b : ℕ) where
       }
 
       kept_given : (ds : List ℕ) (cs : List (List ℕ)) → IsKept t ds cs → IsKept given ds cs
-      kept_given ds cs k = record { tree = tree_given; depths_len = k.depths_len; children_len = k.children_len; depths = k.depths; children = k.children }
+      kept_given ds cs k = record { tree = tree_given; plan = k.plan; depths_len = k.depths_len; children_len = k.children_len; depths = k.depths; children = k.children }
 
 -- the lists beside the nodes stay those of the tree
 pub kept_with_after : (t : Nodes) (n b : ℕ) (ds : List ℕ) (cs : List (List ℕ)) → IsKept t ds cs → after_refusal t n b ≡ None → IsKept (with_after t n b) ds cs

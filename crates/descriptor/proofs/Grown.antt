@@ -134,6 +134,7 @@ module _ (t : Nodes) (a : ℕ) (node : Node) (inside : a < size t) (tree : IsTre
   pub kept : (ds : List ℕ) (cs : List (List ℕ)) → IsKept t ds cs → (d : ℕ) → d ≡ suc (get_or ds a 0) → IsKept (appended t a node) (ds ++ d ∷ []) (set cs a (get_or cs a [] ++ size t ∷ []) ++ [] ∷ [])
   kept ds cs k d is = record {
     tree = grown;
+    plan = get_before t.parents a 0 0 tree.root ∙ k.plan;
     depths_len = length_more ds d ∙ ap suc k.depths_len ∙ sym (length_more t.parents a);
     children_len = length_more (set cs a (get_or cs a [] ++ size t ∷ [])) [] ∙ ap suc (simp length-set k.children_len) ∙ sym (length_more t.parents a);
     depths = kept_depths ds k.depths_len k.depths d is;

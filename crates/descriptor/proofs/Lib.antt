@@ -10,3 +10,4 @@ pub mod Counts
 pub mod Between
 pub mod Pruned
 pub mod Pruning
+pub mod AllKept

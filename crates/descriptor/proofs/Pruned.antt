@@ -23,7 +23,7 @@ use Rattle.descriptor.proofs.Counts.{cases_bool, above_zero, count_most, count_i
 use Rattle.descriptor.proofs.Grown.{steps_enough, get_before, get_last, below_or_last}
 use Rattle.descriptor.proofs.Sets.{has_text_grown, has_body_grown}
 
-nodes_same : (p q : List ℕ) (m n : List Node) → p ≡ q → m ≡ n → (let left : Nodes = record { parents = p; nodes = m } in let right : Nodes = record { parents = q; nodes = n } in left ≡ right)
+pub nodes_same : (p q : List ℕ) (m n : List Node) → p ≡ q → m ≡ n → (let left : Nodes = record { parents = p; nodes = m } in let right : Nodes = record { parents = q; nodes = n } in left ≡ right)
 nodes_same p q m n e d = cc
 
 and_no : (a b : Bool) → b ≡ false → (a && b) ≡ false

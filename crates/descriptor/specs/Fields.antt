@@ -10,6 +10,8 @@ nodes_of t = record { parents = t.parents.items; nodes = t.nodes.items }
 -- the lists beside the nodes have each node's depth and its children
 pub record IsKept (t : Nodes) (ds : List ℕ) (cs : List (List ℕ)) : Type 0 where
   pub tree : IsTree t
+  -- what stands for the parent of the plan
+  pub plan : slice_index_or t.parents 0 0 ≡ 0
   pub depths_len : length ds ≡ size t
   pub children_len : length cs ≡ size t
   pub depths : (n : ℕ) → n < size t → slice_index_or ds n 0 ≡ depth_of t n

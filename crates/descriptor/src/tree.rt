@@ -1,6 +1,6 @@
 //! A tree of nodes.
 
-ghost use Rattle.std.specs.Prelude.{◌≡◌, ℕ, ◌<◌, ◌≤◌, ◌-◌, ◌↔◌, length, IsTrue, None, Some, OnOk, OnErr, IfSome, IfOk, IsNone};
+ghost use Rattle.std.specs.Prelude.{◌≡◌, ℕ, ◌<◌, ◌≤◌, ◌-◌, ◌↔◌, length, IsTrue, None, Some, OnOk, OnErr, IfSome, IfOk, IsNone, All, true};
 
 use crate::body_id::BodyId;
 use crate::kind::Kind;
@@ -245,6 +245,41 @@ impl Tree {
         Ok(tree)
     }
 
+    /// The same as `pruned`, without a copy where every node is kept.
+    pub fn into_pruned(self, alloc: Global, keep: &[bool]) -> Result<Tree, AllocError>
+        requires one_each { length keep.now ≡ size self }
+        requires closed { IsClosed self keep.now }
+        ensures same { IfOk result (λ tree. tree ≡ pruned self keep.now) }
+        ensures kept { IfOk result (λ tree. KeepsNodes self keep.now tree) }
+        ensures tree { IfOk result (λ tree. IsTree tree) }
+        ensures children { IfOk result (λ tree. (n : ℕ) → ListsChildren tree n) }
+    {
+        if self.keeps_all(keep) {
+            return Ok(self);
+        }
+        self.pruned(alloc, keep)
+    }
+
+    /// Whether every node is kept; the tree of the kept nodes is then this one.
+    fn keeps_all(&self, keep: &[bool]) -> bool
+        requires { length keep.now ≡ size self.now }
+        ensures all { IsTrue result ↔ All (λ kept. kept ≡ true) keep.now }
+        ensures same { IsTrue result → pruned self.now keep.now ≡ self.now }
+        ensures tree { IsTree self.now }
+    {
+        // nothing else than the plan's own number stands for its parent
+        let _ = &self.parents;
+        are_all(keep)
+    }
+
+    /// The same tree, in memory of its own.
+    pub fn copy(&self, alloc: Global) -> Result<Tree, AllocError>
+        ensures { IfOk result (λ tree. tree ≡ self.now) }
+    {
+        let all = vec![in alloc; true; self.parents.len()]?;
+        self.pruned(alloc, all.as_slice())
+    }
+
     /// The tree of the plan alone.
     pub(crate) fn new(alloc: Global) -> Result<Tree, AllocError>
         ensures { IfOk result (λ t. t ≡ plan_alone) }
@@ -311,4 +346,11 @@ impl Tree {
     {
         self.depths[node.index()]
     }
+}
+
+/// Whether each of these is so.
+fn are_all(values: &[bool]) -> bool
+    ensures { IsTrue result ↔ All (λ value. value ≡ true) values.now }
+{
+    values.iter().all(|value| *value)
 }

@@ -50,7 +50,7 @@ fn suite_report(alloc: Global, options: &Options, suite: Suite) -> Result<Report
     ensures report { IfOk result (λ report. IsSuiteOutput (asked_by options.now) (suite_parts suite) (string_bytes report.text) report.status) }
     ensures refused { IfErr result (λ fault. FailsSuite (asked_by options.now) (suite_parts suite) fault) }
 {
-    let tree = discover(alloc, &suite.tree, &options.request)?;
+    let tree = discover(alloc, suite.tree, &options.request)?;
     let answers = answers_of(alloc, suite.scripts)?;
     let plan = Plan::plain(tree);
     Ok(report_of(alloc, options, &plan, &answers)?)

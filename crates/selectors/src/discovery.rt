@@ -20,21 +20,22 @@ use descriptor::Tree;
 use std::alloc::Global;
 
 /// The tree of the tests that the request selects and of what they are below, its nodes numbered
-/// anew, in their order and with their bodies.
+/// anew, in their order and with their bodies. Where all nodes are that, it is the same tree, and
+/// nothing is copied.
 ///
 /// Errors: refusal 41 for the first selector that covers no node, and else want of memory.
-pub fn discover(alloc: Global, tree: &Tree, request: &Request) -> Result<Tree, SelectFault>
-    ensures ok { IfOk result (λ found. found ≡ answer tree.now request.now) }
+pub fn discover(alloc: Global, tree: Tree, request: &Request) -> Result<Tree, SelectFault>
+    ensures ok { IfOk result (λ found. found ≡ answer tree request.now) }
     ensures tree { IfOk result (λ found. IsTree found) }
     ensures children { IfOk result (λ found. (n : ℕ) → ListsChildren found n) }
-    ensures accepted { IfOk result (λ _. refusal tree.now request.now ≡ None) }
-    ensures refused { IfErr result (λ fault. fault ≢ SelectFault.NoMemory → refusal tree.now request.now ≡ Some fault) }
-    ensures no_memory { IfErr result (λ fault. fault ≡ SelectFault.NoMemory → refusal tree.now request.now ≡ None) }
+    ensures accepted { IfOk result (λ _. refusal tree request.now ≡ None) }
+    ensures refused { IfErr result (λ fault. fault ≢ SelectFault.NoMemory → refusal tree request.now ≡ Some fault) }
+    ensures no_memory { IfErr result (λ fault. fault ≡ SelectFault.NoMemory → refusal tree request.now ≡ None) }
     // What covering, class names, tags and staying come to.
-    ensures covered { (selector : Selector) (n : ℕ) → n < size tree.now → (covers tree.now selector n ≡ true) ↔ Covers tree.now selector n }
-    ensures class_names { (n : ℕ) → 0 < n → n < size tree.now → class_name tree.now n ≡ name_below (class_name tree.now (parent_of tree.now n)) (last_segment tree.now n) }
-    ensures tags { (tag : List ℕ) (n : ℕ) → n < size tree.now → (has_tag (tags_together tree.now n) tag ≡ true) ↔ IsTagged tree.now tag n }
-    ensures stays { (n : ℕ) → n < size tree.now → (stays tree.now (is_selected tree.now request.now) n ≡ true) ↔ ((n ≡ 0) ⊎ HasSelected tree.now (is_selected tree.now request.now) n) }
+    ensures covered { (selector : Selector) (n : ℕ) → n < size tree → (covers tree selector n ≡ true) ↔ Covers tree selector n }
+    ensures class_names { (n : ℕ) → 0 < n → n < size tree → class_name tree n ≡ name_below (class_name tree (parent_of tree n)) (last_segment tree n) }
+    ensures tags { (tag : List ℕ) (n : ℕ) → n < size tree → (has_tag (tags_together tree n) tag ≡ true) ↔ IsTagged tree tag n }
+    ensures stays { (n : ℕ) → n < size tree → (stays tree (is_selected tree request.now) n ≡ true) ↔ ((n ≡ 0) ⊎ HasSelected tree (is_selected tree request.now) n) }
 {
     // the contract of `len` tells that it is a tree
     let _ = tree.len();
@@ -42,20 +43,20 @@ pub fn discover(alloc: Global, tree: &Tree, request: &Request) -> Result<Tree, S
 }
 
 /// What the request finds in a tree.
-fn found(alloc: Global, tree: &Tree, request: &Request) -> Result<Tree, SelectFault>
-    requires { IsTree tree.now }
-    ensures ok { IfOk result (λ found. found ≡ answer tree.now request.now) }
+fn found(alloc: Global, tree: Tree, request: &Request) -> Result<Tree, SelectFault>
+    requires { IsTree tree }
+    ensures ok { IfOk result (λ found. found ≡ answer tree request.now) }
     ensures tree { IfOk result (λ found. IsTree found) }
     ensures children { IfOk result (λ found. (n : ℕ) → ListsChildren found n) }
-    ensures accepted { IfOk result (λ _. refusal tree.now request.now ≡ None) }
-    ensures refused { IfErr result (λ fault. fault ≢ SelectFault.NoMemory → refusal tree.now request.now ≡ Some fault) }
-    ensures no_memory { IfErr result (λ fault. fault ≡ SelectFault.NoMemory → refusal tree.now request.now ≡ None) }
+    ensures accepted { IfOk result (λ _. refusal tree request.now ≡ None) }
+    ensures refused { IfErr result (λ fault. fault ≢ SelectFault.NoMemory → refusal tree request.now ≡ Some fault) }
+    ensures no_memory { IfErr result (λ fault. fault ≡ SelectFault.NoMemory → refusal tree request.now ≡ None) }
 {
-    if let Some(number) = first_unmatched(tree, request.selectors.as_slice()) {
+    if let Some(number) = first_unmatched(&tree, request.selectors.as_slice()) {
         return Err(SelectFault::NothingMatches(number));
     }
-    let selected = selected(alloc, tree, request)?;
-    let keep = kept(tree, selected);
-    let found = tree.pruned(alloc, keep.as_slice())?;
+    let selected = selected(alloc, &tree, request)?;
+    let keep = kept(&tree, selected);
+    let found = tree.into_pruned(alloc, keep.as_slice())?;
     Ok(found)
 }

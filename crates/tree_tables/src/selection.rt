@@ -57,7 +57,7 @@ pub(crate) fn found(alloc: Global, tree: &Tree, words: &str) -> Result<String, A
             return String::from_str(alloc, " => no request");
         }
     }
-    match discover(alloc, tree, &request) {
+    match discover(alloc, tree.copy(alloc)?, &request) {
         Ok(found) => names(alloc, &found),
         Err(fault) => {
             let place = fault.place().unwrap_or(0);

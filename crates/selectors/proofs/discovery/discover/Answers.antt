@@ -5,13 +5,13 @@ use Rattle.selectors.proofs.ClassName.{class_name_up}
 use Rattle.selectors.proofs.discovery.discover.Goals as goal
 
 pub returns-clause-covered : goal.returns-clause-covered
-returns-clause-covered c = λ selector n inside. covers_is c.args.tree.now c.len.ensures.tree selector n inside
+returns-clause-covered c = λ selector n inside. covers_is c.args.tree c.len.ensures.tree selector n inside
 
 pub returns-clause-class_names : goal.returns-clause-class_names
-returns-clause-class_names c = λ n above inside. class_name_up c.args.tree.now c.len.ensures.tree n above inside
+returns-clause-class_names c = λ n above inside. class_name_up c.args.tree c.len.ensures.tree n above inside
 
 pub returns-clause-tags : goal.returns-clause-tags
-returns-clause-tags c = λ tag n inside. tagged_is c.args.tree.now c.len.ensures.tree tag n inside
+returns-clause-tags c = λ tag n inside. tagged_is c.args.tree c.len.ensures.tree tag n inside
 
 pub returns-clause-stays : goal.returns-clause-stays
-returns-clause-stays c = λ n inside. stays_is c.args.tree.now c.len.ensures.tree (is_selected c.args.tree.now c.args.request.now) n
+returns-clause-stays c = λ n inside. stays_is c.args.tree c.len.ensures.tree (is_selected c.args.tree c.args.request.now) n

@@ -7,19 +7,19 @@ use Rattle.selectors.proofs.Answer.{closed, kept_of, len_is}
 use Rattle.selectors.proofs.discovery.found.Goals as goal
 
 pub kept-keep-requires-clause-len : goal.kept-keep-requires-clause-len
-kept-keep-requires-clause-len c = len_is c.args.tree.now (is_selected c.args.tree.now c.args.request.now) c.in_ok-selected.selected.items c.in_ok-selected.ensures
+kept-keep-requires-clause-len c = len_is c.args.tree (is_selected c.args.tree c.args.request.now) c.in_ok-selected.selected.items c.in_ok-selected.ensures
 
-pub pruned-requires-clause-one_each : goal.pruned-requires-clause-one_each
-pruned-requires-clause-one_each c =
-    let q = is_selected c.args.tree.now c.args.request.now in
-    len_is c.args.tree.now (stays c.args.tree.now q) c.as_slice-2.result.now (c.as_slice-2.ensures.value ∙ kept_of c.args.tree.now q c.in_ok-selected.selected.items c.kept-keep.result.items c.in_ok-selected.ensures c.kept-keep.ensures)
+pub into_pruned-requires-clause-one_each : goal.into_pruned-requires-clause-one_each
+into_pruned-requires-clause-one_each c =
+    let q = is_selected c.args.tree c.args.request.now in
+    len_is c.args.tree (stays c.args.tree q) c.as_slice-2.result.now (c.as_slice-2.ensures.value ∙ kept_of c.args.tree q c.in_ok-selected.selected.items c.kept-keep.result.items c.in_ok-selected.ensures c.kept-keep.ensures)
 
-pub pruned-requires-clause-closed : goal.pruned-requires-clause-closed
-pruned-requires-clause-closed c =
-    let q = is_selected c.args.tree.now c.args.request.now in
-    closed c.args.tree.now c.requires q c.as_slice-2.result.now (c.as_slice-2.ensures.value ∙ kept_of c.args.tree.now q c.in_ok-selected.selected.items c.kept-keep.result.items c.in_ok-selected.ensures c.kept-keep.ensures)
+pub into_pruned-requires-clause-closed : goal.into_pruned-requires-clause-closed
+into_pruned-requires-clause-closed c =
+    let q = is_selected c.args.tree c.args.request.now in
+    closed c.args.tree c.requires q c.as_slice-2.result.now (c.as_slice-2.ensures.value ∙ kept_of c.args.tree q c.in_ok-selected.selected.items c.kept-keep.result.items c.in_ok-selected.ensures c.kept-keep.ensures)
 
 pub returns-clause-ok : goal.returns-clause-ok
 returns-clause-ok c =
-    let q = is_selected c.args.tree.now c.args.request.now in
-    c.in_ok-found.ensures.same ∙ ap (pruned c.args.tree.now) (c.as_slice-2.ensures.value ∙ kept_of c.args.tree.now q c.in_ok-selected.selected.items c.kept-keep.result.items c.in_ok-selected.ensures c.kept-keep.ensures)
+    let q = is_selected c.args.tree c.args.request.now in
+    c.in_ok-found.ensures.same ∙ ap (pruned c.args.tree) (c.as_slice-2.ensures.value ∙ kept_of c.args.tree q c.in_ok-selected.selected.items c.kept-keep.result.items c.in_ok-selected.ensures c.kept-keep.ensures)
