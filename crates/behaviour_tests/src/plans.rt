@@ -10,7 +10,7 @@ use unique_id::{Text, UniqueId};
 
 /// The plan of the suite of a text.
 pub(crate) fn plan_of(alloc: Global, text: &str) -> Result<Plan, Fail> {
-    Ok(Plan::plain(Suite::parse(alloc, text)?.tree))
+    Ok(Plan::plain(alloc, Suite::parse(alloc, text)?.tree)?)
 }
 
 /// A node of this id, which has no body.
@@ -26,7 +26,7 @@ pub(crate) fn plan_of_one(alloc: Global, name: &str, kind: Kind) -> Result<Plan,
     if builder.may_take(NodeId::ROOT) {
         builder.add(alloc, NodeId::ROOT, node)?;
     }
-    Ok(Plan::plain(builder.finish()))
+    Ok(Plan::plain(alloc, builder.finish())?)
 }
 
 /// The event of this kind, by worker 1.

@@ -3,7 +3,7 @@ use Rattle.std.specs.Prelude.{◌≡◌, ℕ, ◌<◌, ◌≤◌, List, length, 
 use Rattle.std.specs.Io.KnownBytes.{Appends, Consumes, IsAtEnd}
 use Rattle.descriptor.specs.Nodes.{Nodes}
 use Rattle.plan_events.specs.declared.outcome.Reply.{Reply}
-use Rattle.resource_locks.specs.Plans.{PlanParts}
+use Rattle.resource_locks.specs.Plans.{PlanParts, plain}
 use Rattle.launcher.specs.declared.exit_status.ExitStatus.{ExitStatus}
 use Rattle.launcher.specs.declared.fault.LaunchFault.{LaunchFault}
 use Rattle.launcher.specs.declared.fault.LaunchFault.TheVariants.{NoMemory, Suite, BadWords, BadStep, BadSelector, BadTags, NothingMatches, Reading, Writing}
@@ -19,7 +19,7 @@ use Rattle.launcher.specs.Reports.{IsOutput}
 
 -- the plan of a tree
 abbrev pub plan_of : Nodes → PlanParts
-plan_of tree = record { tree = tree }
+plan_of tree = plain tree
 
 -- what its bodies answer
 abbrev pub answers_of : List Script → List (ℕ × Reply)

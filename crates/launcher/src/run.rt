@@ -52,7 +52,7 @@ fn suite_report(alloc: Global, options: &Options, suite: Suite) -> Result<Report
 {
     let tree = discover(alloc, suite.tree, &options.request)?;
     let answers = answers_of(alloc, suite.scripts)?;
-    let plan = Plan::plain(tree);
+    let plan = Plan::plain(alloc, tree)?;
     Ok(report_of(alloc, options, &plan, &answers)?)
 }
 

@@ -1,4 +1,5 @@
 -- The lemmas.
+pub mod Plans
 pub mod Wants
 pub mod SetLaws
 pub mod Places

@@ -1,5 +1,6 @@
 -- The definitions that contracts cite.
 pub mod Plans
+pub mod PlanFields
 pub mod Wants
 pub mod LockSets
 pub mod Conflicts

@@ -1,11 +1,64 @@
 -- Plans as contracts see them.
-use Rattle.std.specs.Prelude.{ℕ, ◌*◌}
-use Rattle.descriptor.specs.Nodes.{Nodes, size}
+use Rattle.std.specs.Prelude.{◌≡◌, ℕ, ◌+◌, ◌*◌, ◌<◌, ◌≤◌, Bool, false, List, [], length, map, replicate, slice_index_or}
+use Rattle.std.specs.List.{position_or_len}
+use Rattle.std.specs.Str.{bytes_eq}
+use Rattle.descriptor.specs.Nodes.{Nodes, IsTree, size, count_below, is_spare_at}
+use Rattle.descriptor.specs.declared.lock.Lock.{Lock}
+use Rattle.descriptor.specs.declared.lock_mode.LockMode.{LockMode}
+use Rattle.descriptor.specs.declared.mode.Mode.{Mode}
+use Rattle.descriptor.specs.declared.mode.Mode.TheVariants.{SameThread, Concurrent}
+use Rattle.resource_locks.specs.Wants.{HasLock}
 
--- what a plan has of a tree
+-- a tree, how each node is executed, and which locks it holds meanwhile
 pub record PlanParts : Type 0 where
   pub tree : Nodes
+  pub modes : List Mode
+  pub held : List (List Lock)
+  -- the keys that are held, at least; the number of a key is its place here
+  pub keys : List (List ℕ)
+  -- whether nothing more is to start once a node has failed
+  pub fail_fast : Bool
 
--- the greatest number of events: two for each node, the plan's included
+-- the execution mode of node n
+abbrev pub mode_of : PlanParts → ℕ → Mode
+mode_of p n = slice_index_or p.modes n SameThread
+
+-- the set of locks that node n holds
+abbrev pub held_of : PlanParts → ℕ → List Lock
+held_of p n = slice_index_or p.held n []
+
+-- the number of a key among others
+abbrev pub number_of : List (List ℕ) → List ℕ → ℕ
+number_of keys key = position_or_len (bytes_eq key) keys
+
+-- the numbers of the keys of a set of locks
+abbrev pub numbers_of : List (List ℕ) → List Lock → List ℕ
+numbers_of keys locks = map (λ lock. number_of keys lock.key) locks
+
+-- the number of the key at a place of the set that node n holds
+abbrev pub key_number : PlanParts → ℕ → ℕ → ℕ
+key_number p n place = slice_index_or (numbers_of p.keys (held_of p n)) place 0
+
+-- the greatest number of events: two for each node, the plan's included, and one more for each spare
 abbrev pub most_events : PlanParts → ℕ
-most_events p = 2 * size p.tree
+most_events p = 2 * size p.tree + count_below (is_spare_at p.tree) (size p.tree)
+
+-- what is told of a plan's nodes fits together
+pub record IsPlan (p : PlanParts) : Type 0 where
+  pub tree : IsTree p.tree
+  -- each node has a mode, and a set of locks
+  pub modes_len : length p.modes ≡ size p.tree
+  pub held_len : length p.held ≡ size p.tree
+  -- at most 256 keys, and each that is held is one of them
+  pub few : length p.keys ≤ 256
+  pub numbered : (n : ℕ) (key : List ℕ) (mode : LockMode) → HasLock (held_of p n) key mode → number_of p.keys key < length p.keys
+
+-- the plan of a tree whose nodes may all run side by side
+abbrev pub plain : Nodes → PlanParts
+plain t = record {
+  tree = t;
+  modes = replicate (size t) Concurrent;
+  held = replicate (size t) [];
+  keys = [];
+  fail_fast = false;
+}

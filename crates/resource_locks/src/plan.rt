@@ -1,52 +1,191 @@
 //! Plans.
 
-ghost use Rattle.std.specs.Prelude.{◌≡◌};
+ghost use Rattle.std.specs.Prelude.{◌≡◌, ◌<◌, ◌≤◌, IfOk, length, map};
 
-use descriptor::Tree;
+use crate::lock_set::LockSet;
+use descriptor::{Mode, NodeId, Role, Tree};
+use std::alloc::{AllocError, Global};
 use std::marker::Model;
+use unique_id::Text;
 
-/// A tree that is to be executed. Node 0 is the plan itself.
+/// A tree that is to be executed, the execution mode of each node, and the locks that it holds
+/// while it runs. Node 0 is the plan itself.
 #[derive(Drop)]
 pub struct Plan {
     tree: Tree,
+    // one place for each node
+    modes: Vec<Mode>,
+    held: Vec<LockSet>,
+    keys: Vec<Text>,
+    // for each node the numbers of the keys that it holds, in the order of its set
+    numbers: Vec<Vec<u8>>,
+    fail_fast: bool,
 }
 
 impl Model for Plan {
-    ghost use Rattle.descriptor.specs.Nodes.{IsTree};
+    ghost use Rattle.std.specs.Prelude.{map};
+    ghost use Rattle.resource_locks.specs.PlanFields.{IsSound};
     ghost use Rattle.resource_locks.specs.Plans.{PlanParts};
 
     ghost Value = { PlanParts };
 
-    ghost view = { λ p. record { tree = p.tree } };
+    ghost view = { λ p. record { tree = p.tree; modes = p.modes.items; held = p.held.items; keys = p.keys.items; fail_fast = p.fail_fast } };
 
-    ghost invariant = { λ p. IsTree p.tree };
+    ghost invariant = { λ p. IsSound (record { tree = p.tree; modes = p.modes.items; held = p.held.items; keys = p.keys.items; fail_fast = p.fail_fast }) (map (λ v. v.items) p.numbers.items) };
 }
 
 impl Plan {
-    ghost use Rattle.descriptor.specs.Nodes.{IsTree};
-    ghost use Rattle.resource_locks.specs.Plans.{most_events};
+    ghost use Rattle.descriptor.specs.Nodes.{IsTree, size, count_below, is_spare_at};
+    ghost use Rattle.resource_locks.specs.Plans.{IsPlan, plain, mode_of, held_of, key_number, most_events};
 
-    /// The plan of a tree whose nodes hold nothing.
-    pub fn plain(tree: Tree) -> Plan
-        ensures { result.tree ≡ tree }
+    /// The plan of a tree whose nodes hold nothing and may all run side by side.
+    pub fn plain(alloc: Global, tree: Tree) -> Result<Plan, AllocError>
+        ensures { IfOk result (λ plan. plan ≡ plain tree) }
     {
-        // A call on the tree is what tells that its nodes are a tree's.
-        let _nodes = tree.len();
-        Plan { tree }
+        let modes = vec![in alloc; Mode::Concurrent; tree.len()]?;
+        let mut held = Vec::new(alloc);
+        let mut numbers = Vec::new(alloc);
+        for _node in 0..tree.len() {
+            held.push(LockSet::new(alloc))?;
+            numbers.push(Vec::new(alloc))?;
+        }
+        Ok(Plan {
+            tree,
+            modes,
+            held,
+            keys: Vec::new(alloc),
+            numbers,
+            fail_fast: false,
+        })
     }
 
     /// The tree that is to be executed.
     pub fn tree(&self) -> &Tree
         ensures same { result.now ≡ self.now.tree }
         ensures tree { IsTree self.now.tree }
+        ensures plan { IsPlan self.now }
     {
         &self.tree
     }
 
-    /// The greatest number of events of an execution: two for each node, the plan's included.
+    /// The execution mode of a node.
+    pub fn mode(&self, node: NodeId) -> Mode
+        requires { node < size self.now.tree }
+        ensures { result ≡ mode_of self.now node }
+    {
+        self.modes[node.index()]
+    }
+
+    /// The locks that a node holds while it runs.
+    pub fn held(&self, node: NodeId) -> &LockSet
+        requires { node < size self.now.tree }
+        ensures { result.now ≡ held_of self.now node }
+    {
+        &self.held[node.index()]
+    }
+
+    /// How many keys are held at most; the numbers of keys are below it.
+    pub fn keys(&self) -> usize
+        ensures { result ≡ length self.now.keys }
+    {
+        self.keys.len()
+    }
+
+    /// The number of the key at a place, counted from 0, of the set that a node holds.
+    pub fn key_number(&self, node: NodeId, place: usize) -> usize
+        requires node { node < size self.now.tree }
+        requires place { place < length (held_of self.now node) }
+        ensures value { result ≡ key_number self.now node place }
+        ensures inside { result < length self.now.keys }
+    {
+        usize::from(self.numbers[node.index()][place])
+    }
+
+    /// Whether nothing more is to start once a node has failed.
+    pub fn fail_fast(&self) -> bool
+        ensures { result ≡ self.now.fail_fast }
+    {
+        self.fail_fast
+    }
+
+    /// The same plan, but for whether nothing more is to start once a node has failed.
+    pub fn with_fail_fast(self, fail_fast: bool) -> Plan
+        ensures { result ≡ record self { fail_fast = fail_fast } }
+    {
+        let mut plan = self;
+        plan.fail_fast = fail_fast;
+        plan
+    }
+
+    /// The greatest number of events of an execution: two for each node, the plan's included, and
+    /// one more for each spare, which is registered.
     pub fn most_events(&self) -> usize
         ensures { result ≡ most_events self.now }
     {
-        2 * self.tree.len()
+        2 * self.tree.len() + self.spares()
     }
+
+    fn spares(&self) -> usize
+        ensures few { result ≤ size self.now.tree }
+        ensures count { result ≡ count_below (is_spare_at self.now.tree) (size self.now.tree) }
+    {
+        let mut spares = 0;
+        for node in 0..self.tree.len() {
+            if self.tree.role(NodeId::new(node as u16)).is_spare() {
+                spares += 1;
+            }
+        }
+        spares
+    }
+
+    /// The same plan, in memory of its own.
+    pub fn copy(&self, alloc: Global) -> Result<Plan, AllocError>
+        ensures { IfOk result (λ plan. plan ≡ self.now) }
+    {
+        let mut modes = Vec::new(alloc);
+        modes.extend_from_slice(&self.modes)?;
+        Ok(Plan {
+            tree: self.tree.copy(alloc)?,
+            modes,
+            held: copied_sets(alloc, &self.held)?,
+            keys: copied_texts(alloc, &self.keys)?,
+            numbers: copied_numbers(alloc, &self.numbers)?,
+            fail_fast: self.fail_fast,
+        })
+    }
+}
+
+/// The same sets, in memory of their own.
+fn copied_sets(alloc: Global, sets: &[LockSet]) -> Result<Vec<LockSet>, AllocError>
+    ensures { IfOk result (λ copies. copies.items ≡ sets.now) }
+{
+    let mut copies = Vec::new(alloc);
+    for set in sets {
+        copies.push(set.copy(alloc)?)?;
+    }
+    Ok(copies)
+}
+
+/// The same texts, in memory of their own.
+fn copied_texts(alloc: Global, texts: &[Text]) -> Result<Vec<Text>, AllocError>
+    ensures { IfOk result (λ copies. copies.items ≡ texts.now) }
+{
+    let mut copies = Vec::new(alloc);
+    for text in texts {
+        copies.push(text.copy(alloc)?)?;
+    }
+    Ok(copies)
+}
+
+/// The same numbers, in memory of their own.
+fn copied_numbers(alloc: Global, lists: &[Vec<u8>]) -> Result<Vec<Vec<u8>>, AllocError>
+    ensures { IfOk result (λ copies. map (λ v. v.items) copies.items ≡ map (λ v. v.items) lists.now) }
+{
+    let mut copies = Vec::new(alloc);
+    for list in lists {
+        let mut copy = Vec::new(alloc);
+        copy.extend_from_slice(list)?;
+        copies.push(copy)?;
+    }
+    Ok(copies)
 }

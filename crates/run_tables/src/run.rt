@@ -23,7 +23,7 @@ impl Run {
             }
         }
         Ok(Run {
-            plan: Plan::plain(suite.tree),
+            plan: Plan::plain(alloc, suite.tree)?,
             answers: Answers::of(replies),
         })
     }

@@ -2,7 +2,7 @@
 use Rattle.std.proofs.Common.{◌≡◌, ℕ, zero, suc, ◌+◌, ◌<◌, ◌≤◌, Bool, true, false, ◌&&◌, List, [], length, replicate, Some, slice_get, slice_set, slice_index_or, refl, sym, ap, ◌∙◌, subst, arith, inl, inr, length-set}
 use Rattle.std.proofs.lemmas.List.{length-replicate, get_or-replicate}
 use Rattle.std.proofs.lemmas.Bool.{both_ways}
-use Rattle.descriptor.specs.Nodes.{size, children_of, IsTree, is_child}
+use Rattle.descriptor.specs.Nodes.{Nodes, size, children_of, IsTree, is_child}
 use Rattle.descriptor.proofs.Children.{children_counted}
 use Rattle.descriptor.proofs.Grown.{length_more, get_before, get_last, below_or_last}
 use Rattle.plan_events.specs.declared.outcome.Reply.{Reply}
@@ -26,17 +26,17 @@ get_replicate (suc n) x y zero q = cc
 get_replicate (suc n) x y (suc i) q = get_replicate n x y i q
 
 -- The counters: one for each number, by which a loop that pushes them goes on
-pub counters_length : (p : PlanParts) (n : ℕ) → length (counters_upto p n) ≡ n
-counters_length p zero = refl
-counters_length p (suc n) = length_more (counters_upto p n) (length (children_of p.tree n) + 1) ∙ ap suc (counters_length p n)
+pub counters_length : (t : Nodes) (n : ℕ) → length (counters_upto t n) ≡ n
+counters_length t zero = refl
+counters_length t (suc n) = length_more (counters_upto t n) (length (children_of t n) + 1) ∙ ap suc (counters_length t n)
 
-pub counters_element : (p : PlanParts) (m n : ℕ) → n < m → slice_index_or (counters_upto p m) n 0 ≡ length (children_of p.tree n) + 1
-counters_element p zero n lt = absurd (omega arith)
-counters_element p (suc m) n lt =
-    let len = counters_length p m in
+pub counters_element : (t : Nodes) (m n : ℕ) → n < m → slice_index_or (counters_upto t m) n 0 ≡ length (children_of t n) + 1
+counters_element t zero n lt = absurd (omega arith)
+counters_element t (suc m) n lt =
+    let len = counters_length t m in
     elim (below_or_last n m lt) [
-      | inl before ↦ get_before (counters_upto p m) (length (children_of p.tree m) + 1) 0 n (omega (arith, before, len)) ∙ counters_element p m n before
-      | inr last ↦ get_last (counters_upto p m) (length (children_of p.tree m) + 1) 0 n (last ∙ sym len) ∙ ap (λ (k : ℕ). length (children_of p.tree k) + 1) (sym last)
+      | inl before ↦ get_before (counters_upto t m) (length (children_of t m) + 1) 0 n (omega (arith, before, len)) ∙ counters_element t m n before
+      | inr last ↦ get_last (counters_upto t m) (length (children_of t m) + 1) 0 n (last ∙ sym len) ∙ ap (λ (k : ℕ). length (children_of t k) + 1) (sym last)
     ]
 
 -- nobody is counted off, so all children are pending
@@ -116,10 +116,10 @@ opening_keeps p replies tree workers few =
         workers_few = omega (arith, tasks_len, few);
         mine_len = length-replicate workers [] ∙ sym tasks_len;
         statuses_len = length-set (replicate (size p.tree) Hidden) 0 Ready ∙ len;
-        counters_len = counters_length p (size p.tree);
+        counters_len = counters_length p.tree (size p.tree);
         shown_len = refl;
         statuses = first_statuses (size p.tree);
-        counters = λ n lt _. (let a = counters_element p (size p.tree) n lt in let b = all_pending p n in let c = first_guard n in omega (arith, a, b, c));
+        counters = λ n lt _. (let a = counters_element p.tree (size p.tree) n lt in let b = all_pending p n in let c = first_guard n in omega (arith, a, b, c));
         tasks = λ w t q. subst (TaskOk p replies first_stage w) (get_replicate workers Free t w q) tt;
         holders = λ n w c t how lt q. absurd (nobody_at n w c t how q);
         seen = λ q. cc;

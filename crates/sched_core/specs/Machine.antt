@@ -1,6 +1,6 @@
 -- The state of the core, and what each step makes of it: one definition for each kind of step.
 use Rattle.std.specs.Prelude.{ℕ, zero, suc, ◌+◌, ◌-◌, Bool, true, false, ◌==◌, nat_lt, if◌then◌else◌, List, [], ◌∷◌, ◌++◌, length, take, Option, Some, None, slice_get, slice_set, slice_index_or, option_and_then, replicate}
-use Rattle.descriptor.specs.Nodes.{size, parent_of, children_of, is_leaf_at, is_disabled}
+use Rattle.descriptor.specs.Nodes.{Nodes, size, parent_of, children_of, is_leaf_at, is_disabled}
 use Rattle.plan_events.specs.declared.event.EventKind.{EventKind}
 use Rattle.plan_events.specs.declared.event.EventKind.TheVariants.{Started, Finished, Skipped, Registered}
 use Rattle.plan_events.specs.declared.status.Status.{Status}
@@ -194,15 +194,15 @@ after p answers s (Worker worker a) = worker_step p answers s worker a
 after p answers s Read = read_row s
 
 -- the counters of the nodes below this number: one for the node's own guard, and one for each child
-abbrev pub counters_upto : PlanParts → ℕ → List ℕ
-counters_upto p zero = []
-counters_upto p (suc n) = counters_upto p n ++ (length (children_of p.tree n) + 1) ∷ []
+abbrev pub counters_upto : Nodes → ℕ → List ℕ
+counters_upto t zero = []
+counters_upto t (suc n) = counters_upto t n ++ (length (children_of t n) + 1) ∷ []
 
 -- the opening state: node 0 is offered, each counter has the node's guard and its children
 abbrev pub opening : PlanParts → ℕ → State
 opening p workers = record {
   statuses = slice_set (replicate (size p.tree) Hidden) 0 Ready;
-  counters = counters_upto p (size p.tree);
+  counters = counters_upto p.tree (size p.tree);
   tasks = replicate workers Free;
   published = [];
   mine = replicate workers [];

@@ -35,7 +35,7 @@ pub(crate) struct Machine {
 
 /// One for each node's own guard, and one for each of its children.
 fn counters_at_start(alloc: Global, tree: &Tree) -> Result<Vec<usize>, AllocError>
-    ensures { IfOk result (λ v. v.items ≡ counters_upto (record { tree = tree.now }) (size tree.now)) }
+    ensures { IfOk result (λ v. v.items ≡ counters_upto tree.now (size tree.now)) }
 {
     let mut counters = Vec::new(alloc);
     for index in 0..tree.len() {

@@ -15,7 +15,7 @@ returns-clause-opening c =
     let hidden = c.in_ok-statuses.ensures.items_if_clones_equal (λ y h. h) in
     let sized = c.len.ensures.len ∙ ap size c.tree.ensures.same in
     let statuses = ap (λ l. set l 0 Ready) (hidden ∙ ap (λ n. replicate n Hidden) sized) in
-    let counters = c.in_ok-counters_at_start.ensures ∙ ap (λ (t : Nodes). counters_upto (record { tree = t }) (size t)) c.tree-2.ensures.same in
+    let counters = c.in_ok-counters_at_start.ensures ∙ ap (λ (t : Nodes). counters_upto t (size t)) c.tree-2.ensures.same in
     let tasks = c.in_ok-vec.ensures.items_if_clones_equal (λ y h. h) in
     opening_is c.args.plan.now c.args.workers _ _ _ _ _
     statuses counters (tasks ∙ ap (λ n. replicate n Free) c.from.ensures) (grind (arith, common_steps)) (grind (arith, common_steps))

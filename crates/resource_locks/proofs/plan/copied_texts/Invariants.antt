@@ -1,0 +1,6 @@
+-- The loop has copied what it has passed.
+use Rattle.std.proofs.Common.{◌≡◌, take}
+use Rattle.resource_locks.proofs.plan.copied_texts.Given as goal
+
+abbrev pub invariant-loop-text : goal.invariant-loop-text
+invariant-loop-text l = l.copies.items ≡ take l.text-index l.texts
