@@ -9,7 +9,8 @@ use Rattle.descriptor.specs.declared.lock_mode.LockMode.TheVariants.{Read, ReadW
 use Rattle.descriptor.specs.declared.mode.Mode.{Mode}
 use Rattle.resource_locks.specs.Wants.{HasLock}
 use Rattle.resource_locks.specs.Declarations.{Declared, AtOrBelow, IsTop, IsLockTree, IsFirstToDeclare, IsToHold, isolated_all, global_read, first, global}
-use Rattle.resource_locks.specs.Hoisted.{Hoisting, IsHoisted, IsHeldFor, IsGuarded}
+use Rattle.resource_locks.specs.Hoisted.{IsHoisted, IsHeldFor, IsGuarded}
+use Rattle.resource_locks.specs.Plans.{PlanParts}
 use Rattle.resource_locks.specs.Held.{is_whole}
 use Rattle.resource_locks.proofs.Lines.{at_through, at_child, last_step}
 use Rattle.resource_locks.proofs.Holders.{whole_use, light_use}
@@ -66,7 +67,7 @@ module _ (told : Declared) (tree : IsLockTree told) where
             ]
           ]
 
-  module _ (given : ℕ → Mode) (h : Hoisting) (hoisted : IsHoisted told given h) where
+  module _ (given : ℕ → Mode) (h : PlanParts) (hoisted : IsHoisted told given h) where
     -- what a node is to hold, it holds
     holds_it : (x n : ℕ) (key : List ℕ) (mode : LockMode) → AtOrBelow told.tree x n → IsToHold told x key mode → IsHeldFor told h n key mode
     holds_it x n key ReadWrite above to = record { node = x; above = above; held_mode = ReadWrite; holds = hoisted.writes x key to; writes = λ q. refl }

@@ -11,8 +11,9 @@ use Rattle.descriptor.specs.declared.mode.Mode.{Mode}
 use Rattle.descriptor.specs.declared.mode.Mode.TheVariants.{SameThread}
 use Rattle.resource_locks.specs.Wants.{mode_for, writes, HasLock}
 use Rattle.resource_locks.specs.Declarations.{Declared, AtOrBelow, IsTop, IsLockTree, HasIsolated, IsFirstToDeclare, IsToHold, isolated_all, global_read, first, global}
-use Rattle.resource_locks.specs.Hoisted.{Hoisting, held_of, mode_of, IsHoisted}
-use Rattle.resource_locks.specs.Held.{top_of, is_whole, is_top, holder_of, own, held, writer_step, writer_at, is_forced, hoisted_mode, hoisting_of}
+use Rattle.resource_locks.specs.Hoisted.{IsHoisted}
+use Rattle.resource_locks.specs.Plans.{PlanParts, held_of, mode_of}
+use Rattle.resource_locks.specs.Held.{top_of, is_whole, is_top, holder_of, own, held, writer_step, writer_at, is_forced, hoisted_mode, plan_by}
 use Rattle.resource_locks.proofs.Wants.{AtLeast, at_least_write, at_least_read, has_wanted, first_or_later, writes_use, writes_from}
 use Rattle.resource_locks.proofs.SetLaws.{wants_exactly, one_mode}
 use Rattle.resource_locks.proofs.Lines.{at_through, at_child, last_step}
@@ -27,8 +28,8 @@ only_lock l key mode h = elim (first_or_later l [] key mode h) [ inl e ↦ e | i
 
 module _ (told : Declared) (given : List Mode) (tree : IsLockTree told) where
   -- what the walk gives
-  abbrev the_hoisting : Hoisting
-  the_hoisting = hoisting_of told given
+  abbrev the_hoisting : PlanParts
+  the_hoisting = plan_by told given
 
   held_is : (n : ℕ) → n < size told.tree → held_of the_hoisting n ≡ held told n
   held_is n inside = table_at (held told) [] (size told.tree) n inside
@@ -221,7 +222,7 @@ module _ (told : Declared) (given : List Mode) (tree : IsLockTree told) where
       ]
 
   -- What the walk gives is hoisted.
-  pub hoisted : length given ≡ size told.tree → IsHoisted told (λ n. get_or given n SameThread) (hoisting_of told given)
+  pub hoisted : length given ≡ size told.tree → IsHoisted told (λ n. get_or given n SameThread) (plan_by told given)
   hoisted len = record {
     writes = λ n key h. (let r = wanted n key ReadWrite h in in_hoisting n key ReadWrite r.0 (has_wanted (held told n) key ReadWrite (at_least_write (mode_for key (held told n)) r.1)));
     reads = λ n key h. (let r = wanted n key Read h in let m = at_least_read (mode_for key (held told n)) r.1 in (m.0, in_hoisting n key m.0 r.0 (has_wanted (held told n) key m.0 m.1)));

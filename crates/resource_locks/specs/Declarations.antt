@@ -1,6 +1,6 @@
 -- What nodes declare, and which node is to hold it while it runs.
 use Rattle.std.specs.Prelude.{◌≡◌, ◌≢◌, ℕ, ◌<◌, Bool, true, List, [], codes, ◌⊎◌}
-use Rattle.descriptor.specs.Nodes.{Nodes, IsChild, Below, size, parent_of}
+use Rattle.descriptor.specs.Nodes.{Nodes, IsChild, Below, size, parent_of, locks_of, is_isolated_at}
 use Rattle.descriptor.specs.declared.lock.Lock.{Lock}
 use Rattle.descriptor.specs.declared.lock_mode.LockMode.{LockMode}
 use Rattle.descriptor.specs.declared.lock_mode.LockMode.TheVariants.{Read, ReadWrite}
@@ -11,6 +11,10 @@ pub record Declared : Type 0 where
   pub tree : Nodes
   pub locks : ℕ → List Lock
   pub isolated : ℕ → Bool
+
+-- what the nodes of a tree declare
+abbrev pub declared_of : Nodes → Declared
+declared_of t = record { tree = t; locks = locks_of t; isolated = is_isolated_at t }
 
 -- the key of which every node below an engine is a holder
 abbrev pub global : List ℕ

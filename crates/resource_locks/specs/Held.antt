@@ -8,8 +8,9 @@ use Rattle.descriptor.specs.declared.mode.Mode.{Mode}
 use Rattle.descriptor.specs.declared.mode.Mode.TheVariants.{SameThread}
 use Rattle.resource_locks.specs.Wants.{is_write, mode_for, writes}
 use Rattle.resource_locks.specs.LockSets.{join}
-use Rattle.resource_locks.specs.Declarations.{Declared, global}
-use Rattle.resource_locks.specs.Hoisted.{Hoisting}
+use Rattle.resource_locks.specs.Declarations.{Declared, declared_of, global}
+use Rattle.resource_locks.specs.Keys.{keys_of}
+use Rattle.resource_locks.specs.Plans.{PlanParts}
 
 -- The walk down: what each node has, by its number and by what its parent has. Node 0 begins with `start`.
 abbrev pub extend : {A : Type 0} → Nodes → (ℕ → A → A) → A → ℕ → List A → List A
@@ -103,9 +104,15 @@ is_forced d n = nat_lt 0 n && writer_at d (parent_of d.tree n)
 abbrev pub hoisted_mode : Declared → List Mode → ℕ → Mode
 hoisted_mode d given n = cond (is_forced d n) SameThread (slice_index_or given n SameThread)
 
--- the held sets and modes of nodes that declare this and were given these modes
-abbrev pub hoisting_of : Declared → List Mode → Hoisting
-hoisting_of d given = record {
-  held = table (held d) (size d.tree);
+-- the plan of a tree whose nodes were given these modes
+abbrev pub plan_by : Declared → List Mode → PlanParts
+plan_by d given = record {
+  tree = d.tree;
   modes = table (hoisted_mode d given) (size d.tree);
+  held = table (held d) (size d.tree);
+  keys = keys_of d;
+  fail_fast = false;
 }
+
+abbrev pub plan_of : Nodes → List Mode → PlanParts
+plan_of t given = plan_by (declared_of t) given

@@ -9,3 +9,4 @@ pub mod Declarations
 pub mod Hoisted
 pub mod Held
 pub mod Unions
+pub mod Keys

@@ -7,6 +7,8 @@ use Rattle.descriptor.specs.declared.lock.Lock.{Lock}
 use Rattle.descriptor.specs.declared.lock_mode.LockMode.{LockMode}
 use Rattle.descriptor.specs.declared.mode.Mode.{Mode}
 use Rattle.descriptor.specs.declared.mode.Mode.TheVariants.{SameThread, Concurrent}
+use Rattle.resource_locks.specs.declared.fault.PlanFault.{PlanFault}
+use Rattle.resource_locks.specs.declared.fault.PlanFault.TheVariants.{NoMemory, TooManyKeys}
 use Rattle.resource_locks.specs.Wants.{HasLock}
 
 -- a tree, how each node is executed, and which locks it holds meanwhile
@@ -62,3 +64,8 @@ plain t = record {
   keys = [];
   fail_fast = false;
 }
+
+-- the number of a refusal, and 0 for want of memory
+abbrev pub fault_number : PlanFault → ℕ
+fault_number NoMemory = 0
+fault_number TooManyKeys = 50

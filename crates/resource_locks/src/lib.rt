@@ -1,8 +1,11 @@
 //! What is to be executed, and what each node holds while it is.
 #![tactic(auto)]
 
+mod fault;
+mod keys;
 mod lock_set;
 mod plan;
 
+pub use fault::PlanFault;
 pub use lock_set::LockSet;
 pub use plan::Plan;
