@@ -15,7 +15,7 @@ use Rattle.resource_locks.specs.Held.{is_whole}
 use Rattle.resource_locks.proofs.Lines.{at_through, at_child, last_step}
 use Rattle.resource_locks.proofs.Holders.{whole_use, light_use}
 
-no_lock : (key : List ℕ) (mode : LockMode) (locks : List Lock) → HasLock locks key mode → locks ≢ []
+pub no_lock : (key : List ℕ) (mode : LockMode) (locks : List Lock) → HasLock locks key mode → locks ≢ []
 no_lock key mode locks l q = none-some (record { key = key; mode = mode }) (sym (ap (λ (x : List Lock). slice_get x l.0) q) ∙ l.1)
 
 empty_cases : (locks : List Lock) → (locks ≡ []) ⊎ (locks ≢ [])

@@ -15,4 +15,8 @@ pub mod Gathering
 pub mod Hoisted
 pub mod Turns
 pub mod Guarded
+pub mod LockTrees
+pub mod Numbered
+pub mod Forced
+pub mod Hoists
 pub mod Worked

@@ -1,7 +1,6 @@
 -- When declared locks are moved up to the nodes that are to hold them.
 use Rattle.std.specs.Prelude.{◌≡◌, ℕ, List}
 use Rattle.descriptor.specs.Nodes.{Below}
-use Rattle.descriptor.specs.declared.lock.Lock.{Lock}
 use Rattle.descriptor.specs.declared.lock_mode.LockMode.{LockMode}
 use Rattle.descriptor.specs.declared.lock_mode.LockMode.TheVariants.{Read, ReadWrite}
 use Rattle.descriptor.specs.declared.mode.Mode.{Mode}

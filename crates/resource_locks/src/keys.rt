@@ -1,11 +1,15 @@
 //! The keys of a plan and their numbers.
 
-ghost use Rattle.std.specs.Prelude.{◌≡◌, ◌<◌, ◌≤◌, IfOk, IfErr, OnOk, IfSome, IsNone, length};
-ghost use Rattle.resource_locks.specs.Declarations.{declared_of, global};
+ghost use Rattle.std.specs.Prelude.{◌≡◌, ◌<◌, ◌≤◌, ℕ, List, [], IfOk, IfErr, OnOk, IfSome, IsNone, length, map, slice_index_or};
+ghost use Rattle.descriptor.specs.Nodes.{IsTree};
+ghost use Rattle.resource_locks.specs.Declarations.{declared_of};
 ghost use Rattle.resource_locks.specs.Keys.{with_key, with_keys, keys_of};
-ghost use Rattle.resource_locks.specs.Plans.{number_of};
+ghost use Rattle.descriptor.specs.declared.lock_mode.LockMode.{LockMode as ModeValue};
+ghost use Rattle.resource_locks.specs.Plans.{number_of, numbers_of};
+ghost use Rattle.resource_locks.specs.Wants.{HasLock};
 
 use crate::fault::PlanFault;
+use crate::lock_set::LockSet;
 use descriptor::{Lock, NodeId, Tree};
 use indexmap::IndexSet;
 use std::alloc::{AllocError, Global};
@@ -38,6 +42,7 @@ impl Keys {
     /// The keys of the plan of a tree: the global one, and then those that its nodes declare.
     pub(crate) fn of(alloc: Global, tree: &Tree) -> Result<Keys, PlanFault>
         ensures keys { IfOk result (λ keys. keys ≡ keys_of (declared_of tree.now)) }
+        ensures tree { OnOk result (IsTree tree.now) }
         ensures refused { IfErr result (λ fault. fault ≡ PlanFault.TooManyKeys → 256 < length (keys_of (declared_of tree.now))) }
     {
         let mut keys = Keys {
@@ -86,6 +91,37 @@ impl Keys {
             Some(number) => Some(number as u8),
             None => None,
         }
+    }
+
+    /// The numbers of the keys of locks, all of which are among these.
+    fn numbers(&self, alloc: Global, locks: &[Lock]) -> Result<Vec<u8>, AllocError>
+        requires { (key : List ℕ) (mode : ModeValue) → HasLock locks.now key mode → number_of self.now key < length self.now }
+        ensures { IfOk result (λ numbers. numbers.items ≡ numbers_of self.now locks.now) }
+    {
+        let mut numbers = Vec::new(alloc);
+        for lock in locks {
+            let Some(number) = self.number(lock.key.as_str()) else {
+                unreachable!()
+            };
+            numbers.push(number)?;
+        }
+        Ok(numbers)
+    }
+
+    /// The same of each of several sets.
+    pub(crate) fn all_numbers(
+        &self,
+        alloc: Global,
+        sets: &[LockSet],
+    ) -> Result<Vec<Vec<u8>>, AllocError>
+        requires { (n : ℕ) (key : List ℕ) (mode : ModeValue) → HasLock (slice_index_or sets.now n []) key mode → number_of self.now key < length self.now }
+        ensures { IfOk result (λ lists. map (λ v. v.items) lists.items ≡ map (numbers_of self.now) sets.now) }
+    {
+        let mut lists = Vec::new(alloc);
+        for set in sets {
+            lists.push(self.numbers(alloc, set.locks())?)?;
+        }
+        Ok(lists)
     }
 
     /// The keys, in memory of their own.

@@ -2,10 +2,11 @@
 #![tactic(auto)]
 
 mod fault;
+mod hoisting;
 mod keys;
 mod lock_set;
 mod plan;
 
 pub use fault::PlanFault;
 pub use lock_set::LockSet;
-pub use plan::Plan;
+pub use plan::{Plan, hoist};

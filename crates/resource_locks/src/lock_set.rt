@@ -151,7 +151,7 @@ impl LockSet {
 }
 
 /// Whether a mode excludes every other holder of the key.
-fn is_writing(mode: LockMode) -> bool
+pub(crate) fn is_writing(mode: LockMode) -> bool
     ensures { result ≡ is_write mode }
 {
     match mode {

@@ -1,7 +1,16 @@
 //! Plans.
 
-ghost use Rattle.std.specs.Prelude.{◌≡◌, ◌<◌, ◌≤◌, IfOk, length, map};
+ghost use Rattle.std.specs.Prelude.{◌≡◌, ◌<◌, ◌≤◌, IfOk, IfErr, OnOk, length, map, slice_index_or};
+ghost use Rattle.descriptor.specs.Nodes.{size};
+ghost use Rattle.descriptor.specs.declared.mode.Mode.TheVariants.{SameThread};
+ghost use Rattle.resource_locks.specs.Declarations.{declared_of};
+ghost use Rattle.resource_locks.specs.Held.{plan_of};
+ghost use Rattle.resource_locks.specs.Hoisted.{IsHoisted, IsGuarded};
+ghost use Rattle.resource_locks.specs.Keys.{keys_of};
 
+use crate::fault::PlanFault;
+use crate::hoisting::{held_sets, hoisted_modes};
+use crate::keys::Keys;
 use crate::lock_set::LockSet;
 use descriptor::{Mode, NodeId, Role, Tree};
 use std::alloc::{AllocError, Global};
@@ -32,6 +41,33 @@ impl Model for Plan {
     ghost view = { λ p. record { tree = p.tree; modes = p.modes.items; held = p.held.items; keys = p.keys.items; fail_fast = p.fail_fast } };
 
     ghost invariant = { λ p. IsSound (record { tree = p.tree; modes = p.modes.items; held = p.held.items; keys = p.keys.items; fail_fast = p.fail_fast }) (map (λ v. v.items) p.numbers.items) };
+}
+
+/// The plan of a tree whose nodes were given these modes. Locks are held by the nodes that they are
+/// hoisted to: where a node at or below the child of an engine is isolated, that child holds all
+/// that is declared at or below it, and the global lock in READ_WRITE; else it holds the global lock
+/// in READ, and the first node from it down that declares locks holds all that are declared at or
+/// below it. Below a node that holds a key in READ_WRITE every node is executed in the same thread
+/// as its parent. Refused where there are more than 256 keys (50).
+pub fn hoist(alloc: Global, tree: &Tree, modes: Vec<Mode>) -> Result<Plan, PlanFault>
+    requires { length modes.items ≡ size tree.now }
+    ensures same { IfOk result (λ plan. plan ≡ plan_of tree.now modes.items) }
+    ensures few { OnOk result (length (keys_of (declared_of tree.now)) ≤ 256) }
+    ensures refused { IfErr result (λ fault. fault ≡ PlanFault.TooManyKeys → 256 < length (keys_of (declared_of tree.now))) }
+    ensures hoisted { IfOk result (λ plan. IsHoisted (declared_of tree.now) (λ n. slice_index_or modes.items n SameThread) plan) }
+    ensures guarded { IfOk result (λ plan. IsGuarded (declared_of tree.now) plan) }
+{
+    let keys = Keys::of(alloc, tree)?;
+    let held = held_sets(alloc, tree)?;
+    let numbers = keys.all_numbers(alloc, &held)?;
+    Ok(Plan {
+        modes: hoisted_modes(alloc, tree, &held, modes)?,
+        tree: tree.copy(alloc)?,
+        held,
+        keys: keys.texts(alloc)?,
+        numbers,
+        fail_fast: false,
+    })
 }
 
 impl Plan {

@@ -1,5 +1,5 @@
 -- A key that is there changes nothing, another comes last.
-use Rattle.std.proofs.Common.{◌≡◌, ◌≤◌, ◌∙◌, ap, length, map, List, ℕ, string_bytes, arith}
+use Rattle.std.proofs.Common.{◌≤◌, ◌∙◌, ap, length, map, List, ℕ, string_bytes, arith}
 use Rattle.std.proofs.lemmas.Grind.{common_steps}
 use Rattle.resource_locks.specs.Keys.{with_key}
 use Rattle.resource_locks.proofs.Numbering.{has_key, is_full, inserted}

@@ -1,0 +1,49 @@
+-- The plan that hoisting gives of a tree.
+use Rattle.std.proofs.Common.{◌≡◌, ℕ, ◌<◌, ◌≤◌, List, [], length, map, get_or, false}
+use Rattle.descriptor.specs.Nodes.{Nodes, IsTree, size}
+use Rattle.descriptor.specs.declared.lock.Lock.{Lock}
+use Rattle.descriptor.specs.declared.lock_mode.LockMode.{LockMode}
+use Rattle.descriptor.specs.declared.mode.Mode.{Mode}
+use Rattle.descriptor.specs.declared.mode.Mode.TheVariants.{SameThread}
+use Rattle.resource_locks.specs.Wants.{HasLock}
+use Rattle.resource_locks.specs.Declarations.{Declared, declared_of}
+use Rattle.resource_locks.specs.Hoisted.{IsHoisted, IsGuarded}
+use Rattle.resource_locks.specs.Held.{table, held, hoisted_mode, plan_of}
+use Rattle.resource_locks.specs.Keys.{keys_of}
+use Rattle.resource_locks.specs.Plans.{number_of, numbers_of}
+use Rattle.resource_locks.specs.PlanFields.{IsSound}
+use Rattle.resource_locks.proofs.Walks.{table_len}
+use Rattle.resource_locks.proofs.Hoisted.{hoisted}
+use Rattle.resource_locks.proofs.Guarded.{guarded}
+use Rattle.resource_locks.proofs.LockTrees.{lock_tree}
+use Rattle.resource_locks.proofs.Numbered.{to_hold_numbered}
+
+-- the fields that hoisting fills
+pub plan_is : (t u : Nodes) (given modes : List Mode) (sets : List (List Lock)) (keys : List (List ℕ)) → u ≡ t → modes ≡ table (hoisted_mode (declared_of t) given) (size t) → sets ≡ table (held (declared_of t)) (size t) → keys ≡ keys_of (declared_of t)
+    → record { tree = u; modes = modes; held = sets; keys = keys; fail_fast = false } ≡ plan_of t given
+plan_is t u given modes sets keys a b c d = λ i. record { tree = a i; modes = b i; held = c i; keys = d i; fail_fast = false }
+
+module _ (t : Nodes) (tree : IsTree t) (given : List Mode) (len : length given ≡ size t) where
+  abbrev told : Declared
+  told = declared_of t
+
+  pub plan_hoisted : IsHoisted told (λ n. get_or given n SameThread) (plan_of t given)
+  plan_hoisted = hoisted told given (lock_tree t tree) len
+
+  pub plan_guarded : IsGuarded told (plan_of t given)
+  plan_guarded = guarded told (lock_tree t tree) (λ n. get_or given n SameThread) (plan_of t given) plan_hoisted
+
+  pub plan_numbered : (n : ℕ) (key : List ℕ) (mode : LockMode) → HasLock (get_or (table (held told) (size t)) n []) key mode → number_of (keys_of told) key < length (keys_of told)
+  plan_numbered n key mode h = to_hold_numbered told (lock_tree t tree) n key mode (plan_hoisted.only n key mode h)
+
+  pub plan_sound : (lists : List (List ℕ)) → length (keys_of told) ≤ 256 → lists ≡ map (numbers_of (keys_of told)) (table (held told) (size t)) → IsSound (plan_of t given) lists
+  plan_sound lists few is = record {
+    plan = record {
+      tree = tree;
+      modes_len = table_len (hoisted_mode told given) (size t);
+      held_len = table_len (held told) (size t);
+      few = few;
+      numbered = plan_numbered;
+    };
+    numbers = is;
+  }
