@@ -48,10 +48,18 @@ impl TreeBuilder {
     pub fn new(alloc: Global) -> Result<TreeBuilder, AllocError>
         ensures { IfOk result (λ b. b ≡ plan_alone) }
     {
+        TreeBuilder::with_capacity(alloc, 0)
+    }
+
+    /// The same, with room for so many nodes besides, though for no more than a tree may have.
+    pub fn with_capacity(alloc: Global, nodes: usize) -> Result<TreeBuilder, AllocError>
+        ensures { IfOk result (λ b. b ≡ plan_alone) }
+    {
+        let nodes = nodes.min(MOST_NODES);
         Ok(TreeBuilder {
-            tree: Tree::new(alloc)?,
-            ids: HashSet::new(alloc),
-            bodies: HashSet::new(alloc),
+            tree: Tree::with_capacity(alloc, nodes)?,
+            ids: HashSet::with_capacity(alloc, nodes)?,
+            bodies: HashSet::with_capacity(alloc, nodes)?,
         })
     }
 

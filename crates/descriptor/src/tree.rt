@@ -284,11 +284,25 @@ impl Tree {
     pub(crate) fn new(alloc: Global) -> Result<Tree, AllocError>
         ensures { IfOk result (λ t. t ≡ plan_alone) }
     {
+        Tree::with_capacity(alloc, 0)
+    }
+
+    /// The tree of the plan alone, with room for so many nodes besides.
+    pub(crate) fn with_capacity(alloc: Global, nodes: usize) -> Result<Tree, AllocError>
+        requires { nodes ≤ 4096 }
+        ensures { IfOk result (λ t. t ≡ plan_alone) }
+    {
+        let mut parents = Vec::with_capacity(alloc, nodes + 1)?;
+        parents.push(NodeId::ROOT)?;
+        let mut depths = Vec::with_capacity(alloc, nodes + 1)?;
+        depths.push(0u8)?;
+        let mut children = Vec::with_capacity(alloc, nodes + 1)?;
+        children.push(Vec::new(alloc))?;
         Ok(Tree {
-            parents: vec![in alloc; NodeId::ROOT]?,
-            depths: vec![in alloc; 0u8]?,
-            children: vec![in alloc; Vec::new(alloc)]?,
-            nodes: Vec::new(alloc),
+            parents,
+            depths,
+            children,
+            nodes: Vec::with_capacity(alloc, nodes)?,
         })
     }
 

@@ -77,6 +77,7 @@ grows_all d items a old text left grows none inside (suc levels) enough =
     let now = subst (λ (xs : List ℕ). Grows d items a old text xs) none grows in
     sym (append-nil text) ∙ now.whole levels enough
 
--- what a text holds behind a copy
-pub appended : (grown copy items shown added : List ℕ) → grown ≡ copy ++ shown → copy ≡ items → shown ≡ added → grown ≡ items ++ added
-appended grown copy items shown added e a b = e ∙ ap (λ l. l ++ shown) a ∙ ap (λ l. items ++ l) b
+-- where no child has a line nothing is drawn
+pub nothing_below : (d : Drawn) (items : List ℕ) (a : ℕ) (text : List ℕ) → children_drawn d a ≡ [] → (levels : ℕ) → text ≡ text ++ lines_below d levels items a
+nothing_below d items a text none zero = sym (append-nil text)
+nothing_below d items a text none (suc levels) = sym (ap (λ l. text ++ each_sibling (sibling d levels items) l) none ∙ append-nil text)

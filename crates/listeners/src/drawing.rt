@@ -57,6 +57,15 @@ fn push_ending(text: &mut String, theme: Theme, told: Told, said: &str) -> Resul
     push_text(text, said)
 }
 
+/// The first text and the second behind it.
+fn joined(alloc: Global, first: &str, second: &str) -> Result<String, AllocError>
+    ensures { IfOk result (λ text. string_bytes text ≡ first.now ++ second.now) }
+{
+    let mut text = String::from_str(alloc, first)?;
+    text.push_str(second)?;
+    Ok(text)
+}
+
 impl Drawing<'_> {
     fn told(&self, node: NodeId) -> Told
         ensures { result ≡ told_at self.now.told.now node }
@@ -97,26 +106,36 @@ impl Drawing<'_> {
         text.push_str("\n")
     }
 
-    /// Appends the lines below a node behind the items of its ancestors and its own.
+    /// Appends the lines below a node behind the items of its ancestors and its own. Takes no memory
+    /// for the items where no line follows.
     fn push_below(
         &self,
         alloc: Global,
         text: &mut String,
-        items: &str,
+        above: &str,
+        own: &str,
         node: NodeId,
     ) -> Result<(), AllocError>
         requires tree { IsTree self.now.tree.now }
         requires inside { node < size self.now.tree.now }
-        ensures { OnOk result ((levels : ℕ) → size self.now.tree.now - node ≤ levels → string_bytes text.new ≡ string_bytes text.old ++ lines_below (drawn_by self.now) levels items.now node) }
+        ensures { OnOk result ((levels : ℕ) → size self.now.tree.now - node ≤ levels → string_bytes text.new ≡ string_bytes text.old ++ lines_below (drawn_by self.now) levels (above.now ++ own.now) node) }
     {
         let children = self.children(alloc, node)?;
+        if children.is_empty() {
+            return Ok(());
+        }
+        let items = joined(alloc, above, own)?;
         let mut left = children.as_slice();
         while let Some((child, rest)) = left.split_first() {
             let is_last = rest.is_empty();
-            self.push_line(text, items, *child, is_last)?;
-            let mut below = String::from_str(alloc, items)?;
-            below.push_str(self.theme.item(is_last))?;
-            self.push_below(alloc, text, below.as_str(), *child)?;
+            self.push_line(text, items.as_str(), *child, is_last)?;
+            self.push_below(
+                alloc,
+                text,
+                items.as_str(),
+                self.theme.item(is_last),
+                *child,
+            )?;
             left = rest;
         }
         Ok(())
@@ -141,6 +160,6 @@ pub(crate) fn draw(
         told,
     };
     let mut text = String::new(alloc);
-    drawing.push_below(alloc, &mut text, "", NodeId::ROOT)?;
+    drawing.push_below(alloc, &mut text, "", "", NodeId::ROOT)?;
     Ok(text)
 }

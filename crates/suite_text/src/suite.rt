@@ -43,7 +43,7 @@ fn suite_in(alloc: Global, text: &str) -> Result<Suite, SuiteFault>
         return Err(SuiteFault::TooLarge);
     }
     let lines = lines_in(alloc, text)?;
-    let mut builder = SuiteBuilder::new(alloc)?;
+    let mut builder = SuiteBuilder::new(alloc, lines.len())?;
     for (index, line) in lines.iter().enumerate() {
         builder.read_line(alloc, index + 1, line)?;
     }

@@ -12,6 +12,9 @@ use std::alloc::{AllocError, Global};
 use std::marker::Model;
 use unique_id::{Text, UidFault, UniqueId};
 
+/// The greatest number of nodes for which room is made before the first line.
+const MOST_NODES: usize = 4_095;
+
 /// A node that the next line may hang below, and the word of its line.
 #[derive(Clone, Copy, Debug)]
 pub(crate) struct Opened {
@@ -118,14 +121,15 @@ impl SuiteBuilder {
     ghost use Rattle.suite_text.specs.Suites.{with_declared, with_words, with_line, suite_parts};
     ghost use Rattle.suite_text.specs.SuiteParts.{parts_of, bodies_of, bodies_answered};
 
-    /// Before the first line.
-    pub(crate) fn new(alloc: Global) -> Result<SuiteBuilder, AllocError>
+    /// Before the first line, with room for the nodes of so many lines.
+    pub(crate) fn new(alloc: Global, lines: usize) -> Result<SuiteBuilder, AllocError>
         ensures { IfOk result (λ b. b ≡ no_lines) }
     {
+        let nodes = lines.min(MOST_NODES);
         Ok(SuiteBuilder {
-            tree: TreeBuilder::new(alloc)?,
+            tree: TreeBuilder::with_capacity(alloc, nodes)?,
             path: Vec::new(alloc),
-            scripts: Vec::new(alloc),
+            scripts: Vec::with_capacity(alloc, nodes)?,
         })
     }
 
