@@ -5,8 +5,8 @@ use Rattle.std.specs.Char.{is_ascii_digit}
 use Rattle.std.specs.List.{list_all}
 use Rattle.std.specs.Str.Parse.{ParsesUnsigned, digits_value}
 use Rattle.std.proofs.lemmas.Str.Parse.{IsNumeralModel, numerals_by_value, parse_digits}
-use Rattle.suite_text.specs.StepTexts.{is_decimal, number_within}
-use Rattle.suite_text.specs.SuiteSpins.{is_number, number_up_to}
+use Rattle.suite_text.specs.Numbers.{is_number, number_up_to}
+use Rattle.suite_text.specs.StepTexts.{is_decimal}
 
 pub own : IsNumeralModel (λ ds. list_all is_ascii_digit ds ≡ true) (digits_value 10)
 own = numerals_by_value _ (search rules)
@@ -24,11 +24,6 @@ too_large bits ds r e h is digits =
     elim (cases_lt (digits_value 10 ds) (2 ^ bits)) [ inl lt ↦ absurd (refused (digits.0, lt)) | inr ge ↦ ge ]
 
 -- and so it is out of range
-pub not_within : {E : Type 0} (least most : ℕ) (ds : List ℕ) (r : Result ℕ E) (e : E) → ParsesUnsigned 16 10 ds r → r ≡ Err e → is_decimal ds ≡ true → most < 2 ^ 16 → None ≡ number_within least most ds
-not_within least most ds r e h is d small =
-    let large : 2 ^ 16 ≤ digits_value 10 ds = too_large 16 ds r e h is (decimal_parts ds d) in
-    grind arith
-
 pub not_up_to : {E : Type 0} (most : ℕ) (ds : List ℕ) (r : Result ℕ E) (e : E) → ParsesUnsigned 32 10 ds r → r ≡ Err e → is_number ds ≡ true → most < 2 ^ 32 → None ≡ number_up_to most ds
 not_up_to most ds r e h is d small =
     let large : 2 ^ 32 ≤ digits_value 10 ds = too_large 32 ds r e h is (number_parts ds d) in

@@ -13,6 +13,7 @@ use Rattle.sched_core.specs.declared.step.Action.{Action}
 use Rattle.sched_core.specs.declared.step.Action.TheVariants.{Claim, Own, Draw, Show, Admit, Done, Settle, Look, Weigh, Take, Give, GiveUp, AddChild}
 use Rattle.sched_core.specs.declared.step.Step.{Step}
 use Rattle.sched_core.specs.declared.step.Step.TheVariants.{Worker, Read}
+use Rattle.suite_text.specs.Numbers.{is_number, number_up_to}
 use Rattle.suite_text.specs.StepTexts.{is_colon, is_decimal, number_within, worker_of, node_of, plain_action, has_colon, action_of, step_of, is_bad_word}
 use Rattle.suite_text.specs.StepSpelling.{spelled_action, spelled_step, NamesNode, IsNamable, AreNamable}
 use Rattle.suite_text.proofs.Numbers.{own}
@@ -24,15 +25,18 @@ front_zero n small = elim (cases_lt 0 n) [
   | inr none ↦ (let zero : n ≡ 0 = omega (arith, none) in let one : decimal n ≡ 48 ∷ [] = ap decimal zero ∙ decimal_digit 0 (omega arith) in rw one refl)
 ]
 
+number_is : (n : ℕ) → n < 2 ^ 64 → is_number (decimal n) ≡ true
+number_is n small = and_from _ _ (lt-ltb _ _ (decimal_nonempty n small)) (digits_decimal own n small)
+
 decimal_is : (n : ℕ) → n < 2 ^ 64 → is_decimal (decimal n) ≡ true
-decimal_is n small = and_from _ _ (lt-ltb _ _ (decimal_nonempty n small)) (and_from _ _ (front_zero n small) (digits_decimal own n small))
+decimal_is n small = and_from _ _ (number_is n small) (front_zero n small)
 
 number_back : (least most n : ℕ) → n < 2 ^ 64 → least ≤ n → n ≤ most → number_within least most (decimal n) ≡ Some n
 number_back least most n small low high =
     let value : digits_value 10 (decimal n) ≡ n = digits_value-decimal own n small in
-    let passes : (is_decimal (decimal n) && (nat_le least (digits_value 10 (decimal n)) && nat_le (digits_value 10 (decimal n)) most)) ≡ true =
-    and_from _ _ (decimal_is n small) (rw value (and_from _ _ (le-leb least n low) (le-leb n most high))) in
-    ap (λ b. if b then Some (digits_value 10 (decimal n)) else None) passes ∙ ap Some value
+    let from_least : (is_decimal (decimal n) && nat_le least (digits_value 10 (decimal n))) ≡ true = and_from _ _ (decimal_is n small) (rw value (le-leb least n low)) in
+    let to_most : (is_number (decimal n) && nat_le (digits_value 10 (decimal n)) most) ≡ true = and_from _ _ (number_is n small) (rw value (le-leb n most high)) in
+    ap (λ b. if b then number_up_to most (decimal n) else None) from_least ∙ ap (λ b. if b then Some (digits_value 10 (decimal n)) else None) to_most ∙ ap Some value
 
 -- digits, a colon and a rest
 no_colon : (d : ℕ) → is_ascii_digit d ≡ true → (d == 58) ≡ false

@@ -13,6 +13,7 @@ use Rattle.sched_core.specs.declared.step.Action.{Action}
 use Rattle.sched_core.specs.declared.step.Action.TheVariants.{Claim, Own, Draw, Show, Admit, Done, Settle, Look, Weigh, Take, Give, GiveUp, AddChild}
 use Rattle.sched_core.specs.declared.step.Step.{Step}
 use Rattle.sched_core.specs.declared.step.Step.TheVariants.{Worker, Read}
+use Rattle.suite_text.specs.Numbers.{is_number, number_up_to}
 use Rattle.suite_text.specs.StepTexts.{is_colon, is_decimal, number_within, worker_of, node_of, node_action, plain_action, has_colon, action_of, worker_step, step_of, is_bad_word}
 use Rattle.suite_text.specs.StepSpelling.{spelled_action, spelled_step}
 use Rattle.suite_text.proofs.Numbers.{own, decimal_parts}
@@ -32,8 +33,11 @@ same_bytes xs ys h = (bytes_eq-Decides xs ys).0 h
 -- a number
 number_parts : (least most : ℕ) (ds : List ℕ) (n : ℕ) → number_within least most ds ≡ Some n → (is_decimal ds ≡ true) × (nat_le (digits_value 10 ds) most ≡ true) × (digits_value 10 ds ≡ n)
 number_parts least most ds n h =
-    let parts = chosen (is_decimal ds && (nat_le least (digits_value 10 ds) && nat_le (digits_value 10 ds) most)) (Some (digits_value 10 ds)) n h in
-    (grind arith, grind arith, cc)
+    let outer = chosen (is_decimal ds && nat_le least (digits_value 10 ds)) (number_up_to most ds) n h in
+    let parts = chosen (is_number ds && nat_le (digits_value 10 ds) most) (Some (digits_value 10 ds)) n outer.1 in
+    let first = outer.0 in
+    let second = parts.0 in
+    (grind (arith, first), grind (arith, second), cc)
 
 no_zero_first : (ds : List ℕ) → is_decimal ds ≡ true → get_or ds 0 0 ≡ 48 → length ds ≡ 1
 no_zero_first ds h e = grind arith

@@ -20,7 +20,8 @@ use Rattle.unique_id.specs.Answers.{◌>>=◌}
 use Rattle.suite_text.specs.SuiteLines.{says_nothing, first_word, after_word, text_after_word, level_of, indentation_of}
 use Rattle.suite_text.specs.SuiteNodes.{word_on, refusal_on, grown, unless_refused}
 use Rattle.suite_text.specs.SuiteParts.{LinesRead, no_lines}
-use Rattle.suite_text.specs.SuiteSpins.{value_of, number_up_to, or_bad_line, spin_of}
+use Rattle.suite_text.specs.Numbers.{number_up_to}
+use Rattle.suite_text.specs.SuiteSpins.{value_of, or_bad_line, spin_of}
 use Rattle.suite_text.specs.SuiteVerdicts.{verdict_spelled, no_verdict, verdict_with, verdict_of}
 use Rattle.suite_text.specs.SuiteWords.{word_of, may_stand, placed, with_verdict, with_attributes, with_name, declared_by}
 use Rattle.suite_text.specs.Suites.{with_declared, with_declaration, with_line, suite_from, suite_of}

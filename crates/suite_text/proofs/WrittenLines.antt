@@ -19,7 +19,8 @@ use Rattle.suite_text.specs.declared.suite_fault.SuiteFault.TheVariants.{BadLine
 use Rattle.suite_text.specs.SuiteAttributes.{attribute_of, no_attributes, with_attribute, attributes_from}
 use Rattle.unique_id.specs.Answers.{◌>>=◌}
 use Rattle.suite_text.specs.SuiteLines.{without_front, without_end, first_word, after_word, text_after_word, indentation_of, level_of, says_nothing, begins_with_sign}
-use Rattle.suite_text.specs.SuiteSpins.{is_number, or_bad_line, spin_of}
+use Rattle.suite_text.specs.Numbers.{is_number}
+use Rattle.suite_text.specs.SuiteSpins.{or_bad_line, spin_of}
 use Rattle.suite_text.specs.SuiteVerdicts.{verdict_spelled, no_verdict, verdict_with, verdict_of}
 use Rattle.suite_text.specs.SuiteWords.{Declaration, word_of, placed, with_verdict, with_attributes, with_name, declared_by}
 use Rattle.suite_text.specs.Words.{is_space, words_in}

@@ -1,3 +1,4 @@
+pub mod Numbers
 pub mod StepAnswers
 pub mod StepFaults
 pub mod StepSpelling

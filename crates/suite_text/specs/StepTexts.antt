@@ -1,9 +1,9 @@
 -- The steps that a text names: words between spaces, each a step of the dispatcher or of a worker.
 use Rattle.std.specs.Prelude.{ℕ, ◌+◌, ◌==◌, ◌&&◌, nat_lt, nat_le, List, length, not, Bool, if◌then◌else◌, Option, Some, None, Result, Ok, Err, option_map, option_and_then, codes, slice_index, drop, is_none}
-use Rattle.std.specs.List.{filter_map, position, position_or_len, list_all, before_first, after_first}
-use Rattle.std.specs.Char.{is_ascii_digit}
+use Rattle.std.specs.List.{filter_map, position, position_or_len, before_first, after_first}
 use Rattle.std.specs.Str.{bytes_eq}
 use Rattle.std.specs.Str.Parse.{digits_value}
+use Rattle.suite_text.specs.Numbers.{is_number, number_up_to}
 use Rattle.suite_text.specs.Words.{words_in}
 use Rattle.sched_core.specs.declared.step.Action.{Action}
 use Rattle.sched_core.specs.declared.step.Action.TheVariants.{Claim, Own, Draw, Show, Admit, Done, Settle, Look, Weigh, Take, Give, GiveUp, AddChild}
@@ -14,13 +14,13 @@ use Rattle.sched_core.specs.declared.step.Step.TheVariants.{Worker, Read}
 abbrev pub is_colon : ℕ → Bool
 is_colon b = b == 58
 
--- a number in decimal: one digit or more, and no zero before others
+-- a number with no zero before other digits
 abbrev pub is_decimal : List ℕ → Bool
-is_decimal digits = nat_lt 0 (length digits) && (not (nat_lt 1 (length digits) && (slice_index digits 0 == 48)) && list_all is_ascii_digit digits)
+is_decimal digits = is_number digits && not (nat_lt 1 (length digits) && (slice_index digits 0 == 48))
 
 -- the number of these digits, from the least to the most
 abbrev pub number_within : ℕ → ℕ → List ℕ → Option ℕ
-number_within least most digits = if is_decimal digits && (nat_le least (digits_value 10 digits) && nat_le (digits_value 10 digits) most) then Some (digits_value 10 digits) else None
+number_within least most digits = if is_decimal digits && nat_le least (digits_value 10 digits) then number_up_to most digits else None
 
 -- a worker's number
 abbrev pub worker_of : List ℕ → Option ℕ

@@ -1,9 +1,8 @@
 -- The attribute `spin=N`: how far a body counts first.
-use Rattle.std.specs.Prelude.{ℕ, ◌==◌, ◌&&◌, nat_lt, nat_le, List, length, codes, Bool, false, if◌then◌else◌, Option, Some, None, Result, Ok, Err}
-use Rattle.std.specs.Char.{is_ascii_digit}
-use Rattle.std.specs.List.{list_all, before_first, after_first}
+use Rattle.std.specs.Prelude.{ℕ, ◌==◌, List, codes, Bool, false, Option, Some, None, Result, Ok, Err}
+use Rattle.std.specs.List.{before_first, after_first}
 use Rattle.std.specs.Str.{bytes_eq}
-use Rattle.std.specs.Str.Parse.{digits_value}
+use Rattle.suite_text.specs.Numbers.{number_up_to}
 use Rattle.suite_text.specs.declared.suite_words.Word.{Word}
 use Rattle.suite_text.specs.declared.suite_words.Word.TheVariants.{Engine, Class, Test}
 use Rattle.suite_text.specs.declared.suite_fault.SuiteFault.{SuiteFault}
@@ -25,14 +24,6 @@ abbrev pub is_spin : Word → List ℕ → Bool
 is_spin Engine key = false
 is_spin Class key = false
 is_spin Test key = bytes_eq key (codes "spin")
-
--- a number: one ASCII digit or more, with no sign; zeros may stand in front
-abbrev pub is_number : List ℕ → Bool
-is_number digits = nat_lt 0 (length digits) && list_all is_ascii_digit digits
-
--- the number of these digits, up to the most
-abbrev pub number_up_to : ℕ → List ℕ → Option ℕ
-number_up_to most digits = if is_number digits && nat_le (digits_value 10 digits) most then Some (digits_value 10 digits) else None
 
 -- a number that is there, else a faulty line
 abbrev pub or_bad_line : ℕ → Option ℕ → Result ℕ SuiteFault

@@ -11,7 +11,7 @@ use Rattle.suite_text.specs.declared.suite_verdicts.Verdict.{Verdict}
 use Rattle.suite_text.specs.declared.suite_verdicts.Verdict.TheVariants.{Pass, Fail, Abort, Disabled}
 use Rattle.suite_text.specs.declared.suite_attributes.Attributes.{Attributes}
 use Rattle.suite_text.specs.SuiteAttributes.{no_attributes}
-use Rattle.suite_text.specs.SuiteSpins.{is_number}
+use Rattle.suite_text.specs.Numbers.{is_number}
 use Rattle.suite_text.specs.SuiteWords.{Declaration, may_stand}
 use Rattle.suite_text.specs.Words.{is_space}
 

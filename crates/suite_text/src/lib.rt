@@ -2,7 +2,7 @@
 
 #![tactic(auto)]
 
-mod digits;
+mod number;
 mod script;
 mod step_words;
 mod steps;

@@ -3,19 +3,15 @@
 ghost use Rattle.std.specs.Prelude.{◌≡◌};
 ghost use Rattle.suite_text.specs.StepTexts.{is_decimal, number_within, worker_of, node_of, node_action, plain_action, action_of, worker_step, step_of};
 
-use crate::digits::are_digits;
+use crate::number::{is_number, number_up_to};
 use descriptor::NodeId;
 use sched_core::{Action, Step};
 
-/// Whether a text is digits, with no zero before others.
+/// Whether a text is a number, with no zero before other digits.
 fn is_decimal(text: &str) -> bool
     ensures { result ≡ is_decimal text.now }
 {
-    let digits = text.as_bytes();
-    if digits.len() > 1 && digits[0] == b'0' {
-        return false;
-    }
-    !digits.is_empty() && are_digits(digits)
+    is_number(text) && (text.len() == 1 || text.as_bytes()[0] != b'0')
 }
 
 /// The number that a text has in decimal, from `least` to `most`.
@@ -25,11 +21,9 @@ fn number_within(text: &str, least: u16, most: u16) -> Option<u16>
     if !is_decimal(text) {
         return None;
     }
-    let Ok(number) = text.parse::<u16>() else {
-        return None;
-    };
-    if least <= number && number <= most {
-        Some(number)
+    let number = number_up_to(u32::from(most), text)?;
+    if u32::from(least) <= number {
+        Some(number as u16)
     } else {
         None
     }

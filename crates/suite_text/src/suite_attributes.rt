@@ -13,7 +13,7 @@ use std::alloc::Global;
 use tag_expr::{TagFault, TagSet, tag_of};
 
 /// What an attribute is about.
-#[derive(Clone, Copy, PartialEq, Eq, Debug)]
+#[derive(Clone, Copy)]
 pub(crate) enum Attribute {
     /// `#TAG`
     Tag,
@@ -39,7 +39,7 @@ impl Attribute {
 }
 
 /// What the attributes of a line say.
-#[derive(Debug, Drop)]
+#[derive(Drop)]
 pub(crate) struct Attributes {
     /// Each tag once, in the order of the line.
     pub(crate) tags: TagSet,

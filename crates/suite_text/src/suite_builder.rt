@@ -16,7 +16,7 @@ use unique_id::{Text, UidFault, UniqueId};
 const MOST_NODES: usize = 4_095;
 
 /// A node that the next line may hang below, and the word of its line.
-#[derive(Clone, Copy, Debug)]
+#[derive(Clone, Copy)]
 pub(crate) struct Opened {
     pub(crate) node: NodeId,
     pub(crate) word: Word,

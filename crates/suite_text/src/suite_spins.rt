@@ -1,10 +1,10 @@
 //! The attribute `spin=N`: how far a body counts first.
 
 ghost use Rattle.std.specs.Prelude.{◌≡◌};
-ghost use Rattle.suite_text.specs.SuiteSpins.{key_of, value_of, is_number, number_up_to, spin_of};
+ghost use Rattle.suite_text.specs.SuiteSpins.{key_of, value_of, spin_of};
 ghost use Rattle.suite_text.specs.SuiteFaults.{Gives};
 
-use crate::digits::are_digits;
+use crate::number::number_up_to;
 use crate::suite_fault::SuiteFault;
 
 /// The farthest that a body counts.
@@ -20,27 +20,6 @@ pub(crate) fn key_and_value(word: &str) -> (&str, &str)
         Some((key, value)) => (key, value),
         None => (word, ""),
     }
-}
-
-/// Whether a text is a number: one digit or more.
-fn is_number(text: &str) -> bool
-    ensures { result ≡ is_number text.now }
-{
-    let digits = text.as_bytes();
-    !digits.is_empty() && are_digits(digits)
-}
-
-/// The number that a text has in decimal, up to `most`.
-fn number_up_to(most: u32, text: &str) -> Option<u32>
-    ensures { result ≡ number_up_to most text.now }
-{
-    if !is_number(text) {
-        return None;
-    }
-    let Ok(number) = text.parse::<u32>() else {
-        return None;
-    };
-    if number <= most { Some(number) } else { None }
 }
 
 /// How far the value of `spin` says.

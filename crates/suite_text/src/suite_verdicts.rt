@@ -9,7 +9,7 @@ use crate::suite_words::Word;
 use plan_events::Status;
 
 /// How a node's body ends, or that the node is disabled.
-#[derive(Clone, Copy, PartialEq, Eq, Debug)]
+#[derive(Clone, Copy)]
 pub(crate) enum Verdict {
     Pass,
     Fail,

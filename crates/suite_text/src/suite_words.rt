@@ -14,7 +14,7 @@ use std::alloc::{AllocError, Global};
 use unique_id::Text;
 
 /// The first word of a line that declares a node.
-#[derive(Clone, Copy, PartialEq, Eq, Debug)]
+#[derive(Clone, Copy)]
 pub(crate) enum Word {
     Engine,
     Class,
@@ -22,7 +22,7 @@ pub(crate) enum Word {
 }
 
 /// The node that a line declares.
-#[derive(Debug, Drop)]
+#[derive(Drop)]
 pub(crate) struct Declared<'a> {
     pub(crate) word: Word,
     pub(crate) name: &'a str,

@@ -1,10 +1,10 @@
 -- A number that std does not read is out of range.
 use Rattle.std.proofs.Common.{◌≡◌, true, arith}
-use Rattle.suite_text.specs.SuiteSpins.{is_number}
+use Rattle.suite_text.specs.Numbers.{is_number}
 use Rattle.suite_text.proofs.Numbers.{not_up_to}
-use Rattle.suite_text.proofs.suite_spins.number_up_to.Goals as goal
+use Rattle.suite_text.proofs.number.number_up_to.Goals as goal
 
-pub returns-in_default : goal.returns-in_default
-returns-in_default c =
+pub returns-in_default-clause-value : goal.returns-in_default-clause-value
+returns-in_default-clause-value c =
     let number : is_number c.args.text.now ≡ true = grind arith in
     not_up_to c.args.most c.args.text.now c.parse.result _ c.parse.ensures.value.0 c.in_default.is number (omega (arith, c.ranges.most.fits))
