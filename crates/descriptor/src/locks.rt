@@ -51,7 +51,9 @@ impl Locks {
     pub fn copy(&self, alloc: Global) -> Result<Locks, AllocError>
         ensures { IfOk result (λ locks. locks ≡ self.now) }
     {
-        let mut copy = Locks::new(alloc);
+        let mut copy = Locks {
+            locks: Vec::with_capacity(alloc, self.locks.len())?,
+        };
         for lock in &self.locks {
             copy.push(lock.copy(alloc)?)?;
         }

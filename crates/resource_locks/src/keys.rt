@@ -98,7 +98,7 @@ impl Keys {
         requires { (key : List ℕ) (mode : ModeValue) → HasLock locks.now key mode → number_of self.now key < length self.now }
         ensures { IfOk result (λ numbers. numbers.items ≡ numbers_of self.now locks.now) }
     {
-        let mut numbers = Vec::new(alloc);
+        let mut numbers = Vec::with_capacity(alloc, locks.len())?;
         for lock in locks {
             let Some(number) = self.number(lock.key.as_str()) else {
                 unreachable!()

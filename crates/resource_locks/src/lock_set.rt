@@ -134,6 +134,7 @@ impl LockSet {
     pub fn put_all(&mut self, locks: &[Lock]) -> Result<(), AllocError>
         ensures { OnOk result (self.new ≡ join self.old locks.now) }
     {
+        self.locks.reserve(locks.len())?;
         for lock in locks {
             self.put(lock.key.as_str(), lock.mode)?;
         }
