@@ -6,6 +6,7 @@ use Rattle.descriptor.specs.declared.mode.Mode.{Mode}
 use Rattle.descriptor.specs.declared.mode.Mode.TheVariants.{SameThread, Concurrent}
 use Rattle.resource_locks.specs.Declarations.{Declared, global}
 use Rattle.resource_locks.specs.Held.{held, hoisted_mode}
+use Rattle.resource_locks.specs.Keys.{keys_of}
 
 -- nodes by their parents, what each declares, and which are isolated
 abbrev told : List ℕ → List (List Lock) → List Bool → Declared
@@ -30,6 +31,9 @@ given = SameThread ∷ SameThread ∷ Concurrent ∷ Concurrent ∷ Concurrent �
 
 class_holds : held upgraded 2 ≡ read global ∷ write (codes "db") ∷ read (codes "log") ∷ []
 class_holds = refl
+
+keys_in_order : keys_of upgraded ≡ global ∷ codes "log" ∷ codes "db" ∷ []
+keys_in_order = refl
 
 test_holds : held upgraded 3 ≡ []
 test_holds = refl
