@@ -120,8 +120,8 @@ impl Plan {
         &self.held[node.index()]
     }
 
-    /// How many keys are held at most; the numbers of keys are below it.
-    pub fn keys(&self) -> usize
+    /// How many keys the plan has; each key that is held has a number below this.
+    pub fn key_count(&self) -> usize
         ensures { result ≡ length self.now.keys }
     {
         self.keys.len()
