@@ -1,10 +1,11 @@
 //! Which question a row asks.
 
-use crate::{events, ids, suites, tags};
+use crate::escapes::unescaped;
+use crate::{events, ids, settings, suites, tags};
 use std::alloc::{AllocError, Global};
 
 /// The answer to what is asked of a text.
-pub(crate) fn answer(alloc: Global, asked: &str, text: &str) -> Result<String, AllocError> {
+fn answer(alloc: Global, asked: &str, text: &str) -> Result<String, AllocError> {
     match asked {
         "id" => ids::canonical(alloc, text),
         "segments" => ids::segments(alloc, text),
@@ -17,6 +18,18 @@ pub(crate) fn answer(alloc: Global, asked: &str, text: &str) -> Result<String, A
         "test" => suites::test_line(alloc, text),
         "steps" => suites::steps(alloc, text),
         "word" => events::event(alloc, text),
+        "get" | "settings" => settings::answer(alloc, asked, text),
         _ => String::from_str(alloc, "?"),
     }
+}
+
+/// The line with its answer behind it, where it asks.
+pub(crate) fn answered(alloc: Global, line: &str) -> Result<String, AllocError> {
+    if line.is_empty() || line.starts_with('#') {
+        return String::from_str(alloc, line);
+    }
+    let (asked, text) = line.split_once(' ').unwrap_or((line, ""));
+    let text = unescaped(alloc, text)?;
+    let answer = answer(alloc, asked, text.as_str())?;
+    format!(in alloc; "{line} => {answer}")
 }

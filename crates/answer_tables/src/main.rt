@@ -3,28 +3,22 @@
 #![tactic(auto)]
 
 mod answers;
+mod configuration;
 mod escapes;
 mod events;
 mod ids;
+mod settings;
 mod suites;
 mod tags;
 
-use crate::answers::answer;
-use crate::escapes::unescaped;
+use crate::answers::answered;
 use std::io;
 
 fn main(rt: HostRuntime) -> io::Result<()> {
     let alloc = rt.alloc();
     for line in rt.lines(alloc) {
-        let line = line?;
-        if line.is_empty() || line.as_str().starts_with('#') {
-            println!(rt; "{line}")?;
-        } else {
-            let (asked, text) = line.as_str().split_once(' ').unwrap_or((line.as_str(), ""));
-            let text = unescaped(alloc, text)?;
-            let answer = answer(alloc, asked, text.as_str())?;
-            println!(rt; "{line} => {answer}")?;
-        }
+        let line = answered(alloc, line?.as_str())?;
+        println!(rt; "{line}")?;
     }
     Ok(())
 }

@@ -1,19 +1,23 @@
 //! Questions about the texts of suites, selectors and steps.
 
+use sched_core::Step;
 use selectors::{Selector, SelectorKind};
 use std::alloc::{AllocError, Global};
-use suite_text::{StepsFault, Suite, parse_steps};
+use suite_text::{Suite, SuiteFault, parse_steps};
 
-/// How many nodes the suite of a text has.
-pub(crate) fn size(alloc: Global, text: &str) -> Result<String, AllocError> {
-    let fault = match Suite::parse(alloc, text) {
-        Ok(suite) => return format!(in alloc; "{} nodes", suite.tree.len()),
-        Err(fault) => fault,
-    };
+fn refusal(alloc: Global, fault: SuiteFault) -> Result<String, AllocError> {
     let number = fault.number();
     match fault.place() {
         Some(place) => format!(in alloc; "error {number} at {place}: {fault}"),
         None => format!(in alloc; "error {number}: {fault}"),
+    }
+}
+
+/// How many nodes the suite of a text has.
+pub(crate) fn size(alloc: Global, text: &str) -> Result<String, AllocError> {
+    match Suite::parse(alloc, text) {
+        Ok(suite) => format!(in alloc; "{} nodes", suite.tree.len()),
+        Err(fault) => refusal(alloc, fault),
     }
 }
 
@@ -32,33 +36,43 @@ fn selector_kind(word: &str) -> SelectorKind {
     }
 }
 
+/// What a selector names.
+fn named(alloc: Global, selector: &Selector) -> Result<String, AllocError> {
+    match selector {
+        Selector::Uid(id) => format!(in alloc; "id {:?}", id.text()),
+        Selector::Class(name) => format!(in alloc; "class {:?}", name.as_str()),
+        Selector::Method { class, method } => {
+            format!(in alloc; "method {:?} of {:?}", method.as_str(), class.as_str())
+        }
+        Selector::Package(name) => format!(in alloc; "package {:?}", name.as_str()),
+    }
+}
+
 /// The selector of `KIND=TEXT`.
 pub(crate) fn selector(alloc: Global, text: &str) -> Result<String, AllocError> {
     let (kind, text) = text.split_once('=').unwrap_or((text, ""));
     match Selector::parse(alloc, selector_kind(kind), text) {
-        Ok(Selector::Uid(id)) => format!(in alloc; "id {:?}", id.text()),
-        Ok(Selector::Class(name)) => format!(in alloc; "class {:?}", name.as_str()),
-        Ok(Selector::Method { class, method }) => {
-            format!(in alloc; "method {:?} of {:?}", method.as_str(), class.as_str())
-        }
-        Ok(Selector::Package(name)) => format!(in alloc; "package {:?}", name.as_str()),
+        Ok(selector) => named(alloc, &selector),
         Err(fault) => format!(in alloc; "error {}: {fault}", fault.number()),
     }
 }
 
-/// The steps that a text spells.
-pub(crate) fn steps(alloc: Global, text: &str) -> Result<String, AllocError> {
-    let steps = match parse_steps(alloc, text) {
-        Ok(steps) => steps,
-        Err(StepsFault::BadStep(number)) => {
-            let fault = StepsFault::BadStep(number);
-            return format!(in alloc; "error 104 at {number}: {fault}");
-        }
-        Err(fault) => return format!(in alloc; "{fault}"),
-    };
+/// How many steps there are, and each of them.
+fn listed(alloc: Global, steps: &[Step]) -> Result<String, AllocError> {
     let mut text = format!(in alloc; "{} steps", steps.len())?;
-    for step in &steps {
+    for step in steps {
         write!(text, "; {step:?}")?;
     }
     Ok(text)
+}
+
+/// The steps that a text spells.
+pub(crate) fn steps(alloc: Global, text: &str) -> Result<String, AllocError> {
+    match parse_steps(alloc, text) {
+        Ok(steps) => listed(alloc, &steps),
+        Err(fault) => match fault.place() {
+            Some(place) => format!(in alloc; "error {} at {place}: {fault}", fault.number()),
+            None => format!(in alloc; "{fault}"),
+        },
+    }
 }

@@ -30,19 +30,20 @@ fn set_of(alloc: Global, tags: &str) -> Result<TagSet, AllocError> {
     Ok(set)
 }
 
-/// Whether an expression is true of the tags behind `~`, or of two such sets together.
+/// Whether an expression is true of the tags of words, or of those of two sets with `~` between them together.
+fn holds(alloc: Global, expression: &TagExpr, tags: &str) -> Result<bool, AllocError> {
+    let Some((one, other)) = tags.split_once('~') else {
+        return Ok(expression.matches(&set_of(alloc, tags)?));
+    };
+    let (one, other) = (set_of(alloc, one)?, set_of(alloc, other)?);
+    Ok(expression.matches_together(&[&one, &other]))
+}
+
+/// Whether an expression is true of what stands behind the first `~`.
 pub(crate) fn truth(alloc: Global, text: &str) -> Result<String, AllocError> {
     let (text, tags) = text.split_once('~').unwrap_or((text, ""));
-    let expression = match TagExpr::parse(alloc, text) {
-        Ok(expression) => expression,
-        Err(fault) => return refusal(alloc, fault),
-    };
-    let is_true = match tags.split_once('~') {
-        Some((one, other)) => {
-            let sets = [&set_of(alloc, one)?, &set_of(alloc, other)?];
-            expression.matches_together(&sets)
-        }
-        None => expression.matches(&set_of(alloc, tags)?),
-    };
-    format!(in alloc; "{is_true}")
+    match TagExpr::parse(alloc, text) {
+        Ok(expression) => format!(in alloc; "{}", holds(alloc, &expression, tags)?),
+        Err(fault) => refusal(alloc, fault),
+    }
 }

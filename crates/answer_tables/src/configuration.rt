@@ -1,6 +1,5 @@
 //! The parameters that a row puts in, and what was refused on the way.
 
-use crate::escapes::unescaped;
 use config_params::{Params, ParamsFault, Source, pair_of};
 use std::alloc::{AllocError, Global};
 
@@ -24,8 +23,7 @@ fn put_item(
     number: usize,
     item: &str,
 ) -> Result<(), ParamsFault> {
-    let text = unescaped(alloc, item)?;
-    match text.as_str().split_once(':') {
+    match item.split_once(':') {
         Some(("R", word)) => put_word(alloc, params, Source::Request, number, word),
         Some(("S", word)) => put_word(alloc, params, Source::System, number, word),
         Some(("F", text)) => params.parse_properties(alloc, text),
@@ -33,18 +31,20 @@ fn put_item(
     }
 }
 
-/// The parameters of the items, and the refusals of those that were refused.
-pub(crate) fn configured(alloc: Global, items: &str) -> Result<(Params, String), AllocError> {
-    let mut params = Params::new(alloc);
-    let mut refusals = String::new(alloc);
+/// Puts the items in, and adds the refusals of those that were refused to the answer.
+pub(crate) fn put_items(
+    alloc: Global,
+    params: &mut Params,
+    items: &str,
+    answer: &mut String,
+) -> Result<(), AllocError> {
     let mut number: usize = 0;
     for item in items.split('|') {
         number = number.saturating_add(1);
-        if let Err(fault) = put_item(alloc, &mut params, number, item) {
+        if let Err(fault) = put_item(alloc, params, number, item) {
             let place = fault.place().unwrap_or(0);
-            let refusal = format!(in alloc; "error {} at {place}, ", fault.number())?;
-            refusals.push_str(refusal.as_str())?;
+            write!(answer, "error {} at {place}, ", fault.number())?;
         }
     }
-    Ok((params, refusals))
+    Ok(())
 }
