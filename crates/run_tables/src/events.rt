@@ -5,24 +5,32 @@ use descriptor::NodeId;
 use plan_events::{Event, EventKind, Status};
 use std::alloc::{AllocError, Global};
 
-/// Each event as a word behind a blank.
-pub(crate) fn words(alloc: Global, events: &[Event]) -> Result<String, AllocError> {
-    let mut words = String::new(alloc);
-    for event in events {
-        let sign = match event.kind {
-            EventKind::Started => '+',
-            EventKind::Finished => '-',
-            EventKind::Skipped => '~',
-            EventKind::Registered => '*',
-        };
-        let end = match event.status {
-            Some(Status::Failed) => "!",
-            Some(Status::Aborted) => "?",
-            _ => "",
-        };
-        write!(words, " {}{sign}{}{end}", event.worker, event.node.number())?;
+/// The sign of a kind.
+fn sign_of(kind: EventKind) -> char {
+    match kind {
+        EventKind::Started => '+',
+        EventKind::Finished => '-',
+        EventKind::Skipped => '~',
+        EventKind::Registered => '*',
     }
-    Ok(words)
+}
+
+/// What stands behind a finish.
+fn end_of(status: Option<Status>) -> &'static str {
+    match status {
+        Some(Status::Failed) => "!",
+        Some(Status::Aborted) => "?",
+        _ => "",
+    }
+}
+
+/// Adds each event as a word behind a blank.
+pub(crate) fn push_words(text: &mut String, events: &[Event]) -> Result<(), AllocError> {
+    for event in events {
+        let (sign, end) = (sign_of(event.kind), end_of(event.status));
+        write!(text, " {}{sign}{}{end}", event.worker, event.node.number())?;
+    }
+    Ok(())
 }
 
 /// What stands before and behind the sign of a word, and the kind that it stands for.

@@ -8,15 +8,20 @@ use resource_locks::Plan;
 use sched_core::texts_of;
 use std::alloc::{AllocError, Global};
 
-/// The twelve counts of a summary that is told the events.
-fn counts(alloc: Global, plan: &Plan, events: &[Event]) -> Result<String, AllocError> {
-    let mut summary = Summary::new(alloc);
-    summary.prepare(plan)?;
+/// Tells a summary these events, as far as it has room.
+fn tell_all(summary: &mut Summary, events: &[Event]) {
     for event in events {
         if summary.room() > 0 {
             summary.told(*event, None);
         }
     }
+}
+
+/// The twelve counts of a summary that is told the events.
+fn counts(alloc: Global, plan: &Plan, events: &[Event]) -> Result<String, AllocError> {
+    let mut summary = Summary::new(alloc);
+    summary.prepare(plan)?;
+    tell_all(&mut summary, events);
     format!(in alloc; "{:?}\n", summary.counts())
 }
 
@@ -50,7 +55,15 @@ fn lines(
     }
 }
 
-/// What is told of these events, below the question.
+/// The lines below the question, or a text that is no line behind it.
+fn shown(alloc: Global, text: &str) -> Result<String, AllocError> {
+    match text.strip_suffix('\n') {
+        Some(lines) => format!(in alloc; "\n{lines}"),
+        None => format!(in alloc; " => {text:?}"),
+    }
+}
+
+/// What is told of these events.
 pub(crate) fn told(
     alloc: Global,
     run: &Run,
@@ -59,8 +72,5 @@ pub(crate) fn told(
 ) -> Result<String, AllocError> {
     let texts = texts_of(alloc, &run.plan, &run.answers, events)?;
     let text = lines(alloc, &run.plan, events, &texts, way)?;
-    match text.as_str().strip_suffix('\n') {
-        Some(lines) => format!(in alloc; "\n{lines}"),
-        None => format!(in alloc; " => {:?}", text.as_str()),
-    }
+    shown(alloc, text.as_str())
 }

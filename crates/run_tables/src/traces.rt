@@ -1,7 +1,8 @@
 //! What runs leave.
 
-use crate::events::words;
+use crate::events::push_words;
 use crate::run::Run;
+use plan_events::Event;
 use sched_core::{Core, Step, Trace, run_steps};
 use std::alloc::{AllocError, Global};
 use suite_text::parse_steps;
@@ -9,19 +10,31 @@ use suite_text::parse_steps;
 /// The number of workers that a replay has.
 const WORKERS: u32 = 64;
 
-/// What was published and given, each worker's own events if it has some, and how many steps were passed over.
-pub(crate) fn trace_text(alloc: Global, trace: &Trace) -> Result<String, AllocError> {
-    let published = words(alloc, &trace.published)?;
-    let given = words(alloc, &trace.given)?;
-    let workers = trace.mine.len();
-    let mut text = format!(in alloc; "\npublished{published}\ngiven{given}")?;
-    for (place, events) in trace.mine.iter().enumerate() {
+/// Adds each worker's own events, if it has some.
+fn push_workers(text: &mut String, mine: &[Vec<Event>]) -> Result<(), AllocError> {
+    for (place, events) in mine.iter().enumerate() {
         if !events.is_empty() {
-            let events = words(alloc, events)?;
-            write!(text, "\nworker {} of {workers}{events}", place + 1)?;
+            write!(text, "\nworker {} of {}", place + 1, mine.len())?;
+            push_words(text, events)?;
         }
     }
-    write!(text, "\npassed over {}", trace.passed_over)?;
+    Ok(())
+}
+
+/// Adds what was published and given, each worker's own events, and how many steps were passed over.
+fn push_trace(text: &mut String, trace: &Trace) -> Result<(), AllocError> {
+    text.push_str("\npublished")?;
+    push_words(text, &trace.published)?;
+    text.push_str("\ngiven")?;
+    push_words(text, &trace.given)?;
+    push_workers(text, &trace.mine)?;
+    write!(text, "\npassed over {}", trace.passed_over)
+}
+
+/// What a run left.
+pub(crate) fn trace_text(alloc: Global, trace: &Trace) -> Result<String, AllocError> {
+    let mut text = String::new(alloc);
+    push_trace(&mut text, trace)?;
     Ok(text)
 }
 
@@ -36,29 +49,40 @@ pub(crate) fn steps(alloc: Global, run: &Run, text: &str) -> Result<String, Allo
     }
 }
 
-/// What the core answers to each of these steps.
-fn step_lines(alloc: Global, core: &mut Core, steps: &[Step]) -> Result<String, AllocError> {
-    let mut lines = String::new(alloc);
+/// Adds what the core answers to each of these steps.
+fn push_steps(text: &mut String, core: &mut Core, steps: &[Step]) -> Result<(), AllocError> {
     for step in steps {
         match core.step(*step) {
-            Ok(()) => write!(lines, "\n{step:?} done")?,
-            Err(fault) => write!(lines, "\n{step:?} {fault}")?,
+            Ok(()) => write!(text, "\n{step:?} done")?,
+            Err(fault) => write!(text, "\n{step:?} {fault}")?,
         }
     }
-    Ok(lines)
+    Ok(())
 }
 
-/// What the core answers to each step of these words, and what they leave.
+/// Adds what the core has done.
+fn push_done(alloc: Global, text: &mut String, core: &Core) -> Result<(), AllocError> {
+    let trace = core.trace(alloc)?;
+    push_trace(text, &trace)
+}
+
+/// What a core answers to each of these steps, and what they leave.
+fn answers_of(alloc: Global, core: &mut Core, steps: &[Step]) -> Result<String, AllocError> {
+    let mut text = String::new(alloc);
+    push_steps(&mut text, core, steps)?;
+    push_done(alloc, &mut text, core)?;
+    Ok(text)
+}
+
+/// What a core answers to each step of these words, and what they leave.
 pub(crate) fn one_by_one(alloc: Global, run: Run, text: &str) -> Result<String, AllocError> {
-    let Ok(mut core) = Core::new(alloc, run.plan, run.answers, WORKERS) else {
-        return String::from_str(alloc, " => no core");
-    };
     let Ok(steps) = parse_steps(alloc, text) else {
         return String::from_str(alloc, " => no steps");
     };
-    let lines = step_lines(alloc, &mut core, &steps)?;
-    let left = trace_text(alloc, &core.trace(alloc)?)?;
-    format!(in alloc; "{lines}{left}")
+    match Core::new(alloc, run.plan, run.answers, WORKERS) {
+        Ok(mut core) => answers_of(alloc, &mut core, &steps),
+        Err(_) => String::from_str(alloc, " => no core"),
+    }
 }
 
 /// Whether so many workers can run steps, and have a core.
