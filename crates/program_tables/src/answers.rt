@@ -1,22 +1,50 @@
 //! What the program does with a row.
 
-use crate::rows::words_of;
+use crate::rows::push_line;
 use command_line::run_console;
+use launcher::{ExitStatus, LaunchFault};
 use std::alloc::{AllocError, Global};
 
-/// Appends the words of a row, what the program writes, and its status or its refusal.
+/// Runs the program with these words on a suite, and appends what it writes.
+fn run(
+    alloc: Global,
+    answers: &mut Vec<u8>,
+    words: &[String],
+    mut suite: &[u8],
+) -> Result<ExitStatus, LaunchFault> {
+    run_console(alloc, words, &mut suite, answers)
+}
+
+/// The line that says how a run ended: its status or its refusal.
+fn end_line(alloc: Global, end: Result<ExitStatus, LaunchFault>) -> Result<String, AllocError> {
+    match end {
+        Ok(status) => format!(in alloc; "status {}\n", status.number()),
+        Err(fault) => format!(in alloc; "{fault}\n"),
+    }
+}
+
+/// Appends what the program writes, and how it ends.
+fn push_run(
+    alloc: Global,
+    answers: &mut Vec<u8>,
+    words: &[String],
+    suite: &[u8],
+) -> Result<(), AllocError> {
+    let end = run(alloc, answers, words, suite);
+    answers.extend_from_slice(end_line(alloc, end)?.as_bytes())
+}
+
+/// Appends the words of a row, what the program writes, and how it ends.
 pub(crate) fn push_answer(
     alloc: Global,
     answers: &mut Vec<u8>,
-    words: &str,
-    mut suite: &[u8],
+    line: &str,
+    suite: &[u8],
 ) -> Result<(), AllocError> {
-    let heading = format!(in alloc; "== {words}\n")?;
-    answers.extend_from_slice(heading.as_bytes())?;
-    let words = words_of(alloc, words)?;
-    let end = match run_console(alloc, words.as_slice(), &mut suite, answers) {
-        Ok(status) => format!(in alloc; "status {}\n", status.number())?,
-        Err(fault) => format!(in alloc; "{fault}\n")?,
-    };
-    answers.extend_from_slice(end.as_bytes())
+    answers.extend_from_slice(b"== ")?;
+    answers.extend_from_slice(line.as_bytes())?;
+    answers.push(b'\n')?;
+    let mut words = Vec::new(alloc);
+    push_line(alloc, &mut words, line)?;
+    push_run(alloc, answers, words.as_slice(), suite)
 }

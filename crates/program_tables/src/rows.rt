@@ -2,27 +2,36 @@
 
 use std::alloc::{AllocError, Global};
 
+/// Appends a word.
+fn push_word(alloc: Global, words: &mut Vec<String>, word: &str) -> Result<(), AllocError> {
+    words.push(String::from_str(alloc, word)?)?;
+    Ok(())
+}
+
 /// Appends the words between spaces.
 fn push_words(alloc: Global, words: &mut Vec<String>, piece: &str) -> Result<(), AllocError> {
     for word in piece.split(' ') {
         if !word.is_empty() {
-            words.push(String::from_str(alloc, word)?)?;
+            push_word(alloc, words, word)?;
         }
     }
     Ok(())
 }
 
-/// The words of a line, cut at spaces; what stands between two `"` is one word, spaces and all.
-pub(crate) fn words_of(alloc: Global, line: &str) -> Result<Vec<String>, AllocError> {
-    let mut words = Vec::new(alloc);
+/// Appends the words of a line, cut at spaces; what stands between two `"` is one word, spaces and all.
+pub(crate) fn push_line(
+    alloc: Global,
+    words: &mut Vec<String>,
+    line: &str,
+) -> Result<(), AllocError> {
     for (index, piece) in line.split('"').enumerate() {
         if index % 2 == 1 {
-            words.push(String::from_str(alloc, piece)?)?;
+            push_word(alloc, words, piece)?;
         } else {
-            push_words(alloc, &mut words, piece)?;
+            push_words(alloc, words, piece)?;
         }
     }
-    Ok(words)
+    Ok(())
 }
 
 /// The bytes of hexadecimal numbers between spaces.
@@ -42,6 +51,13 @@ fn push_times(suite: &mut Vec<u8>, count: u32, bytes: &[u8]) -> Result<(), Alloc
     Ok(())
 }
 
+/// Appends so many times the bytes with these numbers, as in `3 23 0a`.
+fn push_bytes(alloc: Global, suite: &mut Vec<u8>, times: &str) -> Result<(), AllocError> {
+    let (count, codes) = times.split_once(' ').unwrap_or((times, ""));
+    let bytes = bytes_of(alloc, codes)?;
+    push_times(suite, count.parse().unwrap_or(0), bytes.as_slice())
+}
+
 /// Appends lines of so many passing tests.
 fn push_tests(alloc: Global, suite: &mut Vec<u8>, count: u32) -> Result<(), AllocError> {
     for number in 0..count {
@@ -59,9 +75,7 @@ pub(crate) fn push_suite_line(
     line: &str,
 ) -> Result<(), AllocError> {
     if let Some(times) = line.strip_prefix("\\times ") {
-        let (count, codes) = times.split_once(' ').unwrap_or((times, ""));
-        let bytes = bytes_of(alloc, codes)?;
-        return push_times(suite, count.parse().unwrap_or(0), bytes.as_slice());
+        return push_bytes(alloc, suite, times);
     }
     if let Some(count) = line.strip_prefix("\\tests ") {
         return push_tests(alloc, suite, count.parse().unwrap_or(0));

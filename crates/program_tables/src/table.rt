@@ -1,0 +1,49 @@
+//! What was read and answered so far.
+
+use crate::answers::push_answer;
+use crate::rows::push_suite_line;
+use std::alloc::{AllocError, Global};
+
+/// The words of a row, its suite as far as it was read, and the answers to the rows above.
+#[derive(Drop)]
+pub(crate) struct Table {
+    words: String,
+    suite: Vec<u8>,
+    answers: Vec<u8>,
+}
+
+impl Table {
+    /// Nothing read and nothing answered.
+    pub(crate) fn new(alloc: Global) -> Table {
+        Table {
+            words: String::new(alloc),
+            suite: Vec::new(alloc),
+            answers: Vec::new(alloc),
+        }
+    }
+
+    /// Runs the program on the row, if there is one.
+    pub(crate) fn run(&mut self, alloc: Global) -> Result<(), AllocError> {
+        if self.words.is_empty() {
+            return Ok(());
+        }
+        let (words, suite) = (self.words.as_str(), self.suite.as_slice());
+        push_answer(alloc, &mut self.answers, words, suite)
+    }
+
+    /// Reads a line: the words of the next row, or one of the row's suite.
+    pub(crate) fn take(&mut self, alloc: Global, line: &str) -> Result<(), AllocError> {
+        let Some(words) = line.strip_prefix("== ") else {
+            return push_suite_line(alloc, &mut self.suite, line);
+        };
+        self.run(alloc)?;
+        self.suite.clear();
+        self.words.clear();
+        self.words.push_str(words)
+    }
+
+    /// The answers.
+    pub(crate) fn answers(&self) -> &[u8] {
+        self.answers.as_slice()
+    }
+}
