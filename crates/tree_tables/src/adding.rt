@@ -44,6 +44,33 @@ pub(crate) fn text_of(alloc: Global, text: &str) -> Result<Text, AllocError> {
     }
 }
 
+/// Adds a tag, if the text is one.
+fn add_tag(alloc: Global, node: &mut Node, text: &str) -> Result<(), AllocError> {
+    match tag_of(alloc, text) {
+        Ok(tag) => node.tags.add(tag),
+        Err(_) => Ok(()),
+    }
+}
+
+/// Adds a lock in the mode READ_WRITE.
+fn add_lock(alloc: Global, node: &mut Node, key: &str) -> Result<(), AllocError> {
+    node.locks.push(Lock {
+        key: text_of(alloc, key)?,
+        mode: LockMode::ReadWrite,
+    })
+}
+
+/// Gives a node what a word says for which memory is taken.
+fn add_text(alloc: Global, node: &mut Node, key: &str, value: &str) -> Result<(), AllocError> {
+    match key {
+        "name" => node.name = text_of(alloc, value)?,
+        "disabled" => node.disabled = Some(text_of(alloc, value)?),
+        "lock" => return add_lock(alloc, node, value),
+        _ => return add_tag(alloc, node, value),
+    }
+    Ok(())
+}
+
 /// Gives a node what a word says.
 fn attribute(alloc: Global, node: &mut Node, word: &str) -> Result<(), AllocError> {
     let (key, value) = word.split_once('=').unwrap_or((word, ""));
@@ -53,29 +80,52 @@ fn attribute(alloc: Global, node: &mut Node, word: &str) -> Result<(), AllocErro
         "role" => node.role = role_of(value),
         "mode" => node.mode = Some(mode_of(value)),
         "isolated" => node.isolated = true,
-        "lock" => node.locks.push(Lock {
-            key: text_of(alloc, value)?,
-            mode: LockMode::ReadWrite,
-        })?,
-        "name" => node.name = text_of(alloc, value)?,
-        "disabled" => node.disabled = Some(text_of(alloc, value)?),
-        _ => {
-            if let Ok(tag) = tag_of(alloc, value) {
-                node.tags.add(tag)?;
-            }
-        }
+        _ => return add_text(alloc, node, key, value),
     }
     Ok(())
 }
 
-/// A node of these words, named by its id.
-fn node_of(alloc: Global, kind: &str, id: UniqueId, words: &str) -> Result<Node, AllocError> {
-    let name = Text::new(alloc, id.text())?;
-    let mut node = Node::plain(alloc, id, name, kind_of(kind));
+/// Gives a node what the words say.
+fn attributes(alloc: Global, node: &mut Node, words: &str) -> Result<(), AllocError> {
     for word in words.split(' ') {
-        attribute(alloc, &mut node, word)?;
+        attribute(alloc, node, word)?;
     }
-    Ok(node)
+    Ok(())
+}
+
+/// A node of this kind, named by its id.
+fn node_of(alloc: Global, kind: &str, id: UniqueId) -> Result<Node, AllocError> {
+    let name = Text::new(alloc, id.text())?;
+    Ok(Node::plain(alloc, id, name, kind_of(kind)))
+}
+
+/// Adds a node, and tells its number, or the refusal.
+fn add(
+    alloc: Global,
+    builder: &mut TreeBuilder,
+    parent: NodeId,
+    node: Node,
+) -> Result<String, AllocError> {
+    if !builder.may_take(parent) {
+        return String::from_str(alloc, " => closed");
+    }
+    match builder.add(alloc, parent, node) {
+        Ok(number) => format!(in alloc; " => {}", number.number()),
+        Err(fault) => format!(in alloc; " => error {}: {fault}", fault.number()),
+    }
+}
+
+/// Adds this node, when it has got what the words say.
+fn add_with(
+    alloc: Global,
+    builder: &mut TreeBuilder,
+    parent: &str,
+    mut node: Node,
+    words: &str,
+) -> Result<String, AllocError> {
+    attributes(alloc, &mut node, words)?;
+    let parent = NodeId::new(parent.parse().unwrap_or(0));
+    add(alloc, builder, parent, node)
 }
 
 /// The number of the node that a line adds, or the refusal.
@@ -90,13 +140,6 @@ pub(crate) fn added(
     let Ok(id) = UniqueId::parse(alloc, id) else {
         return String::from_str(alloc, " => no id");
     };
-    let node = node_of(alloc, kind, id, words)?;
-    let parent = NodeId::new(parent.parse().unwrap_or(0));
-    if !builder.may_take(parent) {
-        return String::from_str(alloc, " => closed");
-    }
-    match builder.add(alloc, parent, node) {
-        Ok(number) => format!(in alloc; " => {}", number.number()),
-        Err(fault) => format!(in alloc; " => error {}: {fault}", fault.number()),
-    }
+    let node = node_of(alloc, kind, id)?;
+    add_with(alloc, builder, parent, node, words)
 }

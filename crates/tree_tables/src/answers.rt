@@ -5,7 +5,7 @@ use crate::nodes::{nodes_text, tags_text};
 use crate::selection::found;
 use descriptor::{NodeId, Tree};
 use std::alloc::{AllocError, Global};
-use suite_text::{Suite, SuiteFault};
+use suite_text::{Script, Suite, SuiteFault};
 
 /// Why a text is no suite.
 pub(crate) fn refusal(alloc: Global, fault: SuiteFault) -> Result<String, AllocError> {
@@ -16,34 +16,49 @@ pub(crate) fn refusal(alloc: Global, fault: SuiteFault) -> Result<String, AllocE
     }
 }
 
+/// Adds a line for a script.
+fn push_script(text: &mut String, script: &Script) -> Result<(), AllocError> {
+    let (body, spin, pulls) = (script.body.number(), script.spin, script.reply.pulls);
+    let outcome = &script.reply.outcome;
+    let (status, said) = (outcome.status, outcome.text.as_str());
+    write!(text, "\nbody {body} spin {spin} pulls {pulls}")?;
+    write!(text, " {status} {said:?}")
+}
+
 /// A line for each script of a suite.
 pub(crate) fn scripts(alloc: Global, suite: &Suite) -> Result<String, AllocError> {
     let mut text = String::new(alloc);
     for script in &suite.scripts {
-        let (body, spin, pulls) = (script.body.number(), script.spin, script.reply.pulls);
-        let outcome = &script.reply.outcome;
-        let (status, said) = (outcome.status, outcome.text.as_str());
-        write!(
-            text,
-            "\nbody {body} spin {spin} pulls {pulls} {status} {said:?}"
-        )?;
+        push_script(&mut text, script)?;
     }
     Ok(text)
 }
 
-/// What is left of the tree where these digits have a 1.
-fn kept(alloc: Global, tree: &Tree, digits: &str) -> Result<String, AllocError> {
-    let mut keep = Vec::new(alloc);
-    for digit in text_of(alloc, digits)?.as_str().chars() {
-        keep.push(digit == '1')?;
-    }
+/// Whether each of these digits is a 1.
+fn marks(alloc: Global, digits: &str) -> Result<Vec<bool>, AllocError> {
+    let digits = text_of(alloc, digits)?;
+    digits
+        .as_str()
+        .chars()
+        .map(|digit| digit == '1')
+        .collect(alloc)
+}
+
+/// What is left of the tree where the marks are true.
+fn left(alloc: Global, tree: &Tree, keep: &[bool]) -> Result<String, AllocError> {
     if keep.len() != tree.len() {
         return String::from_str(alloc, " => another length");
     }
-    if !tree.is_closed(keep.as_slice()) {
+    if !tree.is_closed(keep) {
         return String::from_str(alloc, " => not closed");
     }
-    nodes_text(alloc, &tree.pruned(alloc, keep.as_slice())?)
+    nodes_text(alloc, &tree.pruned(alloc, keep)?)
+}
+
+/// What is left of the tree where these digits have a 1.
+fn kept(alloc: Global, tree: &Tree, digits: &str) -> Result<String, AllocError> {
+    let keep = marks(alloc, digits)?;
+    left(alloc, tree, keep.as_slice())
 }
 
 /// Whether the first of two nodes is below the second.

@@ -14,15 +14,37 @@ use crate::table::Table;
 use std::alloc::{AllocError, Global};
 use std::io;
 
+/// The line with a number in the place of each mark.
+fn numbered(alloc: Global, line: &str, mark: &str, number: usize) -> Result<String, AllocError> {
+    let digits = format!(in alloc; "{number}")?;
+    line.replace(alloc, mark, digits.as_str())
+}
+
+/// The line with so many levels of indentation in the place of each mark.
+fn indented(alloc: Global, line: &str, levels: usize) -> Result<String, AllocError> {
+    let blanks = "  ".repeat(alloc, levels)?;
+    line.replace(alloc, "{>}", blanks.as_str())
+}
+
 /// The line as it stands for the time of this number.
 fn filled(alloc: Global, line: &str, number: usize) -> Result<String, AllocError> {
-    let line = line.replace(alloc, "{>}", "  ".repeat(alloc, number)?.as_str())?;
-    let line = line.replace(
-        alloc,
-        "{<}",
-        format!(in alloc; "{}", number.saturating_sub(1))?.as_str(),
-    )?;
-    line.replace(alloc, "{}", format!(in alloc; "{number}")?.as_str())
+    let line = indented(alloc, line, number)?;
+    let line = numbered(alloc, line.as_str(), "{<}", number.saturating_sub(1))?;
+    numbered(alloc, line.as_str(), "{}", number)
+}
+
+/// What the table answers to a line for the time of this number.
+fn answer_for(
+    alloc: Global,
+    table: &mut Table,
+    line: &str,
+    number: usize,
+) -> Result<String, AllocError> {
+    if !line.contains('{') {
+        return table.answer(alloc, line);
+    }
+    let line = filled(alloc, line, number)?;
+    table.answer(alloc, line.as_str())
 }
 
 /// What the table answers to a line, or to the last of its repetitions.
@@ -32,11 +54,7 @@ fn answer(alloc: Global, table: &mut Table, line: &str) -> Result<String, AllocE
     };
     let mut answer = String::new(alloc);
     for number in 1..=times.parse().unwrap_or(0) {
-        answer = if line.contains('{') {
-            table.answer(alloc, filled(alloc, line, number)?.as_str())?
-        } else {
-            table.answer(alloc, line)?
-        };
+        answer = answer_for(alloc, table, line, number)?;
     }
     Ok(answer)
 }

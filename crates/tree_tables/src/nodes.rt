@@ -1,7 +1,8 @@
 //! The nodes of a tree, a line each.
 
-use descriptor::{Kind, NodeId, Tree};
+use descriptor::{BodyId, Kind, Node, NodeId, Tree};
 use std::alloc::{AllocError, Global};
+use tag_expr::TagSet;
 
 fn kind_word(kind: Kind) -> &'static str {
     match kind {
@@ -11,7 +12,28 @@ fn kind_word(kind: Kind) -> &'static str {
     }
 }
 
-/// Writes a node's parent, id and name, and what it has of a body, a reason and children.
+/// Writes the parent, the id and the name of a node that is not the plan.
+fn push_name(text: &mut String, parent: NodeId, node: &Node) -> Result<(), AllocError> {
+    let (id, name) = (node.id.text(), node.name.as_str());
+    write!(text, " in {} {id} {name:?}", parent.number())
+}
+
+/// Writes what a node has of a body and a reason.
+fn push_declared(
+    text: &mut String,
+    body: Option<BodyId>,
+    reason: Option<&str>,
+) -> Result<(), AllocError> {
+    if let Some(body) = body {
+        write!(text, " body {}", body.number())?;
+    }
+    match reason {
+        Some(reason) => write!(text, " disabled {reason:?}"),
+        None => Ok(()),
+    }
+}
+
+/// Writes a node's kind, parent, id and name, and what it has of a body, a reason and children.
 fn push_node(text: &mut String, tree: &Tree, number: usize) -> Result<(), AllocError> {
     if number >= tree.len() {
         return Ok(());
@@ -19,16 +41,9 @@ fn push_node(text: &mut String, tree: &Tree, number: usize) -> Result<(), AllocE
     let id = NodeId::new(number as u16);
     write!(text, "\n{number} {}", kind_word(tree.kind(id)))?;
     if let Some(parent) = tree.parent(id) {
-        let node = tree.node(id);
-        let (parent, name) = (parent.number(), node.name.as_str());
-        write!(text, " in {parent} {} {name:?}", node.id.text())?;
+        push_name(text, parent, tree.node(id))?;
     }
-    if let Some(body) = tree.body(id) {
-        write!(text, " body {}", body.number())?;
-    }
-    if let Some(reason) = tree.reason(id) {
-        write!(text, " disabled {reason:?}")?;
-    }
+    push_declared(text, tree.body(id), tree.reason(id))?;
     for child in tree.children(id) {
         write!(text, " >{}", child.number())?;
     }
@@ -47,21 +62,26 @@ pub(crate) fn nodes_text(alloc: Global, tree: &Tree) -> Result<String, AllocErro
     Ok(text)
 }
 
+/// Writes those of the words that are tags of a node, or that it has none.
+fn push_tags(text: &mut String, tags: &TagSet, words: &str) -> Result<(), AllocError> {
+    if tags.is_empty() {
+        return text.push_str(" no tags");
+    }
+    for word in words.split(' ') {
+        if tags.contains(word) {
+            write!(text, " {word}")?;
+        }
+    }
+    Ok(())
+}
+
 /// A line for each node, with those of the words that are its tags.
 pub(crate) fn tags_text(alloc: Global, tree: &Tree, words: &str) -> Result<String, AllocError> {
     let mut text = String::new(alloc);
     for number in 0..tree.len() {
         write!(text, "\n{number}")?;
-        let Some(tags) = tree.tags(NodeId::new(number as u16)) else {
-            continue;
-        };
-        if tags.is_empty() {
-            text.push_str(" no tags")?;
-        }
-        for word in words.split(' ') {
-            if tags.contains(word) {
-                write!(text, " {word}")?;
-            }
+        if let Some(tags) = tree.tags(NodeId::new(number as u16)) {
+            push_tags(&mut text, tags, words)?;
         }
     }
     Ok(text)

@@ -14,23 +14,48 @@ fn selector_kind(word: &str) -> SelectorKind {
     }
 }
 
-/// Adds what a word such as `class=a.B` or `include=a & b` asks for, and tells whether it could be read.
-fn add(alloc: Global, request: &mut Request, word: &str) -> Result<bool, AllocError> {
-    let (kind, text) = word.split_once('=').unwrap_or((word, ""));
-    if kind != "include" && kind != "exclude" {
-        let Ok(selector) = Selector::parse(alloc, selector_kind(kind), text) else {
-            return Ok(false);
-        };
-        request.selectors.push(selector)?;
-        return Ok(true);
-    }
+/// Adds a selector, and tells whether it could be read.
+fn add_selector(
+    alloc: Global,
+    selectors: &mut Vec<Selector>,
+    kind: &str,
+    text: &str,
+) -> Result<bool, AllocError> {
+    let Ok(selector) = Selector::parse(alloc, selector_kind(kind), text) else {
+        return Ok(false);
+    };
+    selectors.push(selector)?;
+    Ok(true)
+}
+
+/// Adds an expression, and tells whether it could be read.
+fn add_expression(
+    alloc: Global,
+    expressions: &mut Vec<TagExpr>,
+    text: &str,
+) -> Result<bool, AllocError> {
     let Ok(expression) = TagExpr::parse(alloc, text) else {
         return Ok(false);
     };
-    if kind == "include" {
-        request.include.push(expression)?;
-    } else {
-        request.exclude.push(expression)?;
+    expressions.push(expression)?;
+    Ok(true)
+}
+
+/// Adds what a word such as `class=a.B` or `include=a & b` asks for, and tells whether it could be read.
+fn add(alloc: Global, request: &mut Request, word: &str) -> Result<bool, AllocError> {
+    match word.split_once('=').unwrap_or((word, "")) {
+        ("include", text) => add_expression(alloc, &mut request.include, text),
+        ("exclude", text) => add_expression(alloc, &mut request.exclude, text),
+        (kind, text) => add_selector(alloc, &mut request.selectors, kind, text),
+    }
+}
+
+/// Adds what words between semicolons ask for, and tells whether each could be read.
+fn add_all(alloc: Global, request: &mut Request, words: &str) -> Result<bool, AllocError> {
+    for word in words.split("; ") {
+        if !word.is_empty() && !add(alloc, request, word)? {
+            return Ok(false);
+        }
     }
     Ok(true)
 }
@@ -45,6 +70,17 @@ fn names(alloc: Global, tree: &Tree) -> Result<String, AllocError> {
     Ok(names)
 }
 
+/// The names of what a request asks for, or the refusal.
+fn answered(alloc: Global, tree: &Tree, request: &Request) -> Result<String, AllocError> {
+    match discover(alloc, tree.copy(alloc)?, request) {
+        Ok(found) => names(alloc, &found),
+        Err(fault) => {
+            let place = fault.place().unwrap_or(0);
+            format!(in alloc; " => error {} at {place}: {fault}", fault.number())
+        }
+    }
+}
+
 /// The names of what words between semicolons ask for, or the refusal.
 pub(crate) fn found(alloc: Global, tree: &Tree, words: &str) -> Result<String, AllocError> {
     let mut request = Request {
@@ -52,16 +88,8 @@ pub(crate) fn found(alloc: Global, tree: &Tree, words: &str) -> Result<String, A
         include: Vec::new(alloc),
         exclude: Vec::new(alloc),
     };
-    for word in words.split("; ").filter(|word| !word.is_empty()) {
-        if !add(alloc, &mut request, word)? {
-            return String::from_str(alloc, " => no request");
-        }
+    if !add_all(alloc, &mut request, words)? {
+        return String::from_str(alloc, " => no request");
     }
-    match discover(alloc, tree.copy(alloc)?, &request) {
-        Ok(found) => names(alloc, &found),
-        Err(fault) => {
-            let place = fault.place().unwrap_or(0);
-            format!(in alloc; " => error {} at {place}: {fault}", fault.number())
-        }
-    }
+    answered(alloc, tree, &request)
 }

@@ -22,19 +22,26 @@ impl Table {
         })
     }
 
+    /// Begins a tree, or takes a line of a suite.
+    fn take(&mut self, alloc: Global, line: &str) -> Result<(), AllocError> {
+        if line.starts_with("== ") {
+            self.suite.clear();
+            self.builder = TreeBuilder::new(alloc)?;
+            return Ok(());
+        }
+        self.suite.push_str(line)?;
+        self.suite.push('\n')
+    }
+
     /// Reads a line, and answers where it adds a node or asks.
     pub(crate) fn answer(&mut self, alloc: Global, line: &str) -> Result<String, AllocError> {
-        if line.starts_with("== ") {
-            self.builder = TreeBuilder::new(alloc)?;
-            self.suite = String::new(alloc);
-        } else if let Some(node) = line.strip_prefix("+ ") {
+        if let Some(node) = line.strip_prefix("+ ") {
             return added(alloc, &mut self.builder, node);
-        } else if let Some(asked) = line.strip_prefix("? ") {
-            return self.asked(alloc, asked);
-        } else {
-            self.suite.push_str(line)?;
-            self.suite.push('\n')?;
         }
+        if let Some(asked) = line.strip_prefix("? ") {
+            return self.asked(alloc, asked);
+        }
+        self.take(alloc, line)?;
         Ok(String::new(alloc))
     }
 
