@@ -50,6 +50,14 @@ impl Listener for Gauge {
     }
 }
 
+/// Whether these 17 listeners are refused, and handed back.
+fn hands_back(listeners: Vec<Box<dyn Listener>>) -> bool {
+    match Audience::new(listeners) {
+        Ok(_) => false,
+        Err(fault) => fault.number() == 80 && fault.listeners.len() == 17,
+    }
+}
+
 /// Whether 16 listeners are an audience, and come back out of it, and one more is refused with all of them.
 fn takes_16(alloc: Global) -> Result<bool, AllocError> {
     let mut listeners: Vec<Box<dyn Listener>> = Vec::new(alloc);
@@ -62,10 +70,7 @@ fn takes_16(alloc: Global) -> Result<bool, AllocError> {
     let mut listeners = audience.into_listeners();
     let came_back = listeners.len() == 16;
     listeners.push(Box::new(alloc, Summary::new(alloc))?)?;
-    match Audience::new(listeners) {
-        Ok(_) => Ok(false),
-        Err(fault) => Ok(came_back && fault.number() == 80 && fault.listeners.len() == 17),
-    }
+    Ok(came_back && hands_back(listeners))
 }
 
 #[test]
@@ -85,6 +90,11 @@ fn an_empty_audience_is_fresh_and_has_room(rt: HostRuntime) {
     assert!(rt; fits);
 }
 
+/// Whether the first two listeners of an audience have heard these events, and there is no third.
+fn both_heard(audience: &Audience, events: &[Event]) -> bool {
+    audience.got(0) == Some(events) && audience.got(1) == Some(events) && audience.got(2).is_none()
+}
+
 /// Whether an audience has room for what it was prepared for, and has heard the one event that it is told.
 fn hears(mut audience: Audience, plan: &Plan) -> Result<bool, AllocError> {
     let had_room = audience.has_room(1);
@@ -94,43 +104,62 @@ fn hears(mut audience: Audience, plan: &Plan) -> Result<bool, AllocError> {
     }
     audience.tell(started(2), None);
     let heard = [started(2)];
-    let heard = Some(heard.as_slice());
-    let both = audience.got(0) == heard && audience.got(1) == heard;
-    Ok(both && audience.got(2).is_none() && !audience.fresh() && audience.has_room(5))
+    Ok(both_heard(&audience, heard.as_slice()) && !audience.fresh() && audience.has_room(5))
+}
+
+/// Whether an audience of two listeners hears.
+fn two_hear(alloc: Global, plan: &Plan) -> Result<bool, AllocError> {
+    let mut listeners: Vec<Box<dyn Listener>> = Vec::new(alloc);
+    listeners.push(Box::new(alloc, Recorder::new(alloc))?)?;
+    listeners.push(Box::new(alloc, Summary::new(alloc))?)?;
+    match Audience::new(listeners) {
+        Ok(audience) => hears(audience, plan),
+        Err(_) => Ok(false),
+    }
 }
 
 #[test]
 fn tells_every_listener_each_event(rt: HostRuntime) -> Result<(), Fail> {
-    let alloc = rt.alloc();
-    let plan = plan_of(alloc, "engine e\n  class A\n")?;
-    let mut listeners: Vec<Box<dyn Listener>> = Vec::new(alloc);
-    listeners.push(Box::new(alloc, Recorder::new(alloc))?)?;
-    listeners.push(Box::new(alloc, Summary::new(alloc))?)?;
-    let Ok(audience) = Audience::new(listeners) else {
-        panic!(rt; "not as it should be");
-    };
-    assert!(rt; hears(audience, &plan)?);
+    let plan = plan_of(rt.alloc(), "engine e\n  class A\n")?;
+    assert!(rt; two_hear(rt.alloc(), &plan)?);
     Ok(())
 }
 
-#[test]
-fn tells_the_text_of_an_event(rt: HostRuntime) -> Result<(), Fail> {
-    let alloc = rt.alloc();
-    let plan = plan_of(alloc, "engine e\n  class A\n")?;
+/// Whether an audience has room for the event that it is told with a text.
+fn is_told(mut audience: Audience, plan: &Plan) -> Result<bool, AllocError> {
+    audience.prepare(plan)?;
+    let has_room = audience.has_room(1);
+    if has_room {
+        audience.tell(finished(2, Status::Failed), Some("no luck"));
+    }
+    Ok(has_room)
+}
+
+/// Whether an audience of this gauge is told a text.
+fn tells(alloc: Global, gauge: Gauge, plan: &Plan) -> Result<bool, AllocError> {
+    let mut listeners: Vec<Box<dyn Listener>> = Vec::new(alloc);
+    listeners.push(Box::new(alloc, gauge)?)?;
+    match Audience::new(listeners) {
+        Ok(audience) => is_told(audience, plan),
+        Err(_) => Ok(false),
+    }
+}
+
+/// How many bytes of text a gauge has heard of, if it was told.
+fn bytes_heard(alloc: Global, plan: &Plan) -> Result<Option<usize>, AllocError> {
     let bytes = Rc::new(alloc, Cell::new(0))?;
     let gauge = Gauge {
         events: Vec::new(alloc),
         room: 0,
         bytes: Rc::clone(&bytes)?,
     };
-    let mut listeners: Vec<Box<dyn Listener>> = Vec::new(alloc);
-    listeners.push(Box::new(alloc, gauge)?)?;
-    let Ok(mut audience) = Audience::new(listeners) else {
-        panic!(rt; "not as it should be");
-    };
-    audience.prepare(&plan)?;
-    assert!(rt; audience.has_room(1));
-    audience.tell(finished(2, Status::Failed), Some("no luck"));
-    assert_eq!(rt; bytes.get(), 7);
+    let is_told = tells(alloc, gauge, plan)?;
+    Ok(is_told.then_some(bytes.get()))
+}
+
+#[test]
+fn tells_the_text_of_an_event(rt: HostRuntime) -> Result<(), Fail> {
+    let plan = plan_of(rt.alloc(), "engine e\n  class A\n")?;
+    assert!(rt; bytes_heard(rt.alloc(), &plan)? == Some(7));
     Ok(())
 }

@@ -2,9 +2,10 @@
 
 use crate::plans::{finished, plan_of, started};
 use descriptor::{BodyId, NodeId};
-use plan_events::{Outcome, Reply, Status};
-use sched_core::{Action, Answers, Core, CoreFault, NotEnabled, Step, drive, texts_of};
-use std::alloc::Global;
+use plan_events::{Event, Outcome, Reply, Status, Texts};
+use resource_locks::Plan;
+use sched_core::{Action, Answers, Core, NotEnabled, Step, drive, texts_of};
+use std::alloc::{AllocError, Global};
 use std::test::Fail;
 use unique_id::Text;
 
@@ -15,11 +16,8 @@ const PASSING: &str = "engine e
     test takes pass
 ";
 
-/// Whether the core refuses steps of no worker and of no node, and then takes one.
-fn refuses(core: Result<Core, CoreFault>) -> bool {
-    let Ok(mut core) = core else {
-        return false;
-    };
+/// Whether a core refuses steps of no worker and of no node, and then takes one.
+fn refuses(core: &mut Core) -> bool {
     for step in [
         Step::Worker(0, Action::Claim(NodeId::ROOT)),
         Step::Worker(65, Action::Claim(NodeId::ROOT)),
@@ -34,12 +32,18 @@ fn refuses(core: Result<Core, CoreFault>) -> bool {
         .is_ok()
 }
 
+/// Whether a core of 64 workers refuses them.
+fn core_refuses(alloc: Global, plan: Plan) -> bool {
+    match Core::new(alloc, plan, Answers::of(Vec::new(alloc)), 64) {
+        Ok(mut core) => refuses(&mut core),
+        Err(_) => false,
+    }
+}
+
 #[test]
 fn refuses_what_no_worker_can_do(rt: HostRuntime) -> Result<(), Fail> {
-    let alloc = rt.alloc();
-    let plan = plan_of(alloc, PASSING)?;
-    let answers = Answers::of(Vec::new(alloc));
-    assert!(rt; refuses(Core::new(alloc, plan, answers, 64)));
+    let plan = plan_of(rt.alloc(), PASSING)?;
+    assert!(rt; core_refuses(rt.alloc(), plan));
     Ok(())
 }
 
@@ -58,17 +62,32 @@ fn two_replies(alloc: Global) -> Result<Answers, Fail> {
     Ok(Answers::of(replies))
 }
 
+/// Whether node 3 ended by no reply, and node 4 by the first of its two.
+fn ended(events: &[Event]) -> bool {
+    events.contains(&finished(3, Status::Successful))
+        && events.contains(&finished(4, Status::Aborted))
+        && events.contains(&started(4))
+        && events.len() == 10
+}
+
+/// Whether the text of node 3 is empty, and that of node 4 its first reply's.
+fn said(texts: &Texts) -> bool {
+    texts.of(NodeId::new(3)) == Some("")
+        && texts.of(NodeId::new(4)) == Some("no disk")
+        && texts.of(NodeId::new(2)).is_none()
+}
+
+/// Whether the schedule takes the first reply of a body, or none.
+fn takes_first(alloc: Global, plan: &Plan, answers: &Answers) -> Result<bool, AllocError> {
+    let trace = drive(alloc, plan, answers)?;
+    let texts = texts_of(alloc, plan, answers, &trace.published)?;
+    Ok(ended(&trace.published) && said(&texts))
+}
+
 #[test]
 fn takes_the_first_reply_or_none(rt: HostRuntime) -> Result<(), Fail> {
-    let alloc = rt.alloc();
-    let plan = plan_of(alloc, PASSING)?;
-    let answers = two_replies(alloc)?;
-    let events = drive(alloc, &plan, &answers)?.published;
-    let texts = texts_of(alloc, &plan, &answers, &events)?;
-    let ended = events.contains(&finished(3, Status::Successful))
-        && events.contains(&finished(4, Status::Aborted))
-        && events.contains(&started(4));
-    let said = texts.of(NodeId::new(3)) == Some("") && texts.of(NodeId::new(4)) == Some("no disk");
-    assert!(rt; ended && said && events.len() == 10 && texts.of(NodeId::new(2)).is_none());
+    let plan = plan_of(rt.alloc(), PASSING)?;
+    let answers = two_replies(rt.alloc())?;
+    assert!(rt; takes_first(rt.alloc(), &plan, &answers)?);
     Ok(())
 }

@@ -3,7 +3,8 @@
 use crate::plans::plan_of;
 use descriptor::NodeId;
 use plan_events::{Note, Texts};
-use std::alloc::Global;
+use resource_locks::Plan;
+use std::alloc::{AllocError, Global};
 use std::test::Fail;
 use unique_id::Text;
 
@@ -15,13 +16,17 @@ const TESTS: &str = "engine e
     test waits disabled
 ";
 
-/// The text of a node after each of three notes: one of its own, that there were too many dynamic tests, and its reason.
-fn texts_after_notes(alloc: Global, number: u16) -> Result<String, Fail> {
-    let plan = plan_of(alloc, TESTS)?;
-    let node = NodeId::new(number);
-    let mut texts = Texts::new(alloc, plan.tree())?;
-    let mut list = format!(in alloc; "{:?}", texts.of(node))?;
+/// Adds the text of a node, and that after each of three notes: one of its own, that there were too many dynamic tests, and
+/// its reason.
+fn push_texts(
+    alloc: Global,
+    list: &mut String,
+    plan: &Plan,
+    node: NodeId,
+) -> Result<(), AllocError> {
     let own = Text::new(alloc, "broken")?;
+    let mut texts = Texts::new(alloc, plan.tree())?;
+    write!(list, "{:?}", texts.of(node))?;
     if node.index() < plan.tree().len() {
         texts.set(node, Note::Own(own));
         write!(list, " {:?}", texts.of(node))?;
@@ -30,27 +35,32 @@ fn texts_after_notes(alloc: Global, number: u16) -> Result<String, Fail> {
         texts.set(node, Note::Reason);
         write!(list, " {:?}", texts.of(node))?;
     }
-    Ok(list)
+    Ok(())
+}
+
+/// Whether a node of the plan has these texts.
+fn has_texts(alloc: Global, plan: &Plan, number: u16, wanted: &str) -> Result<bool, AllocError> {
+    let mut list = String::new(alloc);
+    push_texts(alloc, &mut list, plan, NodeId::new(number))?;
+    Ok(list.as_str() == wanted)
+}
+
+/// Whether each node has the texts of its notes, and a node that is not there has none.
+fn have_texts(alloc: Global, plan: &Plan) -> Result<bool, AllocError> {
+    let enabled = "None Some(\"broken\") Some(\"too many dynamic tests\") None";
+    let disabled = "None Some(\"broken\") Some(\"too many dynamic tests\") Some(\"flaky\")";
+    let unexplained = "None Some(\"broken\") Some(\"too many dynamic tests\") Some(\"\")";
+    Ok(
+        has_texts(alloc, plan, 3, enabled)?
+            && has_texts(alloc, plan, 4, disabled)?
+            && has_texts(alloc, plan, 5, unexplained)?
+            && has_texts(alloc, plan, 6, "None")?,
+    )
 }
 
 #[test]
 fn the_last_note_of_a_node_is_its_text(rt: HostRuntime) -> Result<(), Fail> {
-    for (number, want) in [
-        (
-            3,
-            "None Some(\"broken\") Some(\"too many dynamic tests\") None",
-        ),
-        (
-            4,
-            "None Some(\"broken\") Some(\"too many dynamic tests\") Some(\"flaky\")",
-        ),
-        (
-            5,
-            "None Some(\"broken\") Some(\"too many dynamic tests\") Some(\"\")",
-        ),
-        (6, "None"),
-    ] {
-        assert_eq!(rt; texts_after_notes(rt.alloc(), number)?.as_str(), want);
-    }
+    let plan = plan_of(rt.alloc(), TESTS)?;
+    assert!(rt; have_texts(rt.alloc(), &plan)?);
     Ok(())
 }
