@@ -1,0 +1,9 @@
+-- What the events of a run must be like. Following serves proofs alone.
+pub mod Plans
+pub mod Places
+pub mod Results
+pub mod History
+pub mod Order
+pub mod Exclusion
+pub mod Expected
+pub mod Following
