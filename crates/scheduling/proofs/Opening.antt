@@ -54,7 +54,7 @@ all_same zero k x = refl
 all_same (suc n) zero x = refl
 all_same (suc n) (suc k) x = all_same n k x
 
-get_replicate : {X : Type 0} (n : ℕ) (x y : X) (i : ℕ) → slice_get (replicate n x) i ≡ Some y → x ≡ y
+pub get_replicate : {X : Type 0} (n : ℕ) (x y : X) (i : ℕ) → slice_get (replicate n x) i ≡ Some y → x ≡ y
 get_replicate zero x y i q = absurd (none-some y q)
 get_replicate (suc n) x y zero q = same_Some x y q
 get_replicate (suc n) x y (suc i) q = get_replicate n x y i q
