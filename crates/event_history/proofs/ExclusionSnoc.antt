@@ -1,5 +1,5 @@
 -- Held locks exclude each other still, where a start finds none of its own held.
-use Rattle.std.proofs.Common.{◌≡◌, ℕ, ◌<◌, true, false, List, [], ◌∷◌, ◌++◌, length, inl, inr, sym, ◌∙◌, subst, arith}
+use Rattle.std.proofs.Common.{◌≡◌, ℕ, ◌<◌, List, [], ◌∷◌, ◌++◌, length, inl, inr, sym, ◌∙◌, subst, arith}
 use Rattle.std.proofs.lemmas.Bool.{false_from_ne_true}
 use Rattle.std.proofs.lemmas.Option.{none-some}
 use Rattle.descriptor.specs.declared.lock_mode.LockMode.{LockMode}
@@ -7,12 +7,9 @@ use Rattle.plan_events.specs.declared.event.EventKind.TheVariants.{Started, Fini
 use Rattle.plan_events.specs.declared.event.Event.{Event}
 use Rattle.event_history.specs.Plans.{Plan}
 use Rattle.event_history.specs.Places.{StandsAt, StandsBefore, has}
+use Rattle.event_history.specs.Following.{MayHold}
 use Rattle.event_history.specs.Exclusion.{Excludes, HeldConflict, IsExclusive}
 use Rattle.event_history.proofs.Places.{has_at, has_before, before_later, before_front, stands_later, stands_within, stands_snoc}
-
--- a start finds no running node that holds what conflicts with its own locks
-abbrev pub MayHold : Plan → List Event → Event → Type 0
-MayHold p h e = e.kind ≡ Started → (m : ℕ) → has Started m h ≡ true → has Finished m h ≡ false → HeldConflict p m e.node → ⊥
 
 pub conflict_back : (p : Plan) (m n : ℕ) → HeldConflict p m n → HeldConflict p n m
 conflict_back p m n c = record { key = c.key; mode = c.other_mode; here = c.there; other_mode = c.mode; there = c.here; writes = swap c.writes }

@@ -3,25 +3,12 @@ use Rattle.std.proofs.Common.{ℕ, List, [], ◌∷◌, ◌++◌}
 use Rattle.plan_events.specs.declared.event.Event.{Event}
 use Rattle.plan_events.specs.declared.outcome.Reply.{Reply}
 use Rattle.event_history.specs.Plans.{Plan, IsPlanTree}
-use Rattle.event_history.specs.History.{IsLegal}
-use Rattle.event_history.specs.Order.{IsInOrder}
-use Rattle.event_history.specs.Exclusion.{IsExclusive}
-use Rattle.event_history.specs.Following.{MayFollow, MayGoNext}
+use Rattle.event_history.specs.Following.{MayBeDrawn}
+use Rattle.event_history.specs.Published.{IsPublished}
 use Rattle.event_history.proofs.Snoc.{legal_snoc, legal_nil}
 use Rattle.event_history.proofs.OrderSnoc.{order_snoc, order_nil}
-use Rattle.event_history.proofs.ExclusionSnoc.{MayHold, exclusive_snoc, exclusive_nil, exclusive_front}
+use Rattle.event_history.proofs.ExclusionSnoc.{exclusive_snoc, exclusive_nil, exclusive_front}
 use Rattle.event_history.proofs.Front.{legal_front, order_front}
-
-pub record IsPublished (p : Plan) (replies : ℕ → List Reply) (workers : ℕ) (h : List Event) : Type 0 where
-  pub legal : IsLegal p replies workers h
-  pub order : IsInOrder p h
-  pub exclusive : IsExclusive p h
-
--- what a drawn event needs
-pub record MayBeDrawn (p : Plan) (replies : ℕ → List Reply) (workers : ℕ) (h : List Event) (e : Event) : Type 0 where
-  pub follows : MayFollow p replies workers h e
-  pub next : MayGoNext p h e
-  pub holds : MayHold p h e
 
 pub published_nil : (p : Plan) (replies : ℕ → List Reply) (workers : ℕ) → IsPublished p replies workers []
 published_nil p replies workers = record { legal = legal_nil p replies workers; order = order_nil p; exclusive = exclusive_nil p }

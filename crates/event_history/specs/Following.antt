@@ -10,6 +10,7 @@ use Rattle.plan_events.specs.Words.{is_lawful}
 use Rattle.event_history.specs.Places.{is_failure, is_of, has_event, has}
 use Rattle.event_history.specs.Plans.{Plan, IsElder, is_spare_of, pulls_job, is_same}
 use Rattle.event_history.specs.Results.{jobs_of, Ends}
+use Rattle.event_history.specs.Exclusion.{HeldConflict}
 use Rattle.event_history.specs.Order.{goes_first, is_opening}
 
 -- whether a failure stands in the list
@@ -91,3 +92,13 @@ pub record MayFollow (p : Plan) (replies : ℕ → List Reply) (workers : ℕ) (
 pub record MayGoNext (p : Plan) (h : List Event) (e : Event) : Type 0 where
   pub elders : is_opening e.kind ≡ true → (a : ℕ) → IsElder p.tree a e.node → goes_first p a e.node ≡ true → (has Finished a h || has Skipped a h) ≡ true
   pub by_parent : is_opening e.kind ≡ true → 0 < e.node → is_same p e.node ≡ true → started_by (parent_of p.tree e.node) e.worker h ≡ true
+
+-- a start finds no running node that holds what conflicts with its own locks
+abbrev pub MayHold : Plan → List Event → Event → Type 0
+MayHold p h e = e.kind ≡ Started → (m : ℕ) → has Started m h ≡ true → has Finished m h ≡ false → HeldConflict p m e.node → ⊥
+
+-- what a drawn event needs
+pub record MayBeDrawn (p : Plan) (replies : ℕ → List Reply) (workers : ℕ) (h : List Event) (e : Event) : Type 0 where
+  pub follows : MayFollow p replies workers h e
+  pub next : MayGoNext p h e
+  pub holds : MayHold p h e

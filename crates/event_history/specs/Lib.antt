@@ -5,5 +5,6 @@ pub mod Results
 pub mod History
 pub mod Order
 pub mod Exclusion
+pub mod Published
 pub mod Expected
 pub mod Following

@@ -18,11 +18,9 @@ use Rattle.event_history.specs.Places.{has}
 use Rattle.event_history.specs.Results.{jobs_of, Ends, EndsAfter}
 use Rattle.event_history.specs.Order.{goes_first}
 use Rattle.event_history.specs.Exclusion.{HeldConflict}
-use Rattle.event_history.specs.Following.{has_failed_by, started_by, registered_in, IsParentOpen, IsUnopened, ChildrenOk}
+use Rattle.event_history.specs.Following.{has_failed_by, started_by, registered_in, IsParentOpen, IsUnopened, ChildrenOk, MayHold, MayBeDrawn}
 use Rattle.event_history.proofs.Spares.{pulls_sort}
 use Rattle.event_history.proofs.Places.{has_stands}
-use Rattle.event_history.proofs.ExclusionSnoc.{MayHold}
-use Rattle.event_history.proofs.Published.{MayBeDrawn}
 use Rattle.scheduling.specs.State.{LockWord, Readers, Written, Opening, Registering, Beginning, Closing, Ending, AwaitingAfter, Looking, Passing, CountingOff, FinishedAt, SkippedAt, Raising, Giving, Settling, StartedAt, Awaiting, Admitting, Guarding, Opens, Seat, State, lock_at}
 use Rattle.scheduling.specs.Choices.{key_place, key_at, mode_at, lock_of, keys_count, event_of}
 use Rattle.scheduling.specs.Stages.{How, Gave, Kept, Skips, Stage, Unseen, OpenedBy, InHand, Waiting, ClosedBy, Over, Runs, Mark, Blank, Known, Begun, Ended, Passed, has_mark, picture, closing_picture, mark_of, runner_of, starter_by, is_unseen, is_live, is_past, is_over, raises, is_bold}

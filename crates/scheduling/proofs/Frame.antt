@@ -8,7 +8,7 @@ use Rattle.plan_events.specs.declared.outcome.Reply.{Reply}
 use Rattle.event_history.specs.Plans.{Plan, IsPlanTree, IsElder, is_same}
 use Rattle.event_history.specs.Order.{goes_first}
 use Rattle.event_history.specs.Following.{has_failed, has_failed_by, registered_in}
-use Rattle.event_history.proofs.Published.{IsPublished}
+use Rattle.event_history.specs.Published.{IsPublished}
 use Rattle.scheduling.specs.State.{Task, Free, Opens, Closes, Hand, Seat, State, subject}
 use Rattle.scheduling.specs.Stages.{Stage, Unseen, Offered, OpenedBy, InHand, Waiting, ClosedBy, Over, picture, who, is_unseen, is_past, is_unsettled}
 use Rattle.scheduling.specs.Invariant.{WordsOk, CountersOk, ResultsOk, LocksOk, FlagsOk, StartersOk, ShapeOk, Fits, EdgesOk, EldersOk, TaskOk, HandOk, SeatOk, HeldBy, IsGiven, Holds}

@@ -10,10 +10,10 @@ use Rattle.plan_events.specs.declared.outcome.Reply.{Reply}
 use Rattle.plan_events.specs.declared.status.Status.{Status}
 use Rattle.event_history.specs.Places.{is_failure, is_failed_or, same_kind, has, is_of, has_event}
 use Rattle.event_history.specs.Plans.{Plan, is_spare_of, pulls_job}
-use Rattle.event_history.specs.Following.{has_failed_by, started_by, registered_in}
+use Rattle.event_history.specs.Following.{has_failed_by, started_by, registered_in, MayBeDrawn}
 use Rattle.event_history.specs.Results.{Ends, jobs_of}
 use Rattle.event_history.proofs.Places.{get_front}
-use Rattle.event_history.proofs.Published.{MayBeDrawn, published_snoc}
+use Rattle.event_history.proofs.Published.{published_snoc}
 use Rattle.scheduling.specs.State.{NodeStatus, Opening, Registering, RegisteredAt, Offering, Noticing, Locking, Weighed, Backing, Beginning, StartedAt, Awaiting, Admitting, Guarding, Closing, AwaitingAfter, Ending, FinishedAt, SkippedAt, Raising, Giving, Settling, Looking, Passing, CountingOff, Task, Opens, Closes, Hand, Seat, State, subject}
 use Rattle.scheduling.specs.Choices.{ending, event_of}
 use Rattle.scheduling.specs.Rows.{with_task, drawn, one_more, draw_row}

@@ -13,7 +13,7 @@ use Rattle.event_history.specs.Places.{has}
 use Rattle.event_history.specs.Results.{Jobs, NoJob, Around, jobs_of, HasAnswer, Ends}
 use Rattle.event_history.specs.Order.{goes_first}
 use Rattle.event_history.specs.Following.{has_failed, has_failed_by, started_by, registered_in}
-use Rattle.event_history.proofs.Published.{IsPublished}
+use Rattle.event_history.specs.Published.{IsPublished}
 use Rattle.scheduling.specs.State.{LockWord, Readers, Written, Opening, Registering, Noticing, Locking, Weighed, Beginning, Awaiting, Admitting, Guarding, Closing, AwaitingAfter, Ending, Looking, Passing, CountingOff, Task, Free, Opens, Closes, Hand, Seat, State, status_at, counter_at, result_at, lock_at}
 use Rattle.scheduling.specs.Choices.{in_batch, key_at, mode_at, keys_count, admits, ending}
 use Rattle.scheduling.specs.Stages.{How, Gave, Kept, Skips, Stage, OpenedBy, InHand, Waiting, ClosedBy, Below, Shut, Runs, Past, picture, has_mark, starter_of, is_unseen, is_pending, is_past, is_unsettled, is_owned, is_over, raises, is_bold, brings}
