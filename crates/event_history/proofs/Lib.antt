@@ -2,6 +2,7 @@
 pub mod Places
 pub mod Trees
 pub mod Spares
+pub mod PlanTrees
 pub mod Lawful
 pub mod Branches
 pub mod Ends

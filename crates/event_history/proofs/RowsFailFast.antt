@@ -1,5 +1,6 @@
 -- What another writing of these definitions says of many lists of events on plans that fail fast: the tests agree. Written by a program.
 use Rattle.std.specs.Prelude.{codes}
+use Rattle.std.specs.List.{list_all}
 use Rattle.std.proofs.Common.{◌≡◌, ℕ, true, false, List, [], ◌∷◌, Some, None, map, refl}
 use Rattle.descriptor.specs.declared.kind.Kind.TheVariants.{Test, Container, ContainerAndTest}
 use Rattle.descriptor.specs.declared.mode.Mode.TheVariants.{SameThread, Concurrent}
@@ -10,6 +11,7 @@ use Rattle.plan_events.specs.declared.status.Status.TheVariants.{Successful, Abo
 use Rattle.event_history.specs.Plans.{Plan}
 use Rattle.event_history.proofs.Deciding.{is_legal}
 use Rattle.event_history.proofs.DecidingOrder.{is_in_order}
+use Rattle.event_history.proofs.PlanTrees.{is_plan_tree}
 use Rattle.event_history.proofs.RowWords.{a_node, started, finished, aborted, failed, skipped, registered, a_reply, replies_in}
 
 abbrev plan_1 : Plan
@@ -740,3 +742,7 @@ in_order_27 = refl
 
 legal_27 : map (is_legal plan_27 replies_27 2) lists_27 ≡ true ∷ true ∷ true ∷ true ∷ true ∷ false ∷ false ∷ true ∷ true ∷ false ∷ false ∷ false ∷ []
 legal_27 = refl
+
+-- the trees are as asked of a plan, so that what the tests tell of legal histories holds of these
+trees : list_all (λ (p : Plan). is_plan_tree p.tree) (plan_1 ∷ plan_2 ∷ plan_3 ∷ plan_4 ∷ plan_5 ∷ plan_6 ∷ plan_7 ∷ plan_8 ∷ plan_9 ∷ plan_10 ∷ plan_11 ∷ plan_12 ∷ plan_13 ∷ plan_14 ∷ plan_15 ∷ plan_16 ∷ plan_17 ∷ plan_18 ∷ plan_19 ∷ plan_20 ∷ plan_21 ∷ plan_22 ∷ plan_23 ∷ plan_24 ∷ plan_25 ∷ plan_26 ∷ plan_27 ∷ []) ≡ true
+trees = refl

@@ -1,5 +1,6 @@
 -- Small plans with the histories that they have, and with wrong ones.
 use Rattle.std.proofs.Common.{◌≡◌, ℕ, ◌==◌, Bool, true, false, cond, List, [], ◌∷◌, ◌++◌, Option, Some, None, map, refl}
+use Rattle.std.proofs.lemmas.Bool.{false≢true}
 use Rattle.descriptor.specs.declared.kind.Kind.{Kind}
 use Rattle.descriptor.specs.declared.kind.Kind.TheVariants.{Test, Container}
 use Rattle.descriptor.specs.declared.role.Role.{Role}
@@ -12,8 +13,10 @@ use Rattle.plan_events.specs.declared.status.Status.{Status}
 use Rattle.plan_events.specs.declared.status.Status.TheVariants.{Successful, Failed}
 use Rattle.plan_events.specs.declared.event.Event.{Event}
 use Rattle.plan_events.specs.declared.outcome.Reply.{Reply}
-use Rattle.event_history.specs.Plans.{Plan}
-use Rattle.event_history.proofs.Deciding.{is_legal}
+use Rattle.event_history.specs.History.{IsLegal}
+use Rattle.event_history.proofs.PlanTrees.{told_plan_tree}
+use Rattle.event_history.specs.Plans.{Plan, IsPlanTree}
+use Rattle.event_history.proofs.Deciding.{is_legal, told_legal, legal_told}
 use Rattle.event_history.proofs.DecidingOrder.{is_in_order}
 
 abbrev node_of : Kind → Role → Option ℕ → Option ℕ → Option (List ℕ) → Node
@@ -141,3 +144,20 @@ four_pulls = refl
 order : map (λ middle. is_in_order (two_tests None None None false) (fails 0) 1 (opens ++ (started 2 ∷ []) ++ middle ++ (finished 2 ∷ []) ++ closes))
     (both ∷ (started 4 ∷ finished 4 ∷ started 3 ∷ finished 3 ∷ []) ∷ (started 3 ∷ started 4 ∷ finished 3 ∷ finished 4 ∷ []) ∷ []) ≡ true ∷ false ∷ false ∷ []
 order = refl
+
+-- These trees are as asked of a plan, so what the tests tell is so: two of the histories, as facts.
+two_tests_tree : (body after : Option ℕ) (disabled : Option (List ℕ)) (fast : Bool) → IsPlanTree (two_tests body after disabled fast).tree
+two_tests_tree body after disabled fast = told_plan_tree (two_tests body after disabled fast).tree refl
+
+factory_tree : IsPlanTree factory.tree
+factory_tree = told_plan_tree factory.tree refl
+
+stopped_is_legal : IsLegal (two_tests (Some 1) None None false) (fails 1) 1 (opens ++ (started 2 ∷ failed 2 ∷ []) ++ closes)
+stopped_is_legal = told_legal (two_tests (Some 1) None None false) (two_tests_tree (Some 1) None None false) (fails 1) 1 (opens ++ (started 2 ∷ failed 2 ∷ []) ++ closes) refl
+
+-- and a failed class that ran its tests is not
+run_is_not : IsLegal (two_tests (Some 1) None None false) (fails 1) 1 (opens ++ around both (failed 2) ++ closes) → ⊥
+run_is_not legal = false≢true (legal_told (two_tests (Some 1) None None false) (two_tests_tree (Some 1) None None false) (fails 1) 1 (opens ++ around both (failed 2) ++ closes) legal)
+
+too_many_is_legal : IsLegal factory (pulls 4) 1 (opens ++ around (run 3 ++ run 4 ++ run 5) (failed 2) ++ closes)
+too_many_is_legal = told_legal factory factory_tree (pulls 4) 1 (opens ++ around (run 3 ++ run 4 ++ run 5) (failed 2) ++ closes) refl
