@@ -18,15 +18,19 @@ pub(crate) fn node_of(alloc: Global, id: UniqueId, name: &str, kind: Kind) -> Re
     Ok(Node::plain(alloc, id, Text::new(alloc, name)?, kind))
 }
 
-/// The plan of one node with this name, which a suite's text may be unable to give.
-pub(crate) fn plan_of_one(alloc: Global, name: &str, kind: Kind) -> Result<Plan, Fail> {
-    let id = UniqueId::of(alloc, "engine", name)?;
-    let node = node_of(alloc, id, name, kind)?;
+/// The plan of one node.
+fn plan_with(alloc: Global, node: Node) -> Result<Plan, Fail> {
     let mut builder = TreeBuilder::new(alloc)?;
     if builder.may_take(NodeId::ROOT) {
         builder.add(alloc, NodeId::ROOT, node)?;
     }
     Ok(Plan::plain(alloc, builder.finish())?)
+}
+
+/// The plan of one node with this name, which a suite's text may be unable to give.
+pub(crate) fn plan_of_one(alloc: Global, name: &str, kind: Kind) -> Result<Plan, Fail> {
+    let id = UniqueId::of(alloc, "engine", name)?;
+    plan_with(alloc, node_of(alloc, id, name, kind)?)
 }
 
 /// The event of this kind, by worker 1.

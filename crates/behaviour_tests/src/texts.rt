@@ -16,45 +16,43 @@ const TESTS: &str = "engine e
     test waits disabled
 ";
 
-/// Adds the text of a node, and that after each of three notes: one of its own, that there were too many dynamic tests, and
-/// its reason.
-fn push_texts(
+/// Whether a node has no text at first, and then after each of three notes that of the note: one of its own, that there were
+/// too many dynamic tests, and its reason.
+fn has_texts(
     alloc: Global,
-    list: &mut String,
     plan: &Plan,
-    node: NodeId,
-) -> Result<(), AllocError> {
+    number: u16,
+    reason: Option<&str>,
+) -> Result<bool, AllocError> {
+    let node = NodeId::new(number);
     let own = Text::new(alloc, "broken")?;
     let mut texts = Texts::new(alloc, plan.tree())?;
-    write!(list, "{:?}", texts.of(node))?;
-    if node.index() < plan.tree().len() {
-        texts.set(node, Note::Own(own));
-        write!(list, " {:?}", texts.of(node))?;
-        texts.set(node, Note::TooMany);
-        write!(list, " {:?}", texts.of(node))?;
-        texts.set(node, Note::Reason);
-        write!(list, " {:?}", texts.of(node))?;
+    let had_none = texts.of(node).is_none();
+    if node.index() >= plan.tree().len() {
+        return Ok(false);
     }
-    Ok(())
+    texts.set(node, Note::Own(own));
+    let has_own = texts.of(node) == Some("broken");
+    texts.set(node, Note::TooMany);
+    let has_too_many = texts.of(node) == Some("too many dynamic tests");
+    texts.set(node, Note::Reason);
+    Ok(had_none && has_own && has_too_many && texts.of(node) == reason)
 }
 
-/// Whether a node of the plan has these texts.
-fn has_texts(alloc: Global, plan: &Plan, number: u16, wanted: &str) -> Result<bool, AllocError> {
-    let mut list = String::new(alloc);
-    push_texts(alloc, &mut list, plan, NodeId::new(number))?;
-    Ok(list.as_str() == wanted)
+/// Whether a node that is not there has no text.
+fn has_none(alloc: Global, plan: &Plan, number: u16) -> Result<bool, AllocError> {
+    let texts = Texts::new(alloc, plan.tree())?;
+    let node = NodeId::new(number);
+    Ok(node.index() >= plan.tree().len() && texts.of(node).is_none())
 }
 
 /// Whether each node has the texts of its notes, and a node that is not there has none.
 fn have_texts(alloc: Global, plan: &Plan) -> Result<bool, AllocError> {
-    let enabled = "None Some(\"broken\") Some(\"too many dynamic tests\") None";
-    let disabled = "None Some(\"broken\") Some(\"too many dynamic tests\") Some(\"flaky\")";
-    let unexplained = "None Some(\"broken\") Some(\"too many dynamic tests\") Some(\"\")";
     Ok(
-        has_texts(alloc, plan, 3, enabled)?
-            && has_texts(alloc, plan, 4, disabled)?
-            && has_texts(alloc, plan, 5, unexplained)?
-            && has_texts(alloc, plan, 6, "None")?,
+        has_texts(alloc, plan, 3, None)?
+            && has_texts(alloc, plan, 4, Some("flaky"))?
+            && has_texts(alloc, plan, 5, Some(""))?
+            && has_none(alloc, plan, 6)?,
     )
 }
 
