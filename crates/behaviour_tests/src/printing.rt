@@ -74,11 +74,10 @@ fn feed_of(alloc: Global, plan: &Plan, texts: &Texts) -> Result<String, AllocErr
     feed_text(alloc, plan, events.as_slice(), texts)
 }
 
-/// Whether the feed of one node whose name has a tab, with this text of its own, is these lines.
-fn feeds(alloc: Global, text: &str, lines: &str) -> Result<bool, Fail> {
-    let plan = plan_of_one(alloc, "a\tb", Kind::Container)?;
-    let texts = texts_of_one(alloc, &plan, text)?;
-    Ok(feed_of(alloc, &plan, &texts)?.as_str() == lines)
+/// Whether the feed of the plan of one node, with this text of its own, is these lines.
+fn feeds(alloc: Global, plan: &Plan, text: &str, lines: &str) -> Result<bool, Fail> {
+    let texts = texts_of_one(alloc, plan, text)?;
+    Ok(feed_of(alloc, plan, &texts)?.as_str() == lines)
 }
 
 #[test]
@@ -87,7 +86,8 @@ fn a_feed_has_spaces_for_control_bytes_of_texts_alone(rt: HostRuntime) -> Result
 w1 skipped [engine:a\tb] no file  x\u{e9}
 w1 finished [engine:a\tb] FAILED no file  x\u{e9}
 w1 finished [engine:a\tb] SUCCESSFUL\n";
-    assert!(rt; feeds(rt.alloc(), "no\tfile\u{7f}\nx\u{e9}", lines)?);
+    let plan = plan_of_one(rt.alloc(), "a\tb", Kind::Container)?;
+    assert!(rt; feeds(rt.alloc(), &plan, "no\tfile\u{7f}\nx\u{e9}", lines)?);
     Ok(())
 }
 
@@ -97,11 +97,10 @@ fn tree_of(alloc: Global, plan: &Plan, texts: &Texts) -> Result<String, AllocErr
     tree_text(alloc, plan, events.as_slice(), texts, Theme::Ascii)
 }
 
-/// Whether the tree of one node with this name and this text of its own is this line.
-fn draws(alloc: Global, name: &str, text: &str, line: &str) -> Result<bool, Fail> {
-    let plan = plan_of_one(alloc, name, Kind::Container)?;
-    let texts = texts_of_one(alloc, &plan, text)?;
-    Ok(tree_of(alloc, &plan, &texts)?.as_str() == line)
+/// Whether the tree of the plan of one node, with this text of its own, is this line.
+fn draws(alloc: Global, plan: &Plan, text: &str, line: &str) -> Result<bool, Fail> {
+    let texts = texts_of_one(alloc, plan, text)?;
+    Ok(tree_of(alloc, plan, &texts)?.as_str() == line)
 }
 
 #[test]
@@ -110,6 +109,7 @@ fn a_tree_has_spaces_for_control_bytes_and_other_characters_stay(
 ) -> Result<(), Fail> {
     let name = "a\tb\u{7f}\u{e9}\u{6f22}e\u{301}";
     let line = "'-- a b \u{e9}\u{6f22}e\u{301} [X] no file\u{1f600} \n";
-    assert!(rt; draws(rt.alloc(), name, "no\nfile\u{1f600}\u{0}", line)?);
+    let plan = plan_of_one(rt.alloc(), name, Kind::Container)?;
+    assert!(rt; draws(rt.alloc(), &plan, "no\nfile\u{1f600}\u{0}", line)?);
     Ok(())
 }

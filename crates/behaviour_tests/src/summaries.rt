@@ -46,8 +46,8 @@ fn counts_a_node_that_is_both_twice_and_a_double_event_once(rt: HostRuntime) -> 
     Ok(())
 }
 
-/// Whether what a summary is told of the first plan counts for the nodes of the last.
-fn counts_on_last(alloc: Global, first: &Plan, last: &Plan) -> Result<bool, AllocError> {
+/// Whether what a summary is told of the first plan counts for the nodes of a plan of one disabled class.
+fn counts_on_last(alloc: Global, first: &Plan) -> Result<bool, Fail> {
     let events = [
         started(0),
         started(1),
@@ -61,15 +61,15 @@ fn counts_on_last(alloc: Global, first: &Plan, last: &Plan) -> Result<bool, Allo
         finished(0, Status::Successful),
     ];
     let wanted = [2, 0, 2, 0, 2, 0, 1, 0, 1, 0, 1, 0];
-    counts(alloc, first, events.as_slice(), last, wanted)
+    let one = "engine e\n  class a.B disabled later\n    test t() fail never run\n";
+    let last = plan_of(alloc, one)?;
+    Ok(counts(alloc, first, events.as_slice(), &last, wanted)?)
 }
 
 #[test]
 fn counts_what_it_was_told_on_the_plan_last_prepared(rt: HostRuntime) -> Result<(), Fail> {
     let two = "engine e\n  class a.B\n    test t() pass\n    test u() fail no\n";
     let first = plan_of(rt.alloc(), two)?;
-    let one = "engine e\n  class a.B disabled later\n    test t() fail never run\n";
-    let last = plan_of(rt.alloc(), one)?;
-    assert!(rt; counts_on_last(rt.alloc(), &first, &last)?);
+    assert!(rt; counts_on_last(rt.alloc(), &first)?);
     Ok(())
 }
