@@ -5,7 +5,8 @@ use Rattle.plan_events.specs.declared.event.EventKind.{EventKind}
 use Rattle.plan_events.specs.declared.event.EventKind.TheVariants.{Finished}
 use Rattle.plan_events.specs.declared.event.Event.{Event}
 use Rattle.plan_events.specs.declared.outcome.Reply.{Reply}
-use Rattle.event_history.specs.Plans.{Plan, IsPlanTree}
+use Rattle.resource_locks.specs.Plans.{PlanParts}
+use Rattle.event_history.specs.Plans.{IsPlanTree}
 use Rattle.event_history.specs.Places.{StandsAt, has}
 use Rattle.event_history.specs.History.{IsLegal, IsComplete}
 use Rattle.event_history.specs.Results.{jobs_of}
@@ -13,7 +14,7 @@ use Rattle.event_history.specs.Expected.{HasOneReply, result_by}
 use Rattle.event_history.proofs.Expectation.{status_in, result_is}
 use Rattle.event_history.proofs.Flags.{flags}
 
-module _ (p : Plan) (tree : IsPlanTree p.tree) (reply : ℕ → Reply) (replies : ℕ → List Reply) (one : HasOneReply reply replies) (v w : ℕ) (g h : List Event)
+module _ (p : PlanParts) (tree : IsPlanTree p.tree) (reply : ℕ → Reply) (replies : ℕ → List Reply) (one : HasOneReply reply replies) (v w : ℕ) (g h : List Event)
     (a : IsLegal p replies v g) (b : IsLegal p replies w h) where
   -- a node that finishes in both has one status
   pub same_status : (i j n : ℕ) → (s : StandsAt g i Finished n) → (t : StandsAt h j Finished n) → s.event.status ≡ t.event.status

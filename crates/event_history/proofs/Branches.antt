@@ -4,7 +4,8 @@ use Rattle.std.proofs.lemmas.Bool.{cases_eq, cases_lt}
 use Rattle.descriptor.specs.Nodes.{Nodes, size, parent_of, IsChild, Below, child, under}
 use Rattle.resource_locks.specs.Declarations.{AtOrBelow}
 use Rattle.resource_locks.proofs.Lines.{at_child, last_step}
-use Rattle.event_history.specs.Plans.{Plan, IsPlanTree}
+use Rattle.resource_locks.specs.Plans.{PlanParts}
+use Rattle.event_history.specs.Plans.{IsPlanTree}
 use Rattle.event_history.specs.Exclusion.{AreApart}
 
 -- two nodes lie at or below two children of one node, which is at or below x
@@ -24,7 +25,7 @@ pub first_step : (t : Nodes) (a n : ℕ) → Below t a n → (b : ℕ) × (IsChi
 first_step t a n (child c) = (n, (c, inl refl))
 first_step t a n (under {c = m} b c) = let r = first_step t a m b in (r.0, (r.1.0, inr (at_child t r.0 m n r.1.1 c)))
 
-module _ (p : Plan) (tree : IsPlanTree p.tree) where
+module _ (p : PlanParts) (tree : IsPlanTree p.tree) where
   -- whether a node is below another can be told
   pub below_cases : (a n : ℕ) → Below p.tree a n ⊎ (Below p.tree a n → ⊥)
   below_cases a n = climb (suc n) n (omega arith)

@@ -8,7 +8,8 @@ use Rattle.plan_events.specs.declared.event.EventKind.{EventKind}
 use Rattle.plan_events.specs.declared.event.EventKind.TheVariants.{Registered}
 use Rattle.plan_events.specs.declared.event.Event.{Event}
 use Rattle.plan_events.specs.declared.outcome.Reply.{Reply}
-use Rattle.event_history.specs.Plans.{Plan, IsElder, is_spare_of, spare_count, rank}
+use Rattle.resource_locks.specs.Plans.{PlanParts}
+use Rattle.event_history.specs.Plans.{IsElder, is_spare_of, spare_count, rank}
 use Rattle.event_history.specs.Following.{registered_in}
 use Rattle.event_history.specs.Places.{StandsBefore, has}
 use Rattle.event_history.specs.History.{IsLegal, registered_before}
@@ -57,7 +58,7 @@ has_front k n i h q =
 pub front_has : (k : EventKind) (n i : ℕ) (h : List Event) → StandsBefore h i k n → has k n (take i h) ≡ true
 front_has k n i h s = stands_has k n (take i h) s.place s.stands.event (take_get h i s.place s.stands.event s.before s.stands.here) s.stands.kind s.stands.node
 
-module _ (p : Plan) (replies : ℕ → List Reply) (workers : ℕ) (h : List Event) (legal : IsLegal p replies workers h) (f i : ℕ) where
+module _ (p : PlanParts) (replies : ℕ → List Reply) (workers : ℕ) (h : List Event) (legal : IsLegal p replies workers h) (f i : ℕ) where
   -- whether spare c of f is registered before place i
   abbrev is_in : ℕ → Bool
   is_in c = is_spare_of p f c && has Registered c (take i h)
@@ -119,7 +120,7 @@ module _ (p : Plan) (replies : ℕ → List Reply) (workers : ℕ) (h : List Eve
   registered_most = count_le is_in (is_spare_of p f) (size p.tree) (λ m lt q. (and_parts (is_spare_of p f m) (has Registered m (take i h)) q).0)
 
 -- a spare's rank is below the number of all
-pub rank_below : (p : Plan) (f c : ℕ) → is_spare_at p.tree c ≡ true → IsChild p.tree f c → rank p c < spare_count p f
+pub rank_below : (p : PlanParts) (f c : ℕ) → is_spare_at p.tree c ≡ true → IsChild p.tree f c → rank p c < spare_count p f
 rank_below p f c spare ch =
     let same : rank p c ≡ count_below (is_spare_of p f) c = ap (λ (x : ℕ). count_below (is_spare_of p x) c) ch.parent in
     let one : bit (is_spare_of p f c) ≡ 1 = ap bit (and_from (is_child p.tree f c) (is_spare_at p.tree c) (test_is_child p.tree f c ch) spare) in
@@ -142,7 +143,7 @@ first_ones s r k (suc n) each =
     ]
 
 -- a factory whose spares of rank below k are registered, and no others, has k registered spares
-pub registered_is : (p : Plan) (h : List Event) (f k : ℕ) → k ≤ spare_count p f → ((c : ℕ) → IsChild p.tree f c → is_spare_at p.tree c ≡ true → has Registered c h ≡ ltb (rank p c) k) → registered_in p h f ≡ k
+pub registered_is : (p : PlanParts) (h : List Event) (f k : ℕ) → k ≤ spare_count p f → ((c : ℕ) → IsChild p.tree f c → is_spare_at p.tree c ≡ true → has Registered c h ≡ ltb (rank p c) k) → registered_in p h f ≡ k
 registered_is p h f k le each =
     let all = first_ones (is_spare_of p f) (λ c. has Registered c h) k (size p.tree) (λ c lt q.
     let t = and_parts (is_child p.tree f c) (is_spare_at p.tree c) q in

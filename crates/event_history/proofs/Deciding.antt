@@ -11,7 +11,8 @@ use Rattle.plan_events.specs.declared.event.Event.{Event}
 use Rattle.plan_events.specs.declared.outcome.Reply.{Reply}
 use Rattle.plan_events.specs.Words.{is_lawful}
 use Rattle.plan_events.specs.Statuses.{is_successful}
-use Rattle.event_history.specs.Plans.{Plan, IsElder, pulls_job, IsPlanTree}
+use Rattle.resource_locks.specs.Plans.{PlanParts}
+use Rattle.event_history.specs.Plans.{IsElder, pulls_job, IsPlanTree}
 use Rattle.event_history.specs.Places.{has}
 use Rattle.event_history.specs.Results.{Jobs, NoJob, Alone, Pulled, Around, jobs_of, HasReply, HasAnswer, EndsEarly, EndsLast, Ends, too_many}
 use Rattle.event_history.specs.History.{IsLegal}
@@ -189,57 +190,57 @@ module _ (replies : ℕ → List Reply) where
   ends_from jobs true k s t r = early_from jobs s t r
   ends_from jobs false k s t r = last_from jobs k s t r
 
-abbrev pub is_elder : Plan → ℕ → ℕ → Bool
+abbrev pub is_elder : PlanParts → ℕ → ℕ → Bool
 is_elder p a b = is_child p.tree (parent_of p.tree b) a && (ltb 0 b && ltb a b)
 
-abbrev pub is_parent_open : Plan → List Event → ℕ → Bool
+abbrev pub is_parent_open : PlanParts → List Event → ℕ → Bool
 is_parent_open p h n = implies (ltb 0 n) (has Started (parent_of p.tree n) h && not (has Finished (parent_of p.tree n) h))
 
-abbrev pub is_unopened : Plan → List Event → ℕ → Bool
+abbrev pub is_unopened : PlanParts → List Event → ℕ → Bool
 is_unopened p h n = not (has Started n h) && (not (has Skipped n h) && (implies (is_spare_at p.tree n) (has Registered n h) && is_parent_open p h n))
 
-abbrev pub may_start : Plan → List Event → ℕ → ℕ → Bool
+abbrev pub may_start : PlanParts → List Event → ℕ → ℕ → Bool
 may_start p h n w = is_unopened p h n && (not (is_disabled p.tree n) && implies p.fail_fast (not (has_failed_by w h)))
 
-abbrev pub may_skip : Plan → List Event → ℕ → Bool
+abbrev pub may_skip : PlanParts → List Event → ℕ → Bool
 may_skip p h n = is_unopened p h n && (is_disabled p.tree n || (p.fail_fast && has_failed h))
 
-abbrev pub may_register : Plan → List Event → ℕ → Bool
+abbrev pub may_register : PlanParts → List Event → ℕ → Bool
 may_register p h n =
     (is_spare_at p.tree n && pulls_job p (parent_of p.tree n))
     && (not (has Registered n h) && (all_below (λ c. implies (is_elder p c n) (has Registered c h)) (size p.tree) && is_parent_open p h n))
 
 -- whether a child of a node that ends is as it has to be
-abbrev pub child_ok : Plan → List Event → Bool → ℕ → Bool
+abbrev pub child_ok : PlanParts → List Event → Bool → ℕ → Bool
 child_ok p h true c = not (has Started c h) && (not (has Finished c h) && (not (has Skipped c h) && not (has Registered c h)))
 child_ok p h false c = (has Finished c h || has Skipped c h) || (is_spare_at p.tree c && not (has Registered c h))
 
-abbrev pub ends_so : Plan → (ℕ → List Reply) → List Event → Event → Bool → Bool
+abbrev pub ends_so : PlanParts → (ℕ → List Reply) → List Event → Event → Bool → Bool
 ends_so p replies h e b = all_below (λ c. implies (is_child p.tree e.node c) (child_ok p h b c)) (size p.tree) && ends replies (jobs_of p e.node) b (registered_in p h e.node) e.status
 
-abbrev pub may_finish : Plan → (ℕ → List Reply) → List Event → Event → Bool
+abbrev pub may_finish : PlanParts → (ℕ → List Reply) → List Event → Event → Bool
 may_finish p replies h e = has Started e.node h && (not (has Finished e.node h) && (ends_so p replies h e true || ends_so p replies h e false))
 
-abbrev pub by_kind : Plan → (ℕ → List Reply) → List Event → Event → EventKind → Bool
+abbrev pub by_kind : PlanParts → (ℕ → List Reply) → List Event → Event → EventKind → Bool
 by_kind p replies h e Started = may_start p h e.node e.worker
 by_kind p replies h e Finished = may_finish p replies h e
 by_kind p replies h e Skipped = may_skip p h e.node
 by_kind p replies h e Registered = may_register p h e.node
 
 -- whether the event may follow
-abbrev pub may_follow : Plan → (ℕ → List Reply) → ℕ → List Event → Event → Bool
+abbrev pub may_follow : PlanParts → (ℕ → List Reply) → ℕ → List Event → Event → Bool
 may_follow p replies workers h e = is_lawful e && (ltb e.node (size p.tree) && (leb e.worker workers && by_kind p replies h e e.kind))
 
 -- whether each event of the rest may follow those before it
-abbrev pub all_follow : Plan → (ℕ → List Reply) → ℕ → List Event → List Event → Bool
+abbrev pub all_follow : PlanParts → (ℕ → List Reply) → ℕ → List Event → List Event → Bool
 all_follow p replies workers h [] = true
 all_follow p replies workers h (e ∷ rest) = may_follow p replies workers h e && all_follow p replies workers (h ++ e ∷ []) rest
 
 -- whether the list is a legal history
-abbrev pub is_legal : Plan → (ℕ → List Reply) → ℕ → List Event → Bool
+abbrev pub is_legal : PlanParts → (ℕ → List Reply) → ℕ → List Event → Bool
 is_legal p replies workers h = all_follow p replies workers [] h
 
-module _ (p : Plan) (replies : ℕ → List Reply) (workers : ℕ) (h : List Event) where
+module _ (p : PlanParts) (replies : ℕ → List Reply) (workers : ℕ) (h : List Event) where
   pub elder_use : (a b : ℕ) → a < size p.tree → b < size p.tree → is_elder p a b ≡ true → IsElder p.tree a b
   elder_use a b ina inb q =
       let r = and_parts (is_child p.tree (parent_of p.tree b) a) (ltb 0 b && ltb a b) q in
@@ -387,7 +388,7 @@ module _ (p : Plan) (replies : ℕ → List Reply) (workers : ℕ) (h : List Eve
       and_from (is_lawful e) _ m.lawful (and_from (ltb e.node (size p.tree)) _ (lt-ltb e.node (size p.tree) m.inside)
       (and_from (leb e.worker workers) _ (le-leb e.worker workers m.by_worker) (kind_from e m.inside e.kind m.by_kind)))
 
-module _ (p : Plan) (tree : IsPlanTree p.tree) (replies : ℕ → List Reply) (workers : ℕ) where
+module _ (p : PlanParts) (tree : IsPlanTree p.tree) (replies : ℕ → List Reply) (workers : ℕ) where
   all_use_from : (h rest : List Event) → IsLegal p replies workers h → all_follow p replies workers h rest ≡ true → IsLegal p replies workers (h ++ rest)
   all_use_from h [] legal q = subst (IsLegal p replies workers) (sym (append-nil h)) legal
   all_use_from h (e ∷ rest) legal q =

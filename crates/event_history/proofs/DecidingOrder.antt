@@ -6,7 +6,8 @@ use Rattle.plan_events.specs.declared.event.EventKind.{EventKind}
 use Rattle.plan_events.specs.declared.event.EventKind.TheVariants.{Started, Finished, Skipped}
 use Rattle.plan_events.specs.declared.event.Event.{Event}
 use Rattle.plan_events.specs.declared.outcome.Reply.{Reply}
-use Rattle.event_history.specs.Plans.{Plan, is_same, IsPlanTree}
+use Rattle.resource_locks.specs.Plans.{PlanParts}
+use Rattle.event_history.specs.Plans.{is_same, IsPlanTree}
 use Rattle.event_history.specs.Places.{StandsBefore, is_of, has}
 use Rattle.event_history.specs.History.{IsLegal}
 use Rattle.event_history.specs.Order.{goes_first, is_opening, IsInOrder}
@@ -18,25 +19,25 @@ use Rattle.event_history.proofs.Front.{legal_front, order_front}
 use Rattle.event_history.proofs.Needed.{needed}
 use Rattle.event_history.proofs.Deciding.{implies, implies_use, implies_from, all_below, all_use, all_from, is_elder, elder_use, elder_from, may_follow, follow_use, follow_from}
 
-abbrev pub elder_ok : Plan → List Event → ℕ → ℕ → Bool
+abbrev pub elder_ok : PlanParts → List Event → ℕ → ℕ → Bool
 elder_ok p h n a = implies (is_elder p a n && goes_first p a n) (has Finished a h || has Skipped a h)
 
 -- whether the event keeps the order
-abbrev pub may_go_next : Plan → List Event → Event → Bool
+abbrev pub may_go_next : PlanParts → List Event → Event → Bool
 may_go_next p h e =
     implies (is_opening e.kind)
     (all_below (elder_ok p h e.node) (size p.tree) && implies (ltb 0 e.node && is_same p e.node) (started_by (parent_of p.tree e.node) e.worker h))
 
 -- whether each event of the rest may follow those before it, and keeps the order
-abbrev pub all_go : Plan → (ℕ → List Reply) → ℕ → List Event → List Event → Bool
+abbrev pub all_go : PlanParts → (ℕ → List Reply) → ℕ → List Event → List Event → Bool
 all_go p replies workers h [] = true
 all_go p replies workers h (e ∷ rest) = (may_follow p replies workers h e && may_go_next p h e) && all_go p replies workers (h ++ e ∷ []) rest
 
 -- whether the list is a legal history that keeps the order
-abbrev pub is_in_order : Plan → (ℕ → List Reply) → ℕ → List Event → Bool
+abbrev pub is_in_order : PlanParts → (ℕ → List Reply) → ℕ → List Event → Bool
 is_in_order p replies workers h = all_go p replies workers [] h
 
-module _ (p : Plan) (replies : ℕ → List Reply) (workers : ℕ) (h : List Event) (e : Event) (inside : e.node < size p.tree) where
+module _ (p : PlanParts) (replies : ℕ → List Reply) (workers : ℕ) (h : List Event) (e : Event) (inside : e.node < size p.tree) where
   both : may_go_next p h e ≡ true → is_opening e.kind ≡ true
       → (all_below (elder_ok p h e.node) (size p.tree) ≡ true) × (implies (ltb 0 e.node && is_same p e.node) (started_by (parent_of p.tree e.node) e.worker h) ≡ true)
   both q opens = and_parts (all_below (elder_ok p h e.node) (size p.tree)) (implies (ltb 0 e.node && is_same p e.node) (started_by (parent_of p.tree e.node) e.worker h)) (implies_use (is_opening e.kind) _ q opens)
@@ -56,7 +57,7 @@ module _ (p : Plan) (replies : ℕ → List Reply) (workers : ℕ) (h : List Eve
       (implies_from (ltb 0 e.node && is_same p e.node) _ (λ t. (let r = and_parts (ltb 0 e.node) (is_same p e.node) t in m.by_parent opens (ltb-true 0 e.node r.0) r.1))))
 
 -- the last event of a history that keeps the order kept it
-pub next_needed : (p : Plan) (replies : ℕ → List Reply) (workers : ℕ) (h : List Event) (e : Event) → IsLegal p replies workers (h ++ e ∷ []) → IsInOrder p (h ++ e ∷ []) → MayGoNext p h e
+pub next_needed : (p : PlanParts) (replies : ℕ → List Reply) (workers : ℕ) (h : List Event) (e : Event) → IsLegal p replies workers (h ++ e ∷ []) → IsInOrder p (h ++ e ∷ []) → MayGoNext p h e
 next_needed p replies workers h e legal order = record {
   elders = λ opens a elder first. elim (order.elder_settled (length h) a e last elder first) [
     | inl s ↦ or_left (has Finished a h) (has Skipped a h) (front Finished a s)
@@ -75,7 +76,7 @@ next_needed p replies workers h e legal order = record {
     front : (k : EventKind) (n : ℕ) → StandsBefore (h ++ e ∷ []) (length h) k n → has k n h ≡ true
     front k n s = has_at (before_front h (e ∷ []) (length h) k n (omega arith) s).stands
 
-module _ (p : Plan) (tree : IsPlanTree p.tree) (replies : ℕ → List Reply) (workers : ℕ) where
+module _ (p : PlanParts) (tree : IsPlanTree p.tree) (replies : ℕ → List Reply) (workers : ℕ) where
   go_use : (h rest : List Event) → IsLegal p replies workers h → IsInOrder p h → all_go p replies workers h rest ≡ true → IsInOrder p (h ++ rest)
   go_use h [] legal order q = subst (IsInOrder p) (sym (append-nil h)) order
   go_use h (e ∷ rest) legal order q =

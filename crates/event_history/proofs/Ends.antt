@@ -5,7 +5,8 @@ use Rattle.descriptor.specs.Nodes.{after_of, body_of}
 use Rattle.plan_events.specs.declared.status.Status.{Status}
 use Rattle.plan_events.specs.declared.outcome.Reply.{Reply}
 use Rattle.plan_events.specs.Statuses.{is_successful}
-use Rattle.event_history.specs.Plans.{Sort, Leaf, Holder, Maker, Plan, has_child, spare_count, sort_of}
+use Rattle.resource_locks.specs.Plans.{PlanParts}
+use Rattle.event_history.specs.Plans.{Sort, Leaf, Holder, Maker, has_child, spare_count, sort_of}
 use Rattle.event_history.specs.Results.{Jobs, NoJob, Alone, Pulled, Around, jobs_by, jobs_of, EndsEarly, EndsLast, is_stoppable}
 
 -- only a container with a body ends early, and not with success
@@ -17,7 +18,7 @@ early replies (Alone body) status text r = absurd r
 early replies (Pulled body spares) status text r = absurd r
 
 -- a container with a body that ends last and without success has an after-body that is run, and so a child
-pub last_has_child : (p : Plan) (replies : ℕ → List Reply) (a k : ℕ) (status : Status) (text : Option (List ℕ)) → EndsLast replies (jobs_of p a) k status text
+pub last_has_child : (p : PlanParts) (replies : ℕ → List Reply) (a k : ℕ) (status : Status) (text : Option (List ℕ)) → EndsLast replies (jobs_of p a) k status text
     → is_stoppable (jobs_of p a) ≡ true → is_successful status ≡ false → (has_child p a ≡ true) × (sort_of p.tree a ≡ Holder)
 last_has_child p replies a k status text = go (sort_of p.tree a) (body_of p.tree a) (after_of p.tree a) (has_child p a) (spare_count p a)
   where

@@ -7,17 +7,18 @@ use Rattle.descriptor.specs.declared.lock_mode.LockMode.TheVariants.{ReadWrite}
 use Rattle.descriptor.specs.Nodes.{IsTree}
 use Rattle.plan_events.specs.declared.event.Event.{Event}
 use Rattle.plan_events.specs.declared.outcome.Reply.{Reply}
-use Rattle.resource_locks.specs.Declarations.{AtOrBelow}
+use Rattle.resource_locks.specs.Declarations.{declared_of, AtOrBelow}
 use Rattle.resource_locks.specs.Wants.{HasLock}
 use Rattle.resource_locks.proofs.Lines.{at_child}
 use Rattle.resource_locks.specs.Hoisted.{IsHoisted, IsGuarded}
 use Rattle.resource_locks.proofs.Guarded.{guarded}
-use Rattle.event_history.specs.Plans.{Plan, held_of, is_same_thread, IsPlanTree}
+use Rattle.resource_locks.specs.Plans.{PlanParts, held_of}
+use Rattle.event_history.specs.Plans.{is_same_thread, IsPlanTree}
 use Rattle.event_history.specs.History.{IsLegal}
 use Rattle.event_history.specs.Order.{IsInOrder}
-use Rattle.event_history.specs.Exclusion.{declared_in, hoisting_in, Overlaps, Excludes, DeclaredConflict, AreApart, IsExclusive}
+use Rattle.event_history.specs.Exclusion.{Overlaps, Excludes, DeclaredConflict, AreApart, IsExclusive}
 use Rattle.event_history.proofs.Branches.{branches}
-use Rattle.event_history.proofs.LockTrees.{lock_tree}
+use Rattle.resource_locks.proofs.LockTrees.{lock_tree}
 use Rattle.event_history.proofs.Spares.{plan_tree}
 use Rattle.event_history.proofs.Serial.{overlaps_above, serial_branches}
 
@@ -26,8 +27,8 @@ held_excludes : (a b c d : LockMode) → (a ≡ ReadWrite → c ≡ ReadWrite) �
 held_excludes a b c d f g (inl q) = inl (f q)
 held_excludes a b c d f g (inr q) = inr (g q)
 
-module _ (p : Plan) (tree : IsPlanTree p.tree) (replies : ℕ → List Reply) (workers : ℕ) (h : List Event) (legal : IsLegal p replies workers h) (order : IsInOrder p h)
-    (exclusive : IsExclusive p h) (guarded : IsGuarded (declared_in p) (hoisting_in p)) where
+module _ (p : PlanParts) (tree : IsPlanTree p.tree) (replies : ℕ → List Reply) (workers : ℕ) (h : List Event) (legal : IsLegal p replies workers h) (order : IsInOrder p h)
+    (exclusive : IsExclusive p h) (guarded : IsGuarded (declared_of p.tree) p) where
   -- below one holder that writes, all run on one thread
   one_holder : (x m n : ℕ) (key : List ℕ) → HasLock (held_of p x) key ReadWrite → AtOrBelow p.tree x m → AtOrBelow p.tree x n → AreApart p.tree m n → Overlaps h m n → ⊥
   one_holder x m n key writes (inl s) xn apart o = apart.one (subst (λ (y : ℕ). AtOrBelow p.tree y n) s xn)
@@ -56,7 +57,7 @@ module _ (p : Plan) (tree : IsPlanTree p.tree) (replies : ℕ → List Reply) (w
       ]
 
 -- Where the plan is hoisted, two nodes, neither at or below the other, whose declared locks conflict never overlap.
-pub hoisted_apart : (p : Plan) (given : ℕ → Mode) (replies : ℕ → List Reply) (workers : ℕ) (h : List Event) → IsTree p.tree → IsHoisted (declared_in p) given (hoisting_in p)
+pub hoisted_apart : (p : PlanParts) (given : ℕ → Mode) (replies : ℕ → List Reply) (workers : ℕ) (h : List Event) → IsTree p.tree → IsHoisted (declared_of p.tree) given p
     → IsLegal p replies workers h → IsInOrder p h → IsExclusive p h → (m n : ℕ) → AreApart p.tree m n → DeclaredConflict p m n → Overlaps h m n → ⊥
 hoisted_apart p given replies workers h tree hoisted legal order exclusive =
-    declared_apart p (plan_tree p.tree tree) replies workers h legal order exclusive (guarded (declared_in p) (lock_tree p tree) given (hoisting_in p) hoisted)
+    declared_apart p (plan_tree p.tree tree) replies workers h legal order exclusive (guarded (declared_of p.tree) (lock_tree p.tree tree) given p hoisted)

@@ -5,20 +5,20 @@ use Rattle.std.proofs.lemmas.Option.{none-some}
 use Rattle.descriptor.specs.declared.lock_mode.LockMode.{LockMode}
 use Rattle.plan_events.specs.declared.event.EventKind.TheVariants.{Started, Finished}
 use Rattle.plan_events.specs.declared.event.Event.{Event}
-use Rattle.event_history.specs.Plans.{Plan}
+use Rattle.resource_locks.specs.Plans.{PlanParts}
 use Rattle.event_history.specs.Places.{StandsAt, StandsBefore, has}
 use Rattle.event_history.specs.Following.{MayHold}
 use Rattle.event_history.specs.Exclusion.{Excludes, HeldConflict, IsExclusive}
 use Rattle.event_history.proofs.Places.{has_at, has_before, before_later, before_front, stands_later, stands_within, stands_snoc}
 
-pub conflict_back : (p : Plan) (m n : ℕ) → HeldConflict p m n → HeldConflict p n m
+pub conflict_back : (p : PlanParts) (m n : ℕ) → HeldConflict p m n → HeldConflict p n m
 conflict_back p m n c = record { key = c.key; mode = c.other_mode; here = c.there; other_mode = c.mode; there = c.here; writes = swap c.writes }
   where
     swap : {a b : LockMode} → Excludes a b → Excludes b a
     swap (inl q) = inr q
     swap (inr q) = inl q
 
-module _ (p : Plan) (h : List Event) (e : Event) (exclusive : IsExclusive p h) (may : MayHold p h e) where
+module _ (p : PlanParts) (h : List Event) (e : Event) (exclusive : IsExclusive p h) (may : MayHold p h e) where
   -- the new event starts n, while m runs
   new_start : (m n i : ℕ) → StandsAt h i Started m → e.kind ≡ Started → e.node ≡ n → (StandsBefore (h ++ e ∷ []) (length h) Finished m → ⊥) → HeldConflict p m n → ⊥
   new_start m n i s k q unended c =
@@ -45,11 +45,11 @@ module _ (p : Plan) (h : List Event) (e : Event) (exclusive : IsExclusive p h) (
         ]
       ]
 
-pub exclusive_nil : (p : Plan) → IsExclusive p []
+pub exclusive_nil : (p : PlanParts) → IsExclusive p []
 exclusive_nil p m n differ c o = none-some o.start.event o.start.here
 
 -- and in a beginning they exclude each other as in the whole
-pub exclusive_front : (p : Plan) (g r : List Event) → IsExclusive p (g ++ r) → IsExclusive p g
+pub exclusive_front : (p : PlanParts) (g r : List Event) → IsExclusive p (g ++ r) → IsExclusive p g
 exclusive_front p g r exclusive m n differ c o =
     let i : o.place < length g = stands_within o.start in
     let j : o.other_place < length g = stands_within o.other_start in

@@ -9,7 +9,8 @@ use Rattle.plan_events.specs.declared.event.EventKind.TheVariants.{Finished, Reg
 use Rattle.plan_events.specs.declared.status.Status.{Status}
 use Rattle.plan_events.specs.declared.event.Event.{Event}
 use Rattle.plan_events.specs.declared.outcome.Reply.{Reply}
-use Rattle.event_history.specs.Plans.{Sort, Leaf, Holder, Maker, Plan, spare_count, rank, pulls_job, sort_of, IsPlanTree}
+use Rattle.resource_locks.specs.Plans.{PlanParts}
+use Rattle.event_history.specs.Plans.{Sort, Leaf, Holder, Maker, spare_count, rank, pulls_job, sort_of, IsPlanTree}
 use Rattle.event_history.specs.Places.{StandsAt, StandsBefore, IsSettledAt, IsSilent}
 use Rattle.event_history.specs.Results.{Jobs, NoJob, Pulled, jobs_by, jobs_of, after_run, EndsEarly, EndsLast, Ends, HasPulls, HasTooMany}
 use Rattle.event_history.specs.History.{StoppedIs, IsUnregistered, registered_before, HasResult, IsLegal, IsComplete}
@@ -27,7 +28,7 @@ status_in (Finishes s t) = Some s
 status_in _ = None
 
 -- the jobs of a factory
-pub factory_jobs : (p : Plan) (f : ℕ) → sort_of p.tree f ≡ Maker → (jobs_of p f ≡ NoJob) ⊎ ((body : ℕ) × (jobs_of p f ≡ Pulled body (spare_count p f)))
+pub factory_jobs : (p : PlanParts) (f : ℕ) → sort_of p.tree f ≡ Maker → (jobs_of p f ≡ NoJob) ⊎ ((body : ℕ) × (jobs_of p f ≡ Pulled body (spare_count p f)))
 factory_jobs p f q = elim (go (body_of p.tree f)) [ inl r ↦ inl (ap (λ (s : Sort). jobs_by s (body_of p.tree f) (after_run p f) (spare_count p f)) q ∙ r) | inr r ↦ inr (r.0, ap (λ (s : Sort). jobs_by s (body_of p.tree f) (after_run p f) (spare_count p f)) q ∙ r.1) ]
   where
     go : (body : Option ℕ) → (jobs_by Maker body (after_run p f) (spare_count p f) ≡ NoJob) ⊎ ((b : ℕ) × (jobs_by Maker body (after_run p f) (spare_count p f) ≡ Pulled b (spare_count p f)))
@@ -35,7 +36,7 @@ factory_jobs p f q = elim (go (body_of p.tree f)) [ inl r ↦ inl (ap (λ (s : S
     go (Some b) = inr (b, refl)
 
 -- and of one with a job
-pub pulled_jobs : (p : Plan) → IsPlanTree p.tree → (f : ℕ) → pulls_job p f ≡ true → (body : ℕ) × (jobs_of p f ≡ Pulled body (spare_count p f))
+pub pulled_jobs : (p : PlanParts) → IsPlanTree p.tree → (f : ℕ) → pulls_job p f ≡ true → (body : ℕ) × (jobs_of p f ≡ Pulled body (spare_count p f))
 pulled_jobs p tree f q =
     let r = and_parts (is_factory_at p.tree f) (is_some (body_of p.tree f)) q in
     let jobs = go (body_of p.tree f) r.1 in
@@ -45,7 +46,7 @@ pulled_jobs p tree f q =
     go (Some b) q = (b, refl)
     go None q = absurd (false≢true q)
 
-module _ (p : Plan) (tree : IsPlanTree p.tree) (reply : ℕ → Reply) (replies : ℕ → List Reply) (one : HasOneReply reply replies) (workers : ℕ) (h : List Event) (legal : IsLegal p replies workers h) where
+module _ (p : PlanParts) (tree : IsPlanTree p.tree) (reply : ℕ → Reply) (replies : ℕ → List Reply) (one : HasOneReply reply replies) (workers : ℕ) (h : List Event) (legal : IsLegal p replies workers h) where
   -- there are no more registered spares than spares
   few : (i n : ℕ) → Few (jobs_of p n) (registered_before p h i n)
   few i n = go (sort_of p.tree n) (body_of p.tree n) (after_run p n)

@@ -12,21 +12,22 @@ use Rattle.plan_events.specs.declared.event.EventKind.{EventKind}
 use Rattle.plan_events.specs.declared.event.EventKind.TheVariants.{Started, Finished, Skipped, Registered}
 use Rattle.plan_events.specs.declared.event.Event.{Event}
 use Rattle.plan_events.specs.declared.outcome.Reply.{Reply}
-use Rattle.event_history.specs.Plans.{Plan, pulls_job, most_events}
+use Rattle.resource_locks.specs.Plans.{PlanParts, most_events}
+use Rattle.event_history.specs.Plans.{pulls_job}
 use Rattle.event_history.specs.History.{IsLegal}
 use Rattle.event_history.proofs.Places.{event_at}
 
 -- A number for each kind and node, where a start and a skip share one, since no node has both.
-abbrev code_by : Plan → ℕ → EventKind → ℕ
+abbrev code_by : PlanParts → ℕ → EventKind → ℕ
 code_by p n Started = 2 * n
 code_by p n Skipped = 2 * n
 code_by p n Finished = 2 * n + 1
 code_by p n Registered = 2 * size p.tree + count_below (is_spare_at p.tree) n
 
-abbrev code_of : Plan → Event → ℕ
+abbrev code_of : PlanParts → Event → ℕ
 code_of p e = code_by p e.node e.kind
 
-codes_below : (p : Plan) (h : List Event) (n : ℕ) → ((i : ℕ) (e : Event) → slice_get h i ≡ Some e → code_of p e < n) → (q : ℕ) → list_any (eqb q) (map (code_of p) h) ≡ true → q < n
+codes_below : (p : PlanParts) (h : List Event) (n : ℕ) → ((i : ℕ) (e : Event) → slice_get h i ≡ Some e → code_of p e < n) → (q : ℕ) → list_any (eqb q) (map (code_of p) h) ≡ true → q < n
 codes_below p [] n each q any = absurd (false≢true any)
 codes_below p (e ∷ h) n each q any =
     elim (or_cases (eqb q (code_of p e)) (list_any (eqb q) (map (code_of p) h)) any) [
@@ -34,10 +35,10 @@ codes_below p (e ∷ h) n each q any =
       | inr b ↦ codes_below p h n (λ i f s. each (suc i) f s) q b
     ]
 
-code_at : (p : Plan) (h : List Event) (i d : ℕ) (e : Event) → slice_get h i ≡ Some e → get_or (map (code_of p) h) i d ≡ code_of p e
+code_at : (p : PlanParts) (h : List Event) (i d : ℕ) (e : Event) → slice_get h i ≡ Some e → get_or (map (code_of p) h) i d ≡ code_of p e
 code_at p h i d e q = get_or_from_slice_get (map (code_of p) h) i (code_of p e) d (slice_get-map (code_of p) h i ∙ ap (option_map (code_of p)) q)
 
-module _ (p : Plan) (replies : ℕ → List Reply) (workers : ℕ) (h : List Event) (legal : IsLegal p replies workers h) where
+module _ (p : PlanParts) (replies : ℕ → List Reply) (workers : ℕ) (h : List Event) (legal : IsLegal p replies workers h) where
   -- a registered node is a spare
   spare_at : (i : ℕ) (e : Event) → slice_get h i ≡ Some e → e.kind ≡ Registered → is_spare_at p.tree e.node ≡ true
   spare_at i e q k = (and_parts (is_spare_at p.tree e.node) (pulls_job p (parent_of p.tree e.node)) (legal.registered i e.node (record { event = e; here = q; kind = k; node = refl }))).0

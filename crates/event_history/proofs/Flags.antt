@@ -6,7 +6,8 @@ use Rattle.plan_events.specs.declared.event.EventKind.{EventKind}
 use Rattle.plan_events.specs.declared.event.EventKind.TheVariants.{Started, Finished, Skipped, Registered}
 use Rattle.plan_events.specs.declared.event.Event.{Event}
 use Rattle.plan_events.specs.declared.outcome.Reply.{Reply}
-use Rattle.event_history.specs.Plans.{Plan, IsPlanTree}
+use Rattle.resource_locks.specs.Plans.{PlanParts}
+use Rattle.event_history.specs.Plans.{IsPlanTree}
 use Rattle.event_history.specs.Places.{StandsAt, has}
 use Rattle.event_history.specs.History.{IsLegal, IsComplete}
 use Rattle.event_history.specs.Expected.{Expected, Silent, Skips, Finishes, HasOneReply, expected, IsAsExpected}
@@ -25,7 +26,7 @@ flag spare Finished (Finishes s t) = true
 flag spare Registered (Finishes s t) = spare
 flag spare Skipped (Finishes s t) = false
 
-module _ (p : Plan) (replies : ℕ → List Reply) (workers : ℕ) (h : List Event) (legal : IsLegal p replies workers h) where
+module _ (p : PlanParts) (replies : ℕ → List Reply) (workers : ℕ) (h : List Event) (legal : IsLegal p replies workers h) where
   -- what was seen of a node was registered if it is a spare, and else was not
   registered_as : (i n : ℕ) (k : EventKind) (b : Bool) → is_spare_at p.tree n ≡ b → StandsAt h i k n → has Registered n h ≡ b
   registered_as i n k true q s =
@@ -52,7 +53,7 @@ module _ (p : Plan) (replies : ℕ → List Reply) (workers : ℕ) (h : List Eve
   flag_by n Registered (Finishes status text) e = registered_as e.place n Finished (is_spare_at p.tree n) refl (record { event = e.event; here = e.here; kind = e.kind; node = e.node })
   flag_by n Skipped (Finishes status text) e = never n Skipped (λ i t. (let u = legal.after_start e.place n (record { event = e.event; here = e.here; kind = e.kind; node = e.node }) in legal.apart u.place i n u.stands t))
 
-module _ (p : Plan) (tree : IsPlanTree p.tree) (reply : ℕ → Reply) (replies : ℕ → List Reply) (one : HasOneReply reply replies) (workers : ℕ) (h : List Event) (legal : IsLegal p replies workers h)
+module _ (p : PlanParts) (tree : IsPlanTree p.tree) (reply : ℕ → Reply) (replies : ℕ → List Reply) (one : HasOneReply reply replies) (workers : ℕ) (h : List Event) (legal : IsLegal p replies workers h)
     (slow : p.fail_fast ≡ false) (complete : IsComplete p h) where
   -- A node of a complete legal history has the events that are expected of it, and no others.
   pub flags : (n : ℕ) (k : EventKind) → n < size p.tree → has k n h ≡ flag (is_spare_at p.tree n) k (expected p reply n)

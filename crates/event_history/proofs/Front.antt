@@ -7,7 +7,7 @@ use Rattle.plan_events.specs.declared.event.EventKind.{EventKind}
 use Rattle.plan_events.specs.declared.event.EventKind.TheVariants.{Started, Finished, Skipped, Registered}
 use Rattle.plan_events.specs.declared.event.Event.{Event}
 use Rattle.plan_events.specs.declared.outcome.Reply.{Reply}
-use Rattle.event_history.specs.Plans.{Plan}
+use Rattle.resource_locks.specs.Plans.{PlanParts}
 use Rattle.event_history.specs.Places.{StandsAt, StandsBefore, FailsBefore, IsSettledAt}
 use Rattle.event_history.specs.Results.{jobs_of, Ends}
 use Rattle.event_history.specs.History.{IsStopped, StoppedIs, IsUnregistered, HasResult, IsLegal}
@@ -15,7 +15,7 @@ use Rattle.event_history.specs.Order.{IsInOrder}
 use Rattle.event_history.proofs.Places.{get_front, get_back, stands_later, before_later, before_front, stands_within}
 use Rattle.event_history.proofs.Snoc.{registered_front}
 
-module _ (p : Plan) (replies : ℕ → List Reply) (workers : ℕ) (g r : List Event) (legal : IsLegal p replies workers (g ++ r)) where
+module _ (p : PlanParts) (replies : ℕ → List Reply) (workers : ℕ) (g r : List Event) (legal : IsLegal p replies workers (g ++ r)) where
   front : (i : ℕ) (k : EventKind) (n : ℕ) → i < length g → StandsBefore (g ++ r) i k n → StandsBefore g i k n
   front i k n lt s = before_front g r i k n (omega (arith, lt)) s
 
@@ -105,5 +105,5 @@ module _ (p : Plan) (replies : ℕ → List Reply) (workers : ℕ) (g r : List E
     by_parent = λ i j e f q t. order.by_parent i j e f (get_front g r e i q) (get_front g r f j t);
   }
 
-pub prefix_legal : (p : Plan) (replies : ℕ → List Reply) (workers : ℕ) (given h : List Event) → IsPrefix given h → IsLegal p replies workers h → IsLegal p replies workers given
+pub prefix_legal : (p : PlanParts) (replies : ℕ → List Reply) (workers : ℕ) (given h : List Event) → IsPrefix given h → IsLegal p replies workers h → IsLegal p replies workers given
 prefix_legal p replies workers given h first legal = legal_front p replies workers given first.0 (subst (IsLegal p replies workers) (sym first.1) legal)

@@ -6,13 +6,14 @@ use Rattle.plan_events.specs.declared.event.EventKind.{EventKind}
 use Rattle.plan_events.specs.declared.event.EventKind.TheVariants.{Started, Finished, Skipped, Registered}
 use Rattle.plan_events.specs.declared.event.Event.{Event}
 use Rattle.plan_events.specs.declared.outcome.Reply.{Reply}
-use Rattle.event_history.specs.Plans.{Plan, IsPlanTree}
+use Rattle.resource_locks.specs.Plans.{PlanParts}
+use Rattle.event_history.specs.Plans.{IsPlanTree}
 use Rattle.event_history.specs.Places.{StandsAt, StandsBefore, IsSettledAt, has}
 use Rattle.event_history.specs.History.{IsStopped, StoppedIs, IsUnregistered, IsLegal, IsBarred}
 use Rattle.event_history.specs.Following.{IsParentOpen}
 use Rattle.event_history.proofs.Places.{has_stands, has_at, has_before, stands_within, before_more, settled_more}
 
-module _ (p : Plan) (replies : ℕ → List Reply) (workers : ℕ) (h : List Event) (legal : IsLegal p replies workers h) where
+module _ (p : PlanParts) (replies : ℕ → List Reply) (workers : ℕ) (h : List Event) (legal : IsLegal p replies workers h) where
   -- a finished node is stopped, or is not
   pub stopped_cases : (i a : ℕ) → StandsAt h i Finished a → IsStopped p h a ⊎ (IsStopped p h a → ⊥)
   stopped_cases i a s = subst (λ (n : ℕ). IsStopped p h n ⊎ (IsStopped p h n → ⊥)) s.node (go (legal.result i s.event s.here s.kind).1.stopped (legal.result i s.event s.here s.kind).1.stops)

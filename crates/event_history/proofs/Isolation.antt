@@ -4,18 +4,19 @@ use Rattle.descriptor.specs.Nodes.{IsChild, is_isolated_at}
 use Rattle.descriptor.specs.declared.lock_mode.LockMode.TheVariants.{Read, ReadWrite}
 use Rattle.plan_events.specs.declared.event.Event.{Event}
 use Rattle.plan_events.specs.declared.outcome.Reply.{Reply}
-use Rattle.resource_locks.specs.Declarations.{AtOrBelow, global, IsTop}
+use Rattle.resource_locks.specs.Declarations.{declared_of, AtOrBelow, global, IsTop}
 use Rattle.resource_locks.specs.Hoisted.{IsGuarded}
-use Rattle.event_history.specs.Plans.{Plan, is_same, IsPlanTree}
+use Rattle.resource_locks.specs.Plans.{PlanParts}
+use Rattle.event_history.specs.Plans.{is_same, IsPlanTree}
 use Rattle.event_history.specs.History.{IsLegal}
 use Rattle.event_history.specs.Order.{IsInOrder}
-use Rattle.event_history.specs.Exclusion.{declared_in, hoisting_in, AreApart, Overlaps, IsExclusive}
+use Rattle.event_history.specs.Exclusion.{AreApart, Overlaps, IsExclusive}
 use Rattle.event_history.proofs.Exclusion.{declared_apart}
 use Rattle.event_history.proofs.Serial.{serial_branches}
 
-module _ (p : Plan) (tree : IsPlanTree p.tree) (replies : ℕ → List Reply) (workers : ℕ) (h : List Event) (legal : IsLegal p replies workers h) (order : IsInOrder p h) where
+module _ (p : PlanParts) (tree : IsPlanTree p.tree) (replies : ℕ → List Reply) (workers : ℕ) (h : List Event) (legal : IsLegal p replies workers h) (order : IsInOrder p h) where
   -- An isolated node overlaps no node below an engine but those above and below it.
-  pub isolated_alone : IsExclusive p h → IsGuarded (declared_in p) (hoisting_in p) → (m n c : ℕ) → is_isolated_at p.tree m ≡ true → IsTop p.tree c → AtOrBelow p.tree c n → AreApart p.tree m n → Overlaps h m n → ⊥
+  pub isolated_alone : IsExclusive p h → IsGuarded (declared_of p.tree) p → (m n c : ℕ) → is_isolated_at p.tree m ≡ true → IsTop p.tree c → AtOrBelow p.tree c n → AreApart p.tree m n → Overlaps h m n → ⊥
   isolated_alone exclusive guarded m n c isolated top below apart o =
       declared_apart p tree replies workers h legal order exclusive guarded m n apart
       (record {

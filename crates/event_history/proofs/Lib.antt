@@ -12,7 +12,6 @@ pub mod OrderSnoc
 pub mod Front
 pub mod Few
 pub mod Serial
-pub mod LockTrees
 pub mod Exclusion
 pub mod Isolation
 pub mod ExclusionSnoc

@@ -5,7 +5,8 @@ use Rattle.descriptor.specs.Nodes.{IsChild, is_child, size, parent_of}
 use Rattle.plan_events.specs.declared.event.EventKind.{EventKind}
 use Rattle.plan_events.specs.declared.event.EventKind.TheVariants.{Finished, Skipped}
 use Rattle.plan_events.specs.declared.event.Event.{Event}
-use Rattle.event_history.specs.Plans.{Plan, IsElder, is_same}
+use Rattle.resource_locks.specs.Plans.{PlanParts}
+use Rattle.event_history.specs.Plans.{IsElder, is_same}
 use Rattle.event_history.specs.Places.{StandsAt, IsSettledAt, has}
 use Rattle.event_history.specs.Order.{goes_first, is_opening, IsInOrder}
 use Rattle.event_history.specs.Following.{started_by, MayGoNext}
@@ -13,7 +14,7 @@ use Rattle.event_history.proofs.Places.{has_stands, has_at}
 use Rattle.event_history.proofs.Trees.{is_child_test, test_is_child}
 
 -- the youngest of the elder children that go before b
-pub record IsNearest (p : Plan) (a b : ℕ) : Type 0 where
+pub record IsNearest (p : PlanParts) (a b : ℕ) : Type 0 where
   pub elder : IsElder p.tree a b
   pub first : goes_first p a b ≡ true
   pub none_between : (c : ℕ) → a < c → IsElder p.tree c b → goes_first p c b ≡ true → ⊥
@@ -35,7 +36,7 @@ last_pass q (suc n) m lt t =
     step : (x l : ℕ) → l < x → x < suc n → ((y : ℕ) → l < y → y < n → q y ≡ false) → q n ≡ false → q x ≡ false
     step x l low high each u = elim (cases_eq x n) [ inl s ↦ subst (λ (y : ℕ). q y ≡ false) (sym s) u | inr ne ↦ each x low (omega (arith, high, ne)) ]
 
-module _ (p : Plan) (h : List Event) (order : IsInOrder p h) (b : ℕ)
+module _ (p : PlanParts) (h : List Event) (order : IsInOrder p h) (b : ℕ)
     (nearest : (a : ℕ) → IsNearest p a b → (has Finished a h || has Skipped a h) ≡ true) where
   settled_has : (i a : ℕ) → IsSettledAt h i a → (has Finished a h || has Skipped a h) ≡ true
   settled_has i a s = elim s [ inl d ↦ or_left (has Finished a h) (has Skipped a h) (has_at d.stands) | inr d ↦ or_right (has Finished a h) (has Skipped a h) (has_at d.stands) ]
@@ -73,6 +74,6 @@ module _ (p : Plan) (h : List Event) (order : IsInOrder p h) (b : ℕ)
       ]
 
 -- So an event may go next where its node's nearest elder is settled.
-pub next_by_nearest : (p : Plan) (h : List Event) (e : Event) → IsInOrder p h → (is_opening e.kind ≡ true → (a : ℕ) → IsNearest p a e.node → (has Finished a h || has Skipped a h) ≡ true)
+pub next_by_nearest : (p : PlanParts) (h : List Event) (e : Event) → IsInOrder p h → (is_opening e.kind ≡ true → (a : ℕ) → IsNearest p a e.node → (has Finished a h || has Skipped a h) ≡ true)
     → (is_opening e.kind ≡ true → 0 < e.node → is_same p e.node ≡ true → started_by (parent_of p.tree e.node) e.worker h ≡ true) → MayGoNext p h e
 next_by_nearest p h e order nearest by = record { elders = λ q a elder first. all_settled p h order e.node (nearest q) a elder first; by_parent = by }

@@ -9,14 +9,15 @@ use Rattle.plan_events.specs.declared.event.EventKind.TheVariants.{Started, Fini
 use Rattle.plan_events.specs.declared.event.Event.{Event}
 use Rattle.plan_events.specs.declared.outcome.Reply.{Reply}
 use Rattle.event_history.specs.Places.{is_failure, StandsAt, StandsBefore, has}
-use Rattle.event_history.specs.Plans.{Plan, is_spare_of}
+use Rattle.resource_locks.specs.Plans.{PlanParts}
+use Rattle.event_history.specs.Plans.{is_spare_of}
 use Rattle.event_history.specs.Results.{jobs_of, Ends}
 use Rattle.event_history.specs.History.{StoppedIs, registered_before, IsLegal}
 use Rattle.event_history.specs.Following.{has_failed_by, registered_in, IsParentOpen, MayFinish, ChildrenOk, ByKind, MayFollow}
 use Rattle.event_history.proofs.Places.{get_front, get_next, get_back, has_stands, has_at, stands_within, stands_later, before_front, finds, found}
 use Rattle.event_history.proofs.Snoc.{registered_front}
 
-module _ (p : Plan) (replies : ℕ → List Reply) (workers : ℕ) (h : List Event) (e : Event) (legal : IsLegal p replies workers (h ++ e ∷ [])) where
+module _ (p : PlanParts) (replies : ℕ → List Reply) (workers : ℕ) (h : List Event) (e : Event) (legal : IsLegal p replies workers (h ++ e ∷ [])) where
   last : slice_get (h ++ e ∷ []) (length h) ≡ Some e
   last = get_next h e []
 

@@ -10,7 +10,8 @@ use Rattle.plan_events.specs.declared.event.Event.{Event}
 use Rattle.plan_events.specs.declared.outcome.Reply.{Reply}
 use Rattle.plan_events.specs.Words.{fits_status}
 use Rattle.resource_locks.proofs.Lines.{last_step}
-use Rattle.event_history.specs.Plans.{Plan, rank, pulls_job, is_same, IsPlanTree}
+use Rattle.resource_locks.specs.Plans.{PlanParts}
+use Rattle.event_history.specs.Plans.{rank, pulls_job, is_same, IsPlanTree}
 use Rattle.event_history.specs.Places.{StandsAt, StandsBefore, IsSettledAt, has}
 use Rattle.event_history.specs.Results.{jobs_of}
 use Rattle.event_history.specs.History.{IsStopped, StoppedIs, IsUnregistered, IsLegal, IsBarred, IsComplete}
@@ -24,7 +25,7 @@ use Rattle.event_history.proofs.Expectation.{status_in, result_is, not_left, lef
 use Rattle.event_history.proofs.Slots.{slot, Before, before_cases, comes_first}
 
 -- a complete legal history of one worker, in same-thread order
-pub record IsRun (p : Plan) (replies : ℕ → List Reply) (h : List Event) : Type 0 where
+pub record IsRun (p : PlanParts) (replies : ℕ → List Reply) (h : List Event) : Type 0 where
   pub legal : IsLegal p replies 1 h
   pub order : IsInOrder p h
   pub complete : IsComplete p h
@@ -63,7 +64,7 @@ no_status k l a b small less q r = go k a small q ∙ sym (go l b less r)
     go Registered None lt q = refl
     go Registered (Some s) lt q = absurd (false≢true q)
 
-module _ (p : Plan) (tree : IsPlanTree p.tree) (reply : ℕ → Reply) (replies : ℕ → List Reply) (one : HasOneReply reply replies) where
+module _ (p : PlanParts) (tree : IsPlanTree p.tree) (reply : ℕ → Reply) (replies : ℕ → List Reply) (one : HasOneReply reply replies) where
   -- in a complete legal history what has started is finished
   started_finished : (h : List Event) → IsRun p replies h → (n : ℕ) → n < size p.tree → has Started n h ≡ true → (i : ℕ) × StandsAt h i Finished n
   started_finished h run n inside q =

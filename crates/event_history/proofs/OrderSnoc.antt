@@ -7,7 +7,8 @@ use Rattle.plan_events.specs.declared.event.EventKind.{EventKind}
 use Rattle.plan_events.specs.declared.event.EventKind.TheVariants.{Started, Finished, Skipped, Registered}
 use Rattle.plan_events.specs.declared.event.Event.{Event}
 use Rattle.plan_events.specs.declared.outcome.Reply.{Reply}
-use Rattle.event_history.specs.Plans.{Plan, IsElder, is_same, IsPlanTree}
+use Rattle.resource_locks.specs.Plans.{PlanParts}
+use Rattle.event_history.specs.Plans.{IsElder, is_same, IsPlanTree}
 use Rattle.event_history.specs.Places.{IsSettledAt, is_of, has}
 use Rattle.event_history.specs.History.{IsLegal}
 use Rattle.event_history.specs.Order.{goes_first, is_opening, IsInOrder}
@@ -15,7 +16,7 @@ use Rattle.event_history.specs.Following.{MayFollow, MayFinish, ByKind, MayGoNex
 use Rattle.event_history.proofs.Places.{get_snoc, has_stands, has_at, has_before, settled_later, settled_more, finds, is_of-true}
 use Rattle.event_history.proofs.Snoc.{may_fresh}
 
-module _ (p : Plan) (tree : IsPlanTree p.tree) (replies : ℕ → List Reply) (workers : ℕ) (h : List Event) (e : Event) (legal : IsLegal p replies workers h)
+module _ (p : PlanParts) (tree : IsPlanTree p.tree) (replies : ℕ → List Reply) (workers : ℕ) (h : List Event) (e : Event) (legal : IsLegal p replies workers h)
     (may : MayFollow p replies workers h e) (order : IsInOrder p h) (next : MayGoNext p h e) where
   closes : (k : EventKind) → is_opening k ≡ false → k ≡ Finished
   closes Finished q = refl
@@ -80,5 +81,5 @@ module _ (p : Plan) (tree : IsPlanTree p.tree) (replies : ℕ → List Reply) (w
   order_snoc = record { elder_settled = snoc_elder_settled; by_parent = snoc_by_parent }
 
 -- the history without events keeps the order
-pub order_nil : (p : Plan) → IsInOrder p []
+pub order_nil : (p : PlanParts) → IsInOrder p []
 order_nil p = record { elder_settled = λ i a e q elder first. absurd (none-some e q); by_parent = λ i j e f q r. absurd (none-some e q) }

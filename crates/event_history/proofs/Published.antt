@@ -2,7 +2,8 @@
 use Rattle.std.proofs.Common.{ℕ, List, [], ◌∷◌, ◌++◌}
 use Rattle.plan_events.specs.declared.event.Event.{Event}
 use Rattle.plan_events.specs.declared.outcome.Reply.{Reply}
-use Rattle.event_history.specs.Plans.{Plan, IsPlanTree}
+use Rattle.resource_locks.specs.Plans.{PlanParts}
+use Rattle.event_history.specs.Plans.{IsPlanTree}
 use Rattle.event_history.specs.Following.{MayBeDrawn}
 use Rattle.event_history.specs.Published.{IsPublished}
 use Rattle.event_history.proofs.Snoc.{legal_snoc, legal_nil}
@@ -10,10 +11,10 @@ use Rattle.event_history.proofs.OrderSnoc.{order_snoc, order_nil}
 use Rattle.event_history.proofs.ExclusionSnoc.{exclusive_snoc, exclusive_nil, exclusive_front}
 use Rattle.event_history.proofs.Front.{legal_front, order_front}
 
-pub published_nil : (p : Plan) (replies : ℕ → List Reply) (workers : ℕ) → IsPublished p replies workers []
+pub published_nil : (p : PlanParts) (replies : ℕ → List Reply) (workers : ℕ) → IsPublished p replies workers []
 published_nil p replies workers = record { legal = legal_nil p replies workers; order = order_nil p; exclusive = exclusive_nil p }
 
-pub published_snoc : (p : Plan) → IsPlanTree p.tree → (replies : ℕ → List Reply) (workers : ℕ) (h : List Event) (e : Event) → IsPublished p replies workers h → MayBeDrawn p replies workers h e
+pub published_snoc : (p : PlanParts) → IsPlanTree p.tree → (replies : ℕ → List Reply) (workers : ℕ) (h : List Event) (e : Event) → IsPublished p replies workers h → MayBeDrawn p replies workers h e
     → IsPublished p replies workers (h ++ e ∷ [])
 published_snoc p tree replies workers h e k m = record {
   legal = legal_snoc p tree replies workers h e k.legal m.follows;
@@ -21,7 +22,7 @@ published_snoc p tree replies workers h e k m = record {
   exclusive = exclusive_snoc p h e k.exclusive m.holds;
 }
 
-pub published_front : (p : Plan) (replies : ℕ → List Reply) (workers : ℕ) (g r : List Event) → IsPublished p replies workers (g ++ r) → IsPublished p replies workers g
+pub published_front : (p : PlanParts) (replies : ℕ → List Reply) (workers : ℕ) (g r : List Event) → IsPublished p replies workers (g ++ r) → IsPublished p replies workers g
 published_front p replies workers g r k = record {
   legal = legal_front p replies workers g r k.legal;
   order = order_front p replies workers g r k.legal k.order;

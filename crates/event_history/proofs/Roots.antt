@@ -8,14 +8,15 @@ use Rattle.plan_events.specs.declared.event.Event.{Event}
 use Rattle.plan_events.specs.declared.outcome.Reply.{Reply}
 use Rattle.plan_events.specs.Words.{plan_may}
 use Rattle.resource_locks.proofs.Lines.{last_step}
-use Rattle.event_history.specs.Plans.{Plan, IsPlanTree}
+use Rattle.resource_locks.specs.Plans.{PlanParts}
+use Rattle.event_history.specs.Plans.{IsPlanTree}
 use Rattle.event_history.specs.Places.{StandsAt, StandsBefore}
 use Rattle.event_history.specs.History.{IsLegal, IsComplete}
 use Rattle.event_history.proofs.Places.{event_at, stands_within}
 use Rattle.event_history.proofs.Branches.{below_root}
 use Rattle.event_history.proofs.Lawful.{plan_event}
 
-module _ (p : Plan) (tree : IsPlanTree p.tree) (replies : ℕ → List Reply) (workers : ℕ) (h : List Event) (legal : IsLegal p replies workers h) where
+module _ (p : PlanParts) (tree : IsPlanTree p.tree) (replies : ℕ → List Reply) (workers : ℕ) (h : List Event) (legal : IsLegal p replies workers h) where
   pub plan_unskipped : (i : ℕ) → StandsAt h i Skipped 0 → ⊥
   plan_unskipped i s = go s.event.kind s.event.status s.kind (plan_event s.event (legal.lawful i s.event s.here) s.node)
     where

@@ -8,14 +8,14 @@ use Rattle.descriptor.specs.declared.role.Role.TheVariants.{Plain}
 use Rattle.plan_events.specs.declared.event.Event.{Event}
 use Rattle.plan_events.specs.declared.outcome.Reply.{Reply}
 use Rattle.plan_events.specs.declared.status.Status.TheVariants.{Successful, Aborted, Failed}
-use Rattle.event_history.specs.Plans.{Plan}
+use Rattle.resource_locks.specs.Plans.{PlanParts}
 use Rattle.event_history.specs.Expected.{Silent, Skips, Finishes, expected}
 use Rattle.event_history.proofs.Deciding.{is_legal}
 use Rattle.event_history.proofs.DecidingOrder.{is_in_order}
 use Rattle.event_history.proofs.PlanTrees.{is_plan_tree}
 use Rattle.event_history.proofs.RowWords.{a_node, started, finished, aborted, failed, skipped, registered, a_reply, replies_in, first_of_all}
 
-abbrev plan_1 : Plan
+abbrev plan_1 : PlanParts
 plan_1 = record { tree = record { parents = 0 ∷ 0 ∷ []; nodes = a_node Container Plain None None None ∷ [] }; held = []; keys = []; modes = SameThread ∷ SameThread ∷ []; fail_fast = false }
 
 abbrev replies_1 : ℕ → List Reply
@@ -45,7 +45,7 @@ legal_1 = refl
 expected_1 : map (expected plan_1 (λ job. first_of_all (replies_1 job))) (0 ∷ 1 ∷ []) ≡ Finishes Successful None ∷ Finishes Successful None ∷ []
 expected_1 = refl
 
-abbrev plan_2 : Plan
+abbrev plan_2 : PlanParts
 plan_2 = record { tree = record { parents = 0 ∷ 0 ∷ 1 ∷ []; nodes = a_node Container Plain None None None ∷ a_node Container Plain None None None ∷ [] }; held = []; keys = []; modes = SameThread ∷ SameThread ∷ SameThread ∷ []; fail_fast = false }
 
 abbrev replies_2 : ℕ → List Reply
@@ -72,7 +72,7 @@ in_order_2 = refl
 legal_2 : map (is_legal plan_2 replies_2 1) lists_2 ≡ true ∷ true ∷ true ∷ true ∷ true ∷ false ∷ true ∷ false ∷ false ∷ true ∷ false ∷ false ∷ []
 legal_2 = refl
 
-abbrev plan_3 : Plan
+abbrev plan_3 : PlanParts
 plan_3 = record { tree = record { parents = 0 ∷ 0 ∷ []; nodes = a_node Test Plain (Some 1) None None ∷ [] }; held = []; keys = []; modes = SameThread ∷ SameThread ∷ []; fail_fast = false }
 
 abbrev replies_3 : ℕ → List Reply
@@ -102,7 +102,7 @@ legal_3 = refl
 expected_3 : map (expected plan_3 (λ job. first_of_all (replies_3 job))) (0 ∷ 1 ∷ []) ≡ Finishes Successful None ∷ Finishes Failed (Some (codes "x")) ∷ []
 expected_3 = refl
 
-abbrev plan_4 : Plan
+abbrev plan_4 : PlanParts
 plan_4 = record { tree = record { parents = 0 ∷ 0 ∷ 1 ∷ 2 ∷ 2 ∷ 2 ∷ 2 ∷ []; nodes = a_node Container Plain None None None ∷ a_node Container Plain None None None ∷ a_node Test Plain (Some 1) None None ∷ a_node Test Plain (Some 2) None None ∷ a_node Test Plain (Some 3) None None ∷ a_node Test Plain (Some 4) None None ∷ [] }; held = []; keys = []; modes = SameThread ∷ SameThread ∷ Concurrent ∷ SameThread ∷ SameThread ∷ SameThread ∷ Concurrent ∷ []; fail_fast = false }
 
 abbrev replies_4 : ℕ → List Reply
@@ -129,7 +129,7 @@ in_order_4 = refl
 legal_4 : map (is_legal plan_4 replies_4 2) lists_4 ≡ true ∷ true ∷ true ∷ true ∷ true ∷ false ∷ true ∷ false ∷ false ∷ false ∷ true ∷ false ∷ []
 legal_4 = refl
 
-abbrev plan_5 : Plan
+abbrev plan_5 : PlanParts
 plan_5 = record { tree = record { parents = 0 ∷ 0 ∷ 1 ∷ 2 ∷ []; nodes = a_node Container Plain None None None ∷ a_node Container Plain None None None ∷ a_node Test Plain (Some 1) None None ∷ [] }; held = []; keys = []; modes = SameThread ∷ SameThread ∷ Concurrent ∷ SameThread ∷ []; fail_fast = false }
 
 abbrev replies_5 : ℕ → List Reply
@@ -156,7 +156,7 @@ in_order_5 = refl
 legal_5 : map (is_legal plan_5 replies_5 2) lists_5 ≡ true ∷ true ∷ true ∷ true ∷ true ∷ false ∷ false ∷ false ∷ false ∷ false ∷ false ∷ false ∷ []
 legal_5 = refl
 
-abbrev plan_6 : Plan
+abbrev plan_6 : PlanParts
 plan_6 = record { tree = record { parents = 0 ∷ 0 ∷ 1 ∷ 2 ∷ []; nodes = a_node Container Plain None None None ∷ a_node Container Plain None None None ∷ a_node Test Plain None None (Some (codes "later")) ∷ [] }; held = []; keys = []; modes = SameThread ∷ SameThread ∷ SameThread ∷ SameThread ∷ []; fail_fast = false }
 
 abbrev replies_6 : ℕ → List Reply
@@ -186,7 +186,7 @@ legal_6 = refl
 expected_6 : map (expected plan_6 (λ job. first_of_all (replies_6 job))) (0 ∷ 1 ∷ 2 ∷ 3 ∷ []) ≡ Finishes Successful None ∷ Finishes Successful None ∷ Finishes Successful None ∷ Skips ∷ []
 expected_6 = refl
 
-abbrev plan_7 : Plan
+abbrev plan_7 : PlanParts
 plan_7 = record { tree = record { parents = 0 ∷ 0 ∷ 1 ∷ 2 ∷ []; nodes = a_node Container Plain None None None ∷ a_node Container Plain None None (Some []) ∷ a_node Test Plain (Some 1) None None ∷ [] }; held = []; keys = []; modes = SameThread ∷ SameThread ∷ SameThread ∷ SameThread ∷ []; fail_fast = false }
 
 abbrev replies_7 : ℕ → List Reply
@@ -216,7 +216,7 @@ legal_7 = refl
 expected_7 : map (expected plan_7 (λ job. first_of_all (replies_7 job))) (0 ∷ 1 ∷ 2 ∷ 3 ∷ []) ≡ Finishes Successful None ∷ Finishes Successful None ∷ Skips ∷ Silent ∷ []
 expected_7 = refl
 
-abbrev plan_8 : Plan
+abbrev plan_8 : PlanParts
 plan_8 = record { tree = record { parents = 0 ∷ 0 ∷ []; nodes = a_node Container Plain None None None ∷ [] }; held = []; keys = []; modes = SameThread ∷ SameThread ∷ []; fail_fast = false }
 
 abbrev replies_8 : ℕ → List Reply
@@ -246,7 +246,7 @@ legal_8 = refl
 expected_8 : map (expected plan_8 (λ job. first_of_all (replies_8 job))) (0 ∷ 1 ∷ []) ≡ Finishes Successful None ∷ Finishes Successful None ∷ []
 expected_8 = refl
 
-abbrev plan_9 : Plan
+abbrev plan_9 : PlanParts
 plan_9 = record { tree = record { parents = 0 ∷ 0 ∷ 1 ∷ 1 ∷ 3 ∷ 3 ∷ 1 ∷ 6 ∷ []; nodes = a_node Container Plain None None None ∷ a_node Container Plain (Some 1) None None ∷ a_node Container Plain None None None ∷ a_node Test Plain (Some 2) None None ∷ a_node Test Plain (Some 3) None None ∷ a_node Container Plain None None None ∷ a_node Container Plain None None None ∷ [] }; held = []; keys = []; modes = SameThread ∷ SameThread ∷ SameThread ∷ SameThread ∷ Concurrent ∷ SameThread ∷ SameThread ∷ SameThread ∷ []; fail_fast = false }
 
 abbrev replies_9 : ℕ → List Reply
@@ -273,7 +273,7 @@ in_order_9 = refl
 legal_9 : map (is_legal plan_9 replies_9 2) lists_9 ≡ true ∷ true ∷ true ∷ true ∷ true ∷ false ∷ false ∷ false ∷ false ∷ false ∷ false ∷ false ∷ []
 legal_9 = refl
 
-abbrev plan_10 : Plan
+abbrev plan_10 : PlanParts
 plan_10 = record { tree = record { parents = 0 ∷ 0 ∷ 0 ∷ []; nodes = a_node Container Plain None None (Some []) ∷ a_node Test Plain (Some 1) None None ∷ [] }; held = []; keys = []; modes = SameThread ∷ SameThread ∷ SameThread ∷ []; fail_fast = false }
 
 abbrev replies_10 : ℕ → List Reply
@@ -303,7 +303,7 @@ legal_10 = refl
 expected_10 : map (expected plan_10 (λ job. first_of_all (replies_10 job))) (0 ∷ 1 ∷ 2 ∷ []) ≡ Finishes Successful None ∷ Skips ∷ Finishes Successful (Some []) ∷ []
 expected_10 = refl
 
-abbrev plan_11 : Plan
+abbrev plan_11 : PlanParts
 plan_11 = record { tree = record { parents = 0 ∷ 0 ∷ 0 ∷ []; nodes = a_node Container Plain None None None ∷ a_node Container Plain None None None ∷ [] }; held = []; keys = []; modes = SameThread ∷ SameThread ∷ SameThread ∷ []; fail_fast = false }
 
 abbrev replies_11 : ℕ → List Reply
@@ -333,7 +333,7 @@ legal_11 = refl
 expected_11 : map (expected plan_11 (λ job. first_of_all (replies_11 job))) (0 ∷ 1 ∷ 2 ∷ []) ≡ Finishes Successful None ∷ Finishes Successful None ∷ Finishes Successful None ∷ []
 expected_11 = refl
 
-abbrev plan_12 : Plan
+abbrev plan_12 : PlanParts
 plan_12 = record { tree = record { parents = 0 ∷ 0 ∷ 1 ∷ 1 ∷ []; nodes = a_node Container Plain None None None ∷ a_node Test Plain (Some 1) None None ∷ a_node Container Plain None None None ∷ [] }; held = []; keys = []; modes = SameThread ∷ Concurrent ∷ Concurrent ∷ SameThread ∷ []; fail_fast = false }
 
 abbrev replies_12 : ℕ → List Reply
@@ -363,7 +363,7 @@ legal_12 = refl
 expected_12 : map (expected plan_12 (λ job. first_of_all (replies_12 job))) (0 ∷ 1 ∷ 2 ∷ 3 ∷ []) ≡ Finishes Successful None ∷ Finishes Successful None ∷ Finishes Aborted (Some []) ∷ Finishes Successful None ∷ []
 expected_12 = refl
 
-abbrev plan_13 : Plan
+abbrev plan_13 : PlanParts
 plan_13 = record { tree = record { parents = 0 ∷ 0 ∷ 1 ∷ 1 ∷ 3 ∷ []; nodes = a_node Container Plain None None None ∷ a_node Container Plain (Some 1) None None ∷ a_node Container Plain None None None ∷ a_node Test Plain (Some 2) None None ∷ [] }; held = []; keys = []; modes = SameThread ∷ SameThread ∷ SameThread ∷ SameThread ∷ SameThread ∷ []; fail_fast = false }
 
 abbrev replies_13 : ℕ → List Reply
@@ -390,7 +390,7 @@ in_order_13 = refl
 legal_13 : map (is_legal plan_13 replies_13 1) lists_13 ≡ true ∷ true ∷ true ∷ true ∷ true ∷ false ∷ false ∷ false ∷ false ∷ false ∷ false ∷ true ∷ []
 legal_13 = refl
 
-abbrev plan_14 : Plan
+abbrev plan_14 : PlanParts
 plan_14 = record { tree = record { parents = 0 ∷ 0 ∷ 1 ∷ 2 ∷ 1 ∷ 1 ∷ []; nodes = a_node Container Plain None None None ∷ a_node ContainerAndTest Plain None None None ∷ a_node Test Plain None None None ∷ a_node Test Plain (Some 1) None None ∷ a_node Container Plain None None (Some (codes "later")) ∷ [] }; held = []; keys = []; modes = SameThread ∷ Concurrent ∷ SameThread ∷ Concurrent ∷ SameThread ∷ SameThread ∷ []; fail_fast = false }
 
 abbrev replies_14 : ℕ → List Reply
@@ -417,7 +417,7 @@ in_order_14 = refl
 legal_14 : map (is_legal plan_14 replies_14 2) lists_14 ≡ true ∷ true ∷ true ∷ true ∷ true ∷ false ∷ false ∷ true ∷ false ∷ false ∷ false ∷ false ∷ []
 legal_14 = refl
 
-abbrev plan_15 : Plan
+abbrev plan_15 : PlanParts
 plan_15 = record { tree = record { parents = 0 ∷ 0 ∷ []; nodes = a_node Container Plain None None None ∷ [] }; held = []; keys = []; modes = SameThread ∷ SameThread ∷ []; fail_fast = false }
 
 abbrev replies_15 : ℕ → List Reply
@@ -447,7 +447,7 @@ legal_15 = refl
 expected_15 : map (expected plan_15 (λ job. first_of_all (replies_15 job))) (0 ∷ 1 ∷ []) ≡ Finishes Successful None ∷ Finishes Successful None ∷ []
 expected_15 = refl
 
-abbrev plan_16 : Plan
+abbrev plan_16 : PlanParts
 plan_16 = record { tree = record { parents = 0 ∷ 0 ∷ 1 ∷ 2 ∷ []; nodes = a_node Container Plain None None None ∷ a_node Container Plain None None None ∷ a_node Test Plain None None (Some (codes "later")) ∷ [] }; held = []; keys = []; modes = SameThread ∷ SameThread ∷ SameThread ∷ SameThread ∷ []; fail_fast = false }
 
 abbrev replies_16 : ℕ → List Reply
@@ -477,7 +477,7 @@ legal_16 = refl
 expected_16 : map (expected plan_16 (λ job. first_of_all (replies_16 job))) (0 ∷ 1 ∷ 2 ∷ 3 ∷ []) ≡ Finishes Successful None ∷ Finishes Successful None ∷ Finishes Successful None ∷ Skips ∷ []
 expected_16 = refl
 
-abbrev plan_17 : Plan
+abbrev plan_17 : PlanParts
 plan_17 = record { tree = record { parents = 0 ∷ 0 ∷ []; nodes = a_node Container Plain None None None ∷ [] }; held = []; keys = []; modes = SameThread ∷ SameThread ∷ []; fail_fast = false }
 
 abbrev replies_17 : ℕ → List Reply
@@ -504,7 +504,7 @@ in_order_17 = refl
 legal_17 : map (is_legal plan_17 replies_17 1) lists_17 ≡ true ∷ true ∷ true ∷ true ∷ true ∷ false ∷ false ∷ true ∷ false ∷ false ∷ false ∷ false ∷ []
 legal_17 = refl
 
-abbrev plan_18 : Plan
+abbrev plan_18 : PlanParts
 plan_18 = record { tree = record { parents = 0 ∷ 0 ∷ 0 ∷ []; nodes = a_node Container Plain None None None ∷ a_node Test Plain (Some 1) None None ∷ [] }; held = []; keys = []; modes = SameThread ∷ SameThread ∷ SameThread ∷ []; fail_fast = false }
 
 abbrev replies_18 : ℕ → List Reply
@@ -531,7 +531,7 @@ in_order_18 = refl
 legal_18 : map (is_legal plan_18 replies_18 1) lists_18 ≡ true ∷ true ∷ true ∷ true ∷ true ∷ false ∷ false ∷ false ∷ false ∷ false ∷ true ∷ true ∷ []
 legal_18 = refl
 
-abbrev plan_19 : Plan
+abbrev plan_19 : PlanParts
 plan_19 = record { tree = record { parents = 0 ∷ 0 ∷ 1 ∷ 2 ∷ []; nodes = a_node Container Plain None None None ∷ a_node ContainerAndTest Plain None None None ∷ a_node Container Plain None None None ∷ [] }; held = []; keys = []; modes = SameThread ∷ SameThread ∷ SameThread ∷ SameThread ∷ []; fail_fast = false }
 
 abbrev replies_19 : ℕ → List Reply
@@ -561,7 +561,7 @@ legal_19 = refl
 expected_19 : map (expected plan_19 (λ job. first_of_all (replies_19 job))) (0 ∷ 1 ∷ 2 ∷ 3 ∷ []) ≡ Finishes Successful None ∷ Finishes Successful None ∷ Finishes Successful None ∷ Finishes Successful None ∷ []
 expected_19 = refl
 
-abbrev plan_20 : Plan
+abbrev plan_20 : PlanParts
 plan_20 = record { tree = record { parents = 0 ∷ 0 ∷ []; nodes = a_node Container Plain None None None ∷ [] }; held = []; keys = []; modes = SameThread ∷ SameThread ∷ []; fail_fast = false }
 
 abbrev replies_20 : ℕ → List Reply
@@ -588,7 +588,7 @@ in_order_20 = refl
 legal_20 : map (is_legal plan_20 replies_20 1) lists_20 ≡ true ∷ true ∷ true ∷ true ∷ true ∷ false ∷ false ∷ false ∷ false ∷ false ∷ true ∷ false ∷ []
 legal_20 = refl
 
-abbrev plan_21 : Plan
+abbrev plan_21 : PlanParts
 plan_21 = record { tree = record { parents = 0 ∷ 0 ∷ 1 ∷ 2 ∷ 1 ∷ 1 ∷ []; nodes = a_node Container Plain None None None ∷ a_node Container Plain None None None ∷ a_node Test Plain (Some 1) None None ∷ a_node Container Plain None None None ∷ a_node Container Plain None None None ∷ [] }; held = []; keys = []; modes = SameThread ∷ SameThread ∷ Concurrent ∷ Concurrent ∷ Concurrent ∷ Concurrent ∷ []; fail_fast = false }
 
 abbrev replies_21 : ℕ → List Reply
@@ -616,5 +616,5 @@ legal_21 : map (is_legal plan_21 replies_21 2) lists_21 ≡ true ∷ true ∷ tr
 legal_21 = refl
 
 -- the trees are as asked of a plan, so that what the tests tell of legal histories holds of these
-trees : list_all (λ (p : Plan). is_plan_tree p.tree) (plan_1 ∷ plan_2 ∷ plan_3 ∷ plan_4 ∷ plan_5 ∷ plan_6 ∷ plan_7 ∷ plan_8 ∷ plan_9 ∷ plan_10 ∷ plan_11 ∷ plan_12 ∷ plan_13 ∷ plan_14 ∷ plan_15 ∷ plan_16 ∷ plan_17 ∷ plan_18 ∷ plan_19 ∷ plan_20 ∷ plan_21 ∷ []) ≡ true
+trees : list_all (λ (p : PlanParts). is_plan_tree p.tree) (plan_1 ∷ plan_2 ∷ plan_3 ∷ plan_4 ∷ plan_5 ∷ plan_6 ∷ plan_7 ∷ plan_8 ∷ plan_9 ∷ plan_10 ∷ plan_11 ∷ plan_12 ∷ plan_13 ∷ plan_14 ∷ plan_15 ∷ plan_16 ∷ plan_17 ∷ plan_18 ∷ plan_19 ∷ plan_20 ∷ plan_21 ∷ []) ≡ true
 trees = refl

@@ -8,14 +8,14 @@ use Rattle.descriptor.specs.declared.role.Role.TheVariants.{Plain, Factory, Spar
 use Rattle.plan_events.specs.declared.event.Event.{Event}
 use Rattle.plan_events.specs.declared.outcome.Reply.{Reply}
 use Rattle.plan_events.specs.declared.status.Status.TheVariants.{Successful, Aborted, Failed}
-use Rattle.event_history.specs.Plans.{Plan}
+use Rattle.resource_locks.specs.Plans.{PlanParts}
 use Rattle.event_history.specs.Expected.{Silent, Skips, Finishes, expected}
 use Rattle.event_history.proofs.Deciding.{is_legal}
 use Rattle.event_history.proofs.DecidingOrder.{is_in_order}
 use Rattle.event_history.proofs.PlanTrees.{is_plan_tree}
 use Rattle.event_history.proofs.RowWords.{a_node, started, finished, aborted, failed, skipped, registered, a_reply, replies_in, first_of_all}
 
-abbrev plan_1 : Plan
+abbrev plan_1 : PlanParts
 plan_1 = record { tree = record { parents = 0 ∷ 0 ∷ 1 ∷ 2 ∷ []; nodes = a_node Container Plain None None None ∷ a_node ContainerAndTest Factory (Some 1) None None ∷ a_node Test Spare (Some 2) None None ∷ [] }; held = []; keys = []; modes = Concurrent ∷ Concurrent ∷ Concurrent ∷ SameThread ∷ []; fail_fast = false }
 
 abbrev replies_1 : ℕ → List Reply
@@ -45,7 +45,7 @@ legal_1 = refl
 expected_1 : map (expected plan_1 (λ job. first_of_all (replies_1 job))) (0 ∷ 1 ∷ 2 ∷ 3 ∷ []) ≡ Finishes Successful None ∷ Finishes Successful None ∷ Finishes Successful (Some []) ∷ Finishes Successful (Some []) ∷ []
 expected_1 = refl
 
-abbrev plan_2 : Plan
+abbrev plan_2 : PlanParts
 plan_2 = record { tree = record { parents = 0 ∷ 0 ∷ 0 ∷ 2 ∷ 3 ∷ 4 ∷ []; nodes = a_node Container Plain None None None ∷ a_node Container Plain None None None ∷ a_node Container Plain None (Some 1) None ∷ a_node Container Factory (Some 2) None None ∷ a_node Test Spare None None None ∷ [] }; held = []; keys = []; modes = Concurrent ∷ SameThread ∷ SameThread ∷ SameThread ∷ SameThread ∷ Concurrent ∷ []; fail_fast = false }
 
 abbrev replies_2 : ℕ → List Reply
@@ -72,7 +72,7 @@ in_order_2 = refl
 legal_2 : map (is_legal plan_2 replies_2 1) lists_2 ≡ true ∷ true ∷ true ∷ true ∷ true ∷ false ∷ true ∷ false ∷ false ∷ false ∷ true ∷ false ∷ []
 legal_2 = refl
 
-abbrev plan_3 : Plan
+abbrev plan_3 : PlanParts
 plan_3 = record { tree = record { parents = 0 ∷ 0 ∷ 1 ∷ 2 ∷ 3 ∷ 3 ∷ 5 ∷ []; nodes = a_node Container Plain None None None ∷ a_node Container Plain (Some 1) None None ∷ a_node ContainerAndTest Plain None None None ∷ a_node Container Factory (Some 2) None None ∷ a_node Container Factory (Some 3) None None ∷ a_node Test Spare None None None ∷ [] }; held = []; keys = []; modes = Concurrent ∷ Concurrent ∷ Concurrent ∷ SameThread ∷ SameThread ∷ SameThread ∷ SameThread ∷ []; fail_fast = false }
 
 abbrev replies_3 : ℕ → List Reply
@@ -99,7 +99,7 @@ in_order_3 = refl
 legal_3 : map (is_legal plan_3 replies_3 1) lists_3 ≡ true ∷ true ∷ true ∷ true ∷ true ∷ false ∷ false ∷ false ∷ true ∷ true ∷ true ∷ false ∷ []
 legal_3 = refl
 
-abbrev plan_4 : Plan
+abbrev plan_4 : PlanParts
 plan_4 = record { tree = record { parents = 0 ∷ 0 ∷ 1 ∷ 1 ∷ 3 ∷ 3 ∷ 3 ∷ []; nodes = a_node Container Plain None None None ∷ a_node Container Plain None None None ∷ a_node Container Plain (Some 1) None None ∷ a_node Test Plain (Some 2) None None ∷ a_node Container Factory (Some 3) None None ∷ a_node Container Factory None None (Some []) ∷ [] }; held = []; keys = []; modes = SameThread ∷ SameThread ∷ Concurrent ∷ SameThread ∷ SameThread ∷ SameThread ∷ SameThread ∷ []; fail_fast = false }
 
 abbrev replies_4 : ℕ → List Reply
@@ -129,7 +129,7 @@ legal_4 = refl
 expected_4 : map (expected plan_4 (λ job. first_of_all (replies_4 job))) (0 ∷ 1 ∷ 2 ∷ 3 ∷ 4 ∷ 5 ∷ 6 ∷ []) ≡ Finishes Successful None ∷ Finishes Successful None ∷ Finishes Successful None ∷ Finishes Successful (Some []) ∷ Finishes Successful (Some []) ∷ Finishes Successful (Some []) ∷ Skips ∷ []
 expected_4 = refl
 
-abbrev plan_5 : Plan
+abbrev plan_5 : PlanParts
 plan_5 = record { tree = record { parents = 0 ∷ 0 ∷ 1 ∷ 2 ∷ 3 ∷ 3 ∷ 2 ∷ 2 ∷ []; nodes = a_node Container Plain None None None ∷ a_node Container Plain (Some 1) None None ∷ a_node Container Factory (Some 2) None None ∷ a_node Test Spare (Some 3) None None ∷ a_node Test Spare (Some 4) None None ∷ a_node Test Plain (Some 5) None None ∷ a_node Test Plain (Some 6) None None ∷ [] }; held = []; keys = []; modes = SameThread ∷ SameThread ∷ Concurrent ∷ SameThread ∷ SameThread ∷ SameThread ∷ SameThread ∷ SameThread ∷ []; fail_fast = false }
 
 abbrev replies_5 : ℕ → List Reply
@@ -159,7 +159,7 @@ legal_5 = refl
 expected_5 : map (expected plan_5 (λ job. first_of_all (replies_5 job))) (0 ∷ 1 ∷ 2 ∷ 3 ∷ 4 ∷ 5 ∷ 6 ∷ 7 ∷ []) ≡ Finishes Successful None ∷ Finishes Successful None ∷ Finishes Failed (Some (codes "x")) ∷ Silent ∷ Silent ∷ Silent ∷ Silent ∷ Silent ∷ []
 expected_5 = refl
 
-abbrev plan_6 : Plan
+abbrev plan_6 : PlanParts
 plan_6 = record { tree = record { parents = 0 ∷ 0 ∷ 1 ∷ 1 ∷ 3 ∷ 4 ∷ 4 ∷ 4 ∷ []; nodes = a_node Container Plain None None None ∷ a_node Container Plain None None None ∷ a_node Container Plain None None None ∷ a_node Container Factory (Some 1) None None ∷ a_node Test Spare (Some 2) None None ∷ a_node Test Spare (Some 3) None None ∷ a_node Test Spare (Some 4) None None ∷ [] }; held = []; keys = []; modes = SameThread ∷ SameThread ∷ SameThread ∷ SameThread ∷ SameThread ∷ SameThread ∷ SameThread ∷ SameThread ∷ []; fail_fast = false }
 
 abbrev replies_6 : ℕ → List Reply
@@ -189,7 +189,7 @@ legal_6 = refl
 expected_6 : map (expected plan_6 (λ job. first_of_all (replies_6 job))) (0 ∷ 1 ∷ 2 ∷ 3 ∷ 4 ∷ 5 ∷ 6 ∷ 7 ∷ []) ≡ Finishes Successful None ∷ Finishes Successful None ∷ Finishes Successful None ∷ Finishes Successful None ∷ Finishes Aborted (Some (codes "x")) ∷ Finishes Failed (Some (codes "boom y")) ∷ Finishes Failed (Some (codes "boom y")) ∷ Finishes Successful (Some []) ∷ []
 expected_6 = refl
 
-abbrev plan_7 : Plan
+abbrev plan_7 : PlanParts
 plan_7 = record { tree = record { parents = 0 ∷ 0 ∷ 1 ∷ 2 ∷ 2 ∷ []; nodes = a_node Container Plain None (Some 1) None ∷ a_node Container Plain None None None ∷ a_node Test Plain (Some 2) None None ∷ a_node Container Factory (Some 3) None None ∷ [] }; held = []; keys = []; modes = SameThread ∷ SameThread ∷ SameThread ∷ SameThread ∷ SameThread ∷ []; fail_fast = false }
 
 abbrev replies_7 : ℕ → List Reply
@@ -219,7 +219,7 @@ legal_7 = refl
 expected_7 : map (expected plan_7 (λ job. first_of_all (replies_7 job))) (0 ∷ 1 ∷ 2 ∷ 3 ∷ 4 ∷ []) ≡ Finishes Successful None ∷ Finishes Aborted (Some (codes "x")) ∷ Finishes Successful None ∷ Finishes Successful (Some []) ∷ Finishes Failed (Some (codes "x")) ∷ []
 expected_7 = refl
 
-abbrev plan_8 : Plan
+abbrev plan_8 : PlanParts
 plan_8 = record { tree = record { parents = 0 ∷ 0 ∷ 1 ∷ 2 ∷ 3 ∷ 1 ∷ []; nodes = a_node Container Plain None None None ∷ a_node Container Plain None None None ∷ a_node Container Factory (Some 1) None None ∷ a_node Test Spare (Some 2) None None ∷ a_node Container Plain None None None ∷ [] }; held = []; keys = []; modes = SameThread ∷ SameThread ∷ Concurrent ∷ SameThread ∷ SameThread ∷ Concurrent ∷ []; fail_fast = false }
 
 abbrev replies_8 : ℕ → List Reply
@@ -249,7 +249,7 @@ legal_8 = refl
 expected_8 : map (expected plan_8 (λ job. first_of_all (replies_8 job))) (0 ∷ 1 ∷ 2 ∷ 3 ∷ 4 ∷ 5 ∷ []) ≡ Finishes Successful None ∷ Finishes Successful None ∷ Finishes Successful None ∷ Finishes Successful (Some []) ∷ Silent ∷ Finishes Successful None ∷ []
 expected_8 = refl
 
-abbrev plan_9 : Plan
+abbrev plan_9 : PlanParts
 plan_9 = record { tree = record { parents = 0 ∷ 0 ∷ 1 ∷ 1 ∷ 3 ∷ 3 ∷ 3 ∷ 3 ∷ []; nodes = a_node Container Plain None None None ∷ a_node Container Plain None None None ∷ a_node Container Factory None None (Some (codes "later")) ∷ a_node Test Spare (Some 1) None None ∷ a_node Test Spare (Some 2) None None ∷ a_node Test Spare (Some 3) None (Some []) ∷ a_node Test Spare None None (Some []) ∷ [] }; held = []; keys = []; modes = SameThread ∷ SameThread ∷ SameThread ∷ SameThread ∷ SameThread ∷ SameThread ∷ SameThread ∷ SameThread ∷ []; fail_fast = false }
 
 abbrev replies_9 : ℕ → List Reply
@@ -279,7 +279,7 @@ legal_9 = refl
 expected_9 : map (expected plan_9 (λ job. first_of_all (replies_9 job))) (0 ∷ 1 ∷ 2 ∷ 3 ∷ 4 ∷ 5 ∷ 6 ∷ 7 ∷ []) ≡ Finishes Successful None ∷ Finishes Successful None ∷ Finishes Successful None ∷ Skips ∷ Silent ∷ Silent ∷ Silent ∷ Silent ∷ []
 expected_9 = refl
 
-abbrev plan_10 : Plan
+abbrev plan_10 : PlanParts
 plan_10 = record { tree = record { parents = 0 ∷ 0 ∷ 1 ∷ 2 ∷ 2 ∷ 1 ∷ []; nodes = a_node Container Plain (Some 1) None None ∷ a_node Container Plain (Some 2) None None ∷ a_node ContainerAndTest Factory (Some 3) None None ∷ a_node Test Plain (Some 4) None None ∷ a_node Container Plain (Some 5) (Some 6) None ∷ [] }; held = []; keys = []; modes = SameThread ∷ SameThread ∷ Concurrent ∷ Concurrent ∷ SameThread ∷ Concurrent ∷ []; fail_fast = false }
 
 abbrev replies_10 : ℕ → List Reply
@@ -306,7 +306,7 @@ in_order_10 = refl
 legal_10 : map (is_legal plan_10 replies_10 2) lists_10 ≡ true ∷ true ∷ true ∷ true ∷ true ∷ true ∷ false ∷ false ∷ false ∷ false ∷ false ∷ false ∷ []
 legal_10 = refl
 
-abbrev plan_11 : Plan
+abbrev plan_11 : PlanParts
 plan_11 = record { tree = record { parents = 0 ∷ 0 ∷ 1 ∷ 1 ∷ []; nodes = a_node Container Factory (Some 1) None None ∷ a_node Test Spare (Some 2) None None ∷ a_node Test Spare None None None ∷ [] }; held = []; keys = []; modes = Concurrent ∷ SameThread ∷ Concurrent ∷ SameThread ∷ []; fail_fast = false }
 
 abbrev replies_11 : ℕ → List Reply
@@ -333,7 +333,7 @@ in_order_11 = refl
 legal_11 : map (is_legal plan_11 replies_11 2) lists_11 ≡ true ∷ true ∷ true ∷ true ∷ true ∷ true ∷ false ∷ true ∷ false ∷ true ∷ false ∷ false ∷ []
 legal_11 = refl
 
-abbrev plan_12 : Plan
+abbrev plan_12 : PlanParts
 plan_12 = record { tree = record { parents = 0 ∷ 0 ∷ 1 ∷ 1 ∷ 1 ∷ 1 ∷ []; nodes = a_node ContainerAndTest Factory (Some 1) None None ∷ a_node Test Spare None None None ∷ a_node Test Spare None None None ∷ a_node Test Spare None None (Some (codes "later")) ∷ a_node Test Spare (Some 2) None None ∷ [] }; held = []; keys = []; modes = SameThread ∷ SameThread ∷ SameThread ∷ Concurrent ∷ Concurrent ∷ Concurrent ∷ []; fail_fast = false }
 
 abbrev replies_12 : ℕ → List Reply
@@ -360,7 +360,7 @@ in_order_12 = refl
 legal_12 : map (is_legal plan_12 replies_12 1) lists_12 ≡ true ∷ true ∷ true ∷ true ∷ true ∷ false ∷ false ∷ false ∷ false ∷ false ∷ false ∷ false ∷ []
 legal_12 = refl
 
-abbrev plan_13 : Plan
+abbrev plan_13 : PlanParts
 plan_13 = record { tree = record { parents = 0 ∷ 0 ∷ 1 ∷ 2 ∷ 2 ∷ 1 ∷ []; nodes = a_node Container Plain None None None ∷ a_node Container Plain None None None ∷ a_node Container Factory (Some 1) None None ∷ a_node Test Plain (Some 2) None None ∷ a_node Container Plain None None None ∷ [] }; held = []; keys = []; modes = SameThread ∷ SameThread ∷ Concurrent ∷ SameThread ∷ SameThread ∷ SameThread ∷ []; fail_fast = false }
 
 abbrev replies_13 : ℕ → List Reply
@@ -390,7 +390,7 @@ legal_13 = refl
 expected_13 : map (expected plan_13 (λ job. first_of_all (replies_13 job))) (0 ∷ 1 ∷ 2 ∷ 3 ∷ 4 ∷ 5 ∷ []) ≡ Finishes Successful None ∷ Finishes Successful None ∷ Finishes Successful None ∷ Finishes Failed (Some []) ∷ Finishes Successful (Some []) ∷ Finishes Successful None ∷ []
 expected_13 = refl
 
-abbrev plan_14 : Plan
+abbrev plan_14 : PlanParts
 plan_14 = record { tree = record { parents = 0 ∷ 0 ∷ 1 ∷ 1 ∷ 3 ∷ 4 ∷ 4 ∷ 3 ∷ []; nodes = a_node Container Plain None None None ∷ a_node Container Plain (Some 1) (Some 2) None ∷ a_node Container Plain None (Some 3) None ∷ a_node Container Factory None None None ∷ a_node Test Spare None None (Some (codes "later")) ∷ a_node Test Spare None None None ∷ a_node Test Plain (Some 4) None None ∷ [] }; held = []; keys = []; modes = SameThread ∷ SameThread ∷ Concurrent ∷ SameThread ∷ SameThread ∷ SameThread ∷ SameThread ∷ SameThread ∷ []; fail_fast = false }
 
 abbrev replies_14 : ℕ → List Reply
@@ -420,7 +420,7 @@ legal_14 = refl
 expected_14 : map (expected plan_14 (λ job. first_of_all (replies_14 job))) (0 ∷ 1 ∷ 2 ∷ 3 ∷ 4 ∷ 5 ∷ 6 ∷ 7 ∷ []) ≡ Finishes Successful None ∷ Finishes Successful None ∷ Finishes Failed (Some (codes "boom y")) ∷ Finishes Aborted (Some []) ∷ Finishes Successful None ∷ Silent ∷ Silent ∷ Finishes Successful (Some []) ∷ []
 expected_14 = refl
 
-abbrev plan_15 : Plan
+abbrev plan_15 : PlanParts
 plan_15 = record { tree = record { parents = 0 ∷ 0 ∷ 1 ∷ 2 ∷ 2 ∷ 2 ∷ 2 ∷ []; nodes = a_node Container Plain None None None ∷ a_node Container Plain None None None ∷ a_node Test Plain (Some 1) None None ∷ a_node Test Plain None None None ∷ a_node Test Plain (Some 2) None None ∷ a_node Container Factory None None None ∷ [] }; held = []; keys = []; modes = SameThread ∷ SameThread ∷ SameThread ∷ SameThread ∷ Concurrent ∷ Concurrent ∷ Concurrent ∷ []; fail_fast = false }
 
 abbrev replies_15 : ℕ → List Reply
@@ -450,7 +450,7 @@ legal_15 = refl
 expected_15 : map (expected plan_15 (λ job. first_of_all (replies_15 job))) (0 ∷ 1 ∷ 2 ∷ 3 ∷ 4 ∷ 5 ∷ 6 ∷ []) ≡ Finishes Successful None ∷ Finishes Successful None ∷ Finishes Successful None ∷ Finishes Successful (Some []) ∷ Finishes Successful None ∷ Finishes Successful (Some []) ∷ Finishes Successful None ∷ []
 expected_15 = refl
 
-abbrev plan_16 : Plan
+abbrev plan_16 : PlanParts
 plan_16 = record { tree = record { parents = 0 ∷ 0 ∷ 1 ∷ 2 ∷ 3 ∷ []; nodes = a_node Container Plain None None None ∷ a_node Container Plain None (Some 1) None ∷ a_node Container Factory (Some 2) None None ∷ a_node Test Spare (Some 3) None None ∷ [] }; held = []; keys = []; modes = SameThread ∷ SameThread ∷ SameThread ∷ SameThread ∷ SameThread ∷ []; fail_fast = false }
 
 abbrev replies_16 : ℕ → List Reply
@@ -480,7 +480,7 @@ legal_16 = refl
 expected_16 : map (expected plan_16 (λ job. first_of_all (replies_16 job))) (0 ∷ 1 ∷ 2 ∷ 3 ∷ 4 ∷ []) ≡ Finishes Successful None ∷ Finishes Successful None ∷ Finishes Successful (Some []) ∷ Finishes Successful (Some []) ∷ Finishes Successful (Some []) ∷ []
 expected_16 = refl
 
-abbrev plan_17 : Plan
+abbrev plan_17 : PlanParts
 plan_17 = record { tree = record { parents = 0 ∷ 0 ∷ 1 ∷ 2 ∷ 2 ∷ 2 ∷ []; nodes = a_node Container Plain None None None ∷ a_node Container Plain (Some 1) None None ∷ a_node Test Plain (Some 2) None None ∷ a_node Test Plain (Some 3) None None ∷ a_node ContainerAndTest Factory None None None ∷ [] }; held = []; keys = []; modes = SameThread ∷ SameThread ∷ Concurrent ∷ SameThread ∷ SameThread ∷ SameThread ∷ []; fail_fast = false }
 
 abbrev replies_17 : ℕ → List Reply
@@ -510,7 +510,7 @@ legal_17 = refl
 expected_17 : map (expected plan_17 (λ job. first_of_all (replies_17 job))) (0 ∷ 1 ∷ 2 ∷ 3 ∷ 4 ∷ 5 ∷ []) ≡ Finishes Successful None ∷ Finishes Successful None ∷ Finishes Failed (Some (codes "x")) ∷ Silent ∷ Silent ∷ Silent ∷ []
 expected_17 = refl
 
-abbrev plan_18 : Plan
+abbrev plan_18 : PlanParts
 plan_18 = record { tree = record { parents = 0 ∷ 0 ∷ 1 ∷ 2 ∷ 3 ∷ 2 ∷ 5 ∷ 0 ∷ []; nodes = a_node Container Plain None None (Some []) ∷ a_node Container Plain None None None ∷ a_node Container Plain None None None ∷ a_node Test Plain (Some 1) None None ∷ a_node ContainerAndTest Factory (Some 2) None None ∷ a_node Test Spare (Some 3) None None ∷ a_node Container Plain None None None ∷ [] }; held = []; keys = []; modes = Concurrent ∷ SameThread ∷ SameThread ∷ Concurrent ∷ Concurrent ∷ Concurrent ∷ Concurrent ∷ Concurrent ∷ []; fail_fast = false }
 
 abbrev replies_18 : ℕ → List Reply
@@ -540,7 +540,7 @@ legal_18 = refl
 expected_18 : map (expected plan_18 (λ job. first_of_all (replies_18 job))) (0 ∷ 1 ∷ 2 ∷ 3 ∷ 4 ∷ 5 ∷ 6 ∷ 7 ∷ []) ≡ Finishes Successful None ∷ Skips ∷ Silent ∷ Silent ∷ Silent ∷ Silent ∷ Silent ∷ Finishes Successful None ∷ []
 expected_18 = refl
 
-abbrev plan_19 : Plan
+abbrev plan_19 : PlanParts
 plan_19 = record { tree = record { parents = 0 ∷ 0 ∷ 1 ∷ 2 ∷ 2 ∷ 4 ∷ 1 ∷ 6 ∷ []; nodes = a_node Container Plain None None None ∷ a_node Container Plain None None None ∷ a_node Test Plain (Some 1) None None ∷ a_node Container Plain None None None ∷ a_node Container Factory (Some 2) None None ∷ a_node Container Plain None None None ∷ a_node Container Plain None None None ∷ [] }; held = []; keys = []; modes = SameThread ∷ SameThread ∷ Concurrent ∷ Concurrent ∷ Concurrent ∷ Concurrent ∷ Concurrent ∷ Concurrent ∷ []; fail_fast = false }
 
 abbrev replies_19 : ℕ → List Reply
@@ -571,5 +571,5 @@ expected_19 : map (expected plan_19 (λ job. first_of_all (replies_19 job))) (0 
 expected_19 = refl
 
 -- the trees are as asked of a plan, so that what the tests tell of legal histories holds of these
-trees : list_all (λ (p : Plan). is_plan_tree p.tree) (plan_1 ∷ plan_2 ∷ plan_3 ∷ plan_4 ∷ plan_5 ∷ plan_6 ∷ plan_7 ∷ plan_8 ∷ plan_9 ∷ plan_10 ∷ plan_11 ∷ plan_12 ∷ plan_13 ∷ plan_14 ∷ plan_15 ∷ plan_16 ∷ plan_17 ∷ plan_18 ∷ plan_19 ∷ []) ≡ true
+trees : list_all (λ (p : PlanParts). is_plan_tree p.tree) (plan_1 ∷ plan_2 ∷ plan_3 ∷ plan_4 ∷ plan_5 ∷ plan_6 ∷ plan_7 ∷ plan_8 ∷ plan_9 ∷ plan_10 ∷ plan_11 ∷ plan_12 ∷ plan_13 ∷ plan_14 ∷ plan_15 ∷ plan_16 ∷ plan_17 ∷ plan_18 ∷ plan_19 ∷ []) ≡ true
 trees = refl

@@ -8,13 +8,13 @@ use Rattle.descriptor.specs.declared.role.Role.TheVariants.{Plain, Factory, Spar
 use Rattle.plan_events.specs.declared.event.Event.{Event}
 use Rattle.plan_events.specs.declared.outcome.Reply.{Reply}
 use Rattle.plan_events.specs.declared.status.Status.TheVariants.{Successful, Aborted, Failed}
-use Rattle.event_history.specs.Plans.{Plan}
+use Rattle.resource_locks.specs.Plans.{PlanParts}
 use Rattle.event_history.proofs.Deciding.{is_legal}
 use Rattle.event_history.proofs.DecidingOrder.{is_in_order}
 use Rattle.event_history.proofs.PlanTrees.{is_plan_tree}
 use Rattle.event_history.proofs.RowWords.{a_node, started, finished, aborted, failed, skipped, registered, a_reply, replies_in}
 
-abbrev plan_1 : Plan
+abbrev plan_1 : PlanParts
 plan_1 = record { tree = record { parents = 0 ∷ 0 ∷ 1 ∷ 2 ∷ 2 ∷ 4 ∷ 4 ∷ []; nodes = a_node Container Plain None None None ∷ a_node Container Plain None None None ∷ a_node Test Plain (Some 1) None None ∷ a_node Container Factory None None (Some (codes "later")) ∷ a_node Test Spare (Some 2) None None ∷ a_node Test Spare (Some 3) None None ∷ [] }; held = []; keys = []; modes = SameThread ∷ SameThread ∷ SameThread ∷ SameThread ∷ Concurrent ∷ Concurrent ∷ Concurrent ∷ []; fail_fast = true }
 
 abbrev replies_1 : ℕ → List Reply
@@ -41,7 +41,7 @@ in_order_1 = refl
 legal_1 : map (is_legal plan_1 replies_1 1) lists_1 ≡ true ∷ true ∷ true ∷ true ∷ true ∷ true ∷ false ∷ true ∷ false ∷ false ∷ false ∷ false ∷ []
 legal_1 = refl
 
-abbrev plan_2 : Plan
+abbrev plan_2 : PlanParts
 plan_2 = record { tree = record { parents = 0 ∷ 0 ∷ []; nodes = a_node Container Plain None None None ∷ [] }; held = []; keys = []; modes = SameThread ∷ SameThread ∷ []; fail_fast = true }
 
 abbrev replies_2 : ℕ → List Reply
@@ -68,7 +68,7 @@ in_order_2 = refl
 legal_2 : map (is_legal plan_2 replies_2 2) lists_2 ≡ true ∷ true ∷ true ∷ true ∷ true ∷ false ∷ false ∷ false ∷ false ∷ false ∷ false ∷ true ∷ []
 legal_2 = refl
 
-abbrev plan_3 : Plan
+abbrev plan_3 : PlanParts
 plan_3 = record { tree = record { parents = 0 ∷ 0 ∷ 1 ∷ 2 ∷ []; nodes = a_node Container Plain None None None ∷ a_node Container Plain None None None ∷ a_node Test Plain (Some 1) None None ∷ [] }; held = []; keys = []; modes = SameThread ∷ SameThread ∷ Concurrent ∷ Concurrent ∷ []; fail_fast = true }
 
 abbrev replies_3 : ℕ → List Reply
@@ -95,7 +95,7 @@ in_order_3 = refl
 legal_3 : map (is_legal plan_3 replies_3 1) lists_3 ≡ true ∷ true ∷ true ∷ true ∷ true ∷ false ∷ false ∷ true ∷ false ∷ false ∷ true ∷ false ∷ []
 legal_3 = refl
 
-abbrev plan_4 : Plan
+abbrev plan_4 : PlanParts
 plan_4 = record { tree = record { parents = 0 ∷ 0 ∷ 1 ∷ 2 ∷ 2 ∷ 2 ∷ 5 ∷ 6 ∷ []; nodes = a_node Container Plain None (Some 1) None ∷ a_node Container Plain (Some 2) None None ∷ a_node Test Plain (Some 3) None None ∷ a_node Test Plain None None (Some (codes "later")) ∷ a_node Container Plain (Some 4) (Some 5) None ∷ a_node Container Plain None None None ∷ a_node ContainerAndTest Factory (Some 6) None None ∷ [] }; held = []; keys = []; modes = SameThread ∷ SameThread ∷ SameThread ∷ SameThread ∷ SameThread ∷ Concurrent ∷ Concurrent ∷ Concurrent ∷ []; fail_fast = true }
 
 abbrev replies_4 : ℕ → List Reply
@@ -122,7 +122,7 @@ in_order_4 = refl
 legal_4 : map (is_legal plan_4 replies_4 2) lists_4 ≡ true ∷ true ∷ true ∷ true ∷ true ∷ true ∷ false ∷ false ∷ false ∷ false ∷ false ∷ false ∷ []
 legal_4 = refl
 
-abbrev plan_5 : Plan
+abbrev plan_5 : PlanParts
 plan_5 = record { tree = record { parents = 0 ∷ 0 ∷ 1 ∷ 1 ∷ 1 ∷ []; nodes = a_node Container Plain None None None ∷ a_node Container Plain None None None ∷ a_node Container Plain None None None ∷ a_node Container Plain None None None ∷ [] }; held = []; keys = []; modes = SameThread ∷ SameThread ∷ Concurrent ∷ Concurrent ∷ SameThread ∷ []; fail_fast = true }
 
 abbrev replies_5 : ℕ → List Reply
@@ -149,7 +149,7 @@ in_order_5 = refl
 legal_5 : map (is_legal plan_5 replies_5 1) lists_5 ≡ true ∷ true ∷ true ∷ true ∷ true ∷ false ∷ false ∷ false ∷ true ∷ false ∷ false ∷ false ∷ []
 legal_5 = refl
 
-abbrev plan_6 : Plan
+abbrev plan_6 : PlanParts
 plan_6 = record { tree = record { parents = 0 ∷ 0 ∷ 1 ∷ 2 ∷ 2 ∷ 2 ∷ 5 ∷ 5 ∷ []; nodes = a_node Container Plain None None None ∷ a_node Container Plain (Some 1) None None ∷ a_node ContainerAndTest Plain (Some 2) None None ∷ a_node Test Plain (Some 3) None None ∷ a_node ContainerAndTest Plain None None None ∷ a_node Test Plain None None (Some []) ∷ a_node ContainerAndTest Factory (Some 4) None None ∷ [] }; held = []; keys = []; modes = SameThread ∷ SameThread ∷ SameThread ∷ SameThread ∷ Concurrent ∷ Concurrent ∷ Concurrent ∷ Concurrent ∷ []; fail_fast = true }
 
 abbrev replies_6 : ℕ → List Reply
@@ -176,7 +176,7 @@ in_order_6 = refl
 legal_6 : map (is_legal plan_6 replies_6 2) lists_6 ≡ true ∷ true ∷ true ∷ true ∷ true ∷ false ∷ false ∷ false ∷ true ∷ true ∷ false ∷ false ∷ []
 legal_6 = refl
 
-abbrev plan_7 : Plan
+abbrev plan_7 : PlanParts
 plan_7 = record { tree = record { parents = 0 ∷ 0 ∷ 1 ∷ 2 ∷ 3 ∷ 2 ∷ 2 ∷ []; nodes = a_node Container Plain None None (Some (codes "later")) ∷ a_node Container Plain None None None ∷ a_node Container Plain (Some 1) None (Some []) ∷ a_node Test Plain (Some 2) None None ∷ a_node Container Factory (Some 3) None None ∷ a_node Container Plain (Some 4) None None ∷ [] }; held = []; keys = []; modes = Concurrent ∷ SameThread ∷ Concurrent ∷ SameThread ∷ SameThread ∷ SameThread ∷ SameThread ∷ []; fail_fast = true }
 
 abbrev replies_7 : ℕ → List Reply
@@ -203,7 +203,7 @@ in_order_7 = refl
 legal_7 : map (is_legal plan_7 replies_7 1) lists_7 ≡ true ∷ true ∷ true ∷ true ∷ true ∷ false ∷ false ∷ false ∷ false ∷ false ∷ false ∷ false ∷ []
 legal_7 = refl
 
-abbrev plan_8 : Plan
+abbrev plan_8 : PlanParts
 plan_8 = record { tree = record { parents = 0 ∷ 0 ∷ []; nodes = a_node Test Plain (Some 1) None None ∷ [] }; held = []; keys = []; modes = Concurrent ∷ SameThread ∷ []; fail_fast = true }
 
 abbrev replies_8 : ℕ → List Reply
@@ -230,7 +230,7 @@ in_order_8 = refl
 legal_8 : map (is_legal plan_8 replies_8 2) lists_8 ≡ true ∷ true ∷ true ∷ true ∷ true ∷ true ∷ false ∷ true ∷ false ∷ false ∷ false ∷ true ∷ []
 legal_8 = refl
 
-abbrev plan_9 : Plan
+abbrev plan_9 : PlanParts
 plan_9 = record { tree = record { parents = 0 ∷ 0 ∷ 1 ∷ 1 ∷ 3 ∷ 3 ∷ []; nodes = a_node Container Plain (Some 1) None (Some []) ∷ a_node Container Plain None None None ∷ a_node Container Plain None None None ∷ a_node Test Plain None None None ∷ a_node ContainerAndTest Factory (Some 2) None None ∷ [] }; held = []; keys = []; modes = SameThread ∷ SameThread ∷ Concurrent ∷ SameThread ∷ SameThread ∷ Concurrent ∷ []; fail_fast = true }
 
 abbrev replies_9 : ℕ → List Reply
@@ -257,7 +257,7 @@ in_order_9 = refl
 legal_9 : map (is_legal plan_9 replies_9 2) lists_9 ≡ true ∷ true ∷ true ∷ true ∷ true ∷ true ∷ false ∷ false ∷ true ∷ false ∷ false ∷ false ∷ []
 legal_9 = refl
 
-abbrev plan_10 : Plan
+abbrev plan_10 : PlanParts
 plan_10 = record { tree = record { parents = 0 ∷ 0 ∷ 1 ∷ 2 ∷ 2 ∷ 1 ∷ []; nodes = a_node Container Plain None None None ∷ a_node Container Plain None None None ∷ a_node Test Plain (Some 1) None None ∷ a_node Test Plain (Some 2) None None ∷ a_node Container Plain None None None ∷ [] }; held = []; keys = []; modes = SameThread ∷ SameThread ∷ SameThread ∷ SameThread ∷ SameThread ∷ SameThread ∷ []; fail_fast = true }
 
 abbrev replies_10 : ℕ → List Reply
@@ -284,7 +284,7 @@ in_order_10 = refl
 legal_10 : map (is_legal plan_10 replies_10 2) lists_10 ≡ true ∷ true ∷ true ∷ true ∷ true ∷ false ∷ false ∷ false ∷ false ∷ false ∷ false ∷ false ∷ []
 legal_10 = refl
 
-abbrev plan_11 : Plan
+abbrev plan_11 : PlanParts
 plan_11 = record { tree = record { parents = 0 ∷ 0 ∷ 1 ∷ 2 ∷ []; nodes = a_node Container Plain None None None ∷ a_node Container Plain None None (Some (codes "later")) ∷ a_node Test Plain (Some 1) None None ∷ [] }; held = []; keys = []; modes = SameThread ∷ SameThread ∷ Concurrent ∷ SameThread ∷ []; fail_fast = true }
 
 abbrev replies_11 : ℕ → List Reply
@@ -311,7 +311,7 @@ in_order_11 = refl
 legal_11 : map (is_legal plan_11 replies_11 2) lists_11 ≡ true ∷ true ∷ true ∷ true ∷ true ∷ false ∷ false ∷ false ∷ false ∷ true ∷ false ∷ false ∷ []
 legal_11 = refl
 
-abbrev plan_12 : Plan
+abbrev plan_12 : PlanParts
 plan_12 = record { tree = record { parents = 0 ∷ 0 ∷ 1 ∷ 2 ∷ 2 ∷ 2 ∷ 2 ∷ 2 ∷ []; nodes = a_node Container Plain (Some 1) (Some 2) None ∷ a_node Container Plain (Some 3) None None ∷ a_node Test Plain (Some 4) None None ∷ a_node Test Plain (Some 5) None None ∷ a_node Test Plain None None None ∷ a_node Test Plain None None None ∷ a_node Test Plain (Some 6) None None ∷ [] }; held = []; keys = []; modes = SameThread ∷ SameThread ∷ Concurrent ∷ SameThread ∷ SameThread ∷ SameThread ∷ SameThread ∷ SameThread ∷ []; fail_fast = true }
 
 abbrev replies_12 : ℕ → List Reply
@@ -338,7 +338,7 @@ in_order_12 = refl
 legal_12 : map (is_legal plan_12 replies_12 1) lists_12 ≡ true ∷ true ∷ true ∷ true ∷ true ∷ false ∷ false ∷ false ∷ true ∷ false ∷ false ∷ false ∷ []
 legal_12 = refl
 
-abbrev plan_13 : Plan
+abbrev plan_13 : PlanParts
 plan_13 = record { tree = record { parents = 0 ∷ 0 ∷ 0 ∷ 0 ∷ []; nodes = a_node Container Plain None None (Some (codes "later")) ∷ a_node Container Plain None None None ∷ a_node Container Plain None None None ∷ [] }; held = []; keys = []; modes = SameThread ∷ SameThread ∷ SameThread ∷ Concurrent ∷ []; fail_fast = true }
 
 abbrev replies_13 : ℕ → List Reply
@@ -365,7 +365,7 @@ in_order_13 = refl
 legal_13 : map (is_legal plan_13 replies_13 2) lists_13 ≡ true ∷ true ∷ true ∷ true ∷ true ∷ false ∷ false ∷ false ∷ true ∷ false ∷ false ∷ false ∷ []
 legal_13 = refl
 
-abbrev plan_14 : Plan
+abbrev plan_14 : PlanParts
 plan_14 = record { tree = record { parents = 0 ∷ 0 ∷ 1 ∷ 1 ∷ 3 ∷ 3 ∷ []; nodes = a_node Container Plain None None None ∷ a_node Container Plain None None None ∷ a_node Container Plain None (Some 1) None ∷ a_node Test Plain (Some 2) None None ∷ a_node Test Plain (Some 3) None None ∷ [] }; held = []; keys = []; modes = SameThread ∷ SameThread ∷ SameThread ∷ SameThread ∷ SameThread ∷ SameThread ∷ []; fail_fast = true }
 
 abbrev replies_14 : ℕ → List Reply
@@ -392,7 +392,7 @@ in_order_14 = refl
 legal_14 : map (is_legal plan_14 replies_14 2) lists_14 ≡ true ∷ true ∷ true ∷ true ∷ true ∷ true ∷ false ∷ false ∷ false ∷ false ∷ true ∷ false ∷ []
 legal_14 = refl
 
-abbrev plan_15 : Plan
+abbrev plan_15 : PlanParts
 plan_15 = record { tree = record { parents = 0 ∷ 0 ∷ 0 ∷ 2 ∷ 3 ∷ 3 ∷ 3 ∷ 3 ∷ []; nodes = a_node Container Plain None None None ∷ a_node Container Plain None None (Some (codes "later")) ∷ a_node Container Plain (Some 1) None None ∷ a_node ContainerAndTest Plain (Some 2) None None ∷ a_node Container Plain None None (Some (codes "later")) ∷ a_node Test Plain None None None ∷ a_node ContainerAndTest Plain (Some 3) None None ∷ [] }; held = []; keys = []; modes = SameThread ∷ Concurrent ∷ SameThread ∷ SameThread ∷ Concurrent ∷ SameThread ∷ Concurrent ∷ SameThread ∷ []; fail_fast = true }
 
 abbrev replies_15 : ℕ → List Reply
@@ -419,7 +419,7 @@ in_order_15 = refl
 legal_15 : map (is_legal plan_15 replies_15 1) lists_15 ≡ true ∷ true ∷ true ∷ true ∷ true ∷ false ∷ false ∷ false ∷ false ∷ false ∷ false ∷ false ∷ []
 legal_15 = refl
 
-abbrev plan_16 : Plan
+abbrev plan_16 : PlanParts
 plan_16 = record { tree = record { parents = 0 ∷ 0 ∷ []; nodes = a_node Test Plain (Some 1) None None ∷ [] }; held = []; keys = []; modes = Concurrent ∷ SameThread ∷ []; fail_fast = true }
 
 abbrev replies_16 : ℕ → List Reply
@@ -446,7 +446,7 @@ in_order_16 = refl
 legal_16 : map (is_legal plan_16 replies_16 2) lists_16 ≡ true ∷ true ∷ true ∷ true ∷ true ∷ false ∷ false ∷ false ∷ true ∷ true ∷ true ∷ false ∷ []
 legal_16 = refl
 
-abbrev plan_17 : Plan
+abbrev plan_17 : PlanParts
 plan_17 = record { tree = record { parents = 0 ∷ 0 ∷ 1 ∷ 2 ∷ 2 ∷ 4 ∷ []; nodes = a_node Container Plain None None None ∷ a_node Container Plain None (Some 1) (Some []) ∷ a_node Test Plain None None (Some (codes "later")) ∷ a_node Container Factory (Some 2) None None ∷ a_node Test Spare (Some 3) None None ∷ [] }; held = []; keys = []; modes = SameThread ∷ SameThread ∷ SameThread ∷ Concurrent ∷ SameThread ∷ SameThread ∷ []; fail_fast = true }
 
 abbrev replies_17 : ℕ → List Reply
@@ -473,7 +473,7 @@ in_order_17 = refl
 legal_17 : map (is_legal plan_17 replies_17 2) lists_17 ≡ true ∷ true ∷ true ∷ true ∷ true ∷ false ∷ true ∷ false ∷ false ∷ false ∷ false ∷ false ∷ []
 legal_17 = refl
 
-abbrev plan_18 : Plan
+abbrev plan_18 : PlanParts
 plan_18 = record { tree = record { parents = 0 ∷ 0 ∷ []; nodes = a_node Container Plain (Some 1) None None ∷ [] }; held = []; keys = []; modes = SameThread ∷ SameThread ∷ []; fail_fast = true }
 
 abbrev replies_18 : ℕ → List Reply
@@ -500,7 +500,7 @@ in_order_18 = refl
 legal_18 : map (is_legal plan_18 replies_18 2) lists_18 ≡ true ∷ true ∷ true ∷ true ∷ true ∷ false ∷ false ∷ false ∷ false ∷ true ∷ false ∷ true ∷ []
 legal_18 = refl
 
-abbrev plan_19 : Plan
+abbrev plan_19 : PlanParts
 plan_19 = record { tree = record { parents = 0 ∷ 0 ∷ 1 ∷ 2 ∷ 2 ∷ []; nodes = a_node Container Plain None None None ∷ a_node Container Plain None None None ∷ a_node Test Plain (Some 1) None None ∷ a_node Container Factory None None (Some (codes "later")) ∷ [] }; held = []; keys = []; modes = SameThread ∷ SameThread ∷ SameThread ∷ SameThread ∷ SameThread ∷ []; fail_fast = true }
 
 abbrev replies_19 : ℕ → List Reply
@@ -527,7 +527,7 @@ in_order_19 = refl
 legal_19 : map (is_legal plan_19 replies_19 1) lists_19 ≡ true ∷ true ∷ true ∷ true ∷ true ∷ false ∷ false ∷ false ∷ false ∷ false ∷ false ∷ false ∷ []
 legal_19 = refl
 
-abbrev plan_20 : Plan
+abbrev plan_20 : PlanParts
 plan_20 = record { tree = record { parents = 0 ∷ 0 ∷ 1 ∷ 1 ∷ []; nodes = a_node Container Plain None None None ∷ a_node Container Plain None None None ∷ a_node Container Plain None None None ∷ [] }; held = []; keys = []; modes = SameThread ∷ SameThread ∷ SameThread ∷ SameThread ∷ []; fail_fast = true }
 
 abbrev replies_20 : ℕ → List Reply
@@ -554,7 +554,7 @@ in_order_20 = refl
 legal_20 : map (is_legal plan_20 replies_20 1) lists_20 ≡ true ∷ true ∷ true ∷ true ∷ true ∷ false ∷ false ∷ false ∷ false ∷ false ∷ false ∷ false ∷ []
 legal_20 = refl
 
-abbrev plan_21 : Plan
+abbrev plan_21 : PlanParts
 plan_21 = record { tree = record { parents = 0 ∷ 0 ∷ []; nodes = a_node Test Plain None None (Some []) ∷ [] }; held = []; keys = []; modes = Concurrent ∷ SameThread ∷ []; fail_fast = true }
 
 abbrev replies_21 : ℕ → List Reply
@@ -581,7 +581,7 @@ in_order_21 = refl
 legal_21 : map (is_legal plan_21 replies_21 1) lists_21 ≡ true ∷ true ∷ true ∷ true ∷ true ∷ false ∷ true ∷ false ∷ false ∷ false ∷ false ∷ false ∷ []
 legal_21 = refl
 
-abbrev plan_22 : Plan
+abbrev plan_22 : PlanParts
 plan_22 = record { tree = record { parents = 0 ∷ 0 ∷ 1 ∷ 1 ∷ []; nodes = a_node Container Plain (Some 1) None None ∷ a_node Container Plain None None None ∷ a_node Container Plain None None (Some (codes "later")) ∷ [] }; held = []; keys = []; modes = SameThread ∷ SameThread ∷ SameThread ∷ SameThread ∷ []; fail_fast = true }
 
 abbrev replies_22 : ℕ → List Reply
@@ -608,7 +608,7 @@ in_order_22 = refl
 legal_22 : map (is_legal plan_22 replies_22 2) lists_22 ≡ true ∷ true ∷ true ∷ true ∷ true ∷ false ∷ false ∷ false ∷ false ∷ false ∷ false ∷ false ∷ []
 legal_22 = refl
 
-abbrev plan_23 : Plan
+abbrev plan_23 : PlanParts
 plan_23 = record { tree = record { parents = 0 ∷ 0 ∷ 1 ∷ 1 ∷ 1 ∷ 4 ∷ []; nodes = a_node Container Plain None None None ∷ a_node Container Plain None None None ∷ a_node Container Plain None None None ∷ a_node Container Plain None (Some 1) None ∷ a_node Container Factory (Some 2) None None ∷ [] }; held = []; keys = []; modes = SameThread ∷ SameThread ∷ Concurrent ∷ SameThread ∷ Concurrent ∷ SameThread ∷ []; fail_fast = true }
 
 abbrev replies_23 : ℕ → List Reply
@@ -635,7 +635,7 @@ in_order_23 = refl
 legal_23 : map (is_legal plan_23 replies_23 2) lists_23 ≡ true ∷ true ∷ true ∷ true ∷ true ∷ false ∷ false ∷ false ∷ false ∷ false ∷ false ∷ false ∷ []
 legal_23 = refl
 
-abbrev plan_24 : Plan
+abbrev plan_24 : PlanParts
 plan_24 = record { tree = record { parents = 0 ∷ 0 ∷ 1 ∷ 1 ∷ 3 ∷ 3 ∷ 3 ∷ []; nodes = a_node Container Plain None None None ∷ a_node Container Plain None None None ∷ a_node Container Plain (Some 1) None None ∷ a_node Test Plain (Some 2) None None ∷ a_node Test Plain (Some 3) None None ∷ a_node Container Plain (Some 4) None None ∷ [] }; held = []; keys = []; modes = SameThread ∷ SameThread ∷ Concurrent ∷ Concurrent ∷ SameThread ∷ SameThread ∷ SameThread ∷ []; fail_fast = true }
 
 abbrev replies_24 : ℕ → List Reply
@@ -662,7 +662,7 @@ in_order_24 = refl
 legal_24 : map (is_legal plan_24 replies_24 2) lists_24 ≡ true ∷ true ∷ true ∷ true ∷ true ∷ false ∷ false ∷ false ∷ false ∷ true ∷ false ∷ false ∷ []
 legal_24 = refl
 
-abbrev plan_25 : Plan
+abbrev plan_25 : PlanParts
 plan_25 = record { tree = record { parents = 0 ∷ 0 ∷ 1 ∷ 2 ∷ []; nodes = a_node Container Plain None None None ∷ a_node Container Plain None (Some 1) None ∷ a_node Test Plain (Some 2) None None ∷ [] }; held = []; keys = []; modes = SameThread ∷ SameThread ∷ SameThread ∷ Concurrent ∷ []; fail_fast = true }
 
 abbrev replies_25 : ℕ → List Reply
@@ -689,7 +689,7 @@ in_order_25 = refl
 legal_25 : map (is_legal plan_25 replies_25 1) lists_25 ≡ true ∷ true ∷ true ∷ true ∷ true ∷ false ∷ false ∷ false ∷ false ∷ false ∷ false ∷ false ∷ []
 legal_25 = refl
 
-abbrev plan_26 : Plan
+abbrev plan_26 : PlanParts
 plan_26 = record { tree = record { parents = 0 ∷ 0 ∷ 1 ∷ 2 ∷ 1 ∷ 4 ∷ 4 ∷ []; nodes = a_node Container Plain None None None ∷ a_node Container Plain None None None ∷ a_node Test Plain (Some 1) None None ∷ a_node Container Plain (Some 2) None None ∷ a_node Test Plain (Some 3) None None ∷ a_node Container Plain None None None ∷ [] }; held = []; keys = []; modes = SameThread ∷ SameThread ∷ SameThread ∷ SameThread ∷ Concurrent ∷ Concurrent ∷ Concurrent ∷ []; fail_fast = true }
 
 abbrev replies_26 : ℕ → List Reply
@@ -716,7 +716,7 @@ in_order_26 = refl
 legal_26 : map (is_legal plan_26 replies_26 2) lists_26 ≡ true ∷ true ∷ true ∷ true ∷ true ∷ false ∷ false ∷ true ∷ false ∷ false ∷ false ∷ false ∷ []
 legal_26 = refl
 
-abbrev plan_27 : Plan
+abbrev plan_27 : PlanParts
 plan_27 = record { tree = record { parents = 0 ∷ 0 ∷ 1 ∷ 2 ∷ 2 ∷ 0 ∷ 5 ∷ []; nodes = a_node Container Plain (Some 1) None None ∷ a_node Container Plain None None None ∷ a_node Test Plain (Some 2) None None ∷ a_node Test Plain (Some 3) None None ∷ a_node Container Plain (Some 4) None None ∷ a_node Container Plain (Some 5) None None ∷ [] }; held = []; keys = []; modes = Concurrent ∷ SameThread ∷ Concurrent ∷ Concurrent ∷ SameThread ∷ SameThread ∷ SameThread ∷ []; fail_fast = true }
 
 abbrev replies_27 : ℕ → List Reply
@@ -744,5 +744,5 @@ legal_27 : map (is_legal plan_27 replies_27 2) lists_27 ≡ true ∷ true ∷ tr
 legal_27 = refl
 
 -- the trees are as asked of a plan, so that what the tests tell of legal histories holds of these
-trees : list_all (λ (p : Plan). is_plan_tree p.tree) (plan_1 ∷ plan_2 ∷ plan_3 ∷ plan_4 ∷ plan_5 ∷ plan_6 ∷ plan_7 ∷ plan_8 ∷ plan_9 ∷ plan_10 ∷ plan_11 ∷ plan_12 ∷ plan_13 ∷ plan_14 ∷ plan_15 ∷ plan_16 ∷ plan_17 ∷ plan_18 ∷ plan_19 ∷ plan_20 ∷ plan_21 ∷ plan_22 ∷ plan_23 ∷ plan_24 ∷ plan_25 ∷ plan_26 ∷ plan_27 ∷ []) ≡ true
+trees : list_all (λ (p : PlanParts). is_plan_tree p.tree) (plan_1 ∷ plan_2 ∷ plan_3 ∷ plan_4 ∷ plan_5 ∷ plan_6 ∷ plan_7 ∷ plan_8 ∷ plan_9 ∷ plan_10 ∷ plan_11 ∷ plan_12 ∷ plan_13 ∷ plan_14 ∷ plan_15 ∷ plan_16 ∷ plan_17 ∷ plan_18 ∷ plan_19 ∷ plan_20 ∷ plan_21 ∷ plan_22 ∷ plan_23 ∷ plan_24 ∷ plan_25 ∷ plan_26 ∷ plan_27 ∷ []) ≡ true
 trees = refl

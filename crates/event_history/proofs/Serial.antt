@@ -6,7 +6,8 @@ use Rattle.plan_events.specs.declared.event.EventKind.TheVariants.{Started, Fini
 use Rattle.plan_events.specs.declared.event.Event.{Event}
 use Rattle.plan_events.specs.declared.outcome.Reply.{Reply}
 use Rattle.resource_locks.specs.Declarations.{AtOrBelow}
-use Rattle.event_history.specs.Plans.{Plan, IsElder, is_same, IsPlanTree}
+use Rattle.resource_locks.specs.Plans.{PlanParts}
+use Rattle.event_history.specs.Plans.{IsElder, is_same, IsPlanTree}
 use Rattle.event_history.specs.Places.{StandsAt, StandsBefore, IsSettledAt, has}
 use Rattle.event_history.specs.History.{IsLegal}
 use Rattle.event_history.specs.Order.{goes_first, IsInOrder}
@@ -18,7 +19,7 @@ use Rattle.event_history.proofs.Branches.{Branches}
 pub overlaps_back : (h : List Event) (m n : ℕ) → Overlaps h m n → Overlaps h n m
 overlaps_back h m n o = record { place = o.other_place; start = o.other_start; other_place = o.place; other_start = o.start; unended = o.other_unended; other_unended = o.unended }
 
-module _ (p : Plan) (tree : IsPlanTree p.tree) (replies : ℕ → List Reply) (workers : ℕ) (h : List Event) (legal : IsLegal p replies workers h) where
+module _ (p : PlanParts) (tree : IsPlanTree p.tree) (replies : ℕ → List Reply) (workers : ℕ) (h : List Event) (legal : IsLegal p replies workers h) where
   -- a node starts no later than what is below it
   pub start_of : (x m i : ℕ) → AtOrBelow p.tree x m → StandsAt h i Started m → (j : ℕ) × ((j ≤ i) × StandsAt h j Started x)
   start_of x m i (inl s) q = (i, (omega arith, subst (λ (y : ℕ). StandsAt h i Started y) (sym s) q))

@@ -8,7 +8,8 @@ use Rattle.plan_events.specs.declared.event.EventKind.TheVariants.{Started, Fini
 use Rattle.plan_events.specs.declared.event.Event.{Event}
 use Rattle.plan_events.specs.declared.outcome.Reply.{Reply}
 use Rattle.resource_locks.specs.Declarations.{AtOrBelow}
-use Rattle.event_history.specs.Plans.{Plan, pulls_job, IsElder, is_same, IsPlanTree}
+use Rattle.resource_locks.specs.Plans.{PlanParts}
+use Rattle.event_history.specs.Plans.{pulls_job, IsElder, is_same, IsPlanTree}
 use Rattle.event_history.specs.Places.{StandsAt, IsSettledAt}
 use Rattle.event_history.specs.History.{IsLegal}
 use Rattle.event_history.specs.Order.{goes_first, IsInOrder}
@@ -22,13 +23,13 @@ slot Skipped = 1
 slot Finished = 2
 
 -- what stands for m in slot a comes before what stands for n in slot b
-pub data Before (p : Plan) (a m b n : ℕ) : Type 0 where
+pub data Before (p : PlanParts) (a m b n : ℕ) : Type 0 where
   same : m ≡ n → a < b → Before p a m b n
   above : Below p.tree m n → a < 2 → Before p a m b n
   below : Below p.tree n m → 2 ≤ b → Before p a m b n
   beside : (x y : ℕ) → IsElder p.tree x y → AtOrBelow p.tree x m → AtOrBelow p.tree y n → Before p a m b n
 
-module _ (p : Plan) (tree : IsPlanTree p.tree) where
+module _ (p : PlanParts) (tree : IsPlanTree p.tree) where
   -- of two that differ, one comes before the other
   pub before_cases : (a m b n : ℕ) → m < size p.tree → n < size p.tree → ((a ≡ b) × (m ≡ n)) ⊎ (Before p a m b n ⊎ Before p b n a m)
   before_cases a m b n inm inn =
@@ -62,7 +63,7 @@ module _ (p : Plan) (tree : IsPlanTree p.tree) where
             ]
           ]
 
-module _ (p : Plan) (tree : IsPlanTree p.tree) (replies : ℕ → List Reply) (workers : ℕ) (h : List Event) (legal : IsLegal p replies workers h) where
+module _ (p : PlanParts) (tree : IsPlanTree p.tree) (replies : ℕ → List Reply) (workers : ℕ) (h : List Event) (legal : IsLegal p replies workers h) where
   stands : (i n : ℕ) (e : Event) (k : EventKind) → slice_get h i ≡ Some e → e.node ≡ n → e.kind ≡ k → StandsAt h i k n
   stands i n e k q node kind = record { event = e; here = q; kind = kind; node = node }
 

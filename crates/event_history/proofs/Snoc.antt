@@ -12,7 +12,8 @@ use Rattle.plan_events.specs.declared.outcome.Reply.{Reply}
 use Rattle.plan_events.specs.Words.{is_lawful}
 use Rattle.plan_events.specs.Statuses.{is_successful}
 use Rattle.event_history.specs.Places.{is_failure, StandsAt, StandsBefore, FailsBefore, IsSettledAt, has}
-use Rattle.event_history.specs.Plans.{Plan, IsElder, is_spare_of, pulls_job, Holder, Maker, sort_of, IsPlanTree}
+use Rattle.resource_locks.specs.Plans.{PlanParts}
+use Rattle.event_history.specs.Plans.{IsElder, is_spare_of, pulls_job, Holder, Maker, sort_of, IsPlanTree}
 use Rattle.event_history.specs.Results.{jobs_of, Ends}
 use Rattle.event_history.specs.History.{IsStopped, StoppedIs, IsUnregistered, registered_before, HasResult, IsLegal}
 use Rattle.event_history.specs.Following.{has_failed, has_failed_by, registered_in, MayStart, MaySkip, MayRegister, MayFinish, ChildrenOk, ByKind, MayFollow}
@@ -22,10 +23,10 @@ use Rattle.event_history.proofs.Ends.{early, last_has_child}
 use Rattle.event_history.proofs.Histories.{started_registered, started_above, unfinished_above, before_start, open_start, unseen_below}
 
 -- the spares registered before a place are not told by what stands from that place on
-pub registered_front : (p : Plan) (h g : List Event) (i f : ℕ) → i ≤ length h → registered_before p (h ++ g) i f ≡ registered_before p h i f
+pub registered_front : (p : PlanParts) (h g : List Event) (i f : ℕ) → i ≤ length h → registered_before p (h ++ g) i f ≡ registered_before p h i f
 registered_front p h g i f le = ap (λ (l : List Event). count_below (λ c. is_spare_of p f c && has Registered c l) (size p.tree)) (take-append-le i h g le)
 
-module _ (p : Plan) (tree : IsPlanTree p.tree) (replies : ℕ → List Reply) (workers : ℕ) (h : List Event) (e : Event) (legal : IsLegal p replies workers h) where
+module _ (p : PlanParts) (tree : IsPlanTree p.tree) (replies : ℕ → List Reply) (workers : ℕ) (h : List Event) (e : Event) (legal : IsLegal p replies workers h) where
   pub may_fresh : (k : EventKind) → ByKind p replies h e k → has k e.node h ≡ false
   may_fresh Started m = m.unopened.unstarted
   may_fresh Finished m = m.unfinished
@@ -352,7 +353,7 @@ module _ (p : Plan) (tree : IsPlanTree p.tree) (replies : ℕ → List Reply) (w
     }
 
 -- the history without events
-pub legal_nil : (p : Plan) (replies : ℕ → List Reply) (workers : ℕ) → IsLegal p replies workers []
+pub legal_nil : (p : PlanParts) (replies : ℕ → List Reply) (workers : ℕ) → IsLegal p replies workers []
 legal_nil p replies workers = record {
   lawful = λ i e q. absurd (none-some e q);
   nodes = λ i e q. absurd (none-some e q);

@@ -11,7 +11,8 @@ use Rattle.descriptor.specs.declared.role.Role.TheVariants.{Plain, Factory, Spar
 use Rattle.descriptor.specs.Kinds.{is_container}
 use Rattle.descriptor.specs.Nodes.{Nodes, IsTree, size, parent_of, IsChild, role_or, kind_of, role_of, is_leaf_at, is_factory_at, is_spare_at, body_of}
 use Rattle.descriptor.specs.Roles.{is_factory, is_spare}
-use Rattle.event_history.specs.Plans.{Plan, pulls_job, Sort, Leaf, Holder, Maker, sort_by, sort_of, IsPlanTree}
+use Rattle.resource_locks.specs.Plans.{PlanParts}
+use Rattle.event_history.specs.Plans.{pulls_job, Sort, Leaf, Holder, Maker, sort_by, sort_of, IsPlanTree}
 
 -- a factory that may hold nodes
 maker : (kind : Kind) (role : Role) → is_factory role ≡ true → not (is_container kind) ≡ false → sort_by kind role ≡ Maker
@@ -114,5 +115,5 @@ pub factory_is : (t : Nodes) → IsPlanTree t → (n : ℕ) → is_factory_at t 
 factory_is t tree n = both_or_none (is_factory_at t n) (is_maker (sort_of t n)) (λ q. ap is_maker (tree.factory_sort n q)) (maker_role (kind_of t n) (role_of t n))
 
 -- so is a factory with a job
-pub pulls_sort : (p : Plan) → IsPlanTree p.tree → (n : ℕ) → pulls_job p n ≡ (is_maker (sort_of p.tree n) && is_some (body_of p.tree n))
+pub pulls_sort : (p : PlanParts) → IsPlanTree p.tree → (n : ℕ) → pulls_job p n ≡ (is_maker (sort_of p.tree n) && is_some (body_of p.tree n))
 pulls_sort p tree n = ap (λ (b : Bool). b && is_some (body_of p.tree n)) (factory_is p.tree tree n)

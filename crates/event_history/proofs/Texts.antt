@@ -5,7 +5,8 @@ use Rattle.descriptor.specs.Nodes.{reason_of}
 use Rattle.plan_events.specs.declared.event.EventKind.TheVariants.{Finished, Skipped}
 use Rattle.plan_events.specs.declared.event.Event.{Event}
 use Rattle.plan_events.specs.declared.outcome.Reply.{Reply}
-use Rattle.event_history.specs.Plans.{Plan, IsPlanTree}
+use Rattle.resource_locks.specs.Plans.{PlanParts}
+use Rattle.event_history.specs.Plans.{IsPlanTree}
 use Rattle.event_history.specs.Places.{StandsAt, has}
 use Rattle.event_history.specs.Results.{jobs_of}
 use Rattle.event_history.specs.History.{HasResult, IsLegal, IsTextOf, reason_or_cancelled}
@@ -14,10 +15,10 @@ use Rattle.event_history.proofs.Places.{has_stands, has_at}
 use Rattle.event_history.proofs.Expectation.{text_in, result_is}
 
 -- why it was skipped; else the text of the reply that decides; before that none
-abbrev pub text_told : Plan → (ℕ → Reply) → List Event → ℕ → Option (List ℕ)
+abbrev pub text_told : PlanParts → (ℕ → Reply) → List Event → ℕ → Option (List ℕ)
 text_told p reply h n = cond (has Skipped n h) (Some (reason_or_cancelled (reason_of p.tree n))) (cond (has Finished n h) (text_in (result_by reply (jobs_of p n))) None)
 
-module _ (p : Plan) (tree : IsPlanTree p.tree) (reply : ℕ → Reply) (replies : ℕ → List Reply) (one : HasOneReply reply replies) (workers : ℕ) (h : List Event) (legal : IsLegal p replies workers h) (n : ℕ) where
+module _ (p : PlanParts) (tree : IsPlanTree p.tree) (reply : ℕ → Reply) (replies : ℕ → List Reply) (one : HasOneReply reply replies) (workers : ℕ) (h : List Event) (legal : IsLegal p replies workers h) (n : ℕ) where
   unskipped : (i : ℕ) → StandsAt h i Finished n → has Skipped n h ≡ false
   unskipped i s = false_from_ne_true (has Skipped n h) (λ t. (let start = legal.after_start i n s in let skip = has_stands Skipped n h t in legal.apart start.place skip.0 n start.stands skip.1))
 

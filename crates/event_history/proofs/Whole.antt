@@ -10,7 +10,8 @@ use Rattle.plan_events.specs.declared.event.Event.{Event}
 use Rattle.plan_events.specs.declared.outcome.Reply.{Reply}
 use Rattle.plan_events.specs.Statuses.{is_successful}
 use Rattle.plan_events.specs.Words.{plan_may}
-use Rattle.event_history.specs.Plans.{Plan, IsPlanTree}
+use Rattle.resource_locks.specs.Plans.{PlanParts}
+use Rattle.event_history.specs.Plans.{IsPlanTree}
 use Rattle.event_history.specs.Places.{StandsAt}
 use Rattle.event_history.specs.History.{IsStopped, IsLegal, IsComplete}
 use Rattle.event_history.proofs.Places.{stands_within, settled_more}
@@ -25,7 +26,7 @@ pub record EndsInPlan (h : List Event) : Type 0 where
   pub stands : StandsAt h place Finished 0
   pub last : place + 1 ≡ length h
 
-module _ (p : Plan) (tree : IsPlanTree p.tree) (replies : ℕ → List Reply) (workers : ℕ) (h : List Event) (legal : IsLegal p replies workers h) where
+module _ (p : PlanParts) (tree : IsPlanTree p.tree) (replies : ℕ → List Reply) (workers : ℕ) (h : List Event) (legal : IsLegal p replies workers h) where
   -- node 0 ends with success, so it is not stopped
   plan_unstopped : IsStopped p h 0 → ⊥
   plan_unstopped s = go s.finish.event.kind s.finish.event.status s.status s.finish.kind s.ends s.unsuccessful (plan_event s.finish.event (legal.lawful s.place s.finish.event s.finish.here) s.finish.node)

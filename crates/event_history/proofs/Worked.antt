@@ -15,7 +15,8 @@ use Rattle.plan_events.specs.declared.event.Event.{Event}
 use Rattle.plan_events.specs.declared.outcome.Reply.{Reply}
 use Rattle.event_history.specs.History.{IsLegal}
 use Rattle.event_history.proofs.PlanTrees.{told_plan_tree}
-use Rattle.event_history.specs.Plans.{Plan, IsPlanTree}
+use Rattle.resource_locks.specs.Plans.{PlanParts}
+use Rattle.event_history.specs.Plans.{IsPlanTree}
 use Rattle.event_history.proofs.Deciding.{is_legal, told_legal, legal_told}
 use Rattle.event_history.proofs.DecidingOrder.{is_in_order}
 
@@ -56,7 +57,7 @@ abbrev says : Status → ℕ → List Reply
 says status pulls = record { pulls = pulls; outcome = record { status = status; text = [] } } ∷ []
 
 -- an engine with a class, and two tests in it; the class has body 1 and after-body 4 if it has any, the tests have 2 and 3
-abbrev two_tests : Option ℕ → Option ℕ → Option (List ℕ) → Bool → Plan
+abbrev two_tests : Option ℕ → Option ℕ → Option (List ℕ) → Bool → PlanParts
 two_tests body after disabled fast = record {
   tree = record { parents = 0 ∷ 0 ∷ 1 ∷ 2 ∷ 2 ∷ []; nodes = engine ∷ class body after disabled ∷ test 2 ∷ test 3 ∷ [] };
   held = [];
@@ -76,7 +77,7 @@ around middle last = started 2 ∷ (middle ++ (last ∷ []))
 abbrev both : List Event
 both = started 3 ∷ finished 3 ∷ started 4 ∷ finished 4 ∷ []
 
-abbrev legal : Plan → (ℕ → List Reply) → List Event → Bool
+abbrev legal : PlanParts → (ℕ → List Reply) → List Event → Bool
 legal p replies middle = is_legal p replies 1 (opens ++ middle ++ closes)
 
 -- a class whose body fails is stopped; it does not run its tests, whether it then fails or not
@@ -114,7 +115,7 @@ abbrev spare : ℕ → Node
 spare body = node_of Test Spare (Some body) None None
 
 -- a factory over three spares
-abbrev factory : Plan
+abbrev factory : PlanParts
 factory = record {
   tree = record { parents = 0 ∷ 0 ∷ 1 ∷ 2 ∷ 2 ∷ 2 ∷ []; nodes = engine ∷ node_of Container Factory (Some 1) None None ∷ spare 2 ∷ spare 3 ∷ spare 4 ∷ [] };
   held = [];

@@ -7,7 +7,8 @@ use Rattle.plan_events.specs.declared.status.Status.TheVariants.{Successful, Fai
 use Rattle.plan_events.specs.declared.event.Event.{Event}
 use Rattle.plan_events.specs.declared.outcome.Reply.{Reply}
 use Rattle.plan_events.specs.Statuses.{is_successful}
-use Rattle.event_history.specs.Plans.{Plan, rank}
+use Rattle.resource_locks.specs.Plans.{PlanParts}
+use Rattle.event_history.specs.Plans.{rank}
 use Rattle.event_history.specs.Places.{StandsAt, IsSilent}
 use Rattle.event_history.specs.History.{HasResult}
 use Rattle.event_history.specs.Results.{Jobs, NoJob, Alone, Pulled, Around, jobs_of, too_many}
@@ -56,27 +57,27 @@ is_closed Skips = true
 is_closed (Finishes status text) = false
 
 -- the result of a node itself
-abbrev pub own_result : Plan → (ℕ → Reply) → ℕ → Expected
+abbrev pub own_result : PlanParts → (ℕ → Reply) → ℕ → Expected
 own_result p reply n = cond (is_disabled p.tree n) Skips (result_by reply (jobs_of p n))
 
 -- the result of a node whose parent has this one
-abbrev pub below_result : Plan → (ℕ → Reply) → ℕ → Expected → Expected
+abbrev pub below_result : PlanParts → (ℕ → Reply) → ℕ → Expected → Expected
 below_result p reply n above =
     cond (is_closed above || is_stopped_by reply (jobs_of p (parent_of p.tree n)) || (is_spare_at p.tree n && leaves reply (jobs_of p (parent_of p.tree n)) (rank p n)))
     Silent (own_result p reply n)
 
 -- from the root down, so many levels: as a parent has a smaller number, more than n are enough for node n
-abbrev pub expected_by : Plan → (ℕ → Reply) → ℕ → ℕ → Expected
+abbrev pub expected_by : PlanParts → (ℕ → Reply) → ℕ → ℕ → Expected
 expected_by p reply zero n = Silent
 expected_by p reply (suc k) zero = own_result p reply zero
 expected_by p reply (suc k) (suc n) = below_result p reply (suc n) (expected_by p reply k (parent_of p.tree (suc n)))
 
 -- the result that is expected of node n
-abbrev pub expected : Plan → (ℕ → Reply) → ℕ → Expected
+abbrev pub expected : PlanParts → (ℕ → Reply) → ℕ → Expected
 expected p reply n = expected_by p reply (suc n) n
 
 -- node n finishes with this status, and its text can be no other than this one
-pub record EndsSo (p : Plan) (replies : ℕ → List Reply) (h : List Event) (n : ℕ) (status : Status) (text : Option (List ℕ)) : Type 0 where
+pub record EndsSo (p : PlanParts) (replies : ℕ → List Reply) (h : List Event) (n : ℕ) (status : Status) (text : Option (List ℕ)) : Type 0 where
   pub place : ℕ
   pub event : Event
   pub here : slice_get h place ≡ Some event
@@ -87,7 +88,7 @@ pub record EndsSo (p : Plan) (replies : ℕ → List Reply) (h : List Event) (n 
   pub only : (other : Option (List ℕ)) → HasResult p replies h place event other → other ≡ text
 
 -- what the history has of node n is what is expected
-abbrev pub IsAsExpected : Plan → (ℕ → List Reply) → List Event → ℕ → Expected → Type 0
+abbrev pub IsAsExpected : PlanParts → (ℕ → List Reply) → List Event → ℕ → Expected → Type 0
 IsAsExpected p replies h n Silent = IsSilent h n
 IsAsExpected p replies h n Skips = (i : ℕ) × StandsAt h i Skipped n
 IsAsExpected p replies h n (Finishes status text) = EndsSo p replies h n status text

@@ -9,12 +9,13 @@ use Rattle.plan_events.specs.declared.outcome.Reply.{Reply}
 use Rattle.plan_events.specs.Words.{is_lawful}
 use Rattle.plan_events.specs.Statuses.{is_successful}
 use Rattle.event_history.specs.Places.{is_failure, StandsAt, StandsBefore, FailsBefore, IsSettledAt, has}
-use Rattle.event_history.specs.Plans.{Plan, IsElder, is_spare_of, pulls_job}
+use Rattle.resource_locks.specs.Plans.{PlanParts}
+use Rattle.event_history.specs.Plans.{IsElder, is_spare_of, pulls_job}
 use Rattle.event_history.specs.Results.{jobs_of, is_stoppable, Ends}
 
 -- The container is stopped: it is no factory, has a body, finishes without success, and nothing stands for a node
 -- below it.
-pub record IsStopped (p : Plan) (h : List Event) (a : ℕ) : Type 0 where
+pub record IsStopped (p : PlanParts) (h : List Event) (a : ℕ) : Type 0 where
   pub body : is_stoppable (jobs_of p a) ≡ true
   pub place : ℕ
   pub finish : StandsAt h place Finished a
@@ -24,21 +25,21 @@ pub record IsStopped (p : Plan) (h : List Event) (a : ℕ) : Type 0 where
   pub silent : (j : ℕ) (e : Event) → slice_get h j ≡ Some e → Below p.tree a e.node → ⊥
 
 -- whether it is stopped
-abbrev pub StoppedIs : Plan → List Event → ℕ → Bool → Type 0
+abbrev pub StoppedIs : PlanParts → List Event → ℕ → Bool → Type 0
 StoppedIs p h a true = IsStopped p h a
 StoppedIs p h a false = IsStopped p h a → ⊥
 
 -- a spare that is never registered
-pub record IsUnregistered (p : Plan) (h : List Event) (c : ℕ) : Type 0 where
+pub record IsUnregistered (p : PlanParts) (h : List Event) (c : ℕ) : Type 0 where
   pub spare : is_spare_at p.tree c ≡ true
   pub never : (i : ℕ) → StandsAt h i Registered c → ⊥
 
 -- how many spares of f stand registered before place i
-abbrev pub registered_before : Plan → List Event → ℕ → ℕ → ℕ
+abbrev pub registered_before : PlanParts → List Event → ℕ → ℕ → ℕ
 registered_before p h i f = count_below (λ c. is_spare_of p f c && has Registered c (take i h)) (size p.tree)
 
 -- the finish at place i is lawful: a reply of the node's jobs has its status, and this text
-pub record HasResult (p : Plan) (replies : ℕ → List Reply) (h : List Event) (i : ℕ) (e : Event) (text : Option (List ℕ)) : Type 0 where
+pub record HasResult (p : PlanParts) (replies : ℕ → List Reply) (h : List Event) (i : ℕ) (e : Event) (text : Option (List ℕ)) : Type 0 where
   pub status : Status
   pub here : e.status ≡ Some status
   pub stopped : Bool
@@ -46,7 +47,7 @@ pub record HasResult (p : Plan) (replies : ℕ → List Reply) (h : List Event) 
   pub lawful : Ends replies (jobs_of p e.node) stopped (registered_before p h i e.node) status text
 
 -- A history is legal for a plan, the replies of its jobs and a number of workers
-pub record IsLegal (p : Plan) (replies : ℕ → List Reply) (workers : ℕ) (h : List Event) : Type 0 where
+pub record IsLegal (p : PlanParts) (replies : ℕ → List Reply) (workers : ℕ) (h : List Event) : Type 0 where
   -- each event is lawful, of a node of the plan and by a worker of the run
   pub lawful : (i : ℕ) (e : Event) → slice_get h i ≡ Some e → is_lawful e ≡ true
   pub nodes : (i : ℕ) (e : Event) → slice_get h i ≡ Some e → e.node < size p.tree
@@ -81,15 +82,15 @@ pub record IsLegal (p : Plan) (replies : ℕ → List Reply) (workers : ℕ) (h 
   pub result : (i : ℕ) (e : Event) → slice_get h i ≡ Some e → e.kind ≡ Finished → (text : Option (List ℕ)) × HasResult p replies h i e text
 
 -- the node is skipped or stopped
-abbrev pub IsClosed : Plan → List Event → ℕ → Type 0
+abbrev pub IsClosed : PlanParts → List Event → ℕ → Type 0
 IsClosed p h a = ((i : ℕ) × StandsAt h i Skipped a) ⊎ IsStopped p h a
 
 -- the node lies below one that is skipped or stopped
-abbrev pub IsBarred : Plan → List Event → ℕ → Type 0
+abbrev pub IsBarred : PlanParts → List Event → ℕ → Type 0
 IsBarred p h n = (a : ℕ) × (IsClosed p h a × Below p.tree a n)
 
 -- every node is settled at the end, or lies below one that is skipped or stopped, or is a spare that is never registered
-abbrev pub IsComplete : Plan → List Event → Type 0
+abbrev pub IsComplete : PlanParts → List Event → Type 0
 IsComplete p h = (n : ℕ) → n < size p.tree → IsSettledAt h (length h) n ⊎ (IsBarred p h n ⊎ IsUnregistered p h n)
 
 -- why a node that is not disabled is skipped
@@ -102,7 +103,7 @@ reason_or_cancelled (Some reason) = reason
 
 -- The text of a node: its reason where it is skipped; where it is finished, the text of the reply that gives its
 -- status; else none.
-pub record IsTextOf (p : Plan) (replies : ℕ → List Reply) (h : List Event) (n : ℕ) (text : Option (List ℕ)) : Type 0 where
+pub record IsTextOf (p : PlanParts) (replies : ℕ → List Reply) (h : List Event) (n : ℕ) (text : Option (List ℕ)) : Type 0 where
   pub of_skip : (i : ℕ) → StandsAt h i Skipped n → text ≡ Some (reason_or_cancelled (reason_of p.tree n))
   pub of_finish : (i : ℕ) (e : Event) → slice_get h i ≡ Some e → e.kind ≡ Finished → e.node ≡ n → HasResult p replies h i e text
   pub of_none : ((i : ℕ) → StandsAt h i Skipped n → ⊥) → ((i : ℕ) → StandsAt h i Finished n → ⊥) → text ≡ None

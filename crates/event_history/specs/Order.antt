@@ -5,11 +5,12 @@ use Rattle.plan_events.specs.declared.event.EventKind.{EventKind}
 use Rattle.plan_events.specs.declared.event.EventKind.TheVariants.{Started, Finished}
 use Rattle.plan_events.specs.declared.event.Event.{Event}
 use Rattle.event_history.specs.Places.{same_kind, IsSettledAt}
-use Rattle.event_history.specs.Plans.{Plan, IsElder, is_same}
+use Rattle.resource_locks.specs.Plans.{PlanParts}
+use Rattle.event_history.specs.Plans.{IsElder, is_same}
 
 -- whether an elder child a must be settled before anything stands for a younger child b: both run on their parent's
 -- thread, or both are spares, and a runs on it
-abbrev pub goes_first : Plan → ℕ → ℕ → Bool
+abbrev pub goes_first : PlanParts → ℕ → ℕ → Bool
 goes_first p a b = is_same p a && (is_same p b || (is_spare_at p.tree a && is_spare_at p.tree b))
 
 -- whether an event of this kind opens its node
@@ -17,7 +18,7 @@ abbrev pub is_opening : EventKind → Bool
 is_opening k = not (same_kind k Finished)
 
 -- The same-thread order.
-pub record IsInOrder (p : Plan) (h : List Event) : Type 0 where
+pub record IsInOrder (p : PlanParts) (h : List Event) : Type 0 where
   -- an elder child is settled before what stands for a younger one
   pub elder_settled : (i a : ℕ) (e : Event) → slice_get h i ≡ Some e → IsElder p.tree a e.node → goes_first p a e.node ≡ true → IsSettledAt h i a
   -- what opens a child carries the worker of its parent's start

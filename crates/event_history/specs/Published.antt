@@ -2,13 +2,13 @@
 use Rattle.std.specs.Prelude.{ℕ, List}
 use Rattle.plan_events.specs.declared.event.Event.{Event}
 use Rattle.plan_events.specs.declared.outcome.Reply.{Reply}
-use Rattle.event_history.specs.Plans.{Plan}
+use Rattle.resource_locks.specs.Plans.{PlanParts}
 use Rattle.event_history.specs.History.{IsLegal}
 use Rattle.event_history.specs.Order.{IsInOrder}
 use Rattle.event_history.specs.Exclusion.{IsExclusive}
 
 -- it is legal, in same-thread order, and held locks exclude each other
-pub record IsPublished (p : Plan) (replies : ℕ → List Reply) (workers : ℕ) (h : List Event) : Type 0 where
+pub record IsPublished (p : PlanParts) (replies : ℕ → List Reply) (workers : ℕ) (h : List Event) : Type 0 where
   pub legal : IsLegal p replies workers h
   pub order : IsInOrder p h
   pub exclusive : IsExclusive p h

@@ -5,7 +5,8 @@ use Rattle.plan_events.specs.declared.status.Status.{Status}
 use Rattle.plan_events.specs.declared.status.Status.TheVariants.{Successful, Failed}
 use Rattle.plan_events.specs.declared.outcome.Reply.{Reply}
 use Rattle.plan_events.specs.Statuses.{is_successful}
-use Rattle.event_history.specs.Plans.{Sort, Leaf, Holder, Maker, Plan, has_child, spare_count, sort_of}
+use Rattle.resource_locks.specs.Plans.{PlanParts}
+use Rattle.event_history.specs.Plans.{Sort, Leaf, Holder, Maker, has_child, spare_count, sort_of}
 
 -- What is run for a node: nothing; a body alone; the body of a factory with so many spares; a container's body before
 -- its children, and after them its after-body.
@@ -23,11 +24,11 @@ jobs_by Maker (Some body) after spares = Pulled body spares
 jobs_by Holder body after spares = Around body after
 
 -- the after-body that is run: that of a container with children
-abbrev pub after_run : Plan → ℕ → Option ℕ
+abbrev pub after_run : PlanParts → ℕ → Option ℕ
 after_run p n = cond (has_child p n) (after_of p.tree n) None
 
 -- what is run for node n
-abbrev pub jobs_of : Plan → ℕ → Jobs
+abbrev pub jobs_of : PlanParts → ℕ → Jobs
 jobs_of p n = jobs_by (sort_of p.tree n) (body_of p.tree n) (after_run p n) (spare_count p n)
 
 -- one of the replies that the job may give has this status and this text

@@ -5,7 +5,7 @@ use Rattle.std.proofs.lemmas.List.{length-replicate}
 use Rattle.descriptor.specs.Nodes.{parent_of}
 use Rattle.plan_events.specs.declared.event.Event.{Event}
 use Rattle.plan_events.specs.declared.outcome.Reply.{Reply}
-use Rattle.event_history.specs.Plans.{Plan}
+use Rattle.resource_locks.specs.Plans.{PlanParts}
 use Rattle.scheduling.specs.State.{NodeStatus, Hidden, Ready, Claimed, Settled, LockWord, Registering, RegisteredAt, Offering, Noticing, Locking, Weighed, Backing, Beginning, StartedAt, Admitting, Guarding, Ending, FinishedAt, SkippedAt, Raising, Giving, Settling, Looking, Passing, CountingOff, Task, Free, Opens, Closes, Hand, Seat, State, status_at, counter_at}
 use Rattle.scheduling.specs.Choices.{next_spare, is_pulled, pulled_result, same_word, key_at, mode_at, taken, lock_from, claims}
 use Rattle.scheduling.specs.Rows.{with_task, goes, puts_word, claimed, guard_given, ends_or_free, Action, Claim, Own, Notice, Weigh, Take, Give, GiveUp, Draw, Show, Admit, AddChild, Done, Settle, Look, Raise, row, is_free, is_empty, is_of_hand, is_ready_for, notice_row, weigh_row, take_found, take_row, gives_key, give_row, give_up_row, draw_row, show_row, admit_row, child_added, add_by_hand, add_child_hand, add_child_row, done_by_hand, done_hand, done_row, settle_row, look_found, look_row, raise_row, goes_to, decided_seat, after_seat, after, Step, Works, Dispatches, read_event}
@@ -20,7 +20,7 @@ cond_crew : (s : State) (b : Bool) (x y : Option State) → Crew s x → Crew s 
 cond_crew s true x y a b = a
 cond_crew s false x y a b = b
 
-module _ (p : Plan) (s : State) (w : ℕ) (seat : Seat) (reply : Reply) where
+module _ (p : PlanParts) (s : State) (w : ℕ) (seat : Seat) (reply : Reply) where
   set_crew : (other : Seat) → length (goes_to s w other) ≡ length s.seats
   set_crew other = length-set s.seats w other
 
@@ -148,7 +148,7 @@ crew_on : (s t : State) (found : Option State) → length t.seats ≡ length s.s
 crew_on s t None e c = tt
 crew_on s t (Some u) e c = c ∙ e
 
-after_crew : (p : Plan) (s : State) (a : Step) → Crew s (after p s a)
+after_crew : (p : PlanParts) (s : State) (a : Step) → Crew s (after p s a)
 after_crew p s Dispatches = go (slice_index_or s.shown (length s.given) false) (slice_get s.published (length s.given))
   where
     go : (b : Bool) (e : Option Event) → Crew s (read_event s b e)
@@ -166,9 +166,9 @@ next_crew : (s : State) (found : Option State) → Crew s found → length (or_s
 next_crew s None c = refl
 next_crew s (Some t) c = c
 
-run_crew : (p : Plan) (s : State) (list : List Step) → length (run p s list).seats ≡ length s.seats
+run_crew : (p : PlanParts) (s : State) (list : List Step) → length (run p s list).seats ≡ length s.seats
 run_crew p s [] = refl
 run_crew p s (a ∷ list) = run_crew p (next p s a) list ∙ next_crew s (after p s a) (after_crew p s a)
 
-pub all_workers : (p : Plan) (workers : ℕ) (list : List Step) → length (run p (opening p workers) list).seats ≡ workers
+pub all_workers : (p : PlanParts) (workers : ℕ) (list : List Step) → length (run p (opening p workers) list).seats ≡ workers
 all_workers p workers list = run_crew p (opening p workers) list ∙ length-replicate workers (record { task = Free; hand = None })

@@ -13,7 +13,8 @@ use Rattle.plan_events.specs.declared.status.Status.{Status}
 use Rattle.plan_events.specs.declared.status.Status.TheVariants.{Successful}
 use Rattle.plan_events.specs.Words.{is_lawful, fits_status, plan_may}
 use Rattle.resource_locks.specs.Wants.{HasLock}
-use Rattle.event_history.specs.Plans.{Plan, IsElder, is_same, held_of, sort_of, pulls_job, has_child, rank}
+use Rattle.resource_locks.specs.Plans.{PlanParts, held_of}
+use Rattle.event_history.specs.Plans.{IsElder, is_same, sort_of, pulls_job, has_child, rank}
 use Rattle.event_history.specs.Places.{has}
 use Rattle.event_history.specs.Results.{jobs_of, Ends, EndsAfter}
 use Rattle.event_history.specs.Order.{goes_first}
@@ -34,7 +35,7 @@ use Rattle.scheduling.proofs.Spares.{elder_is_registered}
 
 -- Keys
 -- a node that has started, and not finished, holds all of its keys
-begun_keys : (p : Plan) (n : ℕ) (st : Stage) → has_mark true Started (picture p n st).mark ≡ true → has_mark true Finished (picture p n st).mark ≡ false → (picture p n st).keys ≡ keys_count p n
+begun_keys : (p : PlanParts) (n : ℕ) (st : Stage) → has_mark true Started (picture p n st).mark ≡ true → has_mark true Finished (picture p n st).mark ≡ false → (picture p n st).keys ≡ keys_count p n
 begun_keys p n (OpenedBy w (StartedAt i)) q r = refl
 begun_keys p n (OpenedBy w Awaiting) q r = refl
 begun_keys p n (OpenedBy w (Admitting c)) q r = refl
@@ -71,7 +72,7 @@ same_mode-refl Read = refl
 same_mode-refl ReadWrite = refl
 
 -- a node that holds all of its keys holds each one
-holds_one : (p : Plan) (n : ℕ) (key : List ℕ) (mode : LockMode) → HasLock (held_of p n) key mode → 1 ≤ keys_in p (key_place p key) mode n (keys_count p n)
+holds_one : (p : PlanParts) (n : ℕ) (key : List ℕ) (mode : LockMode) → HasLock (held_of p n) key mode → 1 ≤ keys_in p (key_place p key) mode n (keys_count p n)
 unfolding keys_in
 holds_one p n key mode lock =
     let is : lock_of p n lock.0 ≡ record { key = key; mode = mode } = get_or_from_slice_get (held_of p n) lock.0 (record { key = key; mode = mode }) (record { key = []; mode = Read }) lock.1 in
@@ -83,7 +84,7 @@ word_apart (Readers n) le = absurd (omega (arith, le))
 word_apart Written le = (refl, refl)
 
 -- a settled node is finished or skipped
-past_settled : (p : Plan) (n : ℕ) (st : Stage) → is_past st ≡ true → (has_mark true Finished (picture p n st).mark || has_mark true Skipped (picture p n st).mark) ≡ true
+past_settled : (p : PlanParts) (n : ℕ) (st : Stage) → is_past st ≡ true → (has_mark true Finished (picture p n st).mark || has_mark true Skipped (picture p n st).mark) ≡ true
 past_settled p n (ClosedBy w c CountingOff Gave) q = refl
 past_settled p n (ClosedBy w c CountingOff Kept) q = refl
 past_settled p n (ClosedBy w c CountingOff Skips) q = refl
@@ -94,7 +95,7 @@ past_settled p n (ClosedBy w c _ how) q = absurd (false≢true q)
 past_settled p n _ q = absurd (false≢true q)
 
 -- the plan's node ends successfully
-root_success : (p : Plan) (replies : ℕ → List Reply) (stopped : Bool) (count : ℕ) (status : Status) (text : Option (List ℕ)) → Ends replies (jobs_of p 0) stopped count status text → status ≡ Successful
+root_success : (p : PlanParts) (replies : ℕ → List Reply) (stopped : Bool) (count : ℕ) (status : Status) (text : Option (List ℕ)) → Ends replies (jobs_of p 0) stopped count status text → status ≡ Successful
 root_success p replies true count status text lawful = absurd lawful
 root_success p replies false count status text lawful = go (has_child p 0) lawful
   where
@@ -135,7 +136,7 @@ finished_not q = cc
 skipped_not : Skipped ≡ Registered → ⊥
 skipped_not q = cc
 
-module _ (p : Plan) (core : IsCorePlan p) (replies : ℕ → List Reply) (s : State) (g : ℕ → Stage) (h : Holds p replies s g) (w : ℕ) (seat : Seat) (is : slice_get s.seats w ≡ Some seat) (x : ℕ) (inside : x < size p.tree) where
+module _ (p : PlanParts) (core : IsCorePlan p) (replies : ℕ → List Reply) (s : State) (g : ℕ → Stage) (h : Holds p replies s g) (w : ℕ) (seat : Seat) (is : slice_get s.seats w ≡ Some seat) (x : ℕ) (inside : x < size p.tree) where
   seat_of : SeatOk p g s.published s.cancel w seat
   seat_of = h.seats w seat is
 

@@ -5,7 +5,8 @@ use Rattle.std.proofs.lemmas.Option.{same_Some}
 use Rattle.std.proofs.lemmas.Bool.{cases_eq, and_parts}
 use Rattle.descriptor.specs.Nodes.{size, parent_of, IsChild, is_spare_at}
 use Rattle.plan_events.specs.declared.outcome.Reply.{Reply}
-use Rattle.event_history.specs.Plans.{Plan, IsPlanTree, IsElder, is_same}
+use Rattle.resource_locks.specs.Plans.{PlanParts}
+use Rattle.event_history.specs.Plans.{IsPlanTree, IsElder, is_same}
 use Rattle.event_history.specs.Order.{goes_first}
 use Rattle.event_history.specs.Following.{has_failed, has_failed_by, registered_in}
 use Rattle.event_history.specs.Published.{IsPublished}
@@ -14,7 +15,7 @@ use Rattle.scheduling.specs.Stages.{Stage, Unseen, Offered, OpenedBy, InHand, Wa
 use Rattle.scheduling.specs.Invariant.{WordsOk, CountersOk, ResultsOk, LocksOk, FlagsOk, StartersOk, ShapeOk, Fits, EdgesOk, EldersOk, TaskOk, HandOk, SeatOk, HeldBy, IsGiven, Holds}
 use Rattle.scheduling.proofs.Basics.{upd, upd_same, upd_other, upd_all, get_set, get_set_same, get_set_other}
 
-pub record Move (p : Plan) (replies : ℕ → List Reply) (s t : State) (g : ℕ → Stage) (w x : ℕ) (b : Stage) (seat seat2 : Seat) : Type 0 where
+pub record Move (p : PlanParts) (replies : ℕ → List Reply) (s t : State) (g : ℕ → Stage) (w x : ℕ) (b : Stage) (seat seat2 : Seat) : Type 0 where
   -- the worker's seat
   pub inside : x < size p.tree
   pub seat_is : slice_get s.seats w ≡ Some seat
@@ -57,7 +58,7 @@ hand_apart v w ne q = ne (go v w q)
     go v w q = cc
 
 -- of a task's node nobody else's step changes the stage
-pub task_keeps : (p : Plan) (g : ℕ → Stage) (x : ℕ) (b : Stage) (v : ℕ) (t : Task) → (who (g x) ≡ Some v → ⊥) → TaskOk p g v t → TaskOk p (upd g x b) v t
+pub task_keeps : (p : PlanParts) (g : ℕ → Stage) (x : ℕ) (b : Stage) (v : ℕ) (t : Task) → (who (g x) ≡ Some v → ⊥) → TaskOk p g v t → TaskOk p (upd g x b) v t
 task_keeps p g x b v Free apart old = tt
 task_keeps p g x b v (Opens n d) apart old = (old.0, upd_other g x b n (λ e. apart (ap who (ap g (sym e) ∙ old.1))) ∙ old.1)
 task_keeps p g x b v (Closes n d) apart old = (old.0, (old.1.0, old.1.1, upd_other g x b n (λ e. apart (ap who (ap g (sym e) ∙ old.1.2))) ∙ old.1.2))
@@ -83,7 +84,7 @@ held_keeps seats w seat seat2 n st is still = go st
     go (ClosedBy v c d how) old = one v (Closes n d) refl old.0 old.1 old.2
     go (Over how) old = tt
 
-module _ (p : Plan) (plan : IsPlanTree p.tree) (replies : ℕ → List Reply) (s t : State) (g : ℕ → Stage) (w x : ℕ) (b : Stage) (seat seat2 : Seat) (h : Holds p replies s g) (m : Move p replies s t g w x b seat seat2) where
+module _ (p : PlanParts) (plan : IsPlanTree p.tree) (replies : ℕ → List Reply) (s t : State) (g : ℕ → Stage) (w x : ℕ) (b : Stage) (seat seat2 : Seat) (h : Holds p replies s g) (m : Move p replies s t g w x b seat seat2) where
   edges_keep : EdgesOk p (upd g x b)
   edges_keep a c ch =
       let up : parent_of p.tree c < c = plan.rooted.up c ch.above_zero ch.inside in

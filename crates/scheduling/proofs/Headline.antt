@@ -2,7 +2,7 @@
 use Rattle.std.proofs.Common.{◌≤◌, ◌≡◌, ℕ, List, [], ◌∷◌, length, Option, Some, None, refl, subst}
 use Rattle.descriptor.specs.Nodes.{IsTree}
 use Rattle.plan_events.specs.declared.outcome.Reply.{Reply}
-use Rattle.event_history.specs.Plans.{Plan}
+use Rattle.resource_locks.specs.Plans.{PlanParts}
 use Rattle.event_history.proofs.Roots.{nothing_after}
 use Rattle.event_history.proofs.Whole.{complete_at_finish}
 use Rattle.event_history.proofs.Spares.{plan_tree, maker_spares}
@@ -14,7 +14,7 @@ use Rattle.scheduling.proofs.Crew.{all_workers}
 use Rattle.scheduling.proofs.Steps.{after_keeps}
 use Rattle.scheduling.proofs.Opening.{opening_is}
 
-next_keeps : (p : Plan) → IsCorePlan p → (replies : ℕ → List Reply) (s : State) (a : Step) → IsKept p replies s → IsReplied p replies s a → IsKept p replies (next p s a)
+next_keeps : (p : PlanParts) → IsCorePlan p → (replies : ℕ → List Reply) (s : State) (a : Step) → IsKept p replies s → IsReplied p replies s a → IsKept p replies (next p s a)
 next_keeps p core replies s a kept replied = go (after p s a) refl
   where
     go : (found : Option State) → after p s a ≡ found → IsKept p replies (or_stays s found)
@@ -22,11 +22,11 @@ next_keeps p core replies s a kept replied = go (after p s a) refl
     go (Some t) q = after_keeps p core replies s t a kept replied q
 
 -- The invariant is kept by every list of steps.
-pub run_keeps : (p : Plan) → IsCorePlan p → (replies : ℕ → List Reply) (s : State) (list : List Step) → IsKept p replies s → AllReplied p replies s list → IsKept p replies (run p s list)
+pub run_keeps : (p : PlanParts) → IsCorePlan p → (replies : ℕ → List Reply) (s : State) (list : List Step) → IsKept p replies s → AllReplied p replies s list → IsKept p replies (run p s list)
 run_keeps p core replies s [] kept replied = kept
 run_keeps p core replies s (a ∷ list) kept replied = run_keeps p core replies (next p s a) list (next_keeps p core replies s a kept replied.0) replied.1
 
-pub kept_right : (p : Plan) → IsCorePlan p → (replies : ℕ → List Reply) (s : State) → IsKept p replies s → IsRight p replies (length s.seats) s
+pub kept_right : (p : PlanParts) → IsCorePlan p → (replies : ℕ → List Reply) (s : State) → IsKept p replies s → IsRight p replies (length s.seats) s
 kept_right p core replies s kept =
     let h = kept.1 in
     record {
@@ -40,12 +40,12 @@ kept_right p core replies s kept =
     }
 
 -- what the core asks of a plan's tree, every tree of nodes has
-pub core_plan : (p : Plan) → IsTree p.tree → IsCorePlan p
+pub core_plan : (p : PlanParts) → IsTree p.tree → IsCorePlan p
 core_plan p tree = record { plan = plan_tree p.tree tree; few = tree.few; makers = maker_spares p.tree tree }
 
 -- Whatever steps the workers and the dispatcher take, in whatever order: what is published is legal, in order and exclusive;
 -- what is given is a beginning of it; and where the plan's finish stands, it stands last and the history is complete.
-pub headline : (p : Plan) → IsTree p.tree → (replies : ℕ → List Reply) (workers : ℕ) → workers ≤ 64 → (list : List Step) → AllReplied p replies (opening p workers) list
+pub headline : (p : PlanParts) → IsTree p.tree → (replies : ℕ → List Reply) (workers : ℕ) → workers ≤ 64 → (list : List Step) → AllReplied p replies (opening p workers) list
     → IsRight p replies workers (run p (opening p workers) list)
 headline p tree replies workers few list replied =
     let core = core_plan p tree in

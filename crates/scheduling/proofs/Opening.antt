@@ -12,7 +12,7 @@ use Rattle.plan_events.specs.declared.outcome.Reply.{Reply}
 use Rattle.plan_events.specs.declared.status.Status.{Status}
 use Rattle.plan_events.specs.declared.status.Status.TheVariants.{Successful}
 use Rattle.resource_locks.specs.Held.{table}
-use Rattle.event_history.specs.Plans.{Plan}
+use Rattle.resource_locks.specs.Plans.{PlanParts}
 use Rattle.event_history.proofs.Published.{published_nil}
 use Rattle.scheduling.specs.State.{Hidden, Readers, Free, Seat}
 use Rattle.scheduling.specs.Runs.{first_status, first_counter, opening}
@@ -59,12 +59,12 @@ get_replicate zero x y i q = absurd (none-some y q)
 get_replicate (suc n) x y zero q = same_Some x y q
 get_replicate (suc n) x y (suc i) q = get_replicate n x y i q
 
-first_words : (p : Plan) (n : ℕ) → first_status n ≡ (picture p n (first_stage n)).word
+first_words : (p : PlanParts) (n : ℕ) → first_status n ≡ (picture p n (first_stage n)).word
 unfolding first_stage
 first_words p zero = refl
 first_words p (suc n) = refl
 
-first_pending : (p : Plan) (n : ℕ) → pending p first_stage n ≡ count_below (λ c. is_child p.tree n c && not (is_spare_at p.tree c)) (size p.tree)
+first_pending : (p : PlanParts) (n : ℕ) → pending p first_stage n ≡ count_below (λ c. is_child p.tree n c && not (is_spare_at p.tree c)) (size p.tree)
 unfolding first_stage pending
 first_pending p n = count_same (pends_at p first_stage n) (λ c. is_child p.tree n c && not (is_spare_at p.tree c)) (size p.tree) (λ c lt. same c)
   where
@@ -72,7 +72,7 @@ first_pending p n = count_same (pends_at p first_stage n) (λ c. is_child p.tree
     same zero = refl
     same (suc c) = refl
 
-first_guard : (p : Plan) (n : ℕ) → (picture p n (first_stage n)).guard ≡ 1
+first_guard : (p : PlanParts) (n : ℕ) → (picture p n (first_stage n)).guard ≡ 1
 unfolding first_stage
 first_guard p zero = refl
 first_guard p (suc n) = refl
@@ -81,7 +81,7 @@ sum_zero : (f : ℕ → ℕ) (n : ℕ) → ((k : ℕ) → f k ≡ 0) → sum_bel
 sum_zero f zero each = refl
 sum_zero f (suc n) each = (let a = each n in let b = sum_zero f n each in omega (arith, a, b))
 
-first_holders : (p : Plan) (k : ℕ) (mode : LockMode) → holders p first_stage k mode ≡ 0
+first_holders : (p : PlanParts) (k : ℕ) (mode : LockMode) → holders p first_stage k mode ≡ 0
 unfolding first_stage holders keys_in
 first_holders p k mode = sum_zero (λ n. keys_in p k mode n (picture p n (first_stage n)).keys) (size p.tree) each
   where
@@ -93,7 +93,7 @@ free_word : (mode : LockMode) → holders_by mode (Readers 0) ≡ 0
 free_word Read = refl
 free_word ReadWrite = refl
 
-first_flags : (p : Plan) (k : EventKind) (n : ℕ) → false ≡ has_mark (is_spare_at p.tree n) k (picture p n (first_stage n)).mark
+first_flags : (p : PlanParts) (k : EventKind) (n : ℕ) → false ≡ has_mark (is_spare_at p.tree n) k (picture p n (first_stage n)).mark
 unfolding first_stage
 first_flags p Started zero = refl
 first_flags p Finished zero = refl
@@ -101,7 +101,7 @@ first_flags p Skipped zero = refl
 first_flags p Registered zero = refl
 first_flags p k (suc n) = sym (blank_none (is_spare_at p.tree (suc n)) k)
 
-pub opening_is : (p : Plan) → IsCorePlan p → (replies : ℕ → List Reply) (workers : ℕ) → workers ≤ 64 → IsKept p replies (opening p workers)
+pub opening_is : (p : PlanParts) → IsCorePlan p → (replies : ℕ → List Reply) (workers : ℕ) → workers ≤ 64 → IsKept p replies (opening p workers)
 unfolding first_stage
 opening_is p core replies workers few = (
   first_stage,

@@ -8,7 +8,8 @@ use Rattle.descriptor.specs.declared.lock_mode.LockMode.TheVariants.{Read, ReadW
 use Rattle.descriptor.specs.Nodes.{size, parent_of, IsChild, is_child, is_spare_at, bit}
 use Rattle.plan_events.specs.declared.event.Event.{Event}
 use Rattle.plan_events.specs.declared.status.Status.{Status}
-use Rattle.event_history.specs.Plans.{Plan, IsPlanTree, is_same}
+use Rattle.resource_locks.specs.Plans.{PlanParts}
+use Rattle.event_history.specs.Plans.{IsPlanTree, is_same}
 use Rattle.event_history.specs.Following.{has_failed_by}
 use Rattle.scheduling.specs.State.{NodeStatus, Hidden, LockWord, Readers, Written, Task, Hand, State}
 use Rattle.scheduling.specs.Choices.{admits, taken, given_back, key_at, mode_at}
@@ -17,10 +18,10 @@ use Rattle.scheduling.specs.Invariant.{pends_at, pending, same_mode, is_key, key
 use Rattle.scheduling.proofs.Basics.{upd, upd_same, upd_other, upd_all, count_same, count_change, count_none, sum_change}
 
 -- Statuses
-abbrev pub StatusList : Plan → List NodeStatus → (ℕ → Stage) → Type 0
+abbrev pub StatusList : PlanParts → List NodeStatus → (ℕ → Stage) → Type 0
 StatusList p l g = (length l ≡ size p.tree) × ((n : ℕ) → n < size p.tree → slice_index_or l n Hidden ≡ (picture p n (g n)).word)
 
-pub words_set : (p : Plan) (l : List NodeStatus) (g : ℕ → Stage) (x : ℕ) (b : Stage) → StatusList p l g → StatusList p (set l x (picture p x b).word) (upd g x b)
+pub words_set : (p : PlanParts) (l : List NodeStatus) (g : ℕ → Stage) (x : ℕ) (b : Stage) → StatusList p l g → StatusList p (set l x (picture p x b).word) (upd g x b)
 words_set p l g x b old = (
   length-set l x (picture p x b).word ∙ old.0,
   λ n lt.
@@ -30,7 +31,7 @@ words_set p l g x b old = (
       ],
 )
 
-pub words_keep : (p : Plan) (l : List NodeStatus) (g : ℕ → Stage) (x : ℕ) (a b : Stage) → g x ≡ a → (picture p x a).word ≡ (picture p x b).word → StatusList p l g → StatusList p l (upd g x b)
+pub words_keep : (p : PlanParts) (l : List NodeStatus) (g : ℕ → Stage) (x : ℕ) (a b : Stage) → g x ≡ a → (picture p x a).word ≡ (picture p x b).word → StatusList p l g → StatusList p l (upd g x b)
 words_keep p l g x a b at same old = (
   old.0,
   λ n lt. upd_all (λ k st. slice_index_or l k Hidden ≡ (picture p k st).word) g x b n
@@ -38,31 +39,31 @@ words_keep p l g x a b at same old = (
 )
 
 -- Results
-pub results_keep : (p : Plan) (s : State) (g : ℕ → Stage) (x : ℕ) (b : Stage) → ((c : ℕ) (r : Status) → b ≡ Waiting c r → ⊥) → ResultsOk p s g → ResultsOk p s (upd g x b)
+pub results_keep : (p : PlanParts) (s : State) (g : ℕ → Stage) (x : ℕ) (b : Stage) → ((c : ℕ) (r : Status) → b ≡ Waiting c r → ⊥) → ResultsOk p s g → ResultsOk p s (upd g x b)
 results_keep p s g x b not old n c r lt at = elim (cases_eq n x) [ inl e ↦ absurd (not c r (sym (upd_same g x b n e) ∙ at)) | inr ne ↦ old n c r lt (sym (upd_other g x b n ne) ∙ at) ]
 
 -- Counters
-pends_other : (p : Plan) (g : ℕ → Stage) (x : ℕ) (b : Stage) (a k : ℕ) → k ≢ x → pends_at p (upd g x b) a k ≡ pends_at p g a k
+pends_other : (p : PlanParts) (g : ℕ → Stage) (x : ℕ) (b : Stage) (a k : ℕ) → k ≢ x → pends_at p (upd g x b) a k ≡ pends_at p g a k
 pends_other p g x b a k ne = ap (λ (st : Stage). is_child p.tree a k && is_pending (is_spare_at p.tree k) st) (upd_other g x b k ne)
 
-pub pending_keep : (p : Plan) (g : ℕ → Stage) (x : ℕ) (b : Stage) (a : ℕ) → is_pending (is_spare_at p.tree x) (g x) ≡ is_pending (is_spare_at p.tree x) b → pending p (upd g x b) a ≡ pending p g a
+pub pending_keep : (p : PlanParts) (g : ℕ → Stage) (x : ℕ) (b : Stage) (a : ℕ) → is_pending (is_spare_at p.tree x) (g x) ≡ is_pending (is_spare_at p.tree x) b → pending p (upd g x b) a ≡ pending p g a
 unfolding pending
 pending_keep p g x b a same =
     count_same (pends_at p (upd g x b) a) (pends_at p g a) (size p.tree) (λ k lt. upd_all (λ j st. (is_child p.tree a j && is_pending (is_spare_at p.tree j) st) ≡ pends_at p g a j) g x b k
     (λ e. ap (λ (t : Bool). is_child p.tree a k && t) (ap (λ (j : ℕ). is_pending (is_spare_at p.tree j) b) e ∙ sym same ∙ ap (λ (j : ℕ). is_pending (is_spare_at p.tree j) (g j)) (sym e))) (λ _. refl))
 
 -- for a node that is not the parent nothing changes
-pub pending_elsewhere : (p : Plan) (g : ℕ → Stage) (x : ℕ) (b : Stage) (a : ℕ) → is_child p.tree a x ≡ false → pending p (upd g x b) a ≡ pending p g a
+pub pending_elsewhere : (p : PlanParts) (g : ℕ → Stage) (x : ℕ) (b : Stage) (a : ℕ) → is_child p.tree a x ≡ false → pending p (upd g x b) a ≡ pending p g a
 unfolding pending
 pending_elsewhere p g x b a not =
     count_same (pends_at p (upd g x b) a) (pends_at p g a) (size p.tree) (λ k lt. upd_all (λ j st. (is_child p.tree a j && is_pending (is_spare_at p.tree j) st) ≡ pends_at p g a j) g x b k
     (λ e. (let f : is_child p.tree a k ≡ false = ap (is_child p.tree a) e ∙ not in and_left (is_child p.tree a k) _ f ∙ sym (and_left (is_child p.tree a k) _ f))) (λ _. refl))
 
-test_child : (p : Plan) (a x : ℕ) → IsChild p.tree a x → is_child p.tree a x ≡ true
+test_child : (p : PlanParts) (a x : ℕ) → IsChild p.tree a x → is_child p.tree a x ≡ true
 test_child p a x ch = and_from (nat_lt 0 x) (parent_of p.tree x == a) (lt-ltb 0 x ch.above_zero) (eq-eqb (parent_of p.tree x) a ch.parent)
 
 -- at the parent
-pub pending_change : (p : Plan) (g : ℕ → Stage) (x : ℕ) (b : Stage) (a : ℕ) → IsChild p.tree a x → pending p g a + bit (is_pending (is_spare_at p.tree x) b) ≡ pending p (upd g x b) a + bit (is_pending (is_spare_at p.tree x) (g x))
+pub pending_change : (p : PlanParts) (g : ℕ → Stage) (x : ℕ) (b : Stage) (a : ℕ) → IsChild p.tree a x → pending p g a + bit (is_pending (is_spare_at p.tree x) b) ≡ pending p (upd g x b) a + bit (is_pending (is_spare_at p.tree x) (g x))
 unfolding pending
 pending_change p g x b a ch =
     let change = count_change (pends_at p g a) (pends_at p (upd g x b) a) x (size p.tree) ch.inside (λ k ne. sym (pends_other p g x b a k ne)) in
@@ -71,7 +72,7 @@ pending_change p g x b a ch =
     let v : bit (pends_at p (upd g x b) a x) ≡ bit (is_pending (is_spare_at p.tree x) b) = ap (λ (t : Bool). bit (t && is_pending (is_spare_at p.tree x) (upd g x b x))) c ∙ ap (λ (st : Stage). bit (is_pending (is_spare_at p.tree x) st)) (upd_same g x b x refl) in
     omega (arith, change, u, v)
 
-pub pending_none : (p : Plan) (g : ℕ → Stage) (a c : ℕ) → pending p g a ≡ 0 → IsChild p.tree a c → is_over (is_spare_at p.tree c) (g c) ≡ true
+pub pending_none : (p : PlanParts) (g : ℕ → Stage) (a c : ℕ) → pending p g a ≡ 0 → IsChild p.tree a c → is_over (is_spare_at p.tree c) (g c) ≡ true
 unfolding pending
 pending_none p g a c z ch =
     let off : pends_at p g a c ≡ false = count_none (pends_at p g a) (size p.tree) z c ch.inside in
@@ -90,10 +91,10 @@ pending_none p g a c z ch =
     over spare (ClosedBy w d e how) q = absurd (false≢true (sym q))
     over spare (Over how) q = refl
 
-abbrev pub CounterList : Plan → List ℕ → (ℕ → Stage) → Type 0
+abbrev pub CounterList : PlanParts → List ℕ → (ℕ → Stage) → Type 0
 CounterList p l g = (length l ≡ size p.tree) × ((n : ℕ) → n < size p.tree → slice_index_or l n 0 ≡ (picture p n (g n)).guard + pending p g n)
 
-pub counters_keep : (p : Plan) (l : List ℕ) (g : ℕ → Stage) (x : ℕ) (a b : Stage) → g x ≡ a → (picture p x a).guard ≡ (picture p x b).guard → is_pending (is_spare_at p.tree x) a ≡ is_pending (is_spare_at p.tree x) b → CounterList p l g → CounterList p l (upd g x b)
+pub counters_keep : (p : PlanParts) (l : List ℕ) (g : ℕ → Stage) (x : ℕ) (a b : Stage) → g x ≡ a → (picture p x a).guard ≡ (picture p x b).guard → is_pending (is_spare_at p.tree x) a ≡ is_pending (is_spare_at p.tree x) b → CounterList p l g → CounterList p l (upd g x b)
 counters_keep p l g x a b at guard pend old = (
   old.0,
   λ n lt.
@@ -105,7 +106,7 @@ counters_keep p l g x a b at guard pend old = (
 )
 
 -- the node's own guard is given up
-pub counters_give : (p : Plan) (l : List ℕ) (g : ℕ → Stage) (x : ℕ) (a b : Stage) → x < size p.tree → g x ≡ a → (picture p x a).guard ≡ 1 → (picture p x b).guard ≡ 0 → is_pending (is_spare_at p.tree x) a ≡ is_pending (is_spare_at p.tree x) b
+pub counters_give : (p : PlanParts) (l : List ℕ) (g : ℕ → Stage) (x : ℕ) (a b : Stage) → x < size p.tree → g x ≡ a → (picture p x a).guard ≡ 1 → (picture p x b).guard ≡ 0 → is_pending (is_spare_at p.tree x) a ≡ is_pending (is_spare_at p.tree x) b
     → CounterList p l g → CounterList p (set l x (get_or l x 0 - 1)) (upd g x b)
 counters_give p l g x a b inside at was is pend old = (
   length-set l x (get_or l x 0 - 1) ∙ old.0,
@@ -126,7 +127,7 @@ counters_give p l g x a b inside at was is pend old = (
 )
 
 -- a child is counted off, or comes to be counted: the parent's counter goes from its value to v
-pub counters_child : (p : Plan) (l : List ℕ) (g : ℕ → Stage) (par x v : ℕ) (a b : Stage) → IsPlanTree p.tree → par < size p.tree → IsChild p.tree par x → g x ≡ a → (picture p x a).guard ≡ (picture p x b).guard
+pub counters_child : (p : PlanParts) (l : List ℕ) (g : ℕ → Stage) (par x v : ℕ) (a b : Stage) → IsPlanTree p.tree → par < size p.tree → IsChild p.tree par x → g x ≡ a → (picture p x a).guard ≡ (picture p x b).guard
     → v + bit (is_pending (is_spare_at p.tree x) a) ≡ get_or l par 0 + bit (is_pending (is_spare_at p.tree x) b) → CounterList p l g → CounterList p (set l par v) (upd g x b)
 counters_child p l g par x v a b plan inside ch at guard change old = (
   length-set l par v ∙ old.0,
@@ -150,10 +151,10 @@ counters_child p l g par x v a b plan inside ch at guard change old = (
 )
 
 -- Locks
-abbrev pub LockList : Plan → List LockWord → (ℕ → Stage) → Type 0
+abbrev pub LockList : PlanParts → List LockWord → (ℕ → Stage) → Type 0
 LockList p l g = (k : ℕ) (mode : LockMode) → holders p g k mode ≡ holders_by mode (slice_index_or l k (Readers 0))
 
-pub holders_change : (p : Plan) (g : ℕ → Stage) (x : ℕ) (a b : Stage) (k : ℕ) (mode : LockMode) → x < size p.tree → g x ≡ a
+pub holders_change : (p : PlanParts) (g : ℕ → Stage) (x : ℕ) (a b : Stage) (k : ℕ) (mode : LockMode) → x < size p.tree → g x ≡ a
     → holders p g k mode + keys_in p k mode x (picture p x b).keys ≡ holders p (upd g x b) k mode + keys_in p k mode x (picture p x a).keys
 unfolding holders
 holders_change p g x a b k mode inside at =
@@ -162,7 +163,7 @@ holders_change p g x a b k mode inside at =
     let v : keys_in p k mode x (picture p x (g x)).keys ≡ keys_in p k mode x (picture p x a).keys = ap (λ (st : Stage). keys_in p k mode x (picture p x st).keys) at in
     omega (arith, change, u, v)
 
-pub locks_keep : (p : Plan) (l : List LockWord) (g : ℕ → Stage) (x : ℕ) (a b : Stage) → x < size p.tree → g x ≡ a → (picture p x a).keys ≡ (picture p x b).keys → LockList p l g → LockList p l (upd g x b)
+pub locks_keep : (p : PlanParts) (l : List LockWord) (g : ℕ → Stage) (x : ℕ) (a b : Stage) → x < size p.tree → g x ≡ a → (picture p x a).keys ≡ (picture p x b).keys → LockList p l g → LockList p l (upd g x b)
 locks_keep p l g x a b inside at same old k mode =
     let c = holders_change p g x a b k mode inside at in
     let o = old k mode in
@@ -170,14 +171,14 @@ locks_keep p l g x a b inside at same old k mode =
     omega (arith, c, o, e)
 
 -- one key more, or one less
-one_key : (p : Plan) (k : ℕ) (mode : LockMode) (x i : ℕ) → keys_in p k mode x (suc i) ≡ bit (is_key p k mode x i) + keys_in p k mode x i
+one_key : (p : PlanParts) (k : ℕ) (mode : LockMode) (x i : ℕ) → keys_in p k mode x (suc i) ≡ bit (is_key p k mode x i) + keys_in p k mode x i
 unfolding keys_in
 one_key p k mode x i = refl
 
-key_elsewhere : (p : Plan) (k : ℕ) (mode : LockMode) (x i : ℕ) → k ≢ key_at p x i → bit (is_key p k mode x i) ≡ 0
+key_elsewhere : (p : PlanParts) (k : ℕ) (mode : LockMode) (x i : ℕ) → k ≢ key_at p x i → bit (is_key p k mode x i) ≡ 0
 key_elsewhere p k mode x i ne = ap bit (and_left (key_at p x i == k) (same_mode (mode_at p x i) mode) (ne_eqb (key_at p x i) k (λ e. ne (sym e))))
 
-key_here : (p : Plan) (k : ℕ) (mode : LockMode) (x i : ℕ) → k ≡ key_at p x i → bit (is_key p k mode x i) ≡ bit (same_mode (mode_at p x i) mode)
+key_here : (p : PlanParts) (k : ℕ) (mode : LockMode) (x i : ℕ) → k ≡ key_at p x i → bit (is_key p k mode x i) ≡ bit (same_mode (mode_at p x i) mode)
 key_here p k mode x i e = ap (λ (t : Bool). bit (t && same_mode (mode_at p x i) mode)) (eq-eqb (key_at p x i) k (sym e))
 
 taken_is : (m mode : LockMode) (word : LockWord) → admits m word ≡ true → holders_by mode (taken m word) ≡ holders_by mode word + bit (same_mode m mode)
@@ -191,7 +192,7 @@ taken_is ReadWrite Read (Readers n) q = zero_of n q
 taken_is ReadWrite ReadWrite (Readers n) q = refl
 taken_is ReadWrite mode Written q = absurd (false≢true q)
 
-pub locks_take : (p : Plan) (l : List LockWord) (g : ℕ → Stage) (x i : ℕ) (a b : Stage) (word : LockWord) → x < size p.tree → g x ≡ a → (picture p x a).keys ≡ i → (picture p x b).keys ≡ suc i → slice_get l (key_at p x i) ≡ Some word → admits (mode_at p x i) word ≡ true
+pub locks_take : (p : PlanParts) (l : List LockWord) (g : ℕ → Stage) (x i : ℕ) (a b : Stage) (word : LockWord) → x < size p.tree → g x ≡ a → (picture p x a).keys ≡ i → (picture p x b).keys ≡ suc i → slice_get l (key_at p x i) ≡ Some word → admits (mode_at p x i) word ≡ true
     → LockList p l g → LockList p (set l (key_at p x i) (taken (mode_at p x i) word)) (upd g x b)
 locks_take p l g x i a b word inside at ka kb found ok old k mode =
     let c = holders_change p g x a b k mode inside at in
@@ -220,7 +221,7 @@ given_is ReadWrite mode (Readers n) le = absurd (omega (arith, le))
 given_is ReadWrite Read Written le = refl
 given_is ReadWrite ReadWrite Written le = refl
 
-pub locks_give : (p : Plan) (l : List LockWord) (g : ℕ → Stage) (x i : ℕ) (a b : Stage) (word : LockWord) → x < size p.tree → g x ≡ a → (picture p x a).keys ≡ suc i → (picture p x b).keys ≡ i → slice_get l (key_at p x i) ≡ Some word
+pub locks_give : (p : PlanParts) (l : List LockWord) (g : ℕ → Stage) (x i : ℕ) (a b : Stage) (word : LockWord) → x < size p.tree → g x ≡ a → (picture p x a).keys ≡ suc i → (picture p x b).keys ≡ i → slice_get l (key_at p x i) ≡ Some word
     → LockList p l g → LockList p (set l (key_at p x i) (given_back (mode_at p x i) word)) (upd g x b)
 locks_give p l g x i a b word inside at ka kb found old k mode =
     let c = holders_change p g x a b k mode inside at in
@@ -276,19 +277,19 @@ live_over spare (Waiting c r) q = refl
 live_over spare (ClosedBy w c d how) q = refl
 live_over spare (Over how) q = absurd (false≢true q)
 
-pub fits_live : (p : Plan) (below : Below) (a x : ℕ) (st st2 : Stage) → is_live st ≡ true → (is_same p x ≡ true → (o from : ℕ) → below ≡ Runs o from → is_owned o st ≡ true → is_owned o st2 ≡ true) → Fits p below a x st → Fits p below a x st2
+pub fits_live : (p : PlanParts) (below : Below) (a x : ℕ) (st st2 : Stage) → is_live st ≡ true → (is_same p x ≡ true → (o from : ℕ) → below ≡ Runs o from → is_owned o st ≡ true → is_owned o st2 ≡ true) → Fits p below a x st → Fits p below a x st2
 fits_live p Shut a x st st2 live own old = absurd (both_ways (is_unseen st) (live_seen st live) old)
 fits_live p (Runs o from) a x st st2 live own old = record { rest = λ u v. absurd (both_ways (is_unseen st) (live_seen st live) (old.rest u v)); owned = λ same. own same o from refl (old.owned same) }
 fits_live p Past a x st st2 live own old = absurd (both_ways (is_over (is_spare_at p.tree x) st) (live_over (is_spare_at p.tree x) st live) old)
 
 -- a parent of a live node runs its children
-pub fits_runs : (p : Plan) (below : Below) (a x : ℕ) (st : Stage) → is_live st ≡ true → Fits p below a x st → (o : ℕ) × (from : ℕ) × (below ≡ Runs o from)
+pub fits_runs : (p : PlanParts) (below : Below) (a x : ℕ) (st : Stage) → is_live st ≡ true → Fits p below a x st → (o : ℕ) × (from : ℕ) × (below ≡ Runs o from)
 fits_runs p Shut a x st live old = absurd (both_ways (is_unseen st) (live_seen st live) old)
 fits_runs p (Runs o from) a x st live old = (o, from, refl)
 fits_runs p Past a x st live old = absurd (both_ways (is_over (is_spare_at p.tree x) st) (live_over (is_spare_at p.tree x) st live) old)
 
 -- Seats: the worker goes on, with the same hand
-pub own_hand : (p : Plan) (g : ℕ → Stage) (h : List Event) (w x : ℕ) (a b : Stage) (hand : Option Hand) → g x ≡ a → (a ≡ InHand w → ⊥) → (is_unsettled b ≡ true → is_unsettled a ≡ true) → HandOk p g h w hand → HandOk p (upd g x b) h w hand
+pub own_hand : (p : PlanParts) (g : ℕ → Stage) (h : List Event) (w x : ℕ) (a b : Stage) (hand : Option Hand) → g x ≡ a → (a ≡ InHand w → ⊥) → (is_unsettled b ≡ true → is_unsettled a ≡ true) → HandOk p g h w hand → HandOk p (upd g x b) h w hand
 own_hand p g h w x a b None at not quiet old = tt
 own_hand p g h w x a b (Some hand) at not quiet old = record {
   inside = old.inside;
@@ -301,11 +302,11 @@ own_hand p g h w x a b (Some hand) at not quiet old = record {
 }
 
 -- fail-fast: what a worker that has failed may go on with
-abbrev pub QuitStep : Plan → List Event → ℕ → (cancel cancel2 : Bool) → (t t2 : Task) → Type 0
+abbrev pub QuitStep : PlanParts → List Event → ℕ → (cancel cancel2 : Bool) → (t t2 : Task) → Type 0
 QuitStep p h w cancel cancel2 t t2 = p.fail_fast ≡ true → has_failed_by (w + 1) h ≡ true → (raises t ≡ true) ⊎ ((cancel ≡ true) × (is_bold t ≡ false)) → (raises t2 ≡ true) ⊎ ((cancel2 ≡ true) × (is_bold t2 ≡ false))
 
-pub quit_calm : (p : Plan) (h : List Event) (w : ℕ) (cancel : Bool) (t t2 : Task) → raises t ≡ false → is_bold t2 ≡ false → QuitStep p h w cancel cancel t t2
+pub quit_calm : (p : PlanParts) (h : List Event) (w : ℕ) (cancel : Bool) (t t2 : Task) → raises t ≡ false → is_bold t2 ≡ false → QuitStep p h w cancel cancel t t2
 quit_calm p h w cancel t t2 r b ff f old = elim old [ inl y ↦ absurd (both_ways (raises t) r y) | inr y ↦ inr (y.0, b) ]
 
-pub quit_same : (p : Plan) (h : List Event) (w : ℕ) (cancel : Bool) (t t2 : Task) → raises t ≡ false → is_bold t2 ≡ is_bold t → QuitStep p h w cancel cancel t t2
+pub quit_same : (p : PlanParts) (h : List Event) (w : ℕ) (cancel : Bool) (t t2 : Task) → raises t ≡ false → is_bold t2 ≡ is_bold t → QuitStep p h w cancel cancel t t2
 quit_same p h w cancel t t2 r b ff f old = elim old [ inl y ↦ absurd (both_ways (raises t) r y) | inr y ↦ inr (y.0, b ∙ y.1) ]

@@ -10,7 +10,8 @@ use Rattle.plan_events.specs.declared.event.EventKind.TheVariants.{Started, Fini
 use Rattle.plan_events.specs.declared.status.Status.{Status}
 use Rattle.plan_events.specs.declared.status.Status.TheVariants.{Successful}
 use Rattle.plan_events.specs.Statuses.{is_successful}
-use Rattle.event_history.specs.Plans.{Plan, is_same, pulls_job, sort_of}
+use Rattle.resource_locks.specs.Plans.{PlanParts}
+use Rattle.event_history.specs.Plans.{is_same, pulls_job, sort_of}
 use Rattle.event_history.specs.Places.{is_failed_or}
 use Rattle.event_history.specs.Results.{jobs_of}
 use Rattle.scheduling.specs.State.{NodeStatus, Hidden, Ready, Claimed, Settled, LockWord, Registering, RegisteredAt, Offering, Noticing, Locking, Weighed, Backing, Beginning, StartedAt, Awaiting, Admitting, Guarding, AwaitingAfter, Ending, FinishedAt, SkippedAt, Raising, Giving, Settling, Looking, Passing, CountingOff, Task, Free, Opens, Closes, Hand, Seat, State, status_at, counter_at, result_at, lock_at}
@@ -25,7 +26,7 @@ use Rattle.scheduling.proofs.RowsBelow.{ending_is}
 use Rattle.scheduling.proofs.Shown.{Quiet, Draws, Shows, Changes, changes_keep, reseat_keeps}
 
 -- Tasks that name no place.
-module _ (p : Plan) (w n : ℕ) where
+module _ (p : PlanParts) (w n : ℕ) where
   lock_unnamed : (i : ℕ) → named w (Opens n (lock_from p n i)) ≡ None
   lock_unnamed i = by_cond (λ d. named w (Opens n d) ≡ None) (nat_lt i (keys_count p n)) (Locking i) (Beginning false) (λ _. refl) (λ _. refl)
 
@@ -67,14 +68,14 @@ module _ (p : Plan) (w n : ℕ) where
       by_cond (λ t. named w t ≡ None) (is_leaf (sort_of p.tree n) || not (is_successful (status_by (body_of p.tree n) reply))) (Closes n (Ending (status_by (body_of p.tree n) reply)))
       (Opens n (admit_from p n 0)) (λ _. refl) (λ _. admit_unnamed (first_from (in_batch p n) 0 (size p.tree)))
 
-settle_unnamed : (p : Plan) (w n : ℕ) → named w (after_settle p n) ≡ None
+settle_unnamed : (p : PlanParts) (w n : ℕ) → named w (after_settle p n) ≡ None
 settle_unnamed p w zero = refl
 settle_unnamed p w (suc n) =
     let found = first_from (is_same_sibling p (suc n)) (suc (suc n)) (size p.tree) in
     by_cond (λ d. named w (Closes (suc n) d) ≡ None) (is_same p (suc n) && not (is_spare_at p.tree (suc n))) (pass_to found) CountingOff (λ _. pass_unnamed p w (suc n) found) (λ _. refl)
 
 -- a reply changes nothing of this
-decided_named : (p : Plan) (w : ℕ) (reply : Reply) (t : Task) → named w (decided p reply t) ≡ named w t
+decided_named : (p : PlanParts) (w : ℕ) (reply : Reply) (t : Task) → named w (decided p reply t) ≡ named w t
 decided_named p w reply (Opens n Awaiting) = answered_unnamed p w n reply
 decided_named p w reply (Closes n AwaitingAfter) = refl
 decided_named p w reply _ = refl
@@ -92,7 +93,7 @@ Moves s w old (Some t) = Changes s w old t
 quiet : (s t : State) (w : ℕ) (old : Task) (new : Seat) → t.seats ≡ set s.seats w new → t.published ≡ s.published → t.shown ≡ s.shown → named w old ≡ None → named w new.task ≡ None → Changes s w old t
 quiet s t w old new seats published shown a b = record { new = new; seats = seats; effect = Quiet; does = (published, shown, a, b) }
 
-module _ (p : Plan) (s : State) (w : ℕ) (seat : Seat) (is : slice_get s.seats w ≡ Some seat) (reply : Reply) where
+module _ (p : PlanParts) (s : State) (w : ℕ) (seat : Seat) (is : slice_get s.seats w ≡ Some seat) (reply : Reply) where
   if_moves : (old : Task) (b : Bool) (x y : Option State) → (b ≡ true → Moves s w old x) → (b ≡ false → Moves s w old y) → Moves s w old (cond b x y)
   if_moves old b x y = by_cond (Moves s w old) b x y
 
@@ -233,7 +234,7 @@ read_placed s placed true (Some e) = record { stands = placed.stands; unshown = 
 read_placed s placed true None = tt
 read_placed s placed false next = tt
 
-after_placed : (p : Plan) (s : State) (a : Step) → IsPlaced s → AllPlaced (after p s a)
+after_placed : (p : PlanParts) (s : State) (a : Step) → IsPlaced s → AllPlaced (after p s a)
 after_placed p s Dispatches placed = read_placed s placed (slice_index_or s.shown (length s.given) false) (slice_get s.published (length s.given))
 after_placed p s (Works w a reply) placed = go (slice_get s.seats w) refl
   where
@@ -249,14 +250,14 @@ after_placed p s (Works w a reply) placed = go (slice_get s.seats w) refl
         let here : slice_get u.seats w ≡ Some other = get_set_same s.seats w other seat is in
         kept u other (reseat_keeps s w seat other placed is (decided_named p w reply seat.task)) here (row p u w other reply a) (row_moves p u w other here reply a)
 
-opening_placed : (p : Plan) (workers : ℕ) → IsPlaced (opening p workers)
+opening_placed : (p : PlanParts) (workers : ℕ) → IsPlaced (opening p workers)
 opening_placed p workers = record {
   stands = λ w seat i e q d. absurd (none-some (i, e) (ap (λ (x : Seat). named w x.task) (get_replicate workers (record { task = Free; hand = None }) seat w q) ∙ d));
   unshown = λ i q. absurd (none-some false q);
   as_many = refl;
 }
 
-run_keeps_placed : (p : Plan) (s : State) (list : List Step) → IsPlaced s → IsPlaced (run p s list)
+run_keeps_placed : (p : PlanParts) (s : State) (list : List Step) → IsPlaced s → IsPlaced (run p s list)
 run_keeps_placed p s [] placed = placed
 run_keeps_placed p s (a ∷ list) placed = run_keeps_placed p (next p s a) list (stays (after p s a) (after_placed p s a placed))
   where
@@ -266,5 +267,5 @@ run_keeps_placed p s (a ∷ list) placed = run_keeps_placed p (next p s a) list 
 
 -- Whatever steps are taken: what was drawn stands at the place that its worker's task names, not shown, and each place that is
 -- not shown is named.
-pub run_placed : (p : Plan) (workers : ℕ) (list : List Step) → IsPlaced (run p (opening p workers) list)
+pub run_placed : (p : PlanParts) (workers : ℕ) (list : List Step) → IsPlaced (run p (opening p workers) list)
 run_placed p workers list = run_keeps_placed p (opening p workers) list (opening_placed p workers)

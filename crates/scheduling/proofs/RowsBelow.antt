@@ -9,7 +9,8 @@ use Rattle.plan_events.specs.declared.outcome.Reply.{Reply}
 use Rattle.plan_events.specs.declared.status.Status.{Status}
 use Rattle.plan_events.specs.declared.status.Status.TheVariants.{Successful, Failed, Aborted}
 use Rattle.plan_events.specs.Statuses.{is_successful}
-use Rattle.event_history.specs.Plans.{Plan, IsPlanTree, Sort, Leaf, Holder, Maker, sort_of, pulls_job, spare_count}
+use Rattle.resource_locks.specs.Plans.{PlanParts}
+use Rattle.event_history.specs.Plans.{IsPlanTree, Sort, Leaf, Holder, Maker, sort_of, pulls_job, spare_count}
 use Rattle.event_history.specs.Results.{Jobs, NoJob, Alone, Pulled, Around, jobs_of, jobs_by, after_run, HasReply, Ends, EndsLast}
 use Rattle.event_history.specs.Following.{has_failed_by, registered_in}
 use Rattle.event_history.proofs.Spares.{is_maker, pulls_sort}
@@ -24,7 +25,7 @@ use Rattle.scheduling.proofs.Silent.{ResultList, ShownOk, silent, seat_goes}
 use Rattle.scheduling.proofs.RowsOne.{by_cond, still_about, same_shown, turn_closing}
 
 -- What a move says where the status word, the keys, the marks and the cancel word stay.
-pub record Wide (p : Plan) (replies : ℕ → List Reply) (s : State) (g : ℕ → Stage) (w : ℕ) (seat : Seat) (x : ℕ) (a b : Stage) (seat2 : Seat) (counters : List ℕ) (results : List Status) (shown : List Bool) : Type 0 where
+pub record Wide (p : PlanParts) (replies : ℕ → List Reply) (s : State) (g : ℕ → Stage) (w : ℕ) (seat : Seat) (x : ℕ) (a b : Stage) (seat2 : Seat) (counters : List ℕ) (results : List Status) (shown : List Bool) : Type 0 where
   pub inside : x < size p.tree
   pub at : g x ≡ a
   pub alone : (v : ℕ) → who a ≡ Some v → v ≡ w
@@ -44,7 +45,7 @@ pub record Wide (p : Plan) (replies : ℕ → List Reply) (s : State) (g : ℕ �
   pub past : is_past a ≡ false
   pub quiet : is_unsettled b ≡ true → is_unsettled a ≡ true
 
-pub wide : (p : Plan) → IsPlanTree p.tree → (replies : ℕ → List Reply) (s : State) (g : ℕ → Stage) → Holds p replies s g → (w : ℕ) (seat : Seat) → slice_get s.seats w ≡ Some seat → (x : ℕ) (a b : Stage) (seat2 : Seat) (counters : List ℕ) (results : List Status) (shown : List Bool)
+pub wide : (p : PlanParts) → IsPlanTree p.tree → (replies : ℕ → List Reply) (s : State) (g : ℕ → Stage) → Holds p replies s g → (w : ℕ) (seat : Seat) → slice_get s.seats w ≡ Some seat → (x : ℕ) (a b : Stage) (seat2 : Seat) (counters : List ℕ) (results : List Status) (shown : List Bool)
     → Wide p replies s g w seat x a b seat2 counters results shown
     → Holds p replies (record s { counters = counters; results = results; seats = set s.seats w seat2; shown = shown }) (upd g x b)
 wide p plan replies s g h w seat is x a b seat2 counters results shown m =
@@ -112,7 +113,7 @@ goes_on replies Holder None after spares reply pulls q is = (None, (refl, refl))
 goes_on replies Holder (Some job) after spares reply pulls q is = (Some reply.outcome.text, reply_has replies job reply Successful is (success_is reply.outcome.status (not_false (is_successful reply.outcome.status) q)))
 
 -- a node that waits for what is outstanding, and went on
-pub waits_so : (p : Plan) (replies : ℕ → List Reply) (h : List Event) (x : ℕ) (jobs : Jobs) → jobs_of p x ≡ jobs → GoesOn replies jobs → ClosingOk p replies h x (ending_by jobs Successful) Gave
+pub waits_so : (p : PlanParts) (replies : ℕ → List Reply) (h : List Event) (x : ℕ) (jobs : Jobs) → jobs_of p x ≡ jobs → GoesOn replies jobs → ClosingOk p replies h x (ending_by jobs Successful) Gave
 waits_so p replies h x NoJob e on = record { stopped = false; so = tt; text = None; lawful = subst (λ j. EndsLast replies j (registered_in p h x) Successful None) (sym e) (refl, refl) }
 waits_so p replies h x (Alone body) e on = absurd on
 waits_so p replies h x (Pulled body spares) e on = absurd on
@@ -127,7 +128,7 @@ ending_is P a b (Pulled body spares) r = b r
 ending_is P a b (Around body None) r = b r
 ending_is P a b (Around body (Some after)) r = a
 
-module _ (p : Plan) (core : IsCorePlan p) (replies : ℕ → List Reply) (s : State) (g : ℕ → Stage) (h : Holds p replies s g) (w : ℕ) (seat : Seat) (is : slice_get s.seats w ≡ Some seat) where
+module _ (p : PlanParts) (core : IsCorePlan p) (replies : ℕ → List Reply) (s : State) (g : ℕ → Stage) (h : Holds p replies s g) (w : ℕ) (seat : Seat) (is : slice_get s.seats w ≡ Some seat) where
   pub our : SeatOk p g s.published s.cancel w seat
   our = h.seats w seat is
 

@@ -9,7 +9,8 @@ use Rattle.plan_events.specs.declared.event.Event.{Event}
 use Rattle.plan_events.specs.declared.outcome.Reply.{Reply}
 use Rattle.plan_events.specs.declared.status.Status.{Status}
 use Rattle.event_history.specs.Places.{is_failure, is_failed_or, same_kind, has, is_of, has_event}
-use Rattle.event_history.specs.Plans.{Plan, is_spare_of, pulls_job}
+use Rattle.resource_locks.specs.Plans.{PlanParts}
+use Rattle.event_history.specs.Plans.{is_spare_of, pulls_job}
 use Rattle.event_history.specs.Following.{has_failed_by, started_by, registered_in, MayBeDrawn}
 use Rattle.event_history.specs.Results.{Ends, jobs_of}
 use Rattle.event_history.proofs.Places.{get_front}
@@ -33,7 +34,7 @@ pub more_events : (q : Event → Bool) (h : List Event) (e : Event) → has_even
 more_events q h e t = event_snoc q h e ∙ or_left (has_event q h) (q e) t
 
 -- shapes speak of the history by what stays, and by the number of registered spares
-closing_snoc : (p : Plan) (replies : ℕ → List Reply) (h : List Event) (e : Event) (n : ℕ) (d : Closing) (how : How) → registered_in p (h ++ e ∷ []) n ≡ registered_in p h n → ClosingOk p replies h n d how → ClosingOk p replies (h ++ e ∷ []) n d how
+closing_snoc : (p : PlanParts) (replies : ℕ → List Reply) (h : List Event) (e : Event) (n : ℕ) (d : Closing) (how : How) → registered_in p (h ++ e ∷ []) n ≡ registered_in p h n → ClosingOk p replies h n d how → ClosingOk p replies (h ++ e ∷ []) n d how
 closing_snoc p replies h e n (Ending status) how same old =
     record { stopped = old.stopped; so = old.so; text = old.text; lawful = subst (λ k. Ends replies (jobs_of p n) old.stopped k status old.text) (sym same) old.lawful }
 closing_snoc p replies h e n AwaitingAfter how same old = old
@@ -46,7 +47,7 @@ closing_snoc p replies h e n Raising how same old = tt
 closing_snoc p replies h e n (Giving i) how same old = tt
 closing_snoc p replies h e n Settling how same old = tt
 
-opening_snoc : (p : Plan) (replies : ℕ → List Reply) (h : List Event) (e : Event) (n : ℕ) (d : Opening) → OpeningOk p replies h n d → OpeningOk p replies (h ++ e ∷ []) n d
+opening_snoc : (p : PlanParts) (replies : ℕ → List Reply) (h : List Event) (e : Event) (n : ℕ) (d : Opening) → OpeningOk p replies h n d → OpeningOk p replies (h ++ e ∷ []) n d
 opening_snoc p replies h e n (Beginning true) old = (old.0, elim old.1 [ inl a ↦ inl a | inr b ↦ inr (b.0, more_events is_failure h e b.1) ])
 opening_snoc p replies h e n (Beginning false) old = old
 opening_snoc p replies h e n Registering old = old
@@ -61,7 +62,7 @@ opening_snoc p replies h e n Offering old = tt
 opening_snoc p replies h e n (Backing i) old = tt
 opening_snoc p replies h e n (StartedAt i) old = tt
 
-pub shape_snoc : (p : Plan) (replies : ℕ → List Reply) (h : List Event) (e : Event) (w n : ℕ) (st : Stage) → (registered_in p (h ++ e ∷ []) n ≡ registered_in p h n) ⊎ (st ≡ InHand w) → ShapeOk p replies h n st → ShapeOk p replies (h ++ e ∷ []) n st
+pub shape_snoc : (p : PlanParts) (replies : ℕ → List Reply) (h : List Event) (e : Event) (w n : ℕ) (st : Stage) → (registered_in p (h ++ e ∷ []) n ≡ registered_in p h n) ⊎ (st ≡ InHand w) → ShapeOk p replies h n st → ShapeOk p replies (h ++ e ∷ []) n st
 shape_snoc p replies h e w n Unseen same old = tt
 shape_snoc p replies h e w n (Offered o) same old = tt
 shape_snoc p replies h e w n (OpenedBy v d) same old = opening_snoc p replies h e n d old
@@ -74,7 +75,7 @@ shape_snoc p replies h e w n (ClosedBy v c d how) same old = elim same [ inl q �
 shape_snoc p replies h e w n (Over how) same old = tt
 
 -- how many spares are registered
-count_others : (p : Plan) (h : List Event) (e : Event) (f : ℕ) → ((c : ℕ) → c < size p.tree → is_spare_of p f c ≡ true → is_of Registered c e ≡ false) → registered_in p (h ++ e ∷ []) f ≡ registered_in p h f
+count_others : (p : PlanParts) (h : List Event) (e : Event) (f : ℕ) → ((c : ℕ) → c < size p.tree → is_spare_of p f c ≡ true → is_of Registered c e ≡ false) → registered_in p (h ++ e ∷ []) f ≡ registered_in p h f
 count_others p h e f none =
     count_same (λ c. is_spare_of p f c && has Registered c (h ++ e ∷ [])) (λ c. is_spare_of p f c && has Registered c h) (size p.tree) (λ c lt.
     elim (cases_Bool (is_spare_of p f c)) [
@@ -82,7 +83,7 @@ count_others p h e f none =
       | inr no' ↦ and_left (is_spare_of p f c) (has Registered c (h ++ e ∷ [])) no' ∙ sym (and_left (is_spare_of p f c) (has Registered c h) no')
     ])
 
-module _ (p : Plan) (core : IsCorePlan p) (replies : ℕ → List Reply) (s : State) (g : ℕ → Stage) (h : Holds p replies s g) (w : ℕ) (seat : Seat) (is : slice_get s.seats w ≡ Some seat) where
+module _ (p : PlanParts) (core : IsCorePlan p) (replies : ℕ → List Reply) (s : State) (g : ℕ → Stage) (h : Holds p replies s g) (w : ℕ) (seat : Seat) (is : slice_get s.seats w ≡ Some seat) where
   held_seat : SeatOk p g s.published s.cancel w seat
   held_seat = h.seats w seat is
 

@@ -8,7 +8,8 @@ use Rattle.descriptor.specs.Nodes.{size, parent_of, IsChild, is_child, is_spare_
 use Rattle.plan_events.specs.declared.outcome.Reply.{Reply}
 use Rattle.plan_events.specs.declared.status.Status.{Status}
 use Rattle.plan_events.specs.declared.status.Status.TheVariants.{Successful, Failed}
-use Rattle.event_history.specs.Plans.{Plan, Sort, Leaf, Holder, Maker, IsElder, is_same, sort_of, pulls_job, spare_count}
+use Rattle.resource_locks.specs.Plans.{PlanParts}
+use Rattle.event_history.specs.Plans.{Sort, Leaf, Holder, Maker, IsElder, is_same, sort_of, pulls_job, spare_count}
 use Rattle.event_history.specs.Results.{Pulled, jobs_of, jobs_by, after_run, EndsLast, too_many}
 use Rattle.event_history.specs.Order.{goes_first}
 use Rattle.event_history.specs.Following.{registered_in}
@@ -37,7 +38,7 @@ in_hand_alike : (w : ℕ) (d : Opening) → OpenedBy w d ≡ Unseen → ⊥
 in_hand_alike w d q = cc
 
 -- who gave up the guard of a node whose children run waits
-pub waiting_is : (p : Plan) (n : ℕ) (st : Stage) (o : ℕ) → runner_of (picture p n st).below ≡ Some o → (picture p n st).guard ≡ 0 → (c : ℕ) × (r : Status) × (st ≡ Waiting c r)
+pub waiting_is : (p : PlanParts) (n : ℕ) (st : Stage) (o : ℕ) → runner_of (picture p n st).below ≡ Some o → (picture p n st).guard ≡ 0 → (c : ℕ) × (r : Status) × (st ≡ Waiting c r)
 waiting_is p n (Waiting c r) o q z = (c, r, refl)
 waiting_is p n (OpenedBy w (Admitting c)) o q z = absurd (omega (arith, z))
 waiting_is p n (OpenedBy w Guarding) o q z = absurd (omega (arith, z))
@@ -67,7 +68,7 @@ waiting_is p n (Over Kept) o q z = absurd (none-some o q)
 waiting_is p n (Over Skips) o q z = absurd (none-some o q)
 waiting_is p n _ o q z = absurd (none-some o q)
 
-module _ (p : Plan) (core : IsCorePlan p) (replies : ℕ → List Reply) (s : State) (g : ℕ → Stage) (h : Holds p replies s g) (w : ℕ) (seat : Seat) (is : slice_get s.seats w ≡ Some seat) where
+module _ (p : PlanParts) (core : IsCorePlan p) (replies : ℕ → List Reply) (s : State) (g : ℕ → Stage) (h : Holds p replies s g) (w : ℕ) (seat : Seat) (is : slice_get s.seats w ≡ Some seat) where
   mine' : SeatOk p g s.published s.cancel w seat
   mine' = h.seats w seat is
 

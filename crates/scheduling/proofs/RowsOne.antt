@@ -8,7 +8,8 @@ use Rattle.plan_events.specs.declared.event.Event.{Event}
 use Rattle.plan_events.specs.declared.outcome.Reply.{Reply}
 use Rattle.plan_events.specs.declared.status.Status.{Status}
 use Rattle.event_history.specs.Places.{is_failed_or, is_failure}
-use Rattle.event_history.specs.Plans.{Plan, IsPlanTree, pulls_job}
+use Rattle.resource_locks.specs.Plans.{PlanParts}
+use Rattle.event_history.specs.Plans.{IsPlanTree, pulls_job}
 use Rattle.event_history.specs.Following.{has_failed, has_failed_by}
 use Rattle.scheduling.specs.State.{NodeStatus, Hidden, Ready, Claimed, Settled, LockWord, Readers, Written, Opening, Registering, RegisteredAt, Offering, Noticing, Locking, Weighed, Backing, Beginning, StartedAt, Awaiting, Admitting, Guarding, Closing, AwaitingAfter, Ending, FinishedAt, SkippedAt, Raising, Giving, Settling, Looking, Passing, CountingOff, Task, Free, Opens, Closes, Seat, State, status_at, lock_at, subject}
 use Rattle.scheduling.specs.Choices.{key_at, mode_at, keys_count, admits, taken, given_back, same_word, lock_from, begins, giving, after_finish}
@@ -24,7 +25,7 @@ pub by_cond : {X : Type 0} (P : X → Type 0) (c : Bool) (x y : X) → (c ≡ tr
 by_cond P true x y yes' no' = yes' refl
 by_cond P false x y yes' no' = no' refl
 
-pub kept_some : (p : Plan) (replies : ℕ → List Reply) (s t : State) → IsKept p replies s → Some s ≡ Some t → IsKept p replies t
+pub kept_some : (p : PlanParts) (replies : ℕ → List Reply) (s t : State) → IsKept p replies s → Some s ≡ Some t → IsKept p replies t
 kept_some p replies s t k q = subst (λ u. IsKept p replies u) (same_Some s t q) k
 
 -- whoever has failed, one has
@@ -39,7 +40,7 @@ failed_any w (e ∷ l) r =
 claim_number : (a b : ℕ) → Claimed a ≡ Claimed b → a ≡ b
 claim_number a b q = cc
 
-pub parent_inside : (p : Plan) → IsPlanTree p.tree → (c x : ℕ) → IsChild p.tree c x → c < size p.tree
+pub parent_inside : (p : PlanParts) → IsPlanTree p.tree → (c x : ℕ) → IsChild p.tree c x → c < size p.tree
 parent_inside p plan c x ch =
     let up : parent_of p.tree x < x = plan.rooted.up x ch.above_zero ch.inside in
     let lt : x < size p.tree = ch.inside in
@@ -47,7 +48,7 @@ parent_inside p plan c x ch =
     omega (arith, up, lt, par)
 
 -- who runs a node's children claimed it, and it has started
-pub runs_is : (p : Plan) (n : ℕ) (st : Stage) (o : ℕ) → runner_of (picture p n st).below ≡ Some o → ((picture p n st).word ≡ Claimed o) × ((picture p n st).mark ≡ Begun)
+pub runs_is : (p : PlanParts) (n : ℕ) (st : Stage) (o : ℕ) → runner_of (picture p n st).below ≡ Some o → ((picture p n st).word ≡ Claimed o) × ((picture p n st).mark ≡ Begun)
 runs_is p n (OpenedBy w (Admitting c)) o q = (ap Claimed (same_Some w o q), refl)
 runs_is p n (OpenedBy w Guarding) o q = (ap Claimed (same_Some w o q), refl)
 runs_is p n (OpenedBy w (Beginning true)) o q = absurd (none-some o q)
@@ -61,7 +62,7 @@ runs_is p n (ClosedBy w c d how) o q = absurd (closed p n c d how q)
     none Kept o q = none-some o q
     none Skips o q = none-some o q
 
-    closed : (p : Plan) (n c : ℕ) (d : Closing) (how : How) → runner_of (closing_picture p n c d how).below ≡ Some o → ⊥
+    closed : (p : PlanParts) (n c : ℕ) (d : Closing) (how : How) → runner_of (closing_picture p n c d how).below ≡ Some o → ⊥
     closed p n c AwaitingAfter how q = none how o q
     closed p n c (Ending s) how q = none how o q
     closed p n c (FinishedAt i s) how q = none how o q
@@ -81,7 +82,7 @@ past_passed : (d : Closing) → closing_past d ≡ false → closing_passed d �
 past_passed CountingOff q = q
 past_passed _ q = refl
 
-module _ (p : Plan) (core : IsCorePlan p) (replies : ℕ → List Reply) (s : State) (g : ℕ → Stage) (h : Holds p replies s g) (w : ℕ) (seat : Seat) (is : slice_get s.seats w ≡ Some seat) where
+module _ (p : PlanParts) (core : IsCorePlan p) (replies : ℕ → List Reply) (s : State) (g : ℕ → Stage) (h : Holds p replies s g) (w : ℕ) (seat : Seat) (is : slice_get s.seats w ≡ Some seat) where
   pub mine : SeatOk p g s.published s.cancel w seat
   mine = h.seats w seat is
 

@@ -9,7 +9,8 @@ use Rattle.plan_events.specs.declared.event.EventKind.TheVariants.{Started, Fini
 use Rattle.plan_events.specs.declared.outcome.Reply.{Reply}
 use Rattle.plan_events.specs.declared.status.Status.{Status}
 use Rattle.plan_events.specs.declared.status.Status.TheVariants.{Successful}
-use Rattle.event_history.specs.Plans.{Plan, IsElder, is_same, pulls_job}
+use Rattle.resource_locks.specs.Plans.{PlanParts}
+use Rattle.event_history.specs.Plans.{IsElder, is_same, pulls_job}
 use Rattle.event_history.specs.Results.{jobs_of}
 use Rattle.event_history.specs.Order.{goes_first}
 use Rattle.event_history.proofs.Trees.{test_is_child}
@@ -68,7 +69,7 @@ pub same_result : (c d : ℕ) (r t : Status) → Waiting c r ≡ Waiting d t →
 same_result c d r t q = cc
 
 -- no elder goes before a node of the batch
-pub batch_first : (p : Plan) (n a c : ℕ) → in_batch p n c ≡ true → IsChild p.tree n c → IsElder p.tree a c → goes_first p a c ≡ true → ⊥
+pub batch_first : (p : PlanParts) (n a c : ℕ) → in_batch p n c ≡ true → IsChild p.tree n c → IsElder p.tree a c → goes_first p a c ≡ true → ⊥
 batch_first p n a c batch ch elder first =
     let b = and_parts (is_child p.tree n c) (not (is_spare_at p.tree c) && (not (is_same p c) || (count_below (λ d. is_child p.tree n d && is_same p d) c == 0))) batch in
     let b1 = and_parts (not (is_spare_at p.tree c)) (not (is_same p c) || (count_below (λ d. is_child p.tree n d && is_same p d) c == 0)) b.1 in
@@ -85,7 +86,7 @@ batch_first p n a c batch ch elder first =
           omega (arith, z, some))
     ]
 
-module _ (p : Plan) (core : IsCorePlan p) (replies : ℕ → List Reply) (s : State) (g : ℕ → Stage) (h : Holds p replies s g) (w : ℕ) (seat : Seat) (is : slice_get s.seats w ≡ Some seat) where
+module _ (p : PlanParts) (core : IsCorePlan p) (replies : ℕ → List Reply) (s : State) (g : ℕ → Stage) (h : Holds p replies s g) (w : ℕ) (seat : Seat) (is : slice_get s.seats w ≡ Some seat) where
   me : SeatOk p g s.published s.cancel w seat
   me = h.seats w seat is
 

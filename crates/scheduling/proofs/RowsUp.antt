@@ -11,7 +11,8 @@ use Rattle.plan_events.specs.declared.event.EventKind.TheVariants.{Registered}
 use Rattle.plan_events.specs.declared.event.Event.{Event}
 use Rattle.plan_events.specs.declared.outcome.Reply.{Reply}
 use Rattle.plan_events.specs.declared.status.Status.TheVariants.{Successful}
-use Rattle.event_history.specs.Plans.{Plan, Sort, Leaf, Holder, Maker, IsElder, is_same, is_spare_of, sort_of, pulls_job, rank}
+use Rattle.resource_locks.specs.Plans.{PlanParts}
+use Rattle.event_history.specs.Plans.{Sort, Leaf, Holder, Maker, IsElder, is_same, is_spare_of, sort_of, pulls_job, rank}
 use Rattle.event_history.specs.Places.{has}
 use Rattle.event_history.specs.Order.{goes_first}
 use Rattle.event_history.specs.Following.{registered_in}
@@ -37,7 +38,7 @@ use Rattle.scheduling.proofs.Spares.{elder_is_registered}
 use Rattle.scheduling.proofs.RowsEnd.{waiting_is, done_guard, done_of_hand}
 
 -- a spare that is not registered is unseen, or to be registered
-blank_is : (p : Plan) (n : ℕ) (st : Stage) → has_mark true Registered (picture p n st).mark ≡ false → (st ≡ Unseen) ⊎ ((v : ℕ) × (st ≡ OpenedBy v Registering))
+blank_is : (p : PlanParts) (n : ℕ) (st : Stage) → has_mark true Registered (picture p n st).mark ≡ false → (st ≡ Unseen) ⊎ ((v : ℕ) × (st ≡ OpenedBy v Registering))
 blank_is p n Unseen q = inl refl
 blank_is p n (OpenedBy v Registering) q = inr (v, refl)
 blank_is p n (OpenedBy v (Beginning true)) q = absurd (false≢true (sym q))
@@ -66,7 +67,7 @@ blank_is p n (Over Skips) q = absurd (false≢true (sym q))
 blank_is p n _ q = absurd (false≢true (sym q))
 
 -- a registered spare that nobody brings in, and that is not unsettled, is past
-past_if : (p : Plan) (n : ℕ) (st : Stage) → has_mark true Registered (picture p n st).mark ≡ true → is_unsettled st ≡ false → ((v : ℕ) (d : Opening) → st ≡ OpenedBy v d → brings d ≡ true → ⊥)
+past_if : (p : PlanParts) (n : ℕ) (st : Stage) → has_mark true Registered (picture p n st).mark ≡ true → is_unsettled st ≡ false → ((v : ℕ) (d : Opening) → st ≡ OpenedBy v d → brings d ≡ true → ⊥)
     → ((v c m : ℕ) (how : How) → st ≡ ClosedBy v c (Looking m) how → ⊥) → ((v c m o : ℕ) (how : How) → st ≡ ClosedBy v c (Passing m o) how → ⊥) → is_past st ≡ true
 past_if p n Unseen q u a b c = absurd (false≢true q)
 past_if p n (Offered o) q u a b c = absurd (false≢true (sym u))
@@ -87,7 +88,7 @@ maker_is Maker body q = refl
 maker_is Leaf body q = absurd (false≢true q)
 maker_is Holder body q = absurd (false≢true q)
 
-module _ (p : Plan) (core : IsCorePlan p) (replies : ℕ → List Reply) (s : State) (g : ℕ → Stage) (h : Holds p replies s g) (w : ℕ) (seat : Seat) (is : slice_get s.seats w ≡ Some seat) where
+module _ (p : PlanParts) (core : IsCorePlan p) (replies : ℕ → List Reply) (s : State) (g : ℕ → Stage) (h : Holds p replies s g) (w : ℕ) (seat : Seat) (is : slice_get s.seats w ≡ Some seat) where
   seated : SeatOk p g s.published s.cancel w seat
   seated = h.seats w seat is
 

@@ -9,7 +9,8 @@ use Rattle.plan_events.specs.declared.outcome.Reply.{Reply}
 use Rattle.plan_events.specs.declared.status.Status.{Status}
 use Rattle.plan_events.specs.declared.status.Status.TheVariants.{Successful}
 use Rattle.event_history.specs.Places.{is_failure, same_kind, is_failed_or, has}
-use Rattle.event_history.specs.Plans.{Plan, IsPlanTree, IsElder, is_same, sort_of}
+use Rattle.resource_locks.specs.Plans.{PlanParts}
+use Rattle.event_history.specs.Plans.{IsPlanTree, IsElder, is_same, sort_of}
 use Rattle.event_history.specs.History.{IsLegal}
 use Rattle.event_history.specs.Following.{has_failed_by}
 use Rattle.event_history.proofs.Places.{finds, same_kind-true, has_at}
@@ -32,7 +33,7 @@ same_offer-true (Some a) (Some b) q = ap Some (eqb-true a b q)
 same_offer-true None (Some b) q = absurd (false≢true q)
 same_offer-true (Some a) None q = absurd (false≢true q)
 
-ready_is : (p : Plan) (n : ℕ) (o : Option ℕ) (st : Stage) → is_ready_for o (picture p n st).word ≡ true → st ≡ Offered o
+ready_is : (p : PlanParts) (n : ℕ) (o : Option ℕ) (st : Stage) → is_ready_for o (picture p n st).word ≡ true → st ≡ Offered o
 ready_is p n o (Offered to) q = ap Offered (same_offer-true to o q)
 ready_is p n o (OpenedBy w (Beginning true)) q = absurd (false≢true q)
 ready_is p n o (OpenedBy w (Beginning false)) q = absurd (false≢true q)
@@ -67,7 +68,7 @@ ended_starter Kept word = refl
 ended_starter Skips word = refl
 
 -- nobody has failed where node 0 has not started
-unstarted_quiet : (p : Plan) → IsPlanTree p.tree → (replies : ℕ → List Reply) (workers w : ℕ) (l : List Event) → IsLegal p replies workers l → has Started 0 l ≡ false → has_failed_by w l ≡ true → ⊥
+unstarted_quiet : (p : PlanParts) → IsPlanTree p.tree → (replies : ℕ → List Reply) (workers w : ℕ) (l : List Event) → IsLegal p replies workers l → has Started 0 l ≡ false → has_failed_by w l ≡ true → ⊥
 unstarted_quiet p plan replies workers w l legal unstarted r =
     let f = finds (λ e. is_failure e && (e.worker == w)) l r in
     let e : Event = f.1.0 in
@@ -78,7 +79,7 @@ unstarted_quiet p plan replies workers w l legal unstarted r =
       | inr ne ↦ both_ways (has Started 0 l) unstarted (has_at (legal.start_above f.0 0 f.1.0 f.1.1 (below_root p plan f.1.0.node (omega (arith, ne)) (legal.nodes f.0 f.1.0 f.1.1))).stands)
     ]
 
-module _ (p : Plan) (core : IsCorePlan p) (replies : ℕ → List Reply) (s : State) (g : ℕ → Stage) (h : Holds p replies s g) (w : ℕ) (seat : Seat) (is : slice_get s.seats w ≡ Some seat) where
+module _ (p : PlanParts) (core : IsCorePlan p) (replies : ℕ → List Reply) (s : State) (g : ℕ → Stage) (h : Holds p replies s g) (w : ℕ) (seat : Seat) (is : slice_get s.seats w ≡ Some seat) where
   ours : SeatOk p g s.published s.cancel w seat
   ours = h.seats w seat is
 

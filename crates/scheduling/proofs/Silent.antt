@@ -6,7 +6,8 @@ use Rattle.plan_events.specs.declared.event.Event.{Event}
 use Rattle.plan_events.specs.declared.outcome.Reply.{Reply}
 use Rattle.plan_events.specs.declared.status.Status.{Status}
 use Rattle.plan_events.specs.declared.status.Status.TheVariants.{Successful}
-use Rattle.event_history.specs.Plans.{Plan, IsPlanTree, IsElder, is_same}
+use Rattle.resource_locks.specs.Plans.{PlanParts}
+use Rattle.event_history.specs.Plans.{IsPlanTree, IsElder, is_same}
 use Rattle.event_history.specs.Order.{goes_first}
 use Rattle.event_history.specs.Places.{has}
 use Rattle.event_history.specs.Following.{has_failed, started_by}
@@ -18,13 +19,13 @@ use Rattle.scheduling.proofs.Basics.{upd, upd_all}
 use Rattle.scheduling.proofs.Frame.{moved}
 use Rattle.scheduling.proofs.Parts.{StatusList, CounterList, LockList, counters_keep, fits_live, live_seen, own_hand, QuitStep}
 
-abbrev pub ResultList : Plan → List Status → (ℕ → Stage) → Type 0
+abbrev pub ResultList : PlanParts → List Status → (ℕ → Stage) → Type 0
 ResultList p l g = (length l ≡ size p.tree) × ((n c : ℕ) (r : Status) → n < size p.tree → g n ≡ Waiting c r → slice_index_or l n Successful ≡ r)
 
 abbrev pub ShownOk : State → List Bool → Type 0
 ShownOk s shown = (length shown ≡ length s.published) × ((i : ℕ) → slice_get s.shown i ≡ Some true → slice_get shown i ≡ Some true)
 
-pub record Silent (p : Plan) (replies : ℕ → List Reply) (s : State) (g : ℕ → Stage) (w : ℕ) (seat : Seat) (x : ℕ) (a b : Stage) (seat2 : Seat) (statuses : List NodeStatus) (counters : List ℕ) (results : List Status) (locks : List LockWord) (cancel : Bool) (shown : List Bool) : Type 0 where
+pub record Silent (p : PlanParts) (replies : ℕ → List Reply) (s : State) (g : ℕ → Stage) (w : ℕ) (seat : Seat) (x : ℕ) (a b : Stage) (seat2 : Seat) (statuses : List NodeStatus) (counters : List ℕ) (results : List Status) (locks : List LockWord) (cancel : Bool) (shown : List Bool) : Type 0 where
   pub inside : x < size p.tree
   pub at : g x ≡ a
   pub alone : (v : ℕ) → who a ≡ Some v → v ≡ w
@@ -47,7 +48,7 @@ pub record Silent (p : Plan) (replies : ℕ → List Reply) (s : State) (g : ℕ
   pub elders : (c : ℕ) → IsElder p.tree c x → goes_first p c x ≡ true → is_unseen b ≡ false → is_past (g c) ≡ true
   pub quiet : is_spare_at p.tree x ≡ true → is_unsettled b ≡ true → (is_unsettled a ≡ true) ⊎ (g (parent_of p.tree x) ≡ InHand w)
 
-pub silent : (p : Plan) → IsPlanTree p.tree → (replies : ℕ → List Reply) (s : State) (g : ℕ → Stage) → Holds p replies s g → (w : ℕ) (seat : Seat) → slice_get s.seats w ≡ Some seat → (x : ℕ) (a b : Stage) (seat2 : Seat) (statuses : List NodeStatus) (counters : List ℕ) (results : List Status) (locks : List LockWord) (cancel : Bool) (shown : List Bool)
+pub silent : (p : PlanParts) → IsPlanTree p.tree → (replies : ℕ → List Reply) (s : State) (g : ℕ → Stage) → Holds p replies s g → (w : ℕ) (seat : Seat) → slice_get s.seats w ≡ Some seat → (x : ℕ) (a b : Stage) (seat2 : Seat) (statuses : List NodeStatus) (counters : List ℕ) (results : List Status) (locks : List LockWord) (cancel : Bool) (shown : List Bool)
     → Silent p replies s g w seat x a b seat2 statuses counters results locks cancel shown
     → Holds p replies (record s { statuses = statuses; counters = counters; results = results; locks = locks; cancel = cancel; seats = set s.seats w seat2; shown = shown }) (upd g x b)
 silent p plan replies s g h w seat is x a b seat2 statuses counters results locks cancel shown m =
@@ -87,7 +88,7 @@ silent p plan replies s g h w seat is x a b seat2 statuses counters results lock
     })
 
 -- a seat whose worker goes on with task t2 and the same hand
-pub seat_goes : (p : Plan) (g : ℕ → Stage) (h : List Event) (cancel cancel2 : Bool) (w : ℕ) (seat : Seat) (x : ℕ) (a b : Stage) (t2 : Task) → SeatOk p g h cancel w seat → g x ≡ a → (a ≡ InHand w → ⊥) → (is_unsettled b ≡ true → is_unsettled a ≡ true)
+pub seat_goes : (p : PlanParts) (g : ℕ → Stage) (h : List Event) (cancel cancel2 : Bool) (w : ℕ) (seat : Seat) (x : ℕ) (a b : Stage) (t2 : Task) → SeatOk p g h cancel w seat → g x ≡ a → (a ≡ InHand w → ⊥) → (is_unsettled b ≡ true → is_unsettled a ≡ true)
     → TaskOk p (upd g x b) w t2 → BringsOk p t2 seat.hand → (raises t2 ≡ true → raises seat.task ≡ true) → QuitStep p h w cancel cancel2 seat.task t2 → SeatOk p (upd g x b) h cancel2 w (with_task seat t2)
 seat_goes p g h cancel cancel2 w seat x a b t2 old at not quiet task brought raise quit = record {
   task = task;
@@ -99,7 +100,7 @@ seat_goes p g h cancel cancel2 w seat x a b t2 old at not quiet task brought rai
 
 -- What a move says where the two stages look alike but for the word, the keys and the cancel word: the picture's mark, guard and
 -- what is below are the same, and the node stays live.
-pub record Alike (p : Plan) (replies : ℕ → List Reply) (s : State) (g : ℕ → Stage) (w : ℕ) (seat : Seat) (x : ℕ) (a b : Stage) (seat2 : Seat) (statuses : List NodeStatus) (locks : List LockWord) (cancel : Bool) (shown : List Bool) : Type 0 where
+pub record Alike (p : PlanParts) (replies : ℕ → List Reply) (s : State) (g : ℕ → Stage) (w : ℕ) (seat : Seat) (x : ℕ) (a b : Stage) (seat2 : Seat) (statuses : List NodeStatus) (locks : List LockWord) (cancel : Bool) (shown : List Bool) : Type 0 where
   pub inside : x < size p.tree
   pub at : g x ≡ a
   pub alone : (v : ℕ) → who a ≡ Some v → v ≡ w
@@ -123,7 +124,7 @@ pub record Alike (p : Plan) (replies : ℕ → List Reply) (s : State) (g : ℕ 
   pub past : is_past a ≡ true → is_past b ≡ true
   pub quiet : is_spare_at p.tree x ≡ true → is_unsettled b ≡ true → (is_unsettled a ≡ true) ⊎ (g (parent_of p.tree x) ≡ InHand w)
 
-pub alike : (p : Plan) → IsPlanTree p.tree → (replies : ℕ → List Reply) (s : State) (g : ℕ → Stage) → Holds p replies s g → (w : ℕ) (seat : Seat) → slice_get s.seats w ≡ Some seat → (x : ℕ) (a b : Stage) (seat2 : Seat) (statuses : List NodeStatus) (locks : List LockWord) (cancel : Bool) (shown : List Bool)
+pub alike : (p : PlanParts) → IsPlanTree p.tree → (replies : ℕ → List Reply) (s : State) (g : ℕ → Stage) → Holds p replies s g → (w : ℕ) (seat : Seat) → slice_get s.seats w ≡ Some seat → (x : ℕ) (a b : Stage) (seat2 : Seat) (statuses : List NodeStatus) (locks : List LockWord) (cancel : Bool) (shown : List Bool)
     → Alike p replies s g w seat x a b seat2 statuses locks cancel shown
     → Holds p replies (record s { statuses = statuses; locks = locks; cancel = cancel; seats = set s.seats w seat2; shown = shown }) (upd g x b)
 alike p plan replies s g h w seat is x a b seat2 statuses locks cancel shown m =

@@ -2,7 +2,7 @@
 use Rattle.std.proofs.Common.{◌≡◌, ℕ, Bool, true, false, List, Some, slice_get, sym, ap, ◌∙◌, subst}
 use Rattle.std.proofs.lemmas.Option.{same_Some, none-some}
 use Rattle.plan_events.specs.declared.outcome.Reply.{Reply}
-use Rattle.event_history.specs.Plans.{Plan}
+use Rattle.resource_locks.specs.Plans.{PlanParts}
 use Rattle.scheduling.specs.State.{Task, Free, Opens, Closes, Hand, Seat, State, subject, opening_slot, closing_slot, if_slot, slot_node}
 use Rattle.scheduling.specs.Stages.{Stage, who}
 use Rattle.scheduling.specs.Invariant.{TaskOk, HandOk, IsInHand, Holds}
@@ -21,12 +21,12 @@ slot_subject (Closes m d) n q = go (closing_slot d) q
     go false q = absurd (none-some n q)
 
 -- the node that a task is about names its worker
-task_who : (p : Plan) (g : ℕ → Stage) (w : ℕ) (t : Task) (n : ℕ) → TaskOk p g w t → subject t ≡ Some n → who (g n) ≡ Some w
+task_who : (p : PlanParts) (g : ℕ → Stage) (w : ℕ) (t : Task) (n : ℕ) → TaskOk p g w t → subject t ≡ Some n → who (g n) ≡ Some w
 task_who p g w Free n ok q = absurd (none-some n q)
 task_who p g w (Opens m d) n ok q = ap (λ k. who (g k)) (sym (same_Some m n q)) ∙ ap who ok.1
 task_who p g w (Closes m d) n ok q = ap (λ k. who (g k)) (sym (same_Some m n q)) ∙ ap who ok.1.2
 
-module _ (p : Plan) (replies : ℕ → List Reply) (s : State) (g : ℕ → Stage) (h : Holds p replies s g) where
+module _ (p : PlanParts) (replies : ℕ → List Reply) (s : State) (g : ℕ → Stage) (h : Holds p replies s g) where
   pub one_slot : (v w n : ℕ) (a b : Seat) → slice_get s.seats v ≡ Some a → slice_get s.seats w ≡ Some b → slot_node a.task ≡ Some n → slot_node b.task ≡ Some n → v ≡ w
   one_slot v w n a b qa qb sa sb =
       same_Some v w (sym (task_who p g v a.task n (h.seats v a qa).task (slot_subject a.task n sa)) ∙ task_who p g w b.task n (h.seats w b qb).task (slot_subject b.task n sb))

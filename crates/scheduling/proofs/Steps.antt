@@ -7,7 +7,8 @@ use Rattle.descriptor.specs.Nodes.{body_of}
 use Rattle.plan_events.specs.declared.event.Event.{Event}
 use Rattle.plan_events.specs.declared.outcome.Reply.{Reply}
 use Rattle.plan_events.specs.Statuses.{is_successful}
-use Rattle.event_history.specs.Plans.{Plan, pulls_job, sort_of}
+use Rattle.resource_locks.specs.Plans.{PlanParts}
+use Rattle.event_history.specs.Plans.{pulls_job, sort_of}
 use Rattle.event_history.proofs.Places.{get_next}
 use Rattle.scheduling.specs.State.{Opening, RegisteredAt, Offering, StartedAt, Awaiting, Closing, AwaitingAfter, Ending, FinishedAt, SkippedAt, Settling, Task, Free, Opens, Closes, Hand, Seat, State}
 use Rattle.scheduling.specs.Choices.{admit_from, after_finish, is_leaf, status_by, decided, awaited, hand_job}
@@ -24,7 +25,7 @@ use Rattle.scheduling.proofs.RowsEnd.{admit_keeps}
 use Rattle.scheduling.proofs.RowsUp.{done_keeps, add_child_keeps}
 use Rattle.scheduling.proofs.RowsDraw.{draw_keeps}
 
-module _ (p : Plan) (core : IsCorePlan p) (replies : ℕ → List Reply) (s : State) (g : ℕ → Stage) (h : Holds p replies s g) (w : ℕ) (seat : Seat) (is : slice_get s.seats w ≡ Some seat) where
+module _ (p : PlanParts) (core : IsCorePlan p) (replies : ℕ → List Reply) (s : State) (g : ℕ → Stage) (h : Holds p replies s g) (w : ℕ) (seat : Seat) (is : slice_get s.seats w ≡ Some seat) where
   show_keeps : (t0 : Task) → seat.task ≡ t0 → (t : State) → show_row p s w seat t0 ≡ Some t → IsKept p replies t
   show_keeps (Opens x (RegisteredAt i)) e t q = kept_some p replies (shows s w (with_task seat (Opens x Offering)) i) t (show_registered_keeps p core replies s g h w seat is x i e) q
   show_keeps (Opens x (StartedAt i)) e t q =
@@ -54,7 +55,7 @@ module _ (p : Plan) (core : IsCorePlan p) (replies : ℕ → List Reply) (s : St
   row_keeps reply given Raise t q = raise_keeps p core replies s g h w seat is seat.task refl t q
 
 -- a task that is free when it is decided was free before
-decided_free : (p : Plan) (reply : Reply) (t : Task) → decided p reply t ≡ Free → t ≡ Free
+decided_free : (p : PlanParts) (reply : Reply) (t : Task) → decided p reply t ≡ Free → t ≡ Free
 decided_free p reply Free q = refl
 decided_free p reply (Opens n Awaiting) q =
     absurd (by_cond (λ t. t ≡ Free → ⊥) (is_leaf (sort_of p.tree n) || not (is_successful (status_by (body_of p.tree n) reply))) (Closes n (Ending (status_by (body_of p.tree n) reply))) (Opens n (admit_from p n 0))
@@ -87,7 +88,7 @@ shown_at [] i q = absurd (false≢true q)
 shown_at (b ∷ l) zero q = ap Some q
 shown_at (b ∷ l) (suc i) q = shown_at l i q
 
-read_keeps : (p : Plan) (replies : ℕ → List Reply) (s : State) (g : ℕ → Stage) → Holds p replies s g → (t : State) → read_row s ≡ Some t → IsKept p replies t
+read_keeps : (p : PlanParts) (replies : ℕ → List Reply) (s : State) (g : ℕ → Stage) → Holds p replies s g → (t : State) → read_row s ≡ Some t → IsKept p replies t
 read_keeps p replies s g h t q = go (slice_index_or s.shown (length s.given) false) (slice_get s.published (length s.given)) refl refl q
   where
     go : (shown : Bool) (next : Option Event) → slice_index_or s.shown (length s.given) false ≡ shown → slice_get s.published (length s.given) ≡ next → read_event s shown next ≡ Some t → IsKept p replies t
@@ -128,7 +129,7 @@ read_keeps p replies s g h t q = go (slice_index_or s.shown (length s.given) fal
         ) r
 
 -- A step keeps the invariant.
-pub after_keeps : (p : Plan) → IsCorePlan p → (replies : ℕ → List Reply) (s t : State) (a : Step) → IsKept p replies s → IsReplied p replies s a → after p s a ≡ Some t → IsKept p replies t
+pub after_keeps : (p : PlanParts) → IsCorePlan p → (replies : ℕ → List Reply) (s t : State) (a : Step) → IsKept p replies s → IsReplied p replies s a → after p s a ≡ Some t → IsKept p replies t
 after_keeps p core replies s t Dispatches kept replied q = read_keeps p replies s kept.0 kept.1 t q
 after_keeps p core replies s t (Works w a reply) kept replied q = go (slice_get s.seats w) refl q
   where

@@ -15,7 +15,7 @@ use Rattle.plan_events.specs.declared.outcome.Reply.{Reply}
 use Rattle.plan_events.specs.declared.event.Event.{Event}
 use Rattle.plan_events.specs.declared.event.EventKind.{EventKind}
 use Rattle.plan_events.specs.declared.event.EventKind.TheVariants.{Started, Finished, Skipped, Registered}
-use Rattle.event_history.specs.Plans.{Plan}
+use Rattle.resource_locks.specs.Plans.{PlanParts}
 use Rattle.scheduling.specs.State.{Opening, Registering, RegisteredAt, Offering, Noticing, Locking, Weighed, Backing, Beginning, StartedAt, Awaiting, Admitting, Guarding, Closing, AwaitingAfter, Ending, FinishedAt, SkippedAt, Raising, Giving, Settling, Looking, Passing, CountingOff, Task, Free, Opens, Closes, Hand, Seat, State, status_at}
 use Rattle.scheduling.specs.Choices.{decided, first_from, next_spare, key_place}
 use Rattle.scheduling.specs.Rows.{is_ready_for, Action, Claim, Own, Notice, Weigh, Take, Give, GiveUp, Draw, Show, Admit, AddChild, Done, Settle, Look, Raise, Works, Dispatches}
@@ -59,24 +59,24 @@ with_spare : Option ℕ → Action
 with_spare None = Done
 with_spare (Some c) = AddChild
 
-with_hand : Plan → Reply → ℕ → ℕ → Option ℕ → Action
+with_hand : PlanParts → Reply → ℕ → ℕ → Option ℕ → Action
 with_hand p reply f k None = cond (ltb k reply.pulls) (with_spare (next_spare p f k)) Done
 with_hand p reply f k (Some c) = Own c
 
-free_action : Plan → State → Reply → Option Hand → Action
+free_action : PlanParts → State → Reply → Option Hand → Action
 free_action p s reply None = take_up s (first_from (ready s) 0 (size p.tree))
 free_action p s reply (Some hand) = with_hand p reply hand.factory hand.registered hand.waiting
 
-action_of : Plan → State → Reply → Option Hand → Task → Action
+action_of : PlanParts → State → Reply → Option Hand → Task → Action
 action_of p s reply hand Free = free_action p s reply hand
 action_of p s reply hand (Opens n d) = opening_action d
 action_of p s reply hand (Closes n d) = closing_action d
 
-choose : Plan → State → Reply → Option Seat → Action
+choose : PlanParts → State → Reply → Option Seat → Action
 choose p s reply None = Look
 choose p s reply (Some seat) = action_of p s reply seat.hand (decided p reply seat.task)
 
-drive : Plan → Reply → ℕ → State → State
+drive : PlanParts → Reply → ℕ → State → State
 drive p reply zero s = s
 drive p reply (suc n) s = drive p reply n (next p (next p s (Works 0 (choose p s reply (slice_get s.seats 0)) reply)) Dispatches)
 
@@ -84,7 +84,7 @@ node : Kind → Role → Option ℕ → Option ℕ → Node
 node kind role body after = record (plain [] [] kind) { role = role; body = body; after = after }
 
 -- 0 plan; 1 class with an after-body; 2, 3 its tests, of which the first holds a key
-class : Bool → Plan
+class : Bool → PlanParts
 class fail_fast = record {
   tree = record { parents = 0 ∷ 0 ∷ 1 ∷ 1 ∷ []; nodes = node Container Plain None (Some 9) ∷ node Test Plain (Some 2) None ∷ node Test Plain (Some 3) None ∷ [] };
   held = [] ∷ [] ∷ (record { key = 7 ∷ []; mode = ReadWrite } ∷ []) ∷ [] ∷ [];
@@ -94,7 +94,7 @@ class fail_fast = record {
 }
 
 -- 0 plan; 1 factory; 2, 3 its spares
-factory : Plan
+factory : PlanParts
 factory = record {
   tree = record { parents = 0 ∷ 0 ∷ 1 ∷ 1 ∷ []; nodes = node Container Factory (Some 1) None ∷ node Test Spare (Some 2) None ∷ node Test Spare (Some 3) None ∷ [] };
   held = [] ∷ [] ∷ [] ∷ [] ∷ [];

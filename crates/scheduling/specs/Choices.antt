@@ -1,7 +1,5 @@
 -- What the plan decides: the next child, the next sibling, the next spare, the next key, and how a node goes on.
 use Rattle.std.specs.Prelude.{ℕ, zero, suc, ◌+◌, ◌-◌, Bool, true, false, ◌&&◌, ◌||◌, ◌==◌, not, nat_lt, cond, List, [], length, Option, Some, None, slice_index_or}
-use Rattle.std.specs.List.{position_or_len}
-use Rattle.std.specs.Str.{bytes_eq}
 use Rattle.descriptor.specs.declared.lock.Lock.{Lock}
 use Rattle.descriptor.specs.declared.lock_mode.LockMode.{LockMode}
 use Rattle.descriptor.specs.declared.lock_mode.LockMode.TheVariants.{Read, ReadWrite}
@@ -13,7 +11,8 @@ use Rattle.plan_events.specs.declared.event.Event.{Event}
 use Rattle.plan_events.specs.declared.event.EventKind.{EventKind}
 use Rattle.plan_events.specs.Statuses.{is_successful}
 use Rattle.event_history.specs.Places.{is_failed_or}
-use Rattle.event_history.specs.Plans.{Plan, Sort, Leaf, sort_of, is_same, held_of, is_spare_of, spare_count, rank}
+use Rattle.resource_locks.specs.Plans.{number_of, PlanParts, held_of}
+use Rattle.event_history.specs.Plans.{Sort, Leaf, sort_of, is_same, is_spare_of, spare_count, rank}
 use Rattle.event_history.specs.Results.{Jobs, Around, jobs_of}
 use Rattle.scheduling.specs.State.{LockWord, Readers, Written, Opening, Locking, Noticing, Beginning, Awaiting, Admitting, Guarding, Closing, AwaitingAfter, Ending, Raising, Giving, Settling, Looking, CountingOff, Task, Free, Opens, Closes, Hand, Seat}
 
@@ -27,18 +26,18 @@ abbrev pub first_from : (ℕ → Bool) → (from size : ℕ) → Option ℕ
 first_from q from size = find q from (size - from)
 
 -- whether c is a child of n, is no spare, and is CONCURRENT or the first SAME_THREAD child
-abbrev pub in_batch : Plan → ℕ → ℕ → Bool
+abbrev pub in_batch : PlanParts → ℕ → ℕ → Bool
 in_batch p n c = is_child p.tree n c && (not (is_spare_at p.tree c) && (not (is_same p c) || (count_below (λ d. is_child p.tree n d && is_same p d) c == 0)))
 
 -- whether m is a SAME_THREAD sibling of n, and no spare
-abbrev pub is_same_sibling : Plan → ℕ → ℕ → Bool
+abbrev pub is_same_sibling : PlanParts → ℕ → ℕ → Bool
 is_same_sibling p n m = is_child p.tree (parent_of p.tree n) m && (is_same p m && not (is_spare_at p.tree m))
 
 -- whether c is the spare of f before which k others stand
-abbrev pub is_spare_ranked : Plan → ℕ → ℕ → ℕ → Bool
+abbrev pub is_spare_ranked : PlanParts → ℕ → ℕ → ℕ → Bool
 is_spare_ranked p f k c = is_spare_of p f c && (rank p c == k)
 
-abbrev pub next_spare : Plan → ℕ → ℕ → Option ℕ
+abbrev pub next_spare : PlanParts → ℕ → ℕ → Option ℕ
 next_spare p f k = first_from (is_spare_ranked p f k) 0 (size p.tree)
 
 -- how n goes on where its children from number `from` on are to be admitted
@@ -46,7 +45,7 @@ abbrev pub admit_next : Option ℕ → Opening
 admit_next None = Guarding
 admit_next (Some c) = Admitting c
 
-abbrev pub admit_from : Plan → ℕ → ℕ → Opening
+abbrev pub admit_from : PlanParts → ℕ → ℕ → Opening
 admit_from p n from = admit_next (first_from (in_batch p n) from (size p.tree))
 
 -- how a node that is settled goes on: a SAME_THREAD node that is no spare looks for its next SAME_THREAD sibling
@@ -54,29 +53,29 @@ abbrev pub pass_to : Option ℕ → Closing
 pass_to None = CountingOff
 pass_to (Some m) = Looking m
 
-abbrev pub after_settle : Plan → ℕ → Task
+abbrev pub after_settle : PlanParts → ℕ → Task
 after_settle p zero = Free
 after_settle p (suc n) = Closes (suc n) (cond (is_same p (suc n) && not (is_spare_at p.tree (suc n))) (pass_to (first_from (is_same_sibling p (suc n)) (suc (suc n)) (size p.tree))) CountingOff)
 
 -- to whom a child is offered by worker w
-abbrev pub offered_to : Plan → ℕ → ℕ → Option ℕ
+abbrev pub offered_to : PlanParts → ℕ → ℕ → Option ℕ
 offered_to p w c = cond (is_same p c) (Some w) None
 
 -- the key at place i of those that n holds: its place, and the mode
-abbrev pub lock_of : Plan → ℕ → ℕ → Lock
+abbrev pub lock_of : PlanParts → ℕ → ℕ → Lock
 lock_of p n i = slice_index_or (held_of p n) i (record { key = []; mode = Read })
 
 -- the place of a key among those of the plan
-unfoldable pub key_place : Plan → List ℕ → ℕ
-key_place p key = position_or_len (bytes_eq key) p.keys
+unfoldable pub key_place : PlanParts → List ℕ → ℕ
+key_place p key = number_of p.keys key
 
-abbrev pub key_at : Plan → ℕ → ℕ → ℕ
+abbrev pub key_at : PlanParts → ℕ → ℕ → ℕ
 key_at p n i = key_place p (lock_of p n i).key
 
-abbrev pub mode_at : Plan → ℕ → ℕ → LockMode
+abbrev pub mode_at : PlanParts → ℕ → ℕ → LockMode
 mode_at p n i = (lock_of p n i).mode
 
-abbrev pub keys_count : Plan → ℕ → ℕ
+abbrev pub keys_count : PlanParts → ℕ → ℕ
 keys_count p n = length (held_of p n)
 
 -- whether the word lets the key be taken in this mode
@@ -107,16 +106,16 @@ same_word Written Written = true
 same_word _ _ = false
 
 -- how a node that is claimed goes on: in a plan that fails fast it is asked first whether the plan is cancelled
-abbrev pub lock_from : Plan → ℕ → ℕ → Opening
+abbrev pub lock_from : PlanParts → ℕ → ℕ → Opening
 lock_from p n i = cond (nat_lt i (keys_count p n)) (Locking i) (Beginning false)
 
-abbrev pub begins : Plan → ℕ → (skip : Bool) → Opening
+abbrev pub begins : PlanParts → ℕ → (skip : Bool) → Opening
 begins p n skip = cond skip (Beginning true) (lock_from p n 0)
 
-abbrev pub notices : Plan → ℕ → Bool
+abbrev pub notices : PlanParts → ℕ → Bool
 notices p n = p.fail_fast && (nat_lt 0 n && not (is_disabled p.tree n))
 
-abbrev pub claims : Plan → ℕ → Opening
+abbrev pub claims : PlanParts → ℕ → Opening
 claims p n = cond (notices p n) Noticing (begins p n (is_disabled p.tree n))
 
 -- how it goes on where i keys are left to give back
@@ -125,7 +124,7 @@ giving zero = Settling
 giving (suc i) = Giving (suc i)
 
 -- and after its finish
-abbrev pub after_finish : Plan → ℕ → Status → Closing
+abbrev pub after_finish : PlanParts → ℕ → Status → Closing
 after_finish p n status = cond (p.fail_fast && is_failed_or (Some status)) Raising (giving (keys_count p n))
 
 -- the status that the reply gives a node with this body
@@ -138,11 +137,11 @@ is_leaf Leaf = true
 is_leaf _ = false
 
 -- the reply's decision: a test ends with it, and so does a container that it stops; another one admits its children
-abbrev pub answered : Plan → ℕ → Reply → Task
+abbrev pub answered : PlanParts → ℕ → Reply → Task
 answered p n reply = cond (is_leaf (sort_of p.tree n) || not (is_successful (status_by (body_of p.tree n) reply))) (Closes n (Ending (status_by (body_of p.tree n) reply))) (Opens n (admit_from p n 0))
 
 -- a task that awaits a reply, as the reply decides it
-abbrev pub decided : Plan → Reply → Task → Task
+abbrev pub decided : PlanParts → Reply → Task → Task
 decided p reply (Opens n Awaiting) = answered p n reply
 decided p reply (Closes n AwaitingAfter) = Closes n (Ending reply.outcome.status)
 decided p reply t = t
@@ -152,11 +151,11 @@ abbrev pub after_job : Jobs → Option ℕ
 after_job (Around body after) = after
 after_job _ = None
 
-abbrev pub hand_job : Plan → Option Hand → Option ℕ
+abbrev pub hand_job : PlanParts → Option Hand → Option ℕ
 hand_job p None = None
 hand_job p (Some hand) = body_of p.tree hand.factory
 
-abbrev pub awaited : Plan → Seat → Task → Option ℕ
+abbrev pub awaited : PlanParts → Seat → Task → Option ℕ
 awaited p seat Free = hand_job p seat.hand
 awaited p seat (Opens n Awaiting) = body_of p.tree n
 awaited p seat (Closes n AwaitingAfter) = after_job (jobs_of p n)
@@ -167,11 +166,11 @@ abbrev pub ending_by : Jobs → Status → Closing
 ending_by (Around body (Some after)) result = AwaitingAfter
 ending_by _ result = Ending result
 
-abbrev pub ending : Plan → ℕ → Status → Closing
+abbrev pub ending : PlanParts → ℕ → Status → Closing
 ending p n result = ending_by (jobs_of p n) result
 
 -- whether a factory may be done that has k registered spares, and with which result
-abbrev pub is_pulled : Plan → ℕ → ℕ → Reply → Bool
+abbrev pub is_pulled : PlanParts → ℕ → ℕ → Reply → Bool
 is_pulled p f k reply = (reply.pulls == k) || ((k == spare_count p f) && nat_lt k reply.pulls)
 
 abbrev pub pulled_result : ℕ → Reply → Status

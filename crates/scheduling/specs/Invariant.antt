@@ -8,7 +8,8 @@ use Rattle.plan_events.specs.declared.status.Status.{Status}
 use Rattle.plan_events.specs.declared.status.Status.TheVariants.{Successful}
 use Rattle.plan_events.specs.declared.event.Event.{Event}
 use Rattle.plan_events.specs.declared.outcome.Reply.{Reply}
-use Rattle.event_history.specs.Plans.{Plan, IsPlanTree, Leaf, Maker, IsElder, sort_of, is_same, rank, pulls_job}
+use Rattle.resource_locks.specs.Plans.{PlanParts}
+use Rattle.event_history.specs.Plans.{IsPlanTree, Leaf, Maker, IsElder, sort_of, is_same, rank, pulls_job}
 use Rattle.event_history.specs.Places.{has}
 use Rattle.event_history.specs.Results.{Jobs, NoJob, Around, jobs_of, HasAnswer, Ends}
 use Rattle.event_history.specs.Order.{goes_first}
@@ -20,17 +21,17 @@ use Rattle.scheduling.specs.Stages.{How, Gave, Kept, Skips, Stage, OpenedBy, InH
 
 -- what the core asks of a plan's tree, and what every tree of nodes has: besides, its nodes have numbers of events, and the
 -- children of a factory are spares
-pub record IsCorePlan (p : Plan) : Type 0 where
+pub record IsCorePlan (p : PlanParts) : Type 0 where
   pub plan : IsPlanTree p.tree
   pub few : size p.tree ≤ 4096
   pub makers : (f c : ℕ) → IsChild p.tree f c → sort_of p.tree f ≡ Maker → is_spare_at p.tree c ≡ true
 
 -- Words.
 -- how many children of a are still to be counted off
-abbrev pub pends_at : Plan → (ℕ → Stage) → ℕ → ℕ → Bool
+abbrev pub pends_at : PlanParts → (ℕ → Stage) → ℕ → ℕ → Bool
 pends_at p g a c = is_child p.tree a c && is_pending (is_spare_at p.tree c) (g c)
 
-unfoldable pub pending : Plan → (ℕ → Stage) → ℕ → ℕ
+unfoldable pub pending : PlanParts → (ℕ → Stage) → ℕ → ℕ
 pending p g a = count_below (pends_at p g a) (size p.tree)
 
 -- how many nodes have the key at place k in this mode
@@ -39,17 +40,17 @@ same_mode Read Read = true
 same_mode ReadWrite ReadWrite = true
 same_mode _ _ = false
 
-abbrev pub is_key : Plan → ℕ → LockMode → ℕ → ℕ → Bool
+abbrev pub is_key : PlanParts → ℕ → LockMode → ℕ → ℕ → Bool
 is_key p k mode n i = (key_at p n i == k) && same_mode (mode_at p n i) mode
 
-unfoldable pub keys_in : Plan → ℕ → LockMode → ℕ → ℕ → ℕ
+unfoldable pub keys_in : PlanParts → ℕ → LockMode → ℕ → ℕ → ℕ
 keys_in p k mode n many = count_below (is_key p k mode n) many
 
 abbrev pub sum_below : (ℕ → ℕ) → ℕ → ℕ
 sum_below f zero = 0
 sum_below f (suc n) = f n + sum_below f n
 
-unfoldable pub holders : Plan → (ℕ → Stage) → ℕ → LockMode → ℕ
+unfoldable pub holders : PlanParts → (ℕ → Stage) → ℕ → LockMode → ℕ
 holders p g k mode = sum_below (λ n. keys_in p k mode n (picture p n (g n)).keys) (size p.tree)
 
 abbrev pub holders_by : LockMode → LockWord → ℕ
@@ -58,25 +59,25 @@ holders_by Read Written = 0
 holders_by ReadWrite (Readers n) = 0
 holders_by ReadWrite Written = 1
 
-abbrev pub WordsOk : Plan → State → (ℕ → Stage) → Type 0
+abbrev pub WordsOk : PlanParts → State → (ℕ → Stage) → Type 0
 WordsOk p s g = (n : ℕ) → n < size p.tree → status_at s n ≡ (picture p n (g n)).word
 
-abbrev pub CountersOk : Plan → State → (ℕ → Stage) → Type 0
+abbrev pub CountersOk : PlanParts → State → (ℕ → Stage) → Type 0
 CountersOk p s g = (n : ℕ) → n < size p.tree → counter_at s n ≡ (picture p n (g n)).guard + pending p g n
 
-abbrev pub ResultsOk : Plan → State → (ℕ → Stage) → Type 0
+abbrev pub ResultsOk : PlanParts → State → (ℕ → Stage) → Type 0
 ResultsOk p s g = (n c : ℕ) (r : Status) → n < size p.tree → g n ≡ Waiting c r → result_at s n ≡ r
 
-abbrev pub LocksOk : Plan → State → (ℕ → Stage) → Type 0
+abbrev pub LocksOk : PlanParts → State → (ℕ → Stage) → Type 0
 LocksOk p s g = (k : ℕ) (mode : LockMode) → holders p g k mode ≡ holders_by mode (lock_at s k)
 
 -- The history.
 -- it has an event exactly where the stage says so
-abbrev pub FlagsOk : Plan → List Event → (ℕ → Stage) → Type 0
+abbrev pub FlagsOk : PlanParts → List Event → (ℕ → Stage) → Type 0
 FlagsOk p h g = (k : EventKind) (n : ℕ) → n < size p.tree → has k n h ≡ has_mark (is_spare_at p.tree n) k (picture p n (g n)).mark
 
 -- who claimed a node that has started, and not finished, has started it
-abbrev pub StartersOk : Plan → List Event → (ℕ → Stage) → Type 0
+abbrev pub StartersOk : PlanParts → List Event → (ℕ → Stage) → Type 0
 StartersOk p h g = (n c : ℕ) → n < size p.tree → starter_of (picture p n (g n)) ≡ Some c → started_by n (c + 1) h ≡ true
 
 -- Shape: what is known of node n at its stage.
@@ -86,11 +87,11 @@ GoesOn replies NoJob = Unit {0}
 GoesOn replies (Around body after) = (text : Option (List ℕ)) × HasAnswer replies body Successful text
 GoesOn replies _ = ⊥
 
-abbrev pub SkipReason : Plan → List Event → ℕ → Type 0
+abbrev pub SkipReason : PlanParts → List Event → ℕ → Type 0
 SkipReason p h n = (is_disabled p.tree n ≡ true) ⊎ ((p.fail_fast ≡ true) × (has_failed h ≡ true))
 
 -- a node that kept its guard has no children, or is stopped; one that gave it up is not stopped
-abbrev pub EndsSo : Plan → ℕ → How → (stopped : Bool) → Type 0
+abbrev pub EndsSo : PlanParts → ℕ → How → (stopped : Bool) → Type 0
 EndsSo p n Gave false = Unit {0}
 EndsSo p n Gave true = ⊥
 EndsSo p n Kept false = sort_of p.tree n ≡ Leaf
@@ -98,14 +99,14 @@ EndsSo p n Kept true = Unit {0}
 EndsSo p n Skips stopped = ⊥
 
 -- it is to finish with this status, a lawful one
-pub record IsEnding (p : Plan) (replies : ℕ → List Reply) (h : List Event) (n : ℕ) (how : How) (status : Status) : Type 0 where
+pub record IsEnding (p : PlanParts) (replies : ℕ → List Reply) (h : List Event) (n : ℕ) (how : How) (status : Status) : Type 0 where
   pub stopped : Bool
   pub so : EndsSo p n how stopped
   pub text : Option (List ℕ)
   pub lawful : Ends replies (jobs_of p n) stopped (registered_in p h n) status text
 
 -- it gave its guard up, and has an after-body
-pub record IsAfter (p : Plan) (replies : ℕ → List Reply) (n : ℕ) (how : How) : Type 0 where
+pub record IsAfter (p : PlanParts) (replies : ℕ → List Reply) (n : ℕ) (how : How) : Type 0 where
   pub gave : how ≡ Gave
   pub body : Option ℕ
   pub after : ℕ
@@ -114,7 +115,7 @@ pub record IsAfter (p : Plan) (replies : ℕ → List Reply) (n : ℕ) (how : Ho
   pub answers : HasAnswer replies body Successful text
 
 -- m is the next SAME_THREAD sibling of n
-pub record IsNextSame (p : Plan) (n m : ℕ) : Type 0 where
+pub record IsNextSame (p : PlanParts) (n m : ℕ) : Type 0 where
   pub elder : IsElder p.tree n m
   pub same : is_same p n ≡ true
   pub plain : is_spare_at p.tree n ≡ false
@@ -122,7 +123,7 @@ pub record IsNextSame (p : Plan) (n m : ℕ) : Type 0 where
   pub next_plain : is_spare_at p.tree m ≡ false
   pub between : (a : ℕ) → n < a → a < m → IsElder p.tree a m → is_same p a ≡ true → ⊥
 
-abbrev pub OpeningOk : Plan → (ℕ → List Reply) → List Event → ℕ → Opening → Type 0
+abbrev pub OpeningOk : PlanParts → (ℕ → List Reply) → List Event → ℕ → Opening → Type 0
 OpeningOk p replies h n Registering = (is_spare_at p.tree n && pulls_job p (parent_of p.tree n)) ≡ true
 OpeningOk p replies h n Noticing = (p.fail_fast ≡ true) × (0 < n) × (is_disabled p.tree n ≡ false)
 OpeningOk p replies h n (Locking i) = (i < keys_count p n) × (is_disabled p.tree n ≡ false)
@@ -134,7 +135,7 @@ OpeningOk p replies h n (Admitting c) = GoesOn replies (jobs_of p n) × (c < siz
 OpeningOk p replies h n Guarding = GoesOn replies (jobs_of p n)
 OpeningOk p replies h n _ = Unit {0}
 
-abbrev pub ClosingOk : Plan → (ℕ → List Reply) → List Event → ℕ → Closing → How → Type 0
+abbrev pub ClosingOk : PlanParts → (ℕ → List Reply) → List Event → ℕ → Closing → How → Type 0
 ClosingOk p replies h n AwaitingAfter how = IsAfter p replies n how
 ClosingOk p replies h n (Ending status) how = IsEnding p replies h n how status
 ClosingOk p replies h n (Looking m) how = IsNextSame p n m
@@ -142,7 +143,7 @@ ClosingOk p replies h n (Passing m o) how = IsNextSame p n m
 ClosingOk p replies h n CountingOff how = 0 < n
 ClosingOk p replies h n _ how = Unit {0}
 
-abbrev pub ShapeOk : Plan → (ℕ → List Reply) → List Event → ℕ → Stage → Type 0
+abbrev pub ShapeOk : PlanParts → (ℕ → List Reply) → List Event → ℕ → Stage → Type 0
 ShapeOk p replies h n (OpenedBy w d) = OpeningOk p replies h n d
 ShapeOk p replies h n (InHand w) = pulls_job p n ≡ true
 ShapeOk p replies h n (Waiting c result) = ClosingOk p replies h n (ending p n result) Gave
@@ -152,42 +153,42 @@ ShapeOk p replies h n _ = Unit {0}
 -- Parent and child.
 -- a child of a node whose children its claimer o runs: of those to be admitted, it is unseen from this number on; and a
 -- SAME_THREAD child is o's
-pub record RunsSo (p : Plan) (a c o from : ℕ) (stage : Stage) : Type 0 where
+pub record RunsSo (p : PlanParts) (a c o from : ℕ) (stage : Stage) : Type 0 where
   pub rest : in_batch p a c ≡ true → from ≤ c → is_unseen stage ≡ true
   pub owned : is_same p c ≡ true → is_owned o stage ≡ true
 
-abbrev pub Fits : Plan → Below → ℕ → ℕ → Stage → Type 0
+abbrev pub Fits : PlanParts → Below → ℕ → ℕ → Stage → Type 0
 Fits p Shut a c stage = is_unseen stage ≡ true
 Fits p (Runs o from) a c stage = RunsSo p a c o from stage
 Fits p Past a c stage = is_over (is_spare_at p.tree c) stage ≡ true
 
-abbrev pub EdgesOk : Plan → (ℕ → Stage) → Type 0
+abbrev pub EdgesOk : PlanParts → (ℕ → Stage) → Type 0
 EdgesOk p g = (a c : ℕ) → IsChild p.tree a c → Fits p (picture p a (g a)).below a c (g c)
 
 -- Same thread: an elder that goes first is settled, and has passed the turn on, before a younger one is seen.
-abbrev pub EldersOk : Plan → (ℕ → Stage) → Type 0
+abbrev pub EldersOk : PlanParts → (ℕ → Stage) → Type 0
 EldersOk p g = (a b : ℕ) → IsElder p.tree a b → goes_first p a b ≡ true → is_unseen (g b) ≡ false → is_past (g a) ≡ true
 
 -- Workers.
 -- the stage of the node that a task is about names the worker and the task
-abbrev pub TaskOk : Plan → (ℕ → Stage) → ℕ → Task → Type 0
+abbrev pub TaskOk : PlanParts → (ℕ → Stage) → ℕ → Task → Type 0
 TaskOk p g w Free = Unit {0}
 TaskOk p g w (Opens n d) = (n < size p.tree) × (g n ≡ OpenedBy w d)
 TaskOk p g w (Closes n d) = (n < size p.tree) × ((c : ℕ) × (how : How) × (g n ≡ ClosedBy w c d how))
 
 -- the factory in hand: the number of its registered spares; each SAME_THREAD spare that is not settled is waited for
-pub record IsInHand (p : Plan) (g : ℕ → Stage) (h : List Event) (w : ℕ) (hand : Hand) : Type 0 where
+pub record IsInHand (p : PlanParts) (g : ℕ → Stage) (h : List Event) (w : ℕ) (hand : Hand) : Type 0 where
   pub inside : hand.factory < size p.tree
   pub at : g hand.factory ≡ InHand w
   pub count : registered_in p h hand.factory ≡ hand.registered
   pub waits : (c : ℕ) → IsChild p.tree hand.factory c → (is_spare_at p.tree c && is_same p c) ≡ true → is_unsettled (g c) ≡ true → hand.waiting ≡ Some c
 
-abbrev pub HandOk : Plan → (ℕ → Stage) → List Event → ℕ → Option Hand → Type 0
+abbrev pub HandOk : PlanParts → (ℕ → Stage) → List Event → ℕ → Option Hand → Type 0
 HandOk p g h w None = Unit {0}
 HandOk p g h w (Some hand) = IsInHand p g h w hand
 
 -- a spare that the worker brings in is the next of the factory in its hand
-pub record IsBrought (p : Plan) (n : ℕ) (d : Opening) (hand : Option Hand) : Type 0 where
+pub record IsBrought (p : PlanParts) (n : ℕ) (d : Opening) (hand : Option Hand) : Type 0 where
   pub held : Hand
   pub is : hand ≡ Some held
   pub parent : parent_of p.tree n ≡ held.factory
@@ -195,11 +196,11 @@ pub record IsBrought (p : Plan) (n : ℕ) (d : Opening) (hand : Option Hand) : T
   pub waits : (held.waiting ≡ None) ⊎ (held.waiting ≡ Some n)
   pub next : d ≡ Registering → rank p n ≡ held.registered
 
-abbrev pub BringsOk : Plan → Task → Option Hand → Type 0
+abbrev pub BringsOk : PlanParts → Task → Option Hand → Type 0
 BringsOk p (Opens n d) hand = brings d ≡ true → IsBrought p n d hand
 BringsOk p _ hand = Unit {0}
 
-pub record SeatOk (p : Plan) (g : ℕ → Stage) (h : List Event) (cancel : Bool) (w : ℕ) (seat : Seat) : Type 0 where
+pub record SeatOk (p : PlanParts) (g : ℕ → Stage) (h : List Event) (cancel : Bool) (w : ℕ) (seat : Seat) : Type 0 where
   pub task : TaskOk p g w seat.task
   pub hand : HandOk p g h w seat.hand
   pub brought : BringsOk p seat.task seat.hand
@@ -208,7 +209,7 @@ pub record SeatOk (p : Plan) (g : ℕ → Stage) (h : List Event) (cancel : Bool
   pub failed : raises seat.task ≡ true → has_failed_by (w + 1) h ≡ true
   pub quits : p.fail_fast ≡ true → has_failed_by (w + 1) h ≡ true → (raises seat.task ≡ true) ⊎ ((cancel ≡ true) × (is_bold seat.task ≡ false))
 
-abbrev pub SeatsOk : Plan → (ℕ → Stage) → List Event → Bool → List Seat → Type 0
+abbrev pub SeatsOk : PlanParts → (ℕ → Stage) → List Event → Bool → List Seat → Type 0
 SeatsOk p g h cancel seats = (w : ℕ) (seat : Seat) → slice_get seats w ≡ Some seat → SeatOk p g h cancel w seat
 
 -- and the other way round: whoever is at a node has it as its task
@@ -224,7 +225,7 @@ pub record IsGiven (s : State) : Type 0 where
   pub shown : (i : ℕ) → i < length s.given → slice_get s.shown i ≡ Some true
 
 -- The state is the picture of these stages.
-pub record Holds (p : Plan) (replies : ℕ → List Reply) (s : State) (g : ℕ → Stage) : Type 0 where
+pub record Holds (p : PlanParts) (replies : ℕ → List Reply) (s : State) (g : ℕ → Stage) : Type 0 where
   pub workers_few : length s.seats ≤ 64
   pub statuses_len : length s.statuses ≡ size p.tree
   pub counters_len : length s.counters ≡ size p.tree
@@ -246,5 +247,5 @@ pub record Holds (p : Plan) (replies : ℕ → List Reply) (s : State) (g : ℕ 
   pub given : IsGiven s
 
 -- the core's invariant
-abbrev pub IsKept : Plan → (ℕ → List Reply) → State → Type 0
+abbrev pub IsKept : PlanParts → (ℕ → List Reply) → State → Type 0
 IsKept p replies s = (g : ℕ → Stage) × Holds p replies s g

@@ -6,7 +6,8 @@ use Rattle.plan_events.specs.declared.status.Status.TheVariants.{Successful}
 use Rattle.plan_events.specs.declared.outcome.Reply.{Reply}
 use Rattle.plan_events.specs.declared.event.Event.{Event}
 use Rattle.plan_events.specs.declared.event.EventKind.TheVariants.{Started, Finished, Skipped, Registered}
-use Rattle.event_history.specs.Plans.{Plan, is_same, pulls_job}
+use Rattle.resource_locks.specs.Plans.{PlanParts}
+use Rattle.event_history.specs.Plans.{is_same, pulls_job}
 use Rattle.scheduling.specs.State.{NodeStatus, Ready, Claimed, Settled, LockWord, Opening, Registering, RegisteredAt, Offering, Noticing, Locking, Weighed, Backing, Beginning, StartedAt, Awaiting, Admitting, Guarding, Ending, FinishedAt, SkippedAt, Raising, Giving, Settling, Looking, Passing, CountingOff, Task, Free, Opens, Closes, Hand, Seat, State, status_at, counter_at, result_at, lock_at}
 use Rattle.scheduling.specs.Choices.{next_spare, admit_from, after_settle, offered_to, key_at, mode_at, admits, taken, given_back, same_word, keys_count, lock_from, begins, claims, giving, after_finish, decided, ending, is_pulled, pulled_result, event_of}
 
@@ -36,39 +37,39 @@ is_empty None = true
 is_empty (Some hand) = false
 
 -- whether the node is a spare of the factory in hand, if there is one
-abbrev pub is_of_hand : Plan → Option Hand → ℕ → Bool
+abbrev pub is_of_hand : PlanParts → Option Hand → ℕ → Bool
 is_of_hand p None n = true
 is_of_hand p (Some hand) n = parent_of p.tree n == hand.factory
 
-abbrev pub claimed : Plan → State → ℕ → Seat → ℕ → State
+abbrev pub claimed : PlanParts → State → ℕ → Seat → ℕ → State
 claimed p s w seat n = record s { statuses = slice_set s.statuses n (Claimed w); seats = goes_to s w (with_task seat (Opens n (claims p n))) }
 
-abbrev pub claim_row : Plan → State → ℕ → Seat → ℕ → Option State
+abbrev pub claim_row : PlanParts → State → ℕ → Seat → ℕ → Option State
 claim_row p s w seat n = cond (is_free seat.task && (is_empty seat.hand && is_ready_for None (status_at s n))) (Some (claimed p s w seat n)) None
 
-abbrev pub own_row : Plan → State → ℕ → Seat → ℕ → Option State
+abbrev pub own_row : PlanParts → State → ℕ → Seat → ℕ → Option State
 own_row p s w seat n = cond (is_free seat.task && (is_of_hand p seat.hand n && is_ready_for (Some w) (status_at s n))) (Some (claimed p s w seat n)) None
 
 -- notice, raise
 abbrev pub goes : State → ℕ → Seat → Task → State
 goes s w seat t = record s { seats = goes_to s w (with_task seat t) }
 
-abbrev pub notice_row : Plan → State → ℕ → Seat → Task → Option State
+abbrev pub notice_row : PlanParts → State → ℕ → Seat → Task → Option State
 notice_row p s w seat (Opens n Noticing) = Some (goes s w seat (Opens n (begins p n s.cancel)))
 notice_row p s w seat _ = None
 
-abbrev pub raised : Plan → State → ℕ → Seat → ℕ → State
+abbrev pub raised : PlanParts → State → ℕ → Seat → ℕ → State
 raised p s w seat n = record s { cancel = true; seats = goes_to s w (with_task seat (Closes n (giving (keys_count p n)))) }
 
-abbrev pub raise_row : Plan → State → ℕ → Seat → Task → Option State
+abbrev pub raise_row : PlanParts → State → ℕ → Seat → Task → Option State
 raise_row p s w seat (Closes n Raising) = Some (raised p s w seat n)
 raise_row p s w seat _ = None
 
 -- weigh, take, give, give_up
-abbrev pub weighed : Plan → ℕ → ℕ → LockWord → Opening
+abbrev pub weighed : PlanParts → ℕ → ℕ → LockWord → Opening
 weighed p n i word = cond (admits (mode_at p n i) word) (Weighed i word) (Backing i)
 
-abbrev pub weigh_row : Plan → State → ℕ → Seat → Task → Option State
+abbrev pub weigh_row : PlanParts → State → ℕ → Seat → Task → Option State
 weigh_row p s w seat (Opens n (Locking i)) = Some (goes s w seat (Opens n (weighed p n i (lock_at s (key_at p n i)))))
 weigh_row p s w seat _ = None
 
@@ -76,34 +77,34 @@ weigh_row p s w seat _ = None
 abbrev pub puts_word : State → ℕ → Seat → Task → ℕ → LockWord → State
 puts_word s w seat t k word = record s { locks = slice_set s.locks k word; seats = goes_to s w (with_task seat t) }
 
-abbrev pub take_found : Plan → State → ℕ → Seat → ℕ → ℕ → LockWord → Option LockWord → Option State
+abbrev pub take_found : PlanParts → State → ℕ → Seat → ℕ → ℕ → LockWord → Option LockWord → Option State
 take_found p s w seat n i v None = None
 take_found p s w seat n i v (Some word) =
     cond (same_word word v) (Some (puts_word s w seat (Opens n (lock_from p n (suc i))) (key_at p n i) (taken (mode_at p n i) word))) (Some (goes s w seat (Opens n (Locking i))))
 
-abbrev pub take_row : Plan → State → ℕ → Seat → Task → Option State
+abbrev pub take_row : PlanParts → State → ℕ → Seat → Task → Option State
 take_row p s w seat (Opens n (Weighed i v)) = take_found p s w seat n i v (slice_get s.locks (key_at p n i))
 take_row p s w seat _ = None
 
 -- the key at place i of those of n is given back
-abbrev pub gives_key : Plan → State → ℕ → Seat → Task → ℕ → ℕ → Option LockWord → Option State
+abbrev pub gives_key : PlanParts → State → ℕ → Seat → Task → ℕ → ℕ → Option LockWord → Option State
 gives_key p s w seat t n i None = None
 gives_key p s w seat t n i (Some word) = Some (puts_word s w seat t (key_at p n i) (given_back (mode_at p n i) word))
 
-abbrev pub give_row : Plan → State → ℕ → Seat → Task → Option State
+abbrev pub give_row : PlanParts → State → ℕ → Seat → Task → Option State
 give_row p s w seat (Opens n (Backing (suc i))) = gives_key p s w seat (Opens n (Backing i)) n i (slice_get s.locks (key_at p n i))
 give_row p s w seat (Closes n (Giving (suc i))) = gives_key p s w seat (Closes n (giving i)) n i (slice_get s.locks (key_at p n i))
 give_row p s w seat _ = None
 
 -- node 0 has no parent, and is offered to any
-abbrev pub back_to : Plan → ℕ → ℕ → Option ℕ
+abbrev pub back_to : PlanParts → ℕ → ℕ → Option ℕ
 back_to p w zero = None
 back_to p w (suc n) = offered_to p w (suc n)
 
-abbrev pub given_up : Plan → State → ℕ → Seat → ℕ → State
+abbrev pub given_up : PlanParts → State → ℕ → Seat → ℕ → State
 given_up p s w seat n = record s { statuses = slice_set s.statuses n (Ready (back_to p w n)); seats = goes_to s w (with_task seat Free) }
 
-abbrev pub give_up_row : Plan → State → ℕ → Seat → Task → Option State
+abbrev pub give_up_row : PlanParts → State → ℕ → Seat → Task → Option State
 give_up_row p s w seat (Opens n (Backing zero)) = Some (given_up p s w seat n)
 give_up_row p s w seat _ = None
 
@@ -126,10 +127,10 @@ draw_row s w seat _ = None
 abbrev pub shows : State → ℕ → Seat → ℕ → State
 shows s w seat i = record s { shown = slice_set s.shown i true; seats = goes_to s w seat }
 
-abbrev pub after_start : Plan → Seat → ℕ → Seat
+abbrev pub after_start : PlanParts → Seat → ℕ → Seat
 after_start p seat n = cond (pulls_job p n) (record { task = Free; hand = Some (record { factory = n; registered = 0; waiting = None }) }) (with_task seat (Opens n Awaiting))
 
-abbrev pub show_row : Plan → State → ℕ → Seat → Task → Option State
+abbrev pub show_row : PlanParts → State → ℕ → Seat → Task → Option State
 show_row p s w seat (Opens n (RegisteredAt i)) = Some (shows s w (with_task seat (Opens n Offering)) i)
 show_row p s w seat (Opens n (StartedAt i)) = Some (shows s w (after_start p seat n) i)
 show_row p s w seat (Closes n (SkippedAt i)) = Some (shows s w (with_task seat (Closes n Settling)) i)
@@ -140,11 +141,11 @@ show_row p s w seat _ = None
 abbrev pub offers : State → ℕ → Seat → ℕ → Option ℕ → State
 offers s w seat c o = record s { statuses = slice_set s.statuses c (Ready o); seats = goes_to s w seat }
 
-abbrev pub waits_for : Plan → ℕ → Option Hand → Option Hand
+abbrev pub waits_for : PlanParts → ℕ → Option Hand → Option Hand
 waits_for p c None = None
 waits_for p c (Some hand) = Some (record hand { waiting = cond (is_same p c) (Some c) hand.waiting })
 
-abbrev pub admit_row : Plan → State → ℕ → Seat → Task → Option State
+abbrev pub admit_row : PlanParts → State → ℕ → Seat → Task → Option State
 admit_row p s w seat (Opens n (Admitting c)) = Some (offers s w (with_task seat (Opens n (admit_from p n (suc c)))) c (offered_to p w c))
 admit_row p s w seat (Opens c Offering) = Some (offers s w (record { task = Free; hand = waits_for p c seat.hand }) c (offered_to p w c))
 admit_row p s w seat (Closes n (Passing m o)) = Some (offers s w (with_task seat (Closes n CountingOff)) m (Some o))
@@ -155,41 +156,41 @@ abbrev pub child_added : State → ℕ → Seat → ℕ → Option ℕ → Optio
 child_added s w seat f None = None
 child_added s w seat f (Some c) = Some (record s { counters = slice_set s.counters f (counter_at s f + 1); seats = goes_to s w (with_task seat (Opens c Registering)) })
 
-abbrev pub add_by_hand : Plan → State → ℕ → Seat → Reply → ℕ → ℕ → Option ℕ → Option State
+abbrev pub add_by_hand : PlanParts → State → ℕ → Seat → Reply → ℕ → ℕ → Option ℕ → Option State
 add_by_hand p s w seat reply f k (Some c) = None
 add_by_hand p s w seat reply f k None = cond (nat_lt k reply.pulls) (child_added s w seat f (next_spare p f k)) None
 
-abbrev pub add_child_hand : Plan → State → ℕ → Seat → Reply → Option Hand → Option State
+abbrev pub add_child_hand : PlanParts → State → ℕ → Seat → Reply → Option Hand → Option State
 add_child_hand p s w seat reply None = None
 add_child_hand p s w seat reply (Some hand) = add_by_hand p s w seat reply hand.factory hand.registered hand.waiting
 
-abbrev pub add_child_row : Plan → State → ℕ → Seat → Reply → Task → Option State
+abbrev pub add_child_row : PlanParts → State → ℕ → Seat → Reply → Task → Option State
 add_child_row p s w seat reply Free = add_child_hand p s w seat reply seat.hand
 add_child_row p s w seat reply _ = None
 
 -- done: node n has one thing less outstanding; whoever takes the last one off ends it
-abbrev pub ends_or_free : Plan → ℕ → Status → ℕ → Task
+abbrev pub ends_or_free : PlanParts → ℕ → Status → ℕ → Task
 ends_or_free p n result outstanding = cond (outstanding == 1) (Closes n (ending p n result)) Free
 
-abbrev pub guard_given : Plan → State → ℕ → Option Hand → ℕ → Status → State
+abbrev pub guard_given : PlanParts → State → ℕ → Option Hand → ℕ → Status → State
 guard_given p s w hand n result = record s {
   counters = slice_set s.counters n (counter_at s n - 1);
   results = slice_set s.results n result;
   seats = goes_to s w (record { task = ends_or_free p n result (counter_at s n); hand = hand });
 }
 
-abbrev pub counted_off : Plan → State → ℕ → Seat → ℕ → State
+abbrev pub counted_off : PlanParts → State → ℕ → Seat → ℕ → State
 counted_off p s w seat a = record s { counters = slice_set s.counters a (counter_at s a - 1); seats = goes_to s w (with_task seat (ends_or_free p a (result_at s a) (counter_at s a))) }
 
-abbrev pub done_by_hand : Plan → State → ℕ → Reply → ℕ → ℕ → Option ℕ → Option State
+abbrev pub done_by_hand : PlanParts → State → ℕ → Reply → ℕ → ℕ → Option ℕ → Option State
 done_by_hand p s w reply f k (Some c) = None
 done_by_hand p s w reply f k None = cond (is_pulled p f k reply) (Some (guard_given p s w None f (pulled_result k reply))) None
 
-abbrev pub done_hand : Plan → State → ℕ → Reply → Option Hand → Option State
+abbrev pub done_hand : PlanParts → State → ℕ → Reply → Option Hand → Option State
 done_hand p s w reply None = None
 done_hand p s w reply (Some hand) = done_by_hand p s w reply hand.factory hand.registered hand.waiting
 
-abbrev pub done_row : Plan → State → ℕ → Seat → Reply → Task → Option State
+abbrev pub done_row : PlanParts → State → ℕ → Seat → Reply → Task → Option State
 done_row p s w seat reply (Opens n Guarding) = Some (guard_given p s w seat.hand n Successful)
 done_row p s w seat reply (Closes c CountingOff) = Some (counted_off p s w seat (parent_of p.tree c))
 done_row p s w seat reply Free = done_hand p s w reply seat.hand
@@ -204,7 +205,7 @@ abbrev pub waits_no_more : ℕ → Option Hand → Option Hand
 waits_no_more n None = None
 waits_no_more n (Some hand) = Some (record hand { waiting = waited_out n hand.waiting })
 
-abbrev pub settle_row : Plan → State → ℕ → Seat → Task → Option State
+abbrev pub settle_row : PlanParts → State → ℕ → Seat → Task → Option State
 settle_row p s w seat (Closes n Settling) = Some (record s { statuses = slice_set s.statuses n Settled; seats = goes_to s w (record { task = after_settle p n; hand = waits_no_more n seat.hand }) })
 settle_row p s w seat _ = None
 
@@ -213,7 +214,7 @@ abbrev pub look_found : State → ℕ → Seat → ℕ → ℕ → NodeStatus �
 look_found s w seat n m (Claimed o) = Some (goes s w seat (Closes n (Passing m o)))
 look_found s w seat n m _ = None
 
-abbrev pub look_row : Plan → State → ℕ → Seat → Task → Option State
+abbrev pub look_row : PlanParts → State → ℕ → Seat → Task → Option State
 look_row p s w seat (Closes n (Looking m)) = look_found s w seat n m (status_at s (parent_of p.tree n))
 look_row p s w seat Free = Some s
 look_row p s w seat _ = None
@@ -236,7 +237,7 @@ pub data Action : Type 0 where
   Raise : Action
 
 -- the step of the worker at place w, whose task the reply has decided
-abbrev pub row : Plan → State → ℕ → Seat → Reply → Action → Option State
+abbrev pub row : PlanParts → State → ℕ → Seat → Reply → Action → Option State
 row p s w seat reply (Claim n) = claim_row p s w seat n
 row p s w seat reply (Own n) = own_row p s w seat n
 row p s w seat reply Notice = notice_row p s w seat seat.task
@@ -267,12 +268,12 @@ pub data Step : Type 0 where
   Dispatches : Step
 
 -- the reply decides the task, and then the row says what the step makes
-abbrev pub decided_seat : Plan → Reply → Seat → Seat
+abbrev pub decided_seat : PlanParts → Reply → Seat → Seat
 decided_seat p reply seat = with_task seat (decided p reply seat.task)
 
-abbrev pub after_seat : Plan → State → ℕ → Action → Reply → Seat → Option State
+abbrev pub after_seat : PlanParts → State → ℕ → Action → Reply → Seat → Option State
 after_seat p s w a reply seat = row p (record s { seats = goes_to s w (decided_seat p reply seat) }) w (decided_seat p reply seat) reply a
 
-abbrev pub after : Plan → State → Step → Option State
+abbrev pub after : PlanParts → State → Step → Option State
 after p s (Works w a reply) = option_and_then (after_seat p s w a reply) (slice_get s.seats w)
 after p s Dispatches = read_row s

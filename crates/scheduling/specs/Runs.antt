@@ -6,7 +6,7 @@ use Rattle.plan_events.specs.declared.outcome.Reply.{Reply}
 use Rattle.plan_events.specs.declared.status.Status.TheVariants.{Successful}
 use Rattle.plan_events.specs.declared.event.EventKind.TheVariants.{Finished}
 use Rattle.resource_locks.specs.Held.{table}
-use Rattle.event_history.specs.Plans.{Plan}
+use Rattle.resource_locks.specs.Plans.{PlanParts}
 use Rattle.event_history.specs.Places.{StandsAt}
 use Rattle.event_history.specs.History.{IsLegal, IsComplete}
 use Rattle.event_history.specs.Order.{IsInOrder}
@@ -20,10 +20,10 @@ abbrev pub first_status : ℕ → NodeStatus
 first_status zero = Ready None
 first_status (suc n) = Hidden
 
-abbrev pub first_counter : Plan → ℕ → ℕ
+abbrev pub first_counter : PlanParts → ℕ → ℕ
 first_counter p n = 1 + count_below (λ c. is_child p.tree n c && not (is_spare_at p.tree c)) (size p.tree)
 
-abbrev pub opening : Plan → ℕ → State
+abbrev pub opening : PlanParts → ℕ → State
 opening p workers = record {
   statuses = table first_status (size p.tree);
   counters = table (first_counter p) (size p.tree);
@@ -37,7 +37,7 @@ opening p workers = record {
 }
 
 -- the job that the step's worker awaits, if any, has the step's reply
-abbrev pub IsReplied : Plan → (ℕ → List Reply) → State → Step → Type 0
+abbrev pub IsReplied : PlanParts → (ℕ → List Reply) → State → Step → Type 0
 IsReplied p replies s (Works w a reply) = (seat : Seat) → slice_get s.seats w ≡ Some seat → (job : ℕ) → awaited p seat seat.task ≡ Some job → (i : ℕ) × (slice_get (replies job) i ≡ Some reply)
 IsReplied p replies s Dispatches = Unit {0}
 
@@ -46,20 +46,20 @@ abbrev pub or_stays : State → Option State → State
 or_stays s None = s
 or_stays s (Some t) = t
 
-abbrev pub next : Plan → State → Step → State
+abbrev pub next : PlanParts → State → Step → State
 next p s a = or_stays s (after p s a)
 
-abbrev pub run : Plan → State → List Step → State
+abbrev pub run : PlanParts → State → List Step → State
 run p s [] = s
 run p s (a ∷ list) = run p (next p s a) list
 
 -- each step has a reply of the job that its worker awaits
-abbrev pub AllReplied : Plan → (ℕ → List Reply) → State → List Step → Type 0
+abbrev pub AllReplied : PlanParts → (ℕ → List Reply) → State → List Step → Type 0
 AllReplied p replies s [] = Unit {0}
 AllReplied p replies s (a ∷ list) = IsReplied p replies s a × AllReplied p replies (next p s a) list
 
 -- what every state has that is reached
-pub record IsRight (p : Plan) (replies : ℕ → List Reply) (workers : ℕ) (s : State) : Type 0 where
+pub record IsRight (p : PlanParts) (replies : ℕ → List Reply) (workers : ℕ) (s : State) : Type 0 where
   pub legal : IsLegal p replies workers s.published
   pub order : IsInOrder p s.published
   pub exclusive : IsExclusive p s.published

@@ -6,7 +6,7 @@ use Rattle.plan_events.specs.declared.event.EventKind.{EventKind}
 use Rattle.plan_events.specs.declared.event.EventKind.TheVariants.{Started, Finished, Skipped, Registered}
 use Rattle.plan_events.specs.declared.status.Status.{Status}
 use Rattle.event_history.specs.Places.{is_failed_or}
-use Rattle.event_history.specs.Plans.{Plan}
+use Rattle.resource_locks.specs.Plans.{PlanParts}
 use Rattle.scheduling.specs.State.{NodeStatus, Hidden, Ready, Claimed, Settled, Opening, Registering, RegisteredAt, Offering, Noticing, Locking, Weighed, Backing, Beginning, StartedAt, Awaiting, Admitting, Guarding, Closing, AwaitingAfter, Ending, FinishedAt, SkippedAt, Raising, Giving, Settling, Looking, Passing, CountingOff, Task, Opens, Closes}
 use Rattle.scheduling.specs.Choices.{keys_count}
 
@@ -59,7 +59,7 @@ abbrev pub looks : NodeStatus → Mark → ℕ → ℕ → Below → Picture
 looks word mark guard keys below = record { word = word; mark = mark; guard = guard; keys = keys; below = below }
 
 -- of worker w, who claimed node n
-abbrev pub opening_picture : Plan → ℕ → ℕ → Opening → Picture
+abbrev pub opening_picture : PlanParts → ℕ → ℕ → Opening → Picture
 opening_picture p n w Registering = looks Hidden Blank 1 0 Shut
 opening_picture p n w (RegisteredAt i) = looks Hidden Known 1 0 Shut
 opening_picture p n w Offering = looks Hidden Known 1 0 Shut
@@ -90,7 +90,7 @@ below_of Kept = Shut
 below_of Skips = Shut
 
 -- of a worker that ends node n, which c claimed
-abbrev pub closing_picture : Plan → ℕ → ℕ → Closing → How → Picture
+abbrev pub closing_picture : PlanParts → ℕ → ℕ → Closing → How → Picture
 closing_picture p n c AwaitingAfter how = looks (Claimed c) Begun (guard_of how) (keys_count p n) (below_of how)
 closing_picture p n c (Ending status) how = looks (Claimed c) Begun (guard_of how) (keys_count p n) (below_of how)
 closing_picture p n c (FinishedAt i status) how = looks (Claimed c) (mark_of how) (guard_of how) (keys_count p n) (below_of how)
@@ -102,7 +102,7 @@ closing_picture p n c (Looking m) how = looks Settled (mark_of how) (guard_of ho
 closing_picture p n c (Passing m o) how = looks Settled (mark_of how) (guard_of how) 0 (below_of how)
 closing_picture p n c CountingOff how = looks Settled (mark_of how) (guard_of how) 0 (below_of how)
 
-abbrev pub picture : Plan → ℕ → Stage → Picture
+abbrev pub picture : PlanParts → ℕ → Stage → Picture
 picture p n Unseen = looks Hidden Blank 1 0 Shut
 picture p n (Offered o) = looks (Ready o) Known 1 0 Shut
 picture p n (OpenedBy w d) = opening_picture p n w d
