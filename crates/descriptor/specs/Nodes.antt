@@ -1,5 +1,5 @@
 -- The nodes of a tree as contracts see them: each node's parent, and what is said of each node but the plan.
-use Rattle.std.specs.Prelude.{◌≡◌, ℕ, zero, suc, ◌+◌, ◌-◌, ◌<◌, ◌≤◌, ◌&&◌, ◌==◌, nat_lt, not, Bool, true, false, cond, List, [], ◌∷◌, ◌++◌, length, Option, Some, None, slice_get, slice_index_or, ◌⊎◌}
+use Rattle.std.specs.Prelude.{◌≡◌, ℕ, zero, suc, ◌+◌, ◌-◌, ◌<◌, ◌≤◌, ◌&&◌, ◌||◌, ◌==◌, nat_lt, not, Bool, true, false, cond, List, [], ◌∷◌, ◌++◌, length, Option, Some, None, slice_get, slice_index_or, ◌⊎◌}
 use Rattle.std.specs.Option.{is_some}
 use Rattle.unique_id.specs.Spelling.{spelling}
 use Rattle.descriptor.specs.declared.kind.Kind.TheVariants.{Container}
@@ -26,6 +26,10 @@ size t = length t.parents
 -- the number that stands for the parent of n, and 0 past the end
 abbrev pub parent_of : Nodes → ℕ → ℕ
 parent_of t n = slice_index_or t.parents n 0
+
+-- whether n is the plan or an engine
+abbrev pub is_high : Nodes → ℕ → Bool
+is_high t n = (n == 0) || (parent_of t n == 0)
 
 -- what the tree says of node n; of the plan it says nothing
 abbrev pub node_at : Nodes → ℕ → Option Node

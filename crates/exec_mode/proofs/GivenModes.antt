@@ -9,9 +9,9 @@ use Rattle.std.proofs.lemmas.Option.{slice_get-get_or, slice_get_cases, same_Som
 use Rattle.config_params.specs.declared.settings.Settings.{Settings}
 use Rattle.descriptor.specs.declared.mode.Mode.{Mode}
 use Rattle.descriptor.specs.declared.mode.Mode.TheVariants.{SameThread}
-use Rattle.descriptor.specs.Nodes.{Nodes, IsTree, IsChild, size, parent_of, mode_of, mode_or}
+use Rattle.descriptor.specs.Nodes.{Nodes, IsTree, IsChild, size, parent_of, is_high, mode_of, mode_or}
 use Rattle.exec_mode.specs.Nearest.{IsNearest, own, above, nearest_mode}
-use Rattle.exec_mode.specs.GivenModes.{IsGiven, off, plan, engine, declared, of_classes, of_default, AreGiven, is_high, default_mode, given_mode, given_modes}
+use Rattle.exec_mode.specs.GivenModes.{IsGiven, off, plan, engine, declared, of_classes, of_default, AreGiven, default_mode, given_mode, given_modes}
 use Rattle.exec_mode.proofs.Belows.{own_child, above_parent, child_less, below_less}
 use Rattle.exec_mode.proofs.NearestModes.{finds, nearest_found, nearest_none}
 

@@ -4,7 +4,7 @@ use Rattle.std.specs.List.{range_with_len}
 use Rattle.config_params.specs.declared.settings.Settings.{Settings}
 use Rattle.descriptor.specs.declared.mode.Mode.{Mode}
 use Rattle.descriptor.specs.declared.mode.Mode.TheVariants.{SameThread}
-use Rattle.descriptor.specs.Nodes.{Nodes, IsChild, size, parent_of}
+use Rattle.descriptor.specs.Nodes.{Nodes, IsChild, size, parent_of, is_high}
 use Rattle.exec_mode.specs.Nearest.{IsNearest, DeclaresNone, nearest_mode}
 
 -- the mode of node n where a run has these settings
@@ -24,10 +24,6 @@ pub data IsGiven (t : Nodes) (s : Settings) (n : ℕ) (mode : Mode) : Type 0 whe
 -- each node of the tree has the one mode that it is given
 abbrev pub AreGiven : Nodes → Settings → List Mode → Type 0
 AreGiven t s modes = (n : ℕ) (mode : Mode) → n < size t → (slice_get modes n ≡ Some mode ↔ IsGiven t s n mode)
-
--- whether n is the plan or an engine
-abbrev pub is_high : Nodes → ℕ → Bool
-is_high t n = n == 0 || parent_of t n == 0
 
 -- the mode of a node below an engine where none is declared at or above it
 abbrev pub default_mode : Nodes → Settings → ℕ → Mode

@@ -1,10 +1,10 @@
 -- The child of an engine that a node is at or below.
 use Rattle.std.proofs.Common.{◌≡◌, ◌≢◌, ℕ, zero, suc, ◌<◌, false, eqb, cond, inl, inr, ◌⊎◌, refl, sym, ap, ◌∙◌, subst, arith}
 use Rattle.std.proofs.lemmas.Bool.{cases_eq, cond-true, cond-false, eq-eqb, ne_eqb, or_right, or_from}
-use Rattle.descriptor.specs.Nodes.{Nodes, size, parent_of, IsChild, Below, child, under}
+use Rattle.descriptor.specs.Nodes.{Nodes, size, parent_of, is_high, IsChild, Below, child, under}
 use Rattle.resource_locks.specs.Declarations.{AtOrBelow, IsTop, IsRooted}
 use Rattle.resource_locks.proofs.Lines.{at_child, last_step}
-use Rattle.resource_locks.specs.Held.{is_high, top_step, top_of}
+use Rattle.resource_locks.specs.Held.{top_step, top_of}
 use Rattle.resource_locks.proofs.Walks.{carried_root, carried_down, carried_step}
 
 -- two nodes at or above one node

@@ -1,6 +1,6 @@
 -- The walk down that hoists: which locks each node holds, and its mode, from the root down.
 use Rattle.std.specs.Prelude.{ℕ, zero, suc, nat_lt, ◌==◌, ◌&&◌, ◌||◌, Bool, false, cond, List, [], ◌∷◌, ◌++◌, Option, Some, None, length, slice_index_or}
-use Rattle.descriptor.specs.Nodes.{Nodes, size, parent_of}
+use Rattle.descriptor.specs.Nodes.{Nodes, size, parent_of, is_high}
 use Rattle.descriptor.specs.declared.lock.Lock.{Lock}
 use Rattle.descriptor.specs.declared.lock_mode.LockMode.{LockMode}
 use Rattle.descriptor.specs.declared.lock_mode.LockMode.TheVariants.{Read, ReadWrite}
@@ -32,10 +32,6 @@ any_below q (suc n) = q n || any_below q n
 abbrev pub table : {A : Type 0} → (ℕ → A) → ℕ → List A
 table f zero = []
 table f (suc n) = table f n ++ f n ∷ []
-
--- the plan, or an engine
-abbrev pub is_high : Nodes → ℕ → Bool
-is_high t n = (n == 0) || (parent_of t n == 0)
 
 -- The child of an engine that n is at or below; 0 for the plan and for engines.
 abbrev pub top_step : Nodes → ℕ → ℕ → ℕ
