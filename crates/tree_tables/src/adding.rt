@@ -1,5 +1,6 @@
 //! Adding a node to a tree: `PARENT KIND ID`, and behind it `body=N`, `after=N`, `role=ROLE`, `mode=MODE`, `lock=KEY`,
 //! `isolated=yes`, `tag=TAG`, `name=TEXT` and `disabled=TEXT` as wanted. A TEXT or a KEY such as `r*1024` is an `r` so many times.
+//! A lock is wanted in READ behind `KEY:r`, else in READ_WRITE.
 
 use descriptor::{BodyId, Kind, Lock, LockMode, Mode, Node, NodeId, Role, TreeBuilder};
 use std::alloc::{AllocError, Global};
@@ -52,12 +53,20 @@ fn add_tag(alloc: Global, node: &mut Node, text: &str) -> Result<(), AllocError>
     }
 }
 
-/// Adds a lock in the mode READ_WRITE.
-fn add_lock(alloc: Global, node: &mut Node, key: &str) -> Result<(), AllocError> {
-    node.locks.push(Lock {
-        key: text_of(alloc, key)?,
-        mode: LockMode::ReadWrite,
-    })
+/// The key of a lock, and its mode.
+fn lock_of(word: &str) -> (&str, LockMode) {
+    match word.split_once(':') {
+        Some((key, "r")) => (key, LockMode::Read),
+        Some((key, _)) => (key, LockMode::ReadWrite),
+        None => (word, LockMode::ReadWrite),
+    }
+}
+
+/// Adds a lock.
+fn add_lock(alloc: Global, node: &mut Node, word: &str) -> Result<(), AllocError> {
+    let (key, mode) = lock_of(word);
+    let key = text_of(alloc, key)?;
+    node.locks.push(Lock { key, mode })
 }
 
 /// Gives a node what a word says for which memory is taken.

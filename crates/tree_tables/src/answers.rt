@@ -2,6 +2,7 @@
 
 use crate::adding::text_of;
 use crate::nodes::{nodes_text, tags_text};
+use crate::plans::{conflict, planned};
 use crate::selection::found;
 use descriptor::{NodeId, Tree};
 use std::alloc::{AllocError, Global};
@@ -82,6 +83,8 @@ pub(crate) fn answer(alloc: Global, tree: &Tree, asked: &str) -> Result<String, 
         "below" => below(alloc, tree, words),
         "keep" => kept(alloc, tree, words),
         "select" => found(alloc, tree, words),
+        "plan" => planned(alloc, tree, words),
+        "conflicts" => conflict(alloc, tree, words),
         _ => String::from_str(alloc, " => ?"),
     }
 }

@@ -7,6 +7,7 @@
 mod adding;
 mod answers;
 mod nodes;
+mod plans;
 mod selection;
 mod table;
 

@@ -1,0 +1,114 @@
+//! The plan of a tree under a configuration: how each node is executed, and which locks it holds meanwhile.
+
+use config_params::{Params, Settings, Source};
+use descriptor::{Lock, LockMode, Mode, NodeId, Tree};
+use exec_mode::modes;
+use resource_locks::{Plan, hoist};
+use std::alloc::{AllocError, Global};
+
+/// What the keys of a configuration begin with, which rows leave out.
+const PREFIX: &str = "junit.jupiter.execution.parallel.";
+
+fn mode_word(mode: Mode) -> &'static str {
+    match mode {
+        Mode::SameThread => "same_thread",
+        Mode::Concurrent => "concurrent",
+    }
+}
+
+fn lock_word(mode: LockMode) -> &'static str {
+    match mode {
+        LockMode::Read => "r",
+        LockMode::ReadWrite => "rw",
+    }
+}
+
+/// The parameters that a request's words give.
+fn requested(alloc: Global, words: &str) -> Result<Params, AllocError> {
+    let mut params = Params::new(alloc);
+    for word in words.split(' ') {
+        let (key, value) = word.split_once('=').unwrap_or((word, ""));
+        let key = format!(in alloc; "{PREFIX}{key}")?;
+        params.add(alloc, Source::Request, key.as_str(), value)?;
+    }
+    Ok(params)
+}
+
+fn push_locks(text: &mut String, locks: &[Lock]) -> Result<(), AllocError> {
+    for lock in locks {
+        write!(text, " {}:{}", lock.key.as_str(), lock_word(lock.mode))?;
+    }
+    Ok(())
+}
+
+/// Writes a node's number, its mode and the locks that it holds.
+fn push_node(text: &mut String, plan: &Plan, number: usize) -> Result<(), AllocError> {
+    if number >= plan.tree().len() {
+        return Ok(());
+    }
+    let node = NodeId::new(number as u16);
+    write!(text, "\n{number} {}", mode_word(plan.mode(node)))?;
+    push_locks(text, plan.held(node).locks())
+}
+
+/// How many keys and events there are, and a line for each node.
+fn plan_text(alloc: Global, plan: &Plan) -> Result<String, AllocError> {
+    let (keys, events) = (plan.key_count(), plan.most_events());
+    let mut text = format!(in alloc; " => {keys} keys, {events} events at most")?;
+    for number in 0..plan.tree().len() {
+        push_node(&mut text, plan, number)?;
+    }
+    Ok(text)
+}
+
+/// The text of a plan, if its copy has the same.
+fn copied_text(alloc: Global, plan: &Plan) -> Result<String, AllocError> {
+    let text = plan_text(alloc, plan)?;
+    let copied = plan_text(alloc, &plan.copy(alloc)?)?;
+    if text.as_str() == copied.as_str() {
+        return Ok(text);
+    }
+    String::from_str(alloc, " => the copy differs")
+}
+
+fn hoisted(alloc: Global, tree: &Tree, settings: &Settings) -> Result<String, AllocError> {
+    match hoist(alloc, tree, modes(alloc, tree, settings)?) {
+        Ok(plan) => copied_text(alloc, &plan),
+        Err(fault) => format!(in alloc; " => error {}: {fault}", fault.number()),
+    }
+}
+
+/// The plan of a tree where the request has these words, on a machine of four processors.
+pub(crate) fn planned(alloc: Global, tree: &Tree, words: &str) -> Result<String, AllocError> {
+    let params = requested(alloc, words)?;
+    match Settings::read(&params, 4) {
+        Ok(settings) => hoisted(alloc, tree, &settings),
+        Err(fault) => format!(in alloc; " => error {}: {fault}", fault.number()),
+    }
+}
+
+fn conflict_in(
+    alloc: Global,
+    plan: &Plan,
+    one: NodeId,
+    other: NodeId,
+) -> Result<String, AllocError> {
+    if one.index().max(other.index()) >= plan.tree().len() {
+        return String::from_str(alloc, " => no node");
+    }
+    let conflicts = plan.held(one).conflicts(plan.held(other));
+    format!(in alloc; " => {conflicts}")
+}
+
+/// Whether the locks that two nodes hold conflict.
+pub(crate) fn conflict(alloc: Global, tree: &Tree, numbers: &str) -> Result<String, AllocError> {
+    let (one, other) = numbers.split_once(' ').unwrap_or((numbers, ""));
+    let one = NodeId::new(one.parse().unwrap_or(0));
+    let other = NodeId::new(other.parse().unwrap_or(0));
+    // which locks are held does not depend on modes
+    let modes = vec![in alloc; Mode::SameThread; tree.len()]?;
+    match hoist(alloc, tree, modes) {
+        Ok(plan) => conflict_in(alloc, &plan, one, other),
+        Err(fault) => format!(in alloc; " => error {}: {fault}", fault.number()),
+    }
+}
