@@ -2,7 +2,7 @@
 
 use crate::adding::text_of;
 use crate::nodes::{nodes_text, tags_text};
-use crate::plans::{conflict, planned};
+use crate::plans::{locks_answer, planned};
 use crate::selection::found;
 use descriptor::{NodeId, Tree};
 use std::alloc::{AllocError, Global};
@@ -84,7 +84,7 @@ pub(crate) fn answer(alloc: Global, tree: &Tree, asked: &str) -> Result<String, 
         "keep" => kept(alloc, tree, words),
         "select" => found(alloc, tree, words),
         "plan" => planned(alloc, tree, words),
-        "conflicts" => conflict(alloc, tree, words),
+        "conflicts" | "joined" => locks_answer(alloc, tree, asked, words),
         _ => String::from_str(alloc, " => ?"),
     }
 }

@@ -3,7 +3,7 @@
 use config_params::{Params, Settings, Source};
 use descriptor::{Lock, LockMode, Mode, NodeId, Tree};
 use exec_mode::modes;
-use resource_locks::{Plan, hoist};
+use resource_locks::{LockSet, Plan, hoist};
 use std::alloc::{AllocError, Global};
 
 /// What the keys of a configuration begin with, which rows leave out.
@@ -87,28 +87,49 @@ pub(crate) fn planned(alloc: Global, tree: &Tree, words: &str) -> Result<String,
     }
 }
 
-fn conflict_in(
+/// Whether two sets conflict, or the locks of both together.
+fn sets_answer(
+    alloc: Global,
+    asked: &str,
+    one: &LockSet,
+    other: &LockSet,
+) -> Result<String, AllocError> {
+    if asked == "conflicts" {
+        return format!(in alloc; " => {}", one.conflicts(other));
+    }
+    let mut text = String::from_str(alloc, " =>")?;
+    push_locks(&mut text, LockSet::join(alloc, one, other)?.locks())?;
+    Ok(text)
+}
+
+/// What is asked of the sets of two nodes, if there are such nodes.
+fn nodes_answer(
     alloc: Global,
     plan: &Plan,
+    asked: &str,
     one: NodeId,
     other: NodeId,
 ) -> Result<String, AllocError> {
     if one.index().max(other.index()) >= plan.tree().len() {
         return String::from_str(alloc, " => no node");
     }
-    let conflicts = plan.held(one).conflicts(plan.held(other));
-    format!(in alloc; " => {conflicts}")
+    sets_answer(alloc, asked, plan.held(one), plan.held(other))
 }
 
-/// Whether the locks that two nodes hold conflict.
-pub(crate) fn conflict(alloc: Global, tree: &Tree, numbers: &str) -> Result<String, AllocError> {
+/// What is asked of the locks that two nodes hold.
+pub(crate) fn locks_answer(
+    alloc: Global,
+    tree: &Tree,
+    asked: &str,
+    numbers: &str,
+) -> Result<String, AllocError> {
     let (one, other) = numbers.split_once(' ').unwrap_or((numbers, ""));
     let one = NodeId::new(one.parse().unwrap_or(0));
     let other = NodeId::new(other.parse().unwrap_or(0));
     // which locks are held does not depend on modes
     let modes = vec![in alloc; Mode::SameThread; tree.len()]?;
     match hoist(alloc, tree, modes) {
-        Ok(plan) => conflict_in(alloc, &plan, one, other),
+        Ok(plan) => nodes_answer(alloc, &plan, asked, one, other),
         Err(fault) => format!(in alloc; " => error {}: {fault}", fault.number()),
     }
 }
