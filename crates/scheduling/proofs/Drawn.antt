@@ -22,7 +22,15 @@ use Rattle.event_history.specs.Exclusion.{HeldConflict}
 use Rattle.event_history.specs.Following.{has_failed_by, started_by, registered_in, IsParentOpen, IsUnopened, ChildrenOk, MayHold, MayBeDrawn}
 use Rattle.event_history.proofs.Spares.{pulls_sort}
 use Rattle.event_history.proofs.Places.{has_stands}
-use Rattle.scheduling.specs.State.{LockWord, Readers, Written, Opening, Registering, Beginning, Closing, Ending, AwaitingAfter, Looking, Passing, CountingOff, FinishedAt, SkippedAt, Raising, Giving, Settling, StartedAt, Awaiting, Admitting, Guarding, Opens, Seat, State, lock_at}
+use Rattle.scheduling.specs.declared.lock_word.LockWord.{LockWord}
+use Rattle.scheduling.specs.declared.lock_word.LockWord.TheVariants.{Readers, Written}
+use Rattle.scheduling.specs.declared.task.Opening.{Opening}
+use Rattle.scheduling.specs.declared.task.Opening.TheVariants.{Registering, Beginning, StartedAt, Awaiting, Admitting, Guarding}
+use Rattle.scheduling.specs.declared.task.Closing.{Closing}
+use Rattle.scheduling.specs.declared.task.Closing.TheVariants.{Ending, AwaitingAfter, Looking, Passing, CountingOff, FinishedAt, SkippedAt, Raising, Giving, Settling}
+use Rattle.scheduling.specs.declared.task.Task.TheVariants.{Opens}
+use Rattle.scheduling.specs.declared.seat.Seat.{Seat}
+use Rattle.scheduling.specs.State.{State, lock_at}
 use Rattle.scheduling.specs.Choices.{key_place, key_at, mode_at, lock_of, keys_count, event_of}
 use Rattle.scheduling.specs.Stages.{How, Gave, Kept, Skips, Stage, Unseen, OpenedBy, InHand, Waiting, ClosedBy, Over, Runs, Mark, Blank, Known, Begun, Ended, Passed, has_mark, picture, closing_picture, mark_of, runner_of, starter_by, is_unseen, is_live, is_past, is_over, raises, is_bold}
 use Rattle.scheduling.specs.Invariant.{IsCorePlan, same_mode, is_key, keys_in, holders, holders_by, EndsSo, IsEnding, OpeningOk, ShapeOk, RunsSo, Fits, HandOk, IsInHand, IsBrought, SeatOk, Holds}

@@ -12,7 +12,7 @@ use Rattle.scheduling.specs.Runs.{opening, IsReplied, AllReplied, or_stays, next
 use Rattle.scheduling.specs.Invariant.{IsCorePlan, IsKept}
 use Rattle.scheduling.proofs.Crew.{all_workers}
 use Rattle.scheduling.proofs.Steps.{after_keeps}
-use Rattle.scheduling.proofs.Opening.{opening_is}
+use Rattle.scheduling.proofs.FirstState.{opening_is}
 
 next_keeps : (p : PlanParts) → IsCorePlan p → (replies : ℕ → List Reply) (s : State) (a : Step) → IsKept p replies s → IsReplied p replies s a → IsKept p replies (next p s a)
 next_keeps p core replies s a kept replied = go (after p s a) refl

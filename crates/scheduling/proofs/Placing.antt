@@ -14,13 +14,24 @@ use Rattle.resource_locks.specs.Plans.{PlanParts}
 use Rattle.event_history.specs.Plans.{is_same, pulls_job, sort_of}
 use Rattle.event_history.specs.Places.{is_failed_or}
 use Rattle.event_history.specs.Results.{jobs_of}
-use Rattle.scheduling.specs.State.{NodeStatus, Hidden, Ready, Claimed, Settled, LockWord, Registering, RegisteredAt, Offering, Noticing, Locking, Weighed, Backing, Beginning, StartedAt, Awaiting, Admitting, Guarding, AwaitingAfter, Ending, FinishedAt, SkippedAt, Raising, Giving, Settling, Looking, Passing, CountingOff, Task, Free, Opens, Closes, Hand, Seat, State, status_at, counter_at, result_at, lock_at}
+use Rattle.scheduling.specs.declared.status.NodeStatus.{NodeStatus}
+use Rattle.scheduling.specs.declared.status.NodeStatus.TheVariants.{Hidden, Ready, Claimed, Settled}
+use Rattle.scheduling.specs.declared.lock_word.LockWord.{LockWord}
+use Rattle.scheduling.specs.declared.task.Opening.TheVariants.{Registering, RegisteredAt, Offering, Noticing, Locking, Weighed, Backing, Beginning, StartedAt, Awaiting, Admitting, Guarding}
+use Rattle.scheduling.specs.declared.task.Closing.TheVariants.{AwaitingAfter, Ending, FinishedAt, SkippedAt, Raising, Giving, Settling, Looking, Passing, CountingOff}
+use Rattle.scheduling.specs.declared.task.Task.{Task}
+use Rattle.scheduling.specs.declared.task.Task.TheVariants.{Free, Opens, Closes}
+use Rattle.scheduling.specs.declared.seat.Hand.{Hand}
+use Rattle.scheduling.specs.declared.seat.Seat.{Seat}
+use Rattle.scheduling.specs.State.{State, status_at, counter_at, result_at, lock_at}
 use Rattle.scheduling.specs.Choices.{answered, keys_count, in_batch, is_same_sibling, first_from, notices, is_leaf, status_by, admits, event_of, next_spare, is_pulled, pulled_result, same_word, key_at, mode_at, taken, lock_from, begins, claims, giving, after_finish, after_settle, pass_to, admit_next, admit_from, ending, decided}
-use Rattle.scheduling.specs.Rows.{one_more, waits_for, waits_no_more, with_task, goes, puts_word, weighed, claimed, guard_given, ends_or_free, after_start, Action, Claim, Own, Notice, Weigh, Take, Give, GiveUp, Draw, Show, Admit, AddChild, Done, Settle, Look, Raise, row, is_free, is_empty, is_of_hand, is_ready_for, notice_row, weigh_row, take_found, take_row, gives_key, give_row, give_up_row, draw_row, show_row, admit_row, child_added, add_by_hand, add_child_hand, add_child_row, done_by_hand, done_hand, done_row, settle_row, look_found, look_row, raise_row, goes_to, decided_seat, after_seat, after, Step, Works, Dispatches, read_event}
+use Rattle.scheduling.specs.declared.step.Action.{Action}
+use Rattle.scheduling.specs.declared.step.Action.TheVariants.{Claim, Own, Notice, Weigh, Take, Give, GiveUp, Draw, Show, Admit, AddChild, Done, Settle, Look, Raise}
+use Rattle.scheduling.specs.Rows.{one_more, waits_for, waits_no_more, with_task, goes, puts_word, weighed, claimed, guard_given, ends_or_free, after_start, row, is_free, is_empty, is_of_hand, is_ready_for, notice_row, weigh_row, take_found, take_row, gives_key, give_row, give_up_row, draw_row, show_row, admit_row, child_added, add_by_hand, add_child_hand, add_child_row, done_by_hand, done_hand, done_row, settle_row, look_found, look_row, raise_row, goes_to, decided_seat, after_seat, after, Step, Works, Dispatches, read_event}
 use Rattle.scheduling.specs.Runs.{or_stays, next, run, opening}
 use Rattle.scheduling.specs.Shown.{named, IsPlaced}
 use Rattle.scheduling.proofs.Basics.{get_set_same, set_get}
-use Rattle.scheduling.proofs.Opening.{get_replicate}
+use Rattle.scheduling.proofs.FirstState.{get_replicate}
 use Rattle.scheduling.proofs.RowsOne.{by_cond}
 use Rattle.scheduling.proofs.RowsBelow.{ending_is}
 use Rattle.scheduling.proofs.Shown.{Quiet, Draws, Shows, Changes, changes_keep, reseat_keeps}

@@ -14,7 +14,15 @@ use Rattle.event_history.specs.Plans.{IsPlanTree, Sort, Leaf, Holder, Maker, sor
 use Rattle.event_history.specs.Results.{Jobs, NoJob, Alone, Pulled, Around, jobs_of, jobs_by, after_run, HasReply, Ends, EndsLast}
 use Rattle.event_history.specs.Following.{has_failed_by, registered_in}
 use Rattle.event_history.proofs.Spares.{is_maker, pulls_sort}
-use Rattle.scheduling.specs.State.{Claimed, Opening, Awaiting, Admitting, Guarding, Closing, AwaitingAfter, Ending, Task, Opens, Closes, Seat, State, subject}
+use Rattle.scheduling.specs.declared.status.NodeStatus.TheVariants.{Claimed}
+use Rattle.scheduling.specs.declared.task.Opening.{Opening}
+use Rattle.scheduling.specs.declared.task.Opening.TheVariants.{Awaiting, Admitting, Guarding}
+use Rattle.scheduling.specs.declared.task.Closing.{Closing}
+use Rattle.scheduling.specs.declared.task.Closing.TheVariants.{AwaitingAfter, Ending}
+use Rattle.scheduling.specs.declared.task.Task.{Task}
+use Rattle.scheduling.specs.declared.task.Task.TheVariants.{Opens, Closes}
+use Rattle.scheduling.specs.declared.seat.Seat.{Seat}
+use Rattle.scheduling.specs.State.{State, subject}
 use Rattle.scheduling.specs.Choices.{keys_count, in_batch, first_from, admit_next, admit_from, is_leaf, status_by, answered, decided, awaited, ending_by, after_job}
 use Rattle.scheduling.specs.Rows.{with_task, goes_to, decided_seat}
 use Rattle.scheduling.specs.Stages.{How, Gave, Kept, Stage, Unseen, OpenedBy, InHand, Waiting, ClosedBy, Begun, has_mark, picture, starter_of, starter_by, who, is_unseen, is_live, is_owned, is_past, is_unsettled, opening_offered, raises, is_bold, brings}

@@ -15,7 +15,16 @@ use Rattle.event_history.specs.Following.{has_failed_by, started_by, registered_
 use Rattle.event_history.specs.Results.{Ends, jobs_of}
 use Rattle.event_history.proofs.Places.{get_front}
 use Rattle.event_history.proofs.Published.{published_snoc}
-use Rattle.scheduling.specs.State.{NodeStatus, Opening, Registering, RegisteredAt, Offering, Noticing, Locking, Weighed, Backing, Beginning, StartedAt, Awaiting, Admitting, Guarding, Closing, AwaitingAfter, Ending, FinishedAt, SkippedAt, Raising, Giving, Settling, Looking, Passing, CountingOff, Task, Opens, Closes, Hand, Seat, State, subject}
+use Rattle.scheduling.specs.declared.status.NodeStatus.{NodeStatus}
+use Rattle.scheduling.specs.declared.task.Opening.{Opening}
+use Rattle.scheduling.specs.declared.task.Opening.TheVariants.{Registering, RegisteredAt, Offering, Noticing, Locking, Weighed, Backing, Beginning, StartedAt, Awaiting, Admitting, Guarding}
+use Rattle.scheduling.specs.declared.task.Closing.{Closing}
+use Rattle.scheduling.specs.declared.task.Closing.TheVariants.{AwaitingAfter, Ending, FinishedAt, SkippedAt, Raising, Giving, Settling, Looking, Passing, CountingOff}
+use Rattle.scheduling.specs.declared.task.Task.{Task}
+use Rattle.scheduling.specs.declared.task.Task.TheVariants.{Opens, Closes}
+use Rattle.scheduling.specs.declared.seat.Hand.{Hand}
+use Rattle.scheduling.specs.declared.seat.Seat.{Seat}
+use Rattle.scheduling.specs.State.{State, subject}
 use Rattle.scheduling.specs.Choices.{ending, event_of}
 use Rattle.scheduling.specs.Rows.{with_task, drawn, one_more, draw_row}
 use Rattle.scheduling.specs.Stages.{How, Gave, Kept, Skips, Stage, Unseen, Offered, OpenedBy, InHand, Waiting, ClosedBy, Over, Below, Mark, has_mark, mark_of, picture, starter_of, who, is_unseen, is_live, is_owned, is_pending, is_past, is_unsettled, raises, is_bold}

@@ -15,7 +15,16 @@ use Rattle.event_history.specs.Order.{goes_first}
 use Rattle.event_history.specs.Following.{registered_in}
 use Rattle.event_history.proofs.Spares.{is_maker, pulls_sort}
 use Rattle.event_history.proofs.Trees.{is_child_test}
-use Rattle.scheduling.specs.State.{Ready, Opening, Offering, Beginning, Admitting, Guarding, Closing, AwaitingAfter, Ending, FinishedAt, SkippedAt, Raising, Giving, Settling, Looking, Passing, CountingOff, Task, Free, Opens, Closes, Hand, Seat, State, counter_at, subject}
+use Rattle.scheduling.specs.declared.status.NodeStatus.TheVariants.{Ready}
+use Rattle.scheduling.specs.declared.task.Opening.{Opening}
+use Rattle.scheduling.specs.declared.task.Opening.TheVariants.{Offering, Beginning, Admitting, Guarding}
+use Rattle.scheduling.specs.declared.task.Closing.{Closing}
+use Rattle.scheduling.specs.declared.task.Closing.TheVariants.{AwaitingAfter, Ending, FinishedAt, SkippedAt, Raising, Giving, Settling, Looking, Passing, CountingOff}
+use Rattle.scheduling.specs.declared.task.Task.{Task}
+use Rattle.scheduling.specs.declared.task.Task.TheVariants.{Free, Opens, Closes}
+use Rattle.scheduling.specs.declared.seat.Hand.{Hand}
+use Rattle.scheduling.specs.declared.seat.Seat.{Seat}
+use Rattle.scheduling.specs.State.{State, counter_at, subject}
 use Rattle.scheduling.specs.Choices.{in_batch, first_from, admit_next, admit_from, offered_to, ending_by, ending, is_pulled, pulled_result}
 use Rattle.scheduling.specs.Rows.{with_task, goes_to, offers, admit_row, waits_for, guard_given}
 use Rattle.scheduling.specs.Stages.{How, Gave, Kept, Skips, Stage, Unseen, Offered, OpenedBy, InHand, Waiting, ClosedBy, Over, picture, closing_picture, below_of, runner_of, is_unseen, is_offer_to, is_past}

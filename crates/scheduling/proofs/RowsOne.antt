@@ -11,7 +11,18 @@ use Rattle.event_history.specs.Places.{is_failed_or, is_failure}
 use Rattle.resource_locks.specs.Plans.{PlanParts}
 use Rattle.event_history.specs.Plans.{IsPlanTree, pulls_job}
 use Rattle.event_history.specs.Following.{has_failed, has_failed_by}
-use Rattle.scheduling.specs.State.{NodeStatus, Hidden, Ready, Claimed, Settled, LockWord, Readers, Written, Opening, Registering, RegisteredAt, Offering, Noticing, Locking, Weighed, Backing, Beginning, StartedAt, Awaiting, Admitting, Guarding, Closing, AwaitingAfter, Ending, FinishedAt, SkippedAt, Raising, Giving, Settling, Looking, Passing, CountingOff, Task, Free, Opens, Closes, Seat, State, status_at, lock_at, subject}
+use Rattle.scheduling.specs.declared.status.NodeStatus.{NodeStatus}
+use Rattle.scheduling.specs.declared.status.NodeStatus.TheVariants.{Hidden, Ready, Claimed, Settled}
+use Rattle.scheduling.specs.declared.lock_word.LockWord.{LockWord}
+use Rattle.scheduling.specs.declared.lock_word.LockWord.TheVariants.{Readers, Written}
+use Rattle.scheduling.specs.declared.task.Opening.{Opening}
+use Rattle.scheduling.specs.declared.task.Opening.TheVariants.{Registering, RegisteredAt, Offering, Noticing, Locking, Weighed, Backing, Beginning, StartedAt, Awaiting, Admitting, Guarding}
+use Rattle.scheduling.specs.declared.task.Closing.{Closing}
+use Rattle.scheduling.specs.declared.task.Closing.TheVariants.{AwaitingAfter, Ending, FinishedAt, SkippedAt, Raising, Giving, Settling, Looking, Passing, CountingOff}
+use Rattle.scheduling.specs.declared.task.Task.{Task}
+use Rattle.scheduling.specs.declared.task.Task.TheVariants.{Free, Opens, Closes}
+use Rattle.scheduling.specs.declared.seat.Seat.{Seat}
+use Rattle.scheduling.specs.State.{State, status_at, lock_at, subject}
 use Rattle.scheduling.specs.Choices.{key_at, mode_at, keys_count, admits, taken, given_back, same_word, lock_from, begins, giving, after_finish}
 use Rattle.scheduling.specs.Rows.{with_task, goes, goes_to, notice_row, weighed, weigh_row, take_found, take_row, puts_word, gives_key, give_row, raised, raise_row, shows, look_found, look_row}
 use Rattle.scheduling.specs.Stages.{How, Gave, Kept, Skips, Stage, OpenedBy, InHand, Waiting, ClosedBy, Over, Shut, Runs, picture, closing_picture, runner_of, starter_by, below_of, Begun, passes_to, closing_past, closing_passed, opening_offered, raises, is_bold, brings}

@@ -14,7 +14,15 @@ use Rattle.event_history.specs.Plans.{IsElder, is_same, pulls_job}
 use Rattle.event_history.specs.Results.{jobs_of}
 use Rattle.event_history.specs.Order.{goes_first}
 use Rattle.event_history.proofs.Trees.{test_is_child}
-use Rattle.scheduling.specs.State.{Ready, Claimed, Opening, StartedAt, Closing, AwaitingAfter, Ending, Free, Opens, Closes, Hand, Seat, State, counter_at, subject}
+use Rattle.scheduling.specs.declared.status.NodeStatus.TheVariants.{Ready, Claimed}
+use Rattle.scheduling.specs.declared.task.Opening.{Opening}
+use Rattle.scheduling.specs.declared.task.Opening.TheVariants.{StartedAt}
+use Rattle.scheduling.specs.declared.task.Closing.{Closing}
+use Rattle.scheduling.specs.declared.task.Closing.TheVariants.{AwaitingAfter, Ending}
+use Rattle.scheduling.specs.declared.task.Task.TheVariants.{Free, Opens, Closes}
+use Rattle.scheduling.specs.declared.seat.Hand.{Hand}
+use Rattle.scheduling.specs.declared.seat.Seat.{Seat}
+use Rattle.scheduling.specs.State.{State, counter_at, subject}
 use Rattle.scheduling.specs.Choices.{keys_count, in_batch, ending}
 use Rattle.scheduling.specs.Rows.{with_task, goes_to, shows}
 use Rattle.scheduling.specs.Stages.{How, Gave, Stage, Unseen, Offered, OpenedBy, InHand, Waiting, ClosedBy, Over, Runs, Past, Blank, Known, Begun, has_mark, picture, who, is_unseen, is_live, is_pending, is_owned, passes_to, is_past, is_unsettled, raises, is_bold}

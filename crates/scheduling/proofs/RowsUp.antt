@@ -21,7 +21,16 @@ use Rattle.event_history.proofs.Spares.{is_maker, pulls_sort}
 use Rattle.event_history.proofs.Trees.{is_child_test}
 use Rattle.event_history.proofs.Places.{has_before}
 use Rattle.event_history.proofs.Counting.{rank_less}
-use Rattle.scheduling.specs.State.{Settled, Opening, Registering, RegisteredAt, Offering, Beginning, Guarding, Closing, AwaitingAfter, Ending, FinishedAt, SkippedAt, Raising, Giving, Settling, Looking, Passing, CountingOff, Task, Free, Opens, Closes, Hand, Seat, State, counter_at, result_at, subject}
+use Rattle.scheduling.specs.declared.status.NodeStatus.TheVariants.{Settled}
+use Rattle.scheduling.specs.declared.task.Opening.{Opening}
+use Rattle.scheduling.specs.declared.task.Opening.TheVariants.{Registering, RegisteredAt, Offering, Beginning, Guarding}
+use Rattle.scheduling.specs.declared.task.Closing.{Closing}
+use Rattle.scheduling.specs.declared.task.Closing.TheVariants.{AwaitingAfter, Ending, FinishedAt, SkippedAt, Raising, Giving, Settling, Looking, Passing, CountingOff}
+use Rattle.scheduling.specs.declared.task.Task.{Task}
+use Rattle.scheduling.specs.declared.task.Task.TheVariants.{Free, Opens, Closes}
+use Rattle.scheduling.specs.declared.seat.Hand.{Hand}
+use Rattle.scheduling.specs.declared.seat.Seat.{Seat}
+use Rattle.scheduling.specs.State.{State, counter_at, result_at, subject}
 use Rattle.scheduling.specs.Choices.{ending, is_pulled, pulled_result, is_spare_ranked, next_spare}
 use Rattle.scheduling.specs.Rows.{with_task, goes_to, child_added, add_by_hand, add_child_hand, add_child_row, guard_given, counted_off, done_by_hand, done_hand, done_row}
 use Rattle.scheduling.specs.Stages.{How, Gave, Kept, Skips, Stage, Unseen, Offered, OpenedBy, InHand, Waiting, ClosedBy, Over, has_mark, picture, closing_picture, mark_of, runner_of, is_unseen, is_pending, is_past, is_unsettled, brings}

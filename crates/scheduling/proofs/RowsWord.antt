@@ -16,7 +16,17 @@ use Rattle.event_history.specs.Following.{has_failed_by}
 use Rattle.event_history.proofs.Places.{finds, same_kind-true, has_at}
 use Rattle.event_history.proofs.Branches.{below_root}
 use Rattle.event_history.proofs.Trees.{is_child_test}
-use Rattle.scheduling.specs.State.{NodeStatus, Hidden, Ready, Claimed, Settled, Opening, Offering, Noticing, Locking, Backing, Beginning, Closing, AwaitingAfter, Settling, Looking, CountingOff, Task, Free, Opens, Closes, Hand, Seat, State, status_at, subject}
+use Rattle.scheduling.specs.declared.status.NodeStatus.{NodeStatus}
+use Rattle.scheduling.specs.declared.status.NodeStatus.TheVariants.{Hidden, Ready, Claimed, Settled}
+use Rattle.scheduling.specs.declared.task.Opening.{Opening}
+use Rattle.scheduling.specs.declared.task.Opening.TheVariants.{Offering, Noticing, Locking, Backing, Beginning}
+use Rattle.scheduling.specs.declared.task.Closing.{Closing}
+use Rattle.scheduling.specs.declared.task.Closing.TheVariants.{AwaitingAfter, Settling, Looking, CountingOff}
+use Rattle.scheduling.specs.declared.task.Task.{Task}
+use Rattle.scheduling.specs.declared.task.Task.TheVariants.{Free, Opens, Closes}
+use Rattle.scheduling.specs.declared.seat.Hand.{Hand}
+use Rattle.scheduling.specs.declared.seat.Seat.{Seat}
+use Rattle.scheduling.specs.State.{State, status_at, subject}
 use Rattle.scheduling.specs.Choices.{keys_count, lock_from, begins, notices, offered_to, after_settle, pass_to, first_from, is_same_sibling}
 use Rattle.scheduling.specs.Rows.{with_task, goes_to, is_free, is_empty, is_of_hand, same_offer, is_ready_for, claimed, given_up, give_up_row, waits_for, waited_out, waits_no_more, settle_row, offers}
 use Rattle.scheduling.specs.Stages.{How, Gave, Kept, Skips, Stage, Offered, OpenedBy, InHand, Waiting, ClosedBy, Over, Shut, Known, has_mark, picture, closing_picture, starter_by, mark_of, is_owned, is_offer_to, closing_past, is_unsettled, raises, is_bold, brings}

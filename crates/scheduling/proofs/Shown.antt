@@ -4,7 +4,12 @@ use Rattle.std.proofs.lemmas.Bool.{cases_eq, false≢true}
 use Rattle.std.proofs.lemmas.Option.{none-some, same_Some}
 use Rattle.plan_events.specs.declared.event.Event.{Event}
 use Rattle.event_history.proofs.Places.{get_next, get_front, get_snoc}
-use Rattle.scheduling.specs.State.{RegisteredAt, StartedAt, FinishedAt, SkippedAt, Task, Opens, Closes, Seat, State}
+use Rattle.scheduling.specs.declared.task.Opening.TheVariants.{RegisteredAt, StartedAt}
+use Rattle.scheduling.specs.declared.task.Closing.TheVariants.{FinishedAt, SkippedAt}
+use Rattle.scheduling.specs.declared.task.Task.{Task}
+use Rattle.scheduling.specs.declared.task.Task.TheVariants.{Opens, Closes}
+use Rattle.scheduling.specs.declared.seat.Seat.{Seat}
+use Rattle.scheduling.specs.State.{State}
 use Rattle.scheduling.specs.Shown.{named, IsNamed, IsPlaced}
 use Rattle.scheduling.proofs.Basics.{get_set, get_set_same, get_set_other}
 

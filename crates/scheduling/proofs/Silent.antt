@@ -11,7 +11,11 @@ use Rattle.event_history.specs.Plans.{IsPlanTree, IsElder, is_same}
 use Rattle.event_history.specs.Order.{goes_first}
 use Rattle.event_history.specs.Places.{has}
 use Rattle.event_history.specs.Following.{has_failed, started_by}
-use Rattle.scheduling.specs.State.{NodeStatus, LockWord, Task, Seat, State, subject}
+use Rattle.scheduling.specs.declared.status.NodeStatus.{NodeStatus}
+use Rattle.scheduling.specs.declared.lock_word.LockWord.{LockWord}
+use Rattle.scheduling.specs.declared.task.Task.{Task}
+use Rattle.scheduling.specs.declared.seat.Seat.{Seat}
+use Rattle.scheduling.specs.State.{State, subject}
 use Rattle.scheduling.specs.Rows.{with_task}
 use Rattle.scheduling.specs.Stages.{Stage, InHand, Waiting, Below, Runs, picture, has_mark, starter_of, who, is_unseen, is_live, is_owned, is_pending, is_past, is_unsettled, raises}
 use Rattle.scheduling.specs.Invariant.{ShapeOk, Fits, TaskOk, BringsOk, SeatOk, HeldBy, Holds}

@@ -3,7 +3,11 @@ use Rattle.std.proofs.Common.{◌≡◌, ℕ, Bool, true, false, List, Some, sli
 use Rattle.std.proofs.lemmas.Option.{same_Some, none-some}
 use Rattle.plan_events.specs.declared.outcome.Reply.{Reply}
 use Rattle.resource_locks.specs.Plans.{PlanParts}
-use Rattle.scheduling.specs.State.{Task, Free, Opens, Closes, Hand, Seat, State, subject, opening_slot, closing_slot, if_slot, slot_node}
+use Rattle.scheduling.specs.declared.task.Task.{Task}
+use Rattle.scheduling.specs.declared.task.Task.TheVariants.{Free, Opens, Closes}
+use Rattle.scheduling.specs.declared.seat.Hand.{Hand}
+use Rattle.scheduling.specs.declared.seat.Seat.{Seat}
+use Rattle.scheduling.specs.State.{State, subject, opening_slot, closing_slot, if_slot, slot_node}
 use Rattle.scheduling.specs.Stages.{Stage, who}
 use Rattle.scheduling.specs.Invariant.{TaskOk, HandOk, IsInHand, Holds}
 

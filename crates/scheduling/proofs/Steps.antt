@@ -10,9 +10,19 @@ use Rattle.plan_events.specs.Statuses.{is_successful}
 use Rattle.resource_locks.specs.Plans.{PlanParts}
 use Rattle.event_history.specs.Plans.{pulls_job, sort_of}
 use Rattle.event_history.proofs.Places.{get_next}
-use Rattle.scheduling.specs.State.{Opening, RegisteredAt, Offering, StartedAt, Awaiting, Closing, AwaitingAfter, Ending, FinishedAt, SkippedAt, Settling, Task, Free, Opens, Closes, Hand, Seat, State}
+use Rattle.scheduling.specs.declared.task.Opening.{Opening}
+use Rattle.scheduling.specs.declared.task.Opening.TheVariants.{RegisteredAt, Offering, StartedAt, Awaiting}
+use Rattle.scheduling.specs.declared.task.Closing.{Closing}
+use Rattle.scheduling.specs.declared.task.Closing.TheVariants.{AwaitingAfter, Ending, FinishedAt, SkippedAt, Settling}
+use Rattle.scheduling.specs.declared.task.Task.{Task}
+use Rattle.scheduling.specs.declared.task.Task.TheVariants.{Free, Opens, Closes}
+use Rattle.scheduling.specs.declared.seat.Hand.{Hand}
+use Rattle.scheduling.specs.declared.seat.Seat.{Seat}
+use Rattle.scheduling.specs.State.{State}
 use Rattle.scheduling.specs.Choices.{admit_from, after_finish, is_leaf, status_by, decided, awaited, hand_job}
-use Rattle.scheduling.specs.Rows.{Action, Claim, Own, Notice, Weigh, Take, Give, GiveUp, Draw, Show, Admit, AddChild, Done, Settle, Look, Raise, row, with_task, goes_to, shows, after_start, show_row, decided_seat, after_seat, after, Step, Works, Dispatches, read_event, read_row}
+use Rattle.scheduling.specs.declared.step.Action.{Action}
+use Rattle.scheduling.specs.declared.step.Action.TheVariants.{Claim, Own, Notice, Weigh, Take, Give, GiveUp, Draw, Show, Admit, AddChild, Done, Settle, Look, Raise}
+use Rattle.scheduling.specs.Rows.{row, with_task, goes_to, shows, after_start, show_row, decided_seat, after_seat, after, Step, Works, Dispatches, read_event, read_row}
 use Rattle.scheduling.specs.Runs.{IsReplied}
 use Rattle.scheduling.specs.Stages.{Stage}
 use Rattle.scheduling.specs.Invariant.{IsCorePlan, Holds, IsKept}

@@ -16,9 +16,19 @@ use Rattle.plan_events.specs.declared.event.Event.{Event}
 use Rattle.plan_events.specs.declared.event.EventKind.{EventKind}
 use Rattle.plan_events.specs.declared.event.EventKind.TheVariants.{Started, Finished, Skipped, Registered}
 use Rattle.resource_locks.specs.Plans.{PlanParts}
-use Rattle.scheduling.specs.State.{Opening, Registering, RegisteredAt, Offering, Noticing, Locking, Weighed, Backing, Beginning, StartedAt, Awaiting, Admitting, Guarding, Closing, AwaitingAfter, Ending, FinishedAt, SkippedAt, Raising, Giving, Settling, Looking, Passing, CountingOff, Task, Free, Opens, Closes, Hand, Seat, State, status_at}
+use Rattle.scheduling.specs.declared.task.Opening.{Opening}
+use Rattle.scheduling.specs.declared.task.Opening.TheVariants.{Registering, RegisteredAt, Offering, Noticing, Locking, Weighed, Backing, Beginning, StartedAt, Awaiting, Admitting, Guarding}
+use Rattle.scheduling.specs.declared.task.Closing.{Closing}
+use Rattle.scheduling.specs.declared.task.Closing.TheVariants.{AwaitingAfter, Ending, FinishedAt, SkippedAt, Raising, Giving, Settling, Looking, Passing, CountingOff}
+use Rattle.scheduling.specs.declared.task.Task.{Task}
+use Rattle.scheduling.specs.declared.task.Task.TheVariants.{Free, Opens, Closes}
+use Rattle.scheduling.specs.declared.seat.Hand.{Hand}
+use Rattle.scheduling.specs.declared.seat.Seat.{Seat}
+use Rattle.scheduling.specs.State.{State, status_at}
 use Rattle.scheduling.specs.Choices.{decided, first_from, next_spare, key_place}
-use Rattle.scheduling.specs.Rows.{is_ready_for, Action, Claim, Own, Notice, Weigh, Take, Give, GiveUp, Draw, Show, Admit, AddChild, Done, Settle, Look, Raise, Works, Dispatches}
+use Rattle.scheduling.specs.declared.step.Action.{Action}
+use Rattle.scheduling.specs.declared.step.Action.TheVariants.{Claim, Own, Notice, Weigh, Take, Give, GiveUp, Draw, Show, Admit, AddChild, Done, Settle, Look, Raise}
+use Rattle.scheduling.specs.Rows.{is_ready_for, Works, Dispatches}
 use Rattle.scheduling.specs.Runs.{opening, next}
 
 opening_action : Opening → Action

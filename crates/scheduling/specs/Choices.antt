@@ -14,7 +14,16 @@ use Rattle.event_history.specs.Places.{is_failed_or}
 use Rattle.resource_locks.specs.Plans.{number_of, PlanParts, held_of}
 use Rattle.event_history.specs.Plans.{Sort, Leaf, sort_of, is_same, is_spare_of, spare_count, rank}
 use Rattle.event_history.specs.Results.{Jobs, Around, jobs_of}
-use Rattle.scheduling.specs.State.{LockWord, Readers, Written, Opening, Locking, Noticing, Beginning, Awaiting, Admitting, Guarding, Closing, AwaitingAfter, Ending, Raising, Giving, Settling, Looking, CountingOff, Task, Free, Opens, Closes, Hand, Seat}
+use Rattle.scheduling.specs.declared.lock_word.LockWord.{LockWord}
+use Rattle.scheduling.specs.declared.lock_word.LockWord.TheVariants.{Readers, Written}
+use Rattle.scheduling.specs.declared.task.Opening.{Opening}
+use Rattle.scheduling.specs.declared.task.Opening.TheVariants.{Locking, Noticing, Beginning, Awaiting, Admitting, Guarding}
+use Rattle.scheduling.specs.declared.task.Closing.{Closing}
+use Rattle.scheduling.specs.declared.task.Closing.TheVariants.{AwaitingAfter, Ending, Raising, Giving, Settling, Looking, CountingOff}
+use Rattle.scheduling.specs.declared.task.Task.{Task}
+use Rattle.scheduling.specs.declared.task.Task.TheVariants.{Free, Opens, Closes}
+use Rattle.scheduling.specs.declared.seat.Hand.{Hand}
+use Rattle.scheduling.specs.declared.seat.Seat.{Seat}
 
 -- the least number from `from` on, among the next `many`, that passes
 abbrev pub find : (ℕ → Bool) → (from many : ℕ) → Option ℕ

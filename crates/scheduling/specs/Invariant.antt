@@ -15,7 +15,17 @@ use Rattle.event_history.specs.Results.{Jobs, NoJob, Around, jobs_of, HasAnswer,
 use Rattle.event_history.specs.Order.{goes_first}
 use Rattle.event_history.specs.Following.{has_failed, has_failed_by, started_by, registered_in}
 use Rattle.event_history.specs.Published.{IsPublished}
-use Rattle.scheduling.specs.State.{LockWord, Readers, Written, Opening, Registering, Noticing, Locking, Weighed, Beginning, Awaiting, Admitting, Guarding, Closing, AwaitingAfter, Ending, Looking, Passing, CountingOff, Task, Free, Opens, Closes, Hand, Seat, State, status_at, counter_at, result_at, lock_at}
+use Rattle.scheduling.specs.declared.lock_word.LockWord.{LockWord}
+use Rattle.scheduling.specs.declared.lock_word.LockWord.TheVariants.{Readers, Written}
+use Rattle.scheduling.specs.declared.task.Opening.{Opening}
+use Rattle.scheduling.specs.declared.task.Opening.TheVariants.{Registering, Noticing, Locking, Weighed, Beginning, Awaiting, Admitting, Guarding}
+use Rattle.scheduling.specs.declared.task.Closing.{Closing}
+use Rattle.scheduling.specs.declared.task.Closing.TheVariants.{AwaitingAfter, Ending, Looking, Passing, CountingOff}
+use Rattle.scheduling.specs.declared.task.Task.{Task}
+use Rattle.scheduling.specs.declared.task.Task.TheVariants.{Free, Opens, Closes}
+use Rattle.scheduling.specs.declared.seat.Hand.{Hand}
+use Rattle.scheduling.specs.declared.seat.Seat.{Seat}
+use Rattle.scheduling.specs.State.{State, status_at, counter_at, result_at, lock_at}
 use Rattle.scheduling.specs.Choices.{in_batch, key_at, mode_at, keys_count, admits, ending}
 use Rattle.scheduling.specs.Stages.{How, Gave, Kept, Skips, Stage, OpenedBy, InHand, Waiting, ClosedBy, Below, Shut, Runs, Past, picture, has_mark, starter_of, is_unseen, is_pending, is_past, is_unsettled, is_owned, is_over, raises, is_bold, brings}
 

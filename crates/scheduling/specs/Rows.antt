@@ -8,7 +8,19 @@ use Rattle.plan_events.specs.declared.event.Event.{Event}
 use Rattle.plan_events.specs.declared.event.EventKind.TheVariants.{Started, Finished, Skipped, Registered}
 use Rattle.resource_locks.specs.Plans.{PlanParts}
 use Rattle.event_history.specs.Plans.{is_same, pulls_job}
-use Rattle.scheduling.specs.State.{NodeStatus, Ready, Claimed, Settled, LockWord, Opening, Registering, RegisteredAt, Offering, Noticing, Locking, Weighed, Backing, Beginning, StartedAt, Awaiting, Admitting, Guarding, Ending, FinishedAt, SkippedAt, Raising, Giving, Settling, Looking, Passing, CountingOff, Task, Free, Opens, Closes, Hand, Seat, State, status_at, counter_at, result_at, lock_at}
+use Rattle.scheduling.specs.declared.status.NodeStatus.{NodeStatus}
+use Rattle.scheduling.specs.declared.status.NodeStatus.TheVariants.{Ready, Claimed, Settled}
+use Rattle.scheduling.specs.declared.lock_word.LockWord.{LockWord}
+use Rattle.scheduling.specs.declared.task.Opening.{Opening}
+use Rattle.scheduling.specs.declared.task.Opening.TheVariants.{Registering, RegisteredAt, Offering, Noticing, Locking, Weighed, Backing, Beginning, StartedAt, Awaiting, Admitting, Guarding}
+use Rattle.scheduling.specs.declared.task.Closing.TheVariants.{Ending, FinishedAt, SkippedAt, Raising, Giving, Settling, Looking, Passing, CountingOff}
+use Rattle.scheduling.specs.declared.task.Task.{Task}
+use Rattle.scheduling.specs.declared.task.Task.TheVariants.{Free, Opens, Closes}
+use Rattle.scheduling.specs.declared.seat.Hand.{Hand}
+use Rattle.scheduling.specs.declared.seat.Seat.{Seat}
+use Rattle.scheduling.specs.declared.step.Action.{Action}
+use Rattle.scheduling.specs.declared.step.Action.TheVariants.{Claim, Own, Notice, Weigh, Take, Give, GiveUp, Draw, Show, Admit, AddChild, Done, Settle, Look, Raise}
+use Rattle.scheduling.specs.State.{State, status_at, counter_at, result_at, lock_at}
 use Rattle.scheduling.specs.Choices.{next_spare, admit_from, after_settle, offered_to, key_at, mode_at, admits, taken, given_back, same_word, keys_count, lock_from, begins, claims, giving, after_finish, decided, ending, is_pulled, pulled_result, event_of}
 
 -- the worker's next task
@@ -218,23 +230,6 @@ abbrev pub look_row : PlanParts → State → ℕ → Seat → Task → Option S
 look_row p s w seat (Closes n (Looking m)) = look_found s w seat n m (status_at s (parent_of p.tree n))
 look_row p s w seat Free = Some s
 look_row p s w seat _ = None
-
-pub data Action : Type 0 where
-  Claim : ℕ → Action
-  Own : ℕ → Action
-  Notice : Action
-  Weigh : Action
-  Take : Action
-  Give : Action
-  GiveUp : Action
-  Draw : Action
-  Show : Action
-  Admit : Action
-  AddChild : Action
-  Done : Action
-  Settle : Action
-  Look : Action
-  Raise : Action
 
 -- the step of the worker at place w, whose task the reply has decided
 abbrev pub row : PlanParts → State → ℕ → Seat → Reply → Action → Option State

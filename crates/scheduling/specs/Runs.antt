@@ -11,7 +11,12 @@ use Rattle.event_history.specs.Places.{StandsAt}
 use Rattle.event_history.specs.History.{IsLegal, IsComplete}
 use Rattle.event_history.specs.Order.{IsInOrder}
 use Rattle.event_history.specs.Exclusion.{IsExclusive}
-use Rattle.scheduling.specs.State.{NodeStatus, Hidden, Ready, Readers, Free, Seat, State}
+use Rattle.scheduling.specs.declared.status.NodeStatus.{NodeStatus}
+use Rattle.scheduling.specs.declared.status.NodeStatus.TheVariants.{Hidden, Ready}
+use Rattle.scheduling.specs.declared.lock_word.LockWord.TheVariants.{Readers}
+use Rattle.scheduling.specs.declared.task.Task.TheVariants.{Free}
+use Rattle.scheduling.specs.declared.seat.Seat.{Seat}
+use Rattle.scheduling.specs.State.{State}
 use Rattle.scheduling.specs.Choices.{awaited}
 use Rattle.scheduling.specs.Rows.{Step, Works, Dispatches, after}
 

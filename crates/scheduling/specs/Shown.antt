@@ -2,7 +2,12 @@
 use Rattle.std.specs.Prelude.{◌≡◌, ℕ, false, List, length, Option, Some, None, slice_get}
 use Rattle.plan_events.specs.declared.event.Event.{Event}
 use Rattle.plan_events.specs.declared.event.EventKind.TheVariants.{Started, Finished, Skipped, Registered}
-use Rattle.scheduling.specs.State.{RegisteredAt, StartedAt, FinishedAt, SkippedAt, Task, Opens, Closes, Seat, State}
+use Rattle.scheduling.specs.declared.task.Opening.TheVariants.{RegisteredAt, StartedAt}
+use Rattle.scheduling.specs.declared.task.Closing.TheVariants.{FinishedAt, SkippedAt}
+use Rattle.scheduling.specs.declared.task.Task.{Task}
+use Rattle.scheduling.specs.declared.task.Task.TheVariants.{Opens, Closes}
+use Rattle.scheduling.specs.declared.seat.Seat.{Seat}
+use Rattle.scheduling.specs.State.{State}
 use Rattle.scheduling.specs.Choices.{event_of}
 
 -- the place and the event that a task of worker w names: between draw and show

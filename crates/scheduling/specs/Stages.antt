@@ -7,7 +7,14 @@ use Rattle.plan_events.specs.declared.event.EventKind.TheVariants.{Started, Fini
 use Rattle.plan_events.specs.declared.status.Status.{Status}
 use Rattle.event_history.specs.Places.{is_failed_or}
 use Rattle.resource_locks.specs.Plans.{PlanParts}
-use Rattle.scheduling.specs.State.{NodeStatus, Hidden, Ready, Claimed, Settled, Opening, Registering, RegisteredAt, Offering, Noticing, Locking, Weighed, Backing, Beginning, StartedAt, Awaiting, Admitting, Guarding, Closing, AwaitingAfter, Ending, FinishedAt, SkippedAt, Raising, Giving, Settling, Looking, Passing, CountingOff, Task, Opens, Closes}
+use Rattle.scheduling.specs.declared.status.NodeStatus.{NodeStatus}
+use Rattle.scheduling.specs.declared.status.NodeStatus.TheVariants.{Hidden, Ready, Claimed, Settled}
+use Rattle.scheduling.specs.declared.task.Opening.{Opening}
+use Rattle.scheduling.specs.declared.task.Opening.TheVariants.{Registering, RegisteredAt, Offering, Noticing, Locking, Weighed, Backing, Beginning, StartedAt, Awaiting, Admitting, Guarding}
+use Rattle.scheduling.specs.declared.task.Closing.{Closing}
+use Rattle.scheduling.specs.declared.task.Closing.TheVariants.{AwaitingAfter, Ending, FinishedAt, SkippedAt, Raising, Giving, Settling, Looking, Passing, CountingOff}
+use Rattle.scheduling.specs.declared.task.Task.{Task}
+use Rattle.scheduling.specs.declared.task.Task.TheVariants.{Opens, Closes}
 use Rattle.scheduling.specs.Choices.{keys_count}
 
 -- how a node ended: with its guard given up; with its guard kept (a test, or a container that is stopped); skipped

@@ -3,62 +3,17 @@ use Rattle.std.specs.Prelude.{ℕ, Bool, true, false, List, Option, Some, None, 
 use Rattle.plan_events.specs.declared.event.Event.{Event}
 use Rattle.plan_events.specs.declared.status.Status.{Status}
 use Rattle.plan_events.specs.declared.status.Status.TheVariants.{Successful}
-
--- where a node is: not offered; offered to one worker, or to any; claimed by one; settled
-pub data NodeStatus : Type 0 where
-  Hidden : NodeStatus
-  Ready : Option ℕ → NodeStatus
-  Claimed : ℕ → NodeStatus
-  Settled : NodeStatus
-
--- the word of a key: so many nodes hold it in READ, or one holds it in READ_WRITE
-pub data LockWord : Type 0 where
-  Readers : ℕ → LockWord
-  Written : LockWord
-
--- what a worker does about a node until the node's guard is given up, or until it is to end with the guard kept
-pub data Opening : Type 0 where
-  Registering : Opening  -- a spare, to be registered
-  RegisteredAt : (place : ℕ) → Opening
-  Offering : Opening  -- a spare that is registered, to be offered
-  Noticing : Opening  -- to look whether the plan is cancelled
-  Locking : (i : ℕ) → Opening  -- its first i keys are taken
-  Weighed : (i : ℕ) → LockWord → Opening  -- the next key's word was seen, and lets it take the key
-  Backing : (i : ℕ) → Opening  -- a key was busy: i keys are left to give back
-  Beginning : (skip : Bool) → Opening
-  StartedAt : (place : ℕ) → Opening
-  Awaiting : Opening  -- its job is run: the next step has the reply
-  Admitting : (child : ℕ) → Opening
-  Guarding : Opening
-
--- what a worker does about a node from then on
-pub data Closing : Type 0 where
-  AwaitingAfter : Closing  -- its after-body is run: the next step has the reply
-  Ending : Status → Closing
-  FinishedAt : (place : ℕ) → Status → Closing
-  SkippedAt : (place : ℕ) → Closing
-  Raising : Closing  -- it failed: the plan is to be cancelled
-  Giving : (i : ℕ) → Closing  -- i keys are left to give back
-  Settling : Closing
-  Looking : (sibling : ℕ) → Closing  -- for the worker that may take the next sibling
-  Passing : (sibling worker : ℕ) → Closing
-  CountingOff : Closing
-
--- a worker's task, and the node that it is about
-pub data Task : Type 0 where
-  Free : Task
-  Opens : (node : ℕ) → Opening → Task
-  Closes : (node : ℕ) → Closing → Task
-
--- a factory in hand: how many of its spares are registered, and the one whose settling is waited for
-pub record Hand : Type 0 where
-  pub factory : ℕ
-  pub registered : ℕ
-  pub waiting : Option ℕ
-
-pub record Seat : Type 0 where
-  pub task : Task
-  pub hand : Option Hand
+use Rattle.scheduling.specs.declared.status.NodeStatus.{NodeStatus}
+use Rattle.scheduling.specs.declared.status.NodeStatus.TheVariants.{Hidden}
+use Rattle.scheduling.specs.declared.lock_word.LockWord.{LockWord}
+use Rattle.scheduling.specs.declared.lock_word.LockWord.TheVariants.{Readers}
+use Rattle.scheduling.specs.declared.task.Opening.{Opening}
+use Rattle.scheduling.specs.declared.task.Opening.TheVariants.{Registering, RegisteredAt, Offering, Admitting, Guarding}
+use Rattle.scheduling.specs.declared.task.Closing.{Closing}
+use Rattle.scheduling.specs.declared.task.Closing.TheVariants.{AwaitingAfter}
+use Rattle.scheduling.specs.declared.task.Task.{Task}
+use Rattle.scheduling.specs.declared.task.Task.TheVariants.{Free, Opens, Closes}
+use Rattle.scheduling.specs.declared.seat.Seat.{Seat}
 
 pub record State : Type 0 where
   pub statuses : List NodeStatus

@@ -14,7 +14,10 @@ use Rattle.plan_events.specs.declared.status.Status.TheVariants.{Successful}
 use Rattle.resource_locks.specs.Held.{table}
 use Rattle.resource_locks.specs.Plans.{PlanParts}
 use Rattle.event_history.proofs.Published.{published_nil}
-use Rattle.scheduling.specs.State.{Hidden, Readers, Free, Seat}
+use Rattle.scheduling.specs.declared.status.NodeStatus.TheVariants.{Hidden}
+use Rattle.scheduling.specs.declared.lock_word.LockWord.TheVariants.{Readers}
+use Rattle.scheduling.specs.declared.task.Task.TheVariants.{Free}
+use Rattle.scheduling.specs.declared.seat.Seat.{Seat}
 use Rattle.scheduling.specs.Runs.{first_status, first_counter, opening}
 use Rattle.scheduling.specs.Stages.{Stage, Unseen, Offered, Waiting, Mark, Blank, Known, has_mark, picture, is_unseen, is_pending}
 use Rattle.scheduling.specs.Invariant.{IsCorePlan, pends_at, pending, keys_in, sum_below, holders, holders_by, SeatOk, Holds, IsKept}

@@ -1,0 +1,10 @@
+//! The word of a key.
+
+/// Who holds a key.
+#[derive(Clone, Copy, Debug, PartialEq, Eq)]
+pub enum LockWord {
+    /// So many nodes hold it in READ.
+    Readers(u16),
+    /// One node holds it in READ_WRITE.
+    Written,
+}
