@@ -53,7 +53,7 @@ closing_snoc p replies h e n CountingOff how same old = old
 closing_snoc p replies h e n (FinishedAt i s) how same old = tt
 closing_snoc p replies h e n (SkippedAt i) how same old = tt
 closing_snoc p replies h e n Raising how same old = tt
-closing_snoc p replies h e n (Giving i) how same old = tt
+closing_snoc p replies h e n (Giving i) how same old = old
 closing_snoc p replies h e n Settling how same old = tt
 
 opening_snoc : (p : PlanParts) (replies : ℕ → List Reply) (h : List Event) (e : Event) (n : ℕ) (d : Opening) → OpeningOk p replies h n d → OpeningOk p replies (h ++ e ∷ []) n d
@@ -68,7 +68,7 @@ opening_snoc p replies h e n (Admitting c) old = old
 opening_snoc p replies h e n Guarding old = old
 opening_snoc p replies h e n (RegisteredAt i) old = tt
 opening_snoc p replies h e n Offering old = tt
-opening_snoc p replies h e n (Backing i) old = tt
+opening_snoc p replies h e n (Backing i) old = old
 opening_snoc p replies h e n (StartedAt i) old = tt
 
 pub shape_snoc : (p : PlanParts) (replies : ℕ → List Reply) (h : List Event) (e : Event) (w n : ℕ) (st : Stage) → (registered_in p (h ++ e ∷ []) n ≡ registered_in p h n) ⊎ (st ≡ InHand w) → ShapeOk p replies h n st → ShapeOk p replies (h ++ e ∷ []) n st

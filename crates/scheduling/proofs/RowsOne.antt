@@ -1,6 +1,7 @@
 -- Rows that change one node whose picture stays but for its word and its keys: claim, own, notice, weigh, take, give, give_up,
 -- raise, look, and the show of all but a start.
 use Rattle.std.proofs.Common.{◌≡◌, ◌≢◌, ℕ, zero, suc, ◌+◌, ◌<◌, ◌≤◌, Bool, true, false, cond, ◌&&◌, ◌==◌, not, nat_lt, List, [], ◌∷◌, set, Option, Some, None, slice_get, inl, inr, refl, sym, ap, ◌∙◌, subst, arith, length-set}
+use Rattle.std.proofs.Math.Nat.{le_refl}
 use Rattle.std.proofs.lemmas.Option.{same_Some, none-some}
 use Rattle.std.proofs.lemmas.Bool.{false≢true, both_ways, and_parts, and_from, eqb-true, ltb-true, ltb-false, or_cases, or_left, or_right, eq-eqb}
 use Rattle.descriptor.specs.Nodes.{size, parent_of, IsChild, is_disabled}
@@ -260,7 +261,7 @@ module _ (p : PlanParts) (core : IsCorePlan p) (replies : ℕ → List Reply) (s
       (by_cond (λ d2. IsKept p replies (goes s w seat (Opens x d2))) (admits (mode_at p x i) (lock_at s (key_at p x i))) (Weighed i (lock_at s (key_at p x i))) (Backing i)
       (λ c. turn x (Locking i) (Weighed i (lock_at s (key_at p x i))) s.locks s.shown e refl (keys_stay x (OpenedBy w (Locking i)) (OpenedBy w (Weighed i (lock_at s (key_at p x i)))) at.0 at.1 refl) same_shown refl refl refl (λ r. r) (λ b. absurd (false≢true b)) (ok.0, ok.1, c)
       (quit_same p s.published w s.cancel (Opens x (Locking i)) (Opens x (Weighed i (lock_at s (key_at p x i)))) refl refl))
-      (λ c. turn x (Locking i) (Backing i) s.locks s.shown e refl (keys_stay x (OpenedBy w (Locking i)) (OpenedBy w (Backing i)) at.0 at.1 refl) same_shown refl refl refl (λ r. r) (λ b. absurd (false≢true b)) tt
+      (λ c. turn x (Locking i) (Backing i) s.locks s.shown e refl (keys_stay x (OpenedBy w (Locking i)) (OpenedBy w (Backing i)) at.0 at.1 refl) same_shown refl refl refl (λ r. r) (λ b. absurd (false≢true b)) (let lt = ok.0 in omega (arith, lt))
       (quit_same p s.published w s.cancel (Opens x (Locking i)) (Opens x (Backing i)) refl refl)))
       q
   weigh_keeps _ e t q = absurd (none-some t q)
@@ -298,17 +299,20 @@ module _ (p : PlanParts) (core : IsCorePlan p) (replies : ℕ → List Reply) (s
   closing_at : (x : ℕ) (d : Closing) → seat.task ≡ Closes x d → TaskOk p g w (Closes x d)
   closing_at x d e = subst (TaskOk p g w) e mine.task
 
+  closing_shape : (x : ℕ) (d : Closing) → seat.task ≡ Closes x d → (c : ℕ) × (how : How) × ClosingOk p replies s.published x d how
+  closing_shape x d e = (let t = closing_at x d e in (t.1.0, t.1.1, subst (ShapeOk p replies s.published x) t.1.2 (h.shapes x t.0)))
+
   -- the worker goes on where k keys are left to give back
   gives_on : (x k : ℕ) (d : Closing) (locks : List LockWord) (cancel : Bool) (shown : List Bool) → seat.task ≡ Closes x d → ((c : ℕ) (how : How) → (picture p x (ClosedBy w c d how)).word ≡ Claimed c)
       → ((c : ℕ) (how : How) → (picture p x (ClosedBy w c d how)).mark ≡ (picture p x (ClosedBy w c Settling how)).mark) → ((c : ℕ) (how : How) → (picture p x (ClosedBy w c d how)).below ≡ (picture p x (ClosedBy w c Settling how)).below)
       → ((c : ℕ) (how : How) → (picture p x (ClosedBy w c d how)).guard ≡ (picture p x (ClosedBy w c Settling how)).guard) → closing_past d ≡ false → ShownOk s shown
       → (s.cancel ≡ true → cancel ≡ true) → (cancel ≡ true → has_failed s.published ≡ true) → ((d2 : Closing) → is_bold (Closes x d2) ≡ false → QuitStep p s.published w s.cancel cancel (Closes x d) (Closes x d2))
-      → ((c : ℕ) (how : How) (d2 : Closing) → g x ≡ ClosedBy w c d how → (picture p x (ClosedBy w c d2 how)).keys ≡ k → LockList p locks (upd g x (ClosedBy w c d2 how)))
+      → ((c : ℕ) (how : How) (d2 : Closing) → g x ≡ ClosedBy w c d how → (picture p x (ClosedBy w c d2 how)).keys ≡ k → LockList p locks (upd g x (ClosedBy w c d2 how))) → k ≤ keys_count p x
       → IsKept p replies (record s { locks = locks; cancel = cancel; seats = set s.seats w (with_task seat (Closes x (giving k))); shown = shown })
-  gives_on x zero d locks cancel shown e word mark below guard past shown_ok on cancelled quit locks_ok =
+  gives_on x zero d locks cancel shown e word mark below guard past shown_ok on cancelled quit locks_ok le =
       turn_closing x d Settling locks cancel shown e word (λ c how at. locks_ok c how Settling at refl) shown_ok mark below guard (sym past) (λ u. absurd (both_ways (closing_passed d) (past_passed d past) u)) (λ c ch o from r u. refl) (λ c how u. tt) on cancelled (λ u. absurd (false≢true u)) (quit Settling refl)
-  gives_on x (suc i) d locks cancel shown e word mark below guard past shown_ok on cancelled quit locks_ok =
-      turn_closing x d (Giving (suc i)) locks cancel shown e word (λ c how at. locks_ok c how (Giving (suc i)) at refl) shown_ok mark below guard (sym past) (λ u. absurd (both_ways (closing_passed d) (past_passed d past) u)) (λ c ch o from r u. refl) (λ c how u. tt) on cancelled (λ u. absurd (false≢true u)) (quit (Giving (suc i)) refl)
+  gives_on x (suc i) d locks cancel shown e word mark below guard past shown_ok on cancelled quit locks_ok le =
+      turn_closing x d (Giving (suc i)) locks cancel shown e word (λ c how at. locks_ok c how (Giving (suc i)) at refl) shown_ok mark below guard (sym past) (λ u. absurd (both_ways (closing_passed d) (past_passed d past) u)) (λ c ch o from r u. refl) (λ c how u. le) on cancelled (λ u. absurd (false≢true u)) (quit (Giving (suc i)) refl)
 
   pub give_keeps : (t0 : Task) → seat.task ≡ t0 → (t : State) → give_row p s w seat t0 ≡ Some t → IsKept p replies t
   give_keeps (Opens x (Backing (suc i))) e t q = go (slice_get s.locks (key_at p x i)) refl q
@@ -316,19 +320,25 @@ module _ (p : PlanParts) (core : IsCorePlan p) (replies : ℕ → List Reply) (s
       at : (x < size p.tree) × (g x ≡ OpenedBy w (Backing (suc i)))
       at = opening_at x (Backing (suc i)) e
 
+      less : (i : ℕ) → suc i ≤ keys_count p x → i ≤ keys_count p x
+      less i le = omega (arith, le)
+
       go : (found : Option LockWord) → slice_get s.locks (key_at p x i) ≡ found → gives_key p s w seat (Opens x (Backing i)) x i found ≡ Some t → IsKept p replies t
       go None f r = absurd (none-some t r)
       go (Some word) f r = kept_some p replies (puts_word s w seat (Opens x (Backing i)) (key_at p x i) (given_back (mode_at p x i) word)) t
-          (turn x (Backing (suc i)) (Backing i) (set s.locks (key_at p x i) (given_back (mode_at p x i) word)) s.shown e refl (locks_give p s.locks g x i (OpenedBy w (Backing (suc i))) (OpenedBy w (Backing i)) word at.0 at.1 refl refl f h.locks) same_shown refl refl refl (λ u. u) (λ b. absurd (false≢true b)) tt
+          (turn x (Backing (suc i)) (Backing i) (set s.locks (key_at p x i) (given_back (mode_at p x i) word)) s.shown e refl (locks_give p s.locks g x i (OpenedBy w (Backing (suc i))) (OpenedBy w (Backing i)) word at.0 at.1 refl refl f h.locks) same_shown refl refl refl (λ u. u) (λ b. absurd (false≢true b)) (less i (opening_shape x (Backing (suc i)) e))
           (quit_same p s.published w s.cancel (Opens x (Backing (suc i))) (Opens x (Backing i)) refl refl))
           r
   give_keeps (Closes x (Giving (suc i))) e t q = go (slice_get s.locks (key_at p x i)) refl q
     where
+      less : suc i ≤ keys_count p x → i ≤ keys_count p x
+      less le = omega (arith, le)
+
       go : (found : Option LockWord) → slice_get s.locks (key_at p x i) ≡ found → gives_key p s w seat (Closes x (giving i)) x i found ≡ Some t → IsKept p replies t
       go None f r = absurd (none-some t r)
       go (Some word) f r = kept_some p replies (puts_word s w seat (Closes x (giving i)) (key_at p x i) (given_back (mode_at p x i) word)) t
           (gives_on x i (Giving (suc i)) (set s.locks (key_at p x i) (given_back (mode_at p x i) word)) s.cancel s.shown e (λ c how. refl) (λ c how. refl) (λ c how. refl) (λ c how. refl) refl same_shown (λ u. u) h.cancelled (λ d2 b. quit_calm p s.published w s.cancel (Closes x (Giving (suc i))) (Closes x d2) refl b)
-          (λ c how d2 at kb. locks_give p s.locks g x i (ClosedBy w c (Giving (suc i)) how) (ClosedBy w c d2 how) word (closing_at x (Giving (suc i)) e).0 at refl kb f h.locks))
+          (λ c how d2 at kb. locks_give p s.locks g x i (ClosedBy w c (Giving (suc i)) how) (ClosedBy w c d2 how) word (closing_at x (Giving (suc i)) e).0 at refl kb f h.locks) (less (closing_shape x (Giving (suc i)) e).2))
           r
   give_keeps _ e t q = absurd (none-some t q)
 
@@ -336,7 +346,7 @@ module _ (p : PlanParts) (core : IsCorePlan p) (replies : ℕ → List Reply) (s
   raise_keeps (Closes x Raising) e t q = kept_some p replies (raised p s w seat x) t
       (gives_on x (keys_count p x) Raising s.locks true s.shown e (λ c how. refl) (λ c how. refl) (λ c how. refl) (λ c how. refl) refl same_shown (λ u. refl) (λ u. failed_one s.published (mine.failed (ap raises e)))
       (λ d2 b ff f old. inr (refl, b))
-      (λ c how d2 at kb. keys_stay x (ClosedBy w c Raising how) (ClosedBy w c d2 how) (closing_at x Raising e).0 at (sym kb)))
+      (λ c how d2 at kb. keys_stay x (ClosedBy w c Raising how) (ClosedBy w c d2 how) (closing_at x Raising e).0 at (sym kb)) (le_refl (keys_count p x)))
       q
     where
       failed_one : (l : List Event) → has_failed_by (w + 1) l ≡ true → has_failed l ≡ true
@@ -350,7 +360,7 @@ module _ (p : PlanParts) (core : IsCorePlan p) (replies : ℕ → List Reply) (s
       (λ v how. refl) (λ v how. refl) (λ v how. refl) refl (λ u. absurd (false≢true u)) (λ v ch o from r u. refl) (λ v how u. tt) (λ u. u) h.cancelled (λ u. (and_parts p.fail_fast (is_failed_or (Some status)) c).1) (λ ff f old. inl refl))
       (λ c. gives_on x (keys_count p x) (FinishedAt i status) s.locks s.cancel (set s.shown i true) e (λ v how. refl) (λ v how. refl) (λ v how. refl) (λ v how. refl) refl (shown_set i) (λ u. u) h.cancelled
       (λ d2 b ff f old. elim old [ inl y ↦ absurd (both_ways (p.fail_fast && is_failed_or (Some status)) c (and_from p.fail_fast (is_failed_or (Some status)) ff y)) | inr y ↦ inr (y.0, b) ])
-      (λ v how d2 at kb. keys_stay x (ClosedBy w v (FinishedAt i status) how) (ClosedBy w v d2 how) (closing_at x (FinishedAt i status) e).0 at (sym kb)))
+      (λ v how d2 at kb. keys_stay x (ClosedBy w v (FinishedAt i status) how) (ClosedBy w v d2 how) (closing_at x (FinishedAt i status) e).0 at (sym kb)) (le_refl (keys_count p x)))
 
   pub show_skipped_keeps : (x i : ℕ) → seat.task ≡ Closes x (SkippedAt i) → IsKept p replies (shows s w (with_task seat (Closes x Settling)) i)
   show_skipped_keeps x i e =

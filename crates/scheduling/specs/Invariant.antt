@@ -18,9 +18,9 @@ use Rattle.event_history.specs.Published.{IsPublished}
 use Rattle.scheduling.specs.declared.lock_word.LockWord.{LockWord}
 use Rattle.scheduling.specs.declared.lock_word.LockWord.TheVariants.{Readers, Written}
 use Rattle.scheduling.specs.declared.task.Opening.{Opening}
-use Rattle.scheduling.specs.declared.task.Opening.TheVariants.{Registering, Noticing, Locking, Weighed, Beginning, Awaiting, Admitting, Guarding}
+use Rattle.scheduling.specs.declared.task.Opening.TheVariants.{Registering, Noticing, Locking, Weighed, Backing, Beginning, Awaiting, Admitting, Guarding}
 use Rattle.scheduling.specs.declared.task.Closing.{Closing}
-use Rattle.scheduling.specs.declared.task.Closing.TheVariants.{AwaitingAfter, Ending, Looking, Passing, CountingOff}
+use Rattle.scheduling.specs.declared.task.Closing.TheVariants.{AwaitingAfter, Ending, Giving, Looking, Passing, CountingOff}
 use Rattle.scheduling.specs.declared.task.Task.{Task}
 use Rattle.scheduling.specs.declared.task.Task.TheVariants.{Free, Opens, Closes}
 use Rattle.scheduling.specs.declared.seat.Hand.{Hand}
@@ -138,6 +138,7 @@ OpeningOk p replies h n Registering = (is_spare_at p.tree n && pulls_job p (pare
 OpeningOk p replies h n Noticing = (p.fail_fast ≡ true) × (0 < n) × (is_disabled p.tree n ≡ false)
 OpeningOk p replies h n (Locking i) = (i < keys_count p n) × (is_disabled p.tree n ≡ false)
 OpeningOk p replies h n (Weighed i word) = (i < keys_count p n) × (is_disabled p.tree n ≡ false) × (admits (mode_at p n i) word ≡ true)
+OpeningOk p replies h n (Backing i) = i ≤ keys_count p n
 OpeningOk p replies h n (Beginning true) = (0 < n) × SkipReason p h n
 OpeningOk p replies h n (Beginning false) = is_disabled p.tree n ≡ false
 OpeningOk p replies h n Awaiting = pulls_job p n ≡ false
@@ -148,6 +149,7 @@ OpeningOk p replies h n _ = Unit {0}
 abbrev pub ClosingOk : PlanParts → (ℕ → List Reply) → List Event → ℕ → Closing → How → Type 0
 ClosingOk p replies h n AwaitingAfter how = IsAfter p replies n how
 ClosingOk p replies h n (Ending status) how = IsEnding p replies h n how status
+ClosingOk p replies h n (Giving i) how = i ≤ keys_count p n
 ClosingOk p replies h n (Looking m) how = IsNextSame p n m
 ClosingOk p replies h n (Passing m o) how = IsNextSame p n m
 ClosingOk p replies h n CountingOff how = 0 < n
