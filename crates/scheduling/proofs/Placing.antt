@@ -236,7 +236,7 @@ module _ (p : PlanParts) (s : State) (w : ℕ) (seat : Seat) (is : slice_get s.s
   row_moves Raise = raise_moves seat.task
 
 -- Every step keeps it.
-abbrev AllPlaced : Option State → Type 0
+abbrev pub AllPlaced : Option State → Type 0
 AllPlaced None = Unit {0}
 AllPlaced (Some t) = IsPlaced t
 
@@ -245,7 +245,7 @@ read_placed s placed true (Some e) = record { stands = placed.stands; unshown = 
 read_placed s placed true None = tt
 read_placed s placed false next = tt
 
-after_placed : (p : PlanParts) (s : State) (a : Step) → IsPlaced s → AllPlaced (after p s a)
+pub after_placed : (p : PlanParts) (s : State) (a : Step) → IsPlaced s → AllPlaced (after p s a)
 after_placed p s Dispatches placed = read_placed s placed (slice_index_or s.shown (length s.given) false) (slice_get s.published (length s.given))
 after_placed p s (Works w a reply) placed = go (slice_get s.seats w) refl
   where
@@ -261,7 +261,7 @@ after_placed p s (Works w a reply) placed = go (slice_get s.seats w) refl
         let here : slice_get u.seats w ≡ Some other = get_set_same s.seats w other seat is in
         kept u other (reseat_keeps s w seat other placed is (decided_named p w reply seat.task)) here (row p u w other reply a) (row_moves p u w other here reply a)
 
-opening_placed : (p : PlanParts) (workers : ℕ) → IsPlaced (opening p workers)
+pub opening_placed : (p : PlanParts) (workers : ℕ) → IsPlaced (opening p workers)
 opening_placed p workers = record {
   stands = λ w seat i e q d. absurd (none-some (i, e) (ap (λ (x : Seat). named w x.task) (get_replicate workers (record { task = Free; hand = None }) seat w q) ∙ d));
   unshown = λ i q. absurd (none-some false q);

@@ -1,6 +1,6 @@
 -- What each step makes of the state: None where it is not enabled. One definition a step, by the worker's task.
 use Rattle.std.specs.Prelude.{ℕ, zero, suc, ◌+◌, ◌-◌, Bool, true, false, ◌&&◌, ◌==◌, nat_lt, cond, List, [], ◌∷◌, ◌++◌, length, Option, Some, None, slice_get, slice_set, slice_index_or, option_and_then}
-use Rattle.descriptor.specs.Nodes.{parent_of}
+use Rattle.descriptor.specs.Nodes.{parent_of, is_child}
 use Rattle.plan_events.specs.declared.status.Status.{Status}
 use Rattle.plan_events.specs.declared.status.Status.TheVariants.{Successful}
 use Rattle.plan_events.specs.declared.outcome.Reply.{Reply}
@@ -51,7 +51,7 @@ is_empty (Some hand) = false
 -- whether the node is a spare of the factory in hand, if there is one
 abbrev pub is_of_hand : PlanParts → Option Hand → ℕ → Bool
 is_of_hand p None n = true
-is_of_hand p (Some hand) n = parent_of p.tree n == hand.factory
+is_of_hand p (Some hand) n = is_child p.tree hand.factory n
 
 abbrev pub claimed : PlanParts → State → ℕ → Seat → ℕ → State
 claimed p s w seat n = record s { statuses = slice_set s.statuses n (Claimed w); seats = goes_to s w (with_task seat (Opens n (claims p n))) }
