@@ -86,7 +86,7 @@ settle_unnamed p w (suc n) =
     by_cond (λ d. named w (Closes (suc n) d) ≡ None) (is_same p (suc n) && not (is_spare_at p.tree (suc n))) (pass_to found) CountingOff (λ _. pass_unnamed p w (suc n) found) (λ _. refl)
 
 -- a reply changes nothing of this
-decided_named : (p : PlanParts) (w : ℕ) (reply : Reply) (t : Task) → named w (decided p reply t) ≡ named w t
+pub decided_named : (p : PlanParts) (w : ℕ) (reply : Reply) (t : Task) → named w (decided p reply t) ≡ named w t
 decided_named p w reply (Opens n Awaiting) = answered_unnamed p w n reply
 decided_named p w reply (Closes n AwaitingAfter) = refl
 decided_named p w reply _ = refl

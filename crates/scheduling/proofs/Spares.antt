@@ -34,7 +34,7 @@ elder_is_registered p replies workers h legal f a c lt cha chc spare next =
           omega (arith, most, same, less, next))
     ]
 
-count_zero : (q : ℕ → Bool) (n : ℕ) → ((k : ℕ) → k < n → q k ≡ false) → count_below q n ≡ 0
+pub count_zero : (q : ℕ → Bool) (n : ℕ) → ((k : ℕ) → k < n → q k ≡ false) → count_below q n ≡ 0
 count_zero q zero each = refl
 count_zero q (suc n) each = (let a : bit (q n) ≡ 0 = ap bit (each n (omega arith)) in let b = count_zero q n (λ k lt. each k (omega (arith, lt))) in omega (arith, a, b))
 
