@@ -34,14 +34,22 @@ same_number keys a b la lb e =
     ∙ ap (λ (m : ℕ). get_or keys m []) e
     ∙ sym (same_key b (get_or keys (number_of keys b) []) (passes_at_first (bytes_eq b) keys [] lb))
 
--- Two of a node's keys have two places among those of the plan.
+own_key : (p : PlanParts) (n i : ℕ) → i < keys_count p n → slice_get (held_of p n) i ≡ Some (lock_of p n i)
+own_key p n i inside = slice_get-get_or (held_of p n) i (record { key = []; mode = Read }) inside
+
+-- Each of a node's keys has a place among those of the plan,
+pub key_placed : (p : PlanParts) (n i : ℕ) → IsPlan p → i < keys_count p n → key_at p n i < length p.keys
+unfolding key_place
+key_placed p n i plan inside = plan.numbered n (lock_of p n i).key (lock_of p n i).mode (i, own_key p n i inside)
+
+-- and two of them have two places.
 pub key_once : (p : PlanParts) (n i j : ℕ) → IsPlan p → IsLockSet (held_of p n) → i < j → j < keys_count p n → key_at p n i ≡ key_at p n j → ⊥
 unfolding key_place
 key_once p n i j plan set lt inside same =
-    let a : slice_get (held_of p n) i ≡ Some (lock_of p n i) = slice_get-get_or (held_of p n) i (record { key = []; mode = Read }) (omega (arith, lt, inside)) in
-    let b : slice_get (held_of p n) j ≡ Some (lock_of p n j) = slice_get-get_or (held_of p n) j (record { key = []; mode = Read }) inside in
-    let one = same_number p.keys (lock_of p n i).key (lock_of p n j).key (plan.numbered n (lock_of p n i).key (lock_of p n i).mode (i, a)) (plan.numbered n (lock_of p n j).key (lock_of p n j).mode (j, b)) same in
-    not_less (lock_of p n j).key (subst (λ (k : List ℕ). key_cmp k (lock_of p n j).key ≡ Less) one (in_order (held_of p n) i j (lock_of p n i) (lock_of p n j) set lt a b))
+    let before : i < keys_count p n = omega (arith, lt, inside) in
+    let one = same_number p.keys (lock_of p n i).key (lock_of p n j).key (key_placed p n i plan before) (key_placed p n j plan inside) same in
+    let less = in_order (held_of p n) i j (lock_of p n i) (lock_of p n j) set lt (own_key p n i before) (own_key p n j inside) in
+    not_less (lock_of p n j).key (subst (λ (k : List ℕ). key_cmp k (lock_of p n j).key ≡ Less) one less)
 
 -- a test that no two numbers pass
 count_once : (q : ℕ → Bool) (n : ℕ) → ((i j : ℕ) → i < j → j < n → q i ≡ true → q j ≡ true → ⊥) → count_below q n ≤ 1
