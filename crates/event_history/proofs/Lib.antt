@@ -38,3 +38,4 @@ pub mod Alike
 pub mod Published
 pub mod Texts
 pub mod Worked
+pub mod PartsOf

@@ -6,5 +6,6 @@ pub mod History
 pub mod Order
 pub mod Exclusion
 pub mod Published
+pub mod Parts
 pub mod Expected
 pub mod Following
