@@ -1,6 +1,5 @@
 -- The number below which no node is open, through the rows: a row opens no node but the one that its task offers.
 use Rattle.std.proofs.Common.{◌≡◌, ℕ, zero, suc, ◌+◌, ◌<◌, ◌≤◌, min, Bool, true, false, ◌&&◌, nat_lt, cond, List, [], ◌∷◌, length, set, get_or, Option, Some, None, slice_get, slice_index_or, inl, inr, refl, sym, ap, ◌∙◌, subst, arith, get_or-set_other}
-use Rattle.std.proofs.lemmas.Option.{none-some, same_Some}
 use Rattle.std.proofs.lemmas.Bool.{cases_eq}
 use Rattle.descriptor.specs.Nodes.{parent_of}
 use Rattle.plan_events.specs.declared.event.Event.{Event}
