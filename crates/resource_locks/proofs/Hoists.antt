@@ -1,18 +1,21 @@
 -- The plan that hoisting gives of a tree.
-use Rattle.std.proofs.Common.{◌≡◌, ℕ, ◌<◌, ◌≤◌, List, [], length, map, get_or, false}
+use Rattle.std.proofs.Common.{◌≡◌, ℕ, ◌<◌, ◌≤◌, List, [], length, map, get_or, false, inl, inr, sym, subst}
+use Rattle.std.proofs.lemmas.Bool.{cases_lt}
 use Rattle.descriptor.specs.Nodes.{Nodes, IsTree, size}
 use Rattle.descriptor.specs.declared.lock.Lock.{Lock}
 use Rattle.descriptor.specs.declared.lock_mode.LockMode.{LockMode}
 use Rattle.descriptor.specs.declared.mode.Mode.{Mode}
 use Rattle.descriptor.specs.declared.mode.Mode.TheVariants.{SameThread}
 use Rattle.resource_locks.specs.Wants.{HasLock}
+use Rattle.resource_locks.specs.LockSets.{IsLockSet}
 use Rattle.resource_locks.specs.Declarations.{Declared, declared_of}
 use Rattle.resource_locks.specs.Hoisted.{IsHoisted, IsGuarded}
 use Rattle.resource_locks.specs.Held.{table, held, hoisted_mode, plan_of}
 use Rattle.resource_locks.specs.Keys.{keys_of}
 use Rattle.resource_locks.specs.Plans.{number_of, numbers_of}
 use Rattle.resource_locks.specs.PlanFields.{IsSound}
-use Rattle.resource_locks.proofs.Walks.{table_len}
+use Rattle.resource_locks.proofs.Walks.{table_len, table_at, table_past}
+use Rattle.resource_locks.proofs.Gathering.{gathered_set}
 use Rattle.resource_locks.proofs.Hoisted.{hoisted}
 use Rattle.resource_locks.proofs.Guarded.{guarded}
 use Rattle.resource_locks.proofs.LockTrees.{lock_tree}
@@ -36,12 +39,19 @@ module _ (t : Nodes) (tree : IsTree t) (given : List Mode) (len : length given �
   pub plan_numbered : (n : ℕ) (key : List ℕ) (mode : LockMode) → HasLock (get_or (table (held told) (size t)) n []) key mode → number_of (keys_of told) key < length (keys_of told)
   plan_numbered n key mode h = to_hold_numbered told (lock_tree t tree) n key mode (plan_hoisted.only n key mode h)
 
+  plan_sets : (n : ℕ) → IsLockSet (get_or (table (held told) (size t)) n [])
+  plan_sets n = elim (cases_lt n (size t)) [
+    | inl inside ↦ subst IsLockSet (sym (table_at (held told) [] (size t) n inside)) (gathered_set told n (size t))
+    | inr past ↦ subst IsLockSet (sym (table_past (held told) [] (size t) n past)) tt
+  ]
+
   pub plan_sound : (lists : List (List ℕ)) → length (keys_of told) ≤ 256 → lists ≡ map (numbers_of (keys_of told)) (table (held told) (size t)) → IsSound (plan_of t given) lists
   plan_sound lists few is = record {
     plan = record {
       tree = tree;
       modes_len = table_len (hoisted_mode told given) (size t);
       held_len = table_len (held told) (size t);
+      sets = plan_sets;
       few = few;
       numbered = plan_numbered;
     };

@@ -8,6 +8,7 @@ use Rattle.descriptor.specs.declared.lock.Lock.{Lock}
 use Rattle.descriptor.specs.declared.lock_mode.LockMode.TheVariants.{Read}
 use Rattle.descriptor.specs.declared.mode.Mode.TheVariants.{Concurrent}
 use Rattle.resource_locks.specs.Wants.{HasLock}
+use Rattle.resource_locks.specs.LockSets.{IsLockSet}
 use Rattle.resource_locks.specs.Plans.{PlanParts, IsPlan, held_of, number_of, numbers_of, key_number, plain}
 use Rattle.resource_locks.specs.PlanFields.{IsSound}
 
@@ -27,6 +28,7 @@ plain_sound t lists tree is = record {
     tree = tree;
     modes_len = length-replicate (size t) Concurrent;
     held_len = length-replicate (size t) [];
+    sets = λ n. subst IsLockSet (sym (nothing_at (size t) n)) tt;
     few = omega arith;
     numbered = λ n key mode h. absurd (none-some (record { key = key; mode = mode }) (subst (λ (s : List Lock). HasLock s key mode) (nothing_at (size t) n) h).1);
   };

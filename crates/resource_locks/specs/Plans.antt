@@ -10,6 +10,7 @@ use Rattle.descriptor.specs.declared.mode.Mode.TheVariants.{SameThread, Concurre
 use Rattle.resource_locks.specs.declared.fault.PlanFault.{PlanFault}
 use Rattle.resource_locks.specs.declared.fault.PlanFault.TheVariants.{NoMemory, TooManyKeys}
 use Rattle.resource_locks.specs.Wants.{HasLock}
+use Rattle.resource_locks.specs.LockSets.{IsLockSet}
 
 -- a tree, how each node is executed, and which locks it holds meanwhile
 pub record PlanParts : Type 0 where
@@ -51,6 +52,8 @@ pub record IsPlan (p : PlanParts) : Type 0 where
   -- each node has a mode, and a set of locks
   pub modes_len : length p.modes ≡ size p.tree
   pub held_len : length p.held ≡ size p.tree
+  -- each key that a node holds stands once, and they stand in byte order
+  pub sets : (n : ℕ) → IsLockSet (held_of p n)
   -- at most 256 keys, and each that is held is one of them
   pub few : length p.keys ≤ 256
   pub numbered : (n : ℕ) (key : List ℕ) (mode : LockMode) → HasLock (held_of p n) key mode → number_of p.keys key < length p.keys
