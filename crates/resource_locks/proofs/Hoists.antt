@@ -1,5 +1,5 @@
 -- The plan that hoisting gives of a tree.
-use Rattle.std.proofs.Common.{◌≡◌, ℕ, ◌<◌, ◌≤◌, List, [], length, map, get_or, false, inl, inr, sym, subst}
+use Rattle.std.proofs.Common.{◌≡◌, ℕ, ◌<◌, ◌≤◌, List, [], length, map, get_or, Bool, false, inl, inr, sym, subst}
 use Rattle.std.proofs.lemmas.Bool.{cases_lt}
 use Rattle.descriptor.specs.Nodes.{Nodes, IsTree, size}
 use Rattle.descriptor.specs.declared.lock.Lock.{Lock}
@@ -9,10 +9,10 @@ use Rattle.descriptor.specs.declared.mode.Mode.TheVariants.{SameThread}
 use Rattle.resource_locks.specs.Wants.{HasLock}
 use Rattle.resource_locks.specs.LockSets.{IsLockSet}
 use Rattle.resource_locks.specs.Declarations.{Declared, declared_of}
-use Rattle.resource_locks.specs.Hoisted.{IsHoisted, IsGuarded}
+use Rattle.resource_locks.specs.Hoisted.{IsHoisted, IsHeldFor, IsGuarded}
 use Rattle.resource_locks.specs.Held.{table, held, hoisted_mode, plan_of}
 use Rattle.resource_locks.specs.Keys.{keys_of}
-use Rattle.resource_locks.specs.Plans.{number_of, numbers_of}
+use Rattle.resource_locks.specs.Plans.{PlanParts, number_of, numbers_of}
 use Rattle.resource_locks.specs.PlanFields.{IsSound}
 use Rattle.resource_locks.proofs.Walks.{table_len, table_at, table_past}
 use Rattle.resource_locks.proofs.Gathering.{gathered_set}
@@ -57,3 +57,14 @@ module _ (t : Nodes) (tree : IsTree t) (given : List Mode) (len : length given �
     };
     numbers = is;
   }
+
+-- whether a plan fails fast changes no set and no mode
+module _ (told : Declared) (p : PlanParts) (fail_fast : Bool) where
+  pub hoisted_still : (given : ℕ → Mode) → IsHoisted told given p → IsHoisted told given (record p { fail_fast = fail_fast })
+  hoisted_still given h = record { writes = h.writes; reads = h.reads; only = h.only; one_mode = h.one_mode; forced = h.forced; free = h.free }
+
+  held_still : (n : ℕ) (key : List ℕ) (mode : LockMode) → IsHeldFor told p n key mode → IsHeldFor told (record p { fail_fast = fail_fast }) n key mode
+  held_still n key mode h = record { node = h.node; above = h.above; held_mode = h.held_mode; holds = h.holds; writes = h.writes }
+
+  pub guarded_still : IsGuarded told p → IsGuarded told (record p { fail_fast = fail_fast })
+  guarded_still h = record { holder = λ n key mode declared. held_still n key mode (h.holder n key mode declared); forced = h.forced }

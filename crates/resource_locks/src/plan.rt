@@ -1,7 +1,8 @@
 //! Plans.
 
-ghost use Rattle.std.specs.Prelude.{◌≡◌, ◌<◌, ◌≤◌, IfOk, IfErr, OnOk, length, map, slice_index_or};
+ghost use Rattle.std.specs.Prelude.{◌≡◌, ◌<◌, ◌≤◌, ℕ, IfOk, IfErr, OnOk, length, map, slice_index_or};
 ghost use Rattle.descriptor.specs.Nodes.{size};
+ghost use Rattle.descriptor.specs.declared.mode.Mode.{Mode as ModeValue};
 ghost use Rattle.descriptor.specs.declared.mode.Mode.TheVariants.{SameThread};
 ghost use Rattle.resource_locks.specs.Declarations.{declared_of};
 ghost use Rattle.resource_locks.specs.Held.{plan_of};
@@ -146,7 +147,9 @@ impl Plan {
 
     /// The same plan, but for whether nothing more is to start once a node has failed.
     pub fn with_fail_fast(self, fail_fast: bool) -> Plan
-        ensures { result ≡ record self { fail_fast = fail_fast } }
+        ensures same { result ≡ record self { fail_fast = fail_fast } }
+        ensures hoisted { (given : ℕ → ModeValue) → IsHoisted (declared_of self.tree) given self → IsHoisted (declared_of self.tree) given result }
+        ensures guarded { IsGuarded (declared_of self.tree) self → IsGuarded (declared_of self.tree) result }
     {
         let mut plan = self;
         plan.fail_fast = fail_fast;
