@@ -6,7 +6,6 @@ pub mod SetLaws
 pub mod Places
 pub mod Puts
 pub mod Conflicts
-pub mod Unions
 pub mod Lines
 pub mod Walks
 pub mod Tops

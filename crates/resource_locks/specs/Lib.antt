@@ -8,5 +8,4 @@ pub mod Places
 pub mod Declarations
 pub mod Hoisted
 pub mod Held
-pub mod Unions
 pub mod Keys

@@ -5,7 +5,6 @@ ghost use Rattle.descriptor.specs.declared.lock.Lock.{Lock as LockValue};
 ghost use Rattle.resource_locks.specs.Conflicts.{AreInConflict};
 ghost use Rattle.resource_locks.specs.LockSets.{IsLockSet, put, join, of};
 ghost use Rattle.resource_locks.specs.Places.{IsHere, IsBefore};
-ghost use Rattle.resource_locks.specs.Unions.{union, HasEachKey};
 ghost use Rattle.resource_locks.specs.Wants.{is_write, stronger, mode_for, writes, WantsBoth, WantSame};
 
 use descriptor::{Lock, LockMode};
@@ -58,18 +57,6 @@ impl LockSet {
         let mut set = a.copy(alloc)?;
         set.put_all(&b.locks)?;
         Ok(set)
-    }
-
-    /// The locks of several sets: each key of theirs, once.
-    pub fn union(alloc: Global, sets: &[LockSet]) -> Result<LockSet, AllocError>
-        ensures same { IfOk result (λ set. set ≡ union sets.now) }
-        ensures each { IfOk result (λ set. HasEachKey sets.now set) }
-    {
-        let mut all = LockSet::new(alloc);
-        for set in sets {
-            all.put_all(&set.locks)?;
-        }
-        Ok(all)
     }
 
     /// The same set, in memory of its own.
