@@ -1,6 +1,6 @@
 -- A phrase is read from its parts.
 use Rattle.std.proofs.Common.{◌≡◌, ℕ, suc, ◌+◌, ◌<◌, ◌==◌, ◌++◌, ◌∷◌, [], ◌∙◌, List, Bool, true, false, if◌then◌else◌, length, drop, map, refl, sym, ap, arith, append_assoc}
-use Rattle.std.specs.Prelude.{◌||◌, Option, Some, None, IfSome, IsSomeAnd}
+use Rattle.std.specs.Prelude.{◌||◌, Option, Some, None, IfSome, IsSomeAnd, Result, Ok, Err, IfOk, OnOk}
 use Rattle.std.specs.List.{list_any}
 use Rattle.std.specs.Str.{chars}
 use Rattle.std.specs.Char.{len_utf8}
@@ -14,6 +14,7 @@ use Rattle.tag_expr.specs.ExpressionFaults.{Pending, negating, opened, operand, 
 use Rattle.tag_expr.specs.Grammar.{Spells, or_phrase, not_phrase, one_and, more_or, one_not, more_and, negated, one_atom, a_tag, any_atom, none_atom, group}
 use Rattle.tag_expr.specs.Parsing.{MayPend, IsRead, Begins}
 use Rattle.tag_expr.specs.Tags.{is_bad, first_bad}
+use Rattle.tag_expr.specs.TokenTexts.{tokens_left}
 use Rattle.tag_expr.specs.Tokens.{Token, left_paren, right_paren, bang, any_call, none_call, word, PlacedToken, placed, token_of}
 
 -- a word with no first bad character has none
@@ -50,6 +51,14 @@ read_tag end count place ts rest text g is good same = record {
   is = same;
   faultless = λ pending len may. ap (first_fault end operand pending) is ∙ ap (λ o. at_word o (first_fault end operator (settled pending) rest)) good;
 }
+
+-- the same of what a function gives of a word
+pub read_word : {R E : Type 0} (node : R → Option Expression) (after : R → List ℕ) (r : Result R E) (end count place : ℕ) (ts : List PlacedToken) (text rest : List ℕ)
+    → ts ≡ placed place (word text) ∷ tokens_left end rest → OnOk r (first_bad place (chars text) ≡ None) → IfOk r (λ x. IfSome (node x) (λ e. e ≡ tag text)) → IfOk r (λ x. after x ≡ rest)
+    → IfOk r (λ x. IsRead not_phrase end count ts (tokens_left end (after x)) (node x))
+read_word node after (Ok x) end count place ts text rest is good same left =
+    read_tag end count place ts (tokens_left end (after x)) text (node x) (is ∙ ap (λ (l : List ℕ). placed place (word text) ∷ tokens_left end l) (sym left)) good same
+read_word node after (Err e) end count place ts text rest is good same left = tt
 
 pub read_any : (end count place : ℕ) (ts rest : List PlacedToken) → ts ≡ placed place any_call ∷ rest → IsRead not_phrase end count ts rest (Some any_tag)
 read_any end count place ts rest is = record {

@@ -1,6 +1,6 @@
 //! Reading an expression, phrase by phrase: an or is made of ands, an and of operands.
 
-ghost use Rattle.std.specs.Prelude.{◌≡◌, ◌≢◌, List, ◌+◌, ◌^◌, ◌≤◌, ◌<◌, ◌∷◌, length, None, Some, option_map, MatchOption, IfSome, IsSomeAnd, IfOk, IfErr, false};
+ghost use Rattle.std.specs.Prelude.{◌≡◌, ◌≢◌, List, ◌+◌, ◌^◌, ◌≤◌, ◌<◌, ◌∷◌, length, None, Some, option_map, MatchOption, IfSome, IsSomeAnd, IfOk, IfErr, OnOk, false};
 ghost use Rattle.std.specs.Str.{chars};
 ghost use Rattle.tag_expr.specs.Connectives.{phrase_of, part_of, sign_of, joins, begins, IsPartEnd, IsEnd};
 ghost use Rattle.tag_expr.specs.ExpressionFaults.{Pending, opened, operator, first_fault};
@@ -40,6 +40,23 @@ fn tag(alloc: Global, text: &str) -> Option<Node>
         Ok(tag) => Some(Node::Tag(tag)),
         Err(_) => None,
     }
+}
+
+/// The operand that a word is, and what follows it.
+fn word<'a>(alloc: Global, place: usize, text: &str, rest: &'a str) -> Result<Read<'a>, TagFault>
+    requires { place + length text.now < 2 ^ 64 }
+    ensures read { IfOk result (λ read. IfSome (option_map expression_of read.node) (λ e. e ≡ tag text.now)) }
+    ensures left { IfOk result (λ read. read.rest.now ≡ rest.now) }
+    ensures good { OnOk result (first_bad place (chars text.now) ≡ None) }
+    ensures refused { IfErr result (λ fault. IsSomeAnd (first_bad place (chars text.now)) (λ bad. fault ≡ TagFault.BadTag bad)) }
+{
+    if let Some(bad) = first_bad(place, text) {
+        return Err(TagFault::BadTag(bad));
+    }
+    Ok(Read {
+        node: tag(alloc, text),
+        rest,
+    })
 }
 
 fn negation(alloc: Global, operand: Option<Node>) -> Option<Node>
@@ -175,15 +192,7 @@ fn operand<'a>(
     };
     let rest = found.rest;
     match found.token {
-        Token::Word(text) => {
-            if let Some(place) = first_bad(found.place, text) {
-                return Err(TagFault::BadTag(place));
-            }
-            Ok(Read {
-                node: tag(alloc, text),
-                rest,
-            })
-        }
+        Token::Word(text) => word(alloc, found.place, text, rest),
         Token::AnyCall => Ok(Read {
             node: Some(Node::AnyTag),
             rest,

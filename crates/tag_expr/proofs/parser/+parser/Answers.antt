@@ -1,18 +1,16 @@
 -- Each phrase is read from its parts.
-use Rattle.std.proofs.Common.{◌≡◌, ◌<◌, ◌∙◌, ◌∷◌, ap, arith, None}
-use Rattle.std.specs.Str.{chars}
-use Rattle.std.proofs.lemmas.Grind.{common_steps}
-use Rattle.tag_expr.specs.Tags.{first_bad}
+use Rattle.std.proofs.Common.{◌<◌, ◌∙◌, ◌∷◌, ap, arith}
+use Rattle.std.specs.Option.{option_map}
+use Rattle.tag_expr.specs.Nodes.{expression_of}
 use Rattle.tag_expr.specs.Tokens.{placed}
 use Rattle.tag_expr.specs.TokenTexts.{token_read, tokens_left}
-use Rattle.tag_expr.proofs.Phrases.{read_tag, read_any, read_none, read_negation, read_group, read_one, read_more}
+use Rattle.tag_expr.proofs.Phrases.{read_word, read_any, read_none, read_negation, read_group, read_one, read_more}
 use Rattle.tag_expr.proofs.parser.+parser.Goals as goal
 
-pub operand-returns-in_default-first_bad-clause-read : goal.operand-returns-in_default-first_bad-clause-read
-operand-returns-in_default-first_bad-clause-read t c =
+pub operand-returns-in-Word-clause-read : goal.operand-returns-in-Word-clause-read
+operand-returns-in-Word-clause-read t c =
     let is = c.in-Some.ensures.found ∙ ap (λ k. placed c.in-Some.found.place (token_read k) ∷ tokens_left c.args.end c.in-Some.found.rest.now) c.in-Word.is in
-    let good : first_bad c.in-Some.found.place (chars c.in-Word.text.now) ≡ None = grind (arith, common_steps) in
-    read_tag _ _ _ _ _ _ _ is good c.tag.ensures
+    read_word (λ read. option_map expression_of read.node) (λ read. read.rest.now) c.word.result c.args.end c.args.pending _ _ _ _ is c.word.ensures.good c.word.ensures.read c.word.ensures.left
 
 pub operand-returns-in-AnyCall-clause-read : goal.operand-returns-in-AnyCall-clause-read
 operand-returns-in-AnyCall-clause-read t c =
