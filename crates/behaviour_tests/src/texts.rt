@@ -16,8 +16,8 @@ const TESTS: &str = "engine e
     test waits disabled
 ";
 
-/// Whether a node has no text at first, and then after each of three notes that of the note: one of its own, that there were
-/// too many dynamic tests, and its reason.
+/// Whether a node has no text at first, and then after each of four notes that of the note: one of its own, that there were
+/// too many dynamic tests, that the plan was cancelled, and its reason.
 fn has_texts(
     alloc: Global,
     plan: &Plan,
@@ -35,8 +35,10 @@ fn has_texts(
     let has_own = texts.of(node) == Some("broken");
     texts.set(node, Note::TooMany);
     let has_too_many = texts.of(node) == Some("too many dynamic tests");
+    texts.set(node, Note::Cancelled);
+    let has_cancelled = texts.of(node) == Some("cancelled");
     texts.set(node, Note::Reason);
-    Ok(had_none && has_own && has_too_many && texts.of(node) == reason)
+    Ok(had_none && has_own && has_too_many && has_cancelled && texts.of(node) == reason)
 }
 
 /// Whether a node that is not there has no text.

@@ -3,7 +3,7 @@ use Rattle.std.specs.Prelude.{ℕ, List, ◌∷◌, codes, map, Option, Some, No
 use Rattle.descriptor.specs.declared.node.Node.{Node}
 use Rattle.descriptor.specs.Nodes.{Nodes}
 use Rattle.plan_events.specs.declared.note.Note.{Note}
-use Rattle.plan_events.specs.declared.note.Note.TheVariants.{Reason, Own, TooMany}
+use Rattle.plan_events.specs.declared.note.Note.TheVariants.{Reason, Cancelled, Own, TooMany}
 
 -- two places for each node: one for its note, empty at first, and one for its reason, if it is disabled
 pub record TextParts : Type 0 where
@@ -17,6 +17,7 @@ reasons_of t = None ∷ map (λ (node : Node). node.disabled) t.nodes
 -- the text that a note gives beside a node's reason
 abbrev pub text_of_note : Option (List ℕ) → Note → Option (List ℕ)
 text_of_note reason Reason = reason
+text_of_note reason Cancelled = Some (codes "cancelled")
 text_of_note reason (Own text) = Some text
 text_of_note reason TooMany = Some (codes "too many dynamic tests")
 

@@ -7,6 +7,8 @@ use unique_id::Text;
 pub enum Note {
     /// The node's own reason.
     Reason,
+    /// It was skipped since the plan was cancelled.
+    Cancelled,
     /// What its body said.
     Own(Text),
     /// It registered too many dynamic tests.

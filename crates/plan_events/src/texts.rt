@@ -9,6 +9,9 @@ use std::alloc::{AllocError, Global};
 use std::marker::Model;
 use unique_id::Text;
 
+/// The text of a node that was skipped since the plan was cancelled.
+const CANCELLED: &str = "cancelled";
+
 /// The text of a node that registered too many dynamic tests.
 const TOO_MANY: &str = "too many dynamic tests";
 
@@ -61,6 +64,7 @@ impl Texts {
     {
         match self.notes.get(node.index())?.as_ref()? {
             Note::Reason => self.reasons.get(node.index())?.as_ref().map(Text::as_str),
+            Note::Cancelled => Some(CANCELLED),
             Note::Own(text) => Some(text.as_str()),
             Note::TooMany => Some(TOO_MANY),
         }
