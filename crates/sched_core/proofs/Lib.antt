@@ -19,5 +19,6 @@ pub mod Driving
 pub mod Lowest
 pub mod Sound
 pub mod Running
+pub mod NodeJobs
 pub mod Notes
 pub mod Searches

@@ -7,6 +7,7 @@ pub mod Runs
 pub mod Drives
 pub mod Snapshot
 pub mod Traces
+pub mod Jobs
 pub mod Texts
 pub mod Invariant
 pub mod Work

@@ -6,6 +6,7 @@ mod answers;
 mod core_run;
 mod decision;
 mod fault;
+mod jobs;
 mod machine;
 mod run;
 mod schedule;

@@ -1,0 +1,71 @@
+//! What is run for a node.
+
+ghost use Rattle.std.specs.Prelude.{◌≡◌, ◌<◌};
+ghost use Rattle.descriptor.specs.Nodes.{size};
+ghost use Rattle.event_history.specs.Plans.{sort_by};
+ghost use Rattle.event_history.specs.Results.{jobs_by as jobs_by_sort, jobs_of as jobs_of_node, after_run as after_run_of};
+ghost use Rattle.sched_core.specs.Jobs.{as_jobs};
+
+use descriptor::{BodyId, Kind, NodeId, Role};
+use resource_locks::Plan;
+
+/// What is run for a node.
+#[derive(Clone, Copy, Debug, PartialEq, Eq)]
+pub(crate) enum Jobs {
+    /// Nothing.
+    Nothing,
+    /// A body alone.
+    Alone(BodyId),
+    /// The body of a factory with so many spares.
+    Pulled(BodyId, usize),
+    /// A container's body before its children, and after them its after-body.
+    Around(Option<BodyId>, Option<BodyId>),
+}
+
+/// What is run for a node of this kind and role, with this body, this after-body that is run and so many spares.
+fn jobs_by(
+    kind: Kind,
+    role: Role,
+    body: Option<BodyId>,
+    after: Option<BodyId>,
+    spares: usize,
+) -> Jobs
+    ensures { as_jobs result ≡ jobs_by_sort (sort_by kind role) body after spares }
+{
+    match (kind, role, body) {
+        (Kind::Test, _, Some(body)) => Jobs::Alone(body),
+        (Kind::Test, _, None) => Jobs::Nothing,
+        (_, Role::Factory, Some(body)) => Jobs::Pulled(body, spares),
+        (_, Role::Factory, None) => Jobs::Nothing,
+        (_, Role::Plain | Role::Spare, body) => Jobs::Around(body, after),
+    }
+}
+
+/// The after-body that is run: that of a container with children.
+fn after_run(plan: &Plan, node: NodeId) -> Option<BodyId>
+    requires { node < size plan.now.tree }
+    ensures { result ≡ after_run_of plan.now node }
+{
+    if plan.tree().children(node).is_empty() {
+        None
+    } else {
+        plan.tree().after(node)
+    }
+}
+
+/// What is run for a node.
+pub(crate) fn jobs_of(plan: &Plan, node: NodeId) -> Jobs
+    requires { node < size plan.now.tree }
+    ensures { as_jobs result ≡ jobs_of_node plan.now node }
+{
+    let tree = plan.tree();
+    // the children of a factory are its spares
+    let spares = tree.children(node).len();
+    jobs_by(
+        tree.kind(node),
+        tree.role(node),
+        tree.body(node),
+        after_run(plan, node),
+        spares,
+    )
+}
