@@ -39,3 +39,4 @@ pub mod Published
 pub mod Texts
 pub mod Worked
 pub mod PartsOf
+pub mod Apart

@@ -5,6 +5,7 @@ pub mod Results
 pub mod History
 pub mod Order
 pub mod Exclusion
+pub mod Apart
 pub mod Published
 pub mod Parts
 pub mod Expected

@@ -18,6 +18,7 @@ use Rattle.resource_locks.proofs.Walks.{table_len, table_at, table_past}
 use Rattle.resource_locks.proofs.Gathering.{gathered_set}
 use Rattle.resource_locks.proofs.Hoisted.{hoisted}
 use Rattle.resource_locks.proofs.Guarded.{guarded}
+use Rattle.resource_locks.proofs.HoistedLines.{hoisted_lines}
 use Rattle.resource_locks.proofs.LockTrees.{lock_tree}
 use Rattle.resource_locks.proofs.Numbered.{to_hold_numbered}
 
@@ -52,6 +53,7 @@ module _ (t : Nodes) (tree : IsTree t) (given : List Mode) (len : length given â
       modes_len = table_len (hoisted_mode told given) (size t);
       held_len = table_len (held told) (size t);
       sets = plan_sets;
+      lines = hoisted_lines told (lock_tree t tree).rooted (Î» n. get_or given n SameThread) (plan_of t given) plan_hoisted;
       few = few;
       numbered = plan_numbered;
     };

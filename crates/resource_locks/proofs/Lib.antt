@@ -17,5 +17,6 @@ pub mod Guarded
 pub mod LockTrees
 pub mod Numbered
 pub mod Forced
+pub mod HoistedLines
 pub mod Hoists
 pub mod Worked

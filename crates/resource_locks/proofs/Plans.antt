@@ -5,6 +5,7 @@ use Rattle.std.proofs.lemmas.List.{length-map, get_or-map, get_or_past, length-r
 use Rattle.std.proofs.lemmas.Option.{none-some, slice_get-get_or}
 use Rattle.descriptor.specs.Nodes.{Nodes, IsTree, size, bit, count_below}
 use Rattle.descriptor.specs.declared.lock.Lock.{Lock}
+use Rattle.descriptor.specs.declared.lock_mode.LockMode.{LockMode}
 use Rattle.descriptor.specs.declared.lock_mode.LockMode.TheVariants.{Read}
 use Rattle.descriptor.specs.declared.mode.Mode.TheVariants.{Concurrent}
 use Rattle.resource_locks.specs.Wants.{HasLock}
@@ -22,6 +23,9 @@ nothing = []
 nothing_at : (n i : ℕ) → get_or (replicate n nothing) i nothing ≡ nothing
 nothing_at n i = elim (cases_lt i n) [ inl lt ↦ get_or-replicate n i nothing nothing lt | inr le ↦ get_or_past (replicate n nothing) i nothing (let h = length-replicate n nothing in omega (arith, h, le)) ]
 
+none_held : (n i : ℕ) (key : List ℕ) (mode : LockMode) → HasLock (get_or (replicate n nothing) i nothing) key mode → ⊥
+none_held n i key mode h = none-some (record { key = key; mode = mode }) (subst (λ (s : List Lock). HasLock s key mode) (nothing_at n i) h).1
+
 pub plain_sound : (t : Nodes) (lists : List (List ℕ)) → IsTree t → lists ≡ map (numbers_of []) (replicate (size t) []) → IsSound (plain t) lists
 plain_sound t lists tree is = record {
   plan = record {
@@ -29,8 +33,9 @@ plain_sound t lists tree is = record {
     modes_len = length-replicate (size t) Concurrent;
     held_len = length-replicate (size t) [];
     sets = λ n. subst IsLockSet (sym (nothing_at (size t) n)) tt;
+    lines = λ a n key m m2 below x y. absurd (none_held (size t) a key m x);
     few = omega arith;
-    numbered = λ n key mode h. absurd (none-some (record { key = key; mode = mode }) (subst (λ (s : List Lock). HasLock s key mode) (nothing_at (size t) n) h).1);
+    numbered = λ n key mode h. absurd (none_held (size t) n key mode h);
   };
   numbers = is;
 }

@@ -2,9 +2,10 @@
 use Rattle.std.specs.Prelude.{◌≡◌, ℕ, ◌+◌, ◌*◌, ◌<◌, ◌≤◌, Bool, false, List, [], length, map, replicate, slice_index_or}
 use Rattle.std.specs.List.{position_or_len}
 use Rattle.std.specs.Str.{bytes_eq}
-use Rattle.descriptor.specs.Nodes.{Nodes, IsTree, size, count_below, is_spare_at}
+use Rattle.descriptor.specs.Nodes.{Nodes, IsTree, Below, size, count_below, is_spare_at}
 use Rattle.descriptor.specs.declared.lock.Lock.{Lock}
 use Rattle.descriptor.specs.declared.lock_mode.LockMode.{LockMode}
+use Rattle.descriptor.specs.declared.lock_mode.LockMode.TheVariants.{Read}
 use Rattle.descriptor.specs.declared.mode.Mode.{Mode}
 use Rattle.descriptor.specs.declared.mode.Mode.TheVariants.{SameThread, Concurrent}
 use Rattle.resource_locks.specs.declared.fault.PlanFault.{PlanFault}
@@ -54,6 +55,8 @@ pub record IsPlan (p : PlanParts) : Type 0 where
   pub held_len : length p.held ≡ size p.tree
   -- each key that a node holds stands once, and they stand in byte order
   pub sets : (n : ℕ) → IsLockSet (held_of p n)
+  -- of a node and one below it neither writes a key that both hold
+  pub lines : (a n : ℕ) (key : List ℕ) (m m2 : LockMode) → Below p.tree a n → HasLock (held_of p a) key m → HasLock (held_of p n) key m2 → (m ≡ Read) × (m2 ≡ Read)
   -- at most 256 keys, and each that is held is one of them
   pub few : length p.keys ≤ 256
   pub numbered : (n : ℕ) (key : List ℕ) (mode : LockMode) → HasLock (held_of p n) key mode → number_of p.keys key < length p.keys
