@@ -23,7 +23,7 @@ use Rattle.scheduling.specs.Rows.{with_task, goes, puts_word, claimed, guard_giv
 use Rattle.scheduling.specs.Runs.{or_stays, next, run, opening}
 
 -- a state with as many seats as s
-abbrev Crew : State → Option State → Type 0
+abbrev pub Crew : State → Option State → Type 0
 Crew s None = Unit {0}
 Crew s (Some t) = length t.seats ≡ length s.seats
 
@@ -159,7 +159,7 @@ crew_on : (s t : State) (found : Option State) → length t.seats ≡ length s.s
 crew_on s t None e c = tt
 crew_on s t (Some u) e c = c ∙ e
 
-after_crew : (p : PlanParts) (s : State) (a : Step) → Crew s (after p s a)
+pub after_crew : (p : PlanParts) (s : State) (a : Step) → Crew s (after p s a)
 after_crew p s Dispatches = go (slice_index_or s.shown (length s.given) false) (slice_get s.published (length s.given))
   where
     go : (b : Bool) (e : Option Event) → Crew s (read_event s b e)

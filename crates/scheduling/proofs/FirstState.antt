@@ -29,7 +29,7 @@ first_stage : ℕ → Stage
 first_stage zero = Offered None
 first_stage (suc n) = Unseen
 
-each_length : {X : Type 0} (f : ℕ → X) (n : ℕ) → length (table f n) ≡ n
+pub each_length : {X : Type 0} (f : ℕ → X) (n : ℕ) → length (table f n) ≡ n
 each_length f zero = refl
 each_length f (suc n) = (let a = each_length f n in omega (arith, a, length-append (table f n) (f n ∷ [])))
 
@@ -43,7 +43,7 @@ get_before [] x d n lt = absurd (omega (arith, lt))
 get_before (y ∷ l) x d zero lt = refl
 get_before (y ∷ l) x d (suc n) lt = get_before l x d n (omega (arith, lt))
 
-each_at : {X : Type 0} (f : ℕ → X) (d : X) (m n : ℕ) → n < m → get_or (table f m) n d ≡ f n
+pub each_at : {X : Type 0} (f : ℕ → X) (d : X) (m n : ℕ) → n < m → get_or (table f m) n d ≡ f n
 each_at f d zero n lt = absurd (omega (arith, lt))
 each_at f d (suc m) n lt =
     let len = each_length f m in

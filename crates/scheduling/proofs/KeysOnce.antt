@@ -11,7 +11,7 @@ use Rattle.descriptor.specs.declared.lock_mode.LockMode.TheVariants.{Read}
 use Rattle.descriptor.specs.Nodes.{size, bit, count_below}
 use Rattle.plan_events.specs.declared.event.Event.{Event}
 use Rattle.plan_events.specs.declared.outcome.Reply.{Reply}
-use Rattle.resource_locks.specs.LockSets.{key_cmp, IsLockSet}
+use Rattle.resource_locks.specs.LockSets.{key_cmp}
 use Rattle.resource_locks.specs.Plans.{number_of, PlanParts, held_of, IsPlan}
 use Rattle.resource_locks.proofs.Places.{in_order}
 use Rattle.resource_locks.proofs.SetLaws.{not_less}
@@ -28,13 +28,13 @@ use Rattle.scheduling.specs.Invariant.{same_mode, is_key, keys_in, sum_below, ho
 use Rattle.scheduling.proofs.Spares.{count_zero}
 
 -- keys of one number are one key
-same_number : (keys : List (List ℕ)) (a b : List ℕ) → number_of keys a < length keys → number_of keys b < length keys → number_of keys a ≡ number_of keys b → a ≡ b
+pub same_number : (keys : List (List ℕ)) (a b : List ℕ) → number_of keys a < length keys → number_of keys b < length keys → number_of keys a ≡ number_of keys b → a ≡ b
 same_number keys a b la lb e =
     same_key a (get_or keys (number_of keys a) []) (passes_at_first (bytes_eq a) keys [] la)
     ∙ ap (λ (m : ℕ). get_or keys m []) e
     ∙ sym (same_key b (get_or keys (number_of keys b) []) (passes_at_first (bytes_eq b) keys [] lb))
 
-own_key : (p : PlanParts) (n i : ℕ) → i < keys_count p n → slice_get (held_of p n) i ≡ Some (lock_of p n i)
+pub own_key : (p : PlanParts) (n i : ℕ) → i < keys_count p n → slice_get (held_of p n) i ≡ Some (lock_of p n i)
 own_key p n i inside = slice_get-get_or (held_of p n) i (record { key = []; mode = Read }) inside
 
 -- Each of a node's keys has a place among those of the plan,
@@ -43,12 +43,12 @@ unfolding key_place
 key_placed p n i plan inside = plan.numbered n (lock_of p n i).key (lock_of p n i).mode (i, own_key p n i inside)
 
 -- and two of them have two places.
-pub key_once : (p : PlanParts) (n i j : ℕ) → IsPlan p → IsLockSet (held_of p n) → i < j → j < keys_count p n → key_at p n i ≡ key_at p n j → ⊥
+pub key_once : (p : PlanParts) (n i j : ℕ) → IsPlan p → i < j → j < keys_count p n → key_at p n i ≡ key_at p n j → ⊥
 unfolding key_place
-key_once p n i j plan set lt inside same =
+key_once p n i j plan lt inside same =
     let before : i < keys_count p n = omega (arith, lt, inside) in
     let one = same_number p.keys (lock_of p n i).key (lock_of p n j).key (key_placed p n i plan before) (key_placed p n j plan inside) same in
-    let less = in_order (held_of p n) i j (lock_of p n i) (lock_of p n j) set lt (own_key p n i before) (own_key p n j inside) in
+    let less = in_order (held_of p n) i j (lock_of p n i) (lock_of p n j) (plan.sets n) lt (own_key p n i before) (own_key p n j inside) in
     not_less (lock_of p n j).key (subst (λ (k : List ℕ). key_cmp k (lock_of p n j).key ≡ Less) one less)
 
 -- a test that no two numbers pass
@@ -106,21 +106,21 @@ stage_keys p replies h n (ClosedBy w c d how) ok = closing_keys p replies h n w 
 stage_keys p replies h n (Over how) ok = omega arith
 
 -- so it holds a key once
-held_once : (p : PlanParts) (n k : ℕ) (mode : LockMode) (many : ℕ) → IsPlan p → IsLockSet (held_of p n) → many ≤ keys_count p n → keys_in p k mode n many ≤ 1
+held_once : (p : PlanParts) (n k : ℕ) (mode : LockMode) (many : ℕ) → IsPlan p → many ≤ keys_count p n → keys_in p k mode n many ≤ 1
 unfolding keys_in
-held_once p n k mode many plan set few =
+held_once p n k mode many plan few =
     count_once (is_key p k mode n) many (λ i j lt inside a b.
     let x : key_at p n i ≡ k = eqb-true (key_at p n i) k (and_parts (key_at p n i == k) (same_mode (mode_at p n i) mode) a).0 in
     let y : key_at p n j ≡ k = eqb-true (key_at p n j) k (and_parts (key_at p n j == k) (same_mode (mode_at p n j) mode) b).0 in
-    key_once p n i j plan set lt (omega (arith, inside, few)) (x ∙ sym y))
+    key_once p n i j plan lt (omega (arith, inside, few)) (x ∙ sym y))
 
-module _ (p : PlanParts) (plan : IsPlan p) (sets : (n : ℕ) → IsLockSet (held_of p n)) (replies : ℕ → List Reply) (s : State) (g : ℕ → Stage) (h : Holds p replies s g) where
+module _ (p : PlanParts) (plan : IsPlan p) (replies : ℕ → List Reply) (s : State) (g : ℕ → Stage) (h : Holds p replies s g) where
   -- No more nodes hold a key than there are.
   pub holders_few : (k : ℕ) (mode : LockMode) → holders p g k mode ≤ size p.tree
   unfolding holders
   holders_few k mode =
       sum_few (λ n. keys_in p k mode n (picture p n (g n)).keys) (size p.tree)
-      (λ n lt. held_once p n k mode (picture p n (g n)).keys plan (sets n) (stage_keys p replies s.published n (g n) (h.shapes n lt)))
+      (λ n lt. held_once p n k mode (picture p n (g n)).keys plan (stage_keys p replies s.published n (g n) (h.shapes n lt)))
 
   pub readers_few : (k n : ℕ) → slice_get s.locks k ≡ Some (Readers n) → n ≤ size p.tree
   readers_few k n q =

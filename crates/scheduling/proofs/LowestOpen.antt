@@ -15,11 +15,12 @@ use Rattle.scheduling.specs.declared.task.Task.TheVariants.{Free, Opens, Closes}
 use Rattle.scheduling.specs.declared.seat.Hand.{Hand}
 use Rattle.scheduling.specs.declared.seat.Seat.{Seat}
 use Rattle.scheduling.specs.State.{State, status_at}
-use Rattle.scheduling.specs.Choices.{next_spare, is_pulled, pulled_result, same_word, key_at, mode_at, taken, lock_from}
+use Rattle.scheduling.specs.Choices.{next_spare, is_pulled, pulled_result, same_word, key_at, mode_at, taken, lock_from, decided}
 use Rattle.scheduling.specs.declared.step.Action.{Action}
 use Rattle.scheduling.specs.declared.step.Action.TheVariants.{Claim, Own, Notice, Weigh, Take, Give, GiveUp, Draw, Show, Admit, AddChild, Done, Settle, Look, Raise}
-use Rattle.scheduling.specs.Rows.{goes, puts_word, claimed, guard_given, row, is_free, is_empty, is_of_hand, is_ready_for, notice_row, weigh_row, take_found, take_row, gives_key, give_row, give_up_row, draw_row, show_row, admit_row, child_added, add_by_hand, add_child_hand, add_child_row, done_by_hand, done_hand, done_row, settle_row, look_found, look_row, raise_row, read_event, read_row}
+use Rattle.scheduling.specs.Rows.{goes, puts_word, claimed, guard_given, row, is_free, is_empty, is_of_hand, is_ready_for, notice_row, weigh_row, take_found, take_row, gives_key, give_row, give_up_row, draw_row, show_row, admit_row, child_added, add_by_hand, add_child_hand, add_child_row, done_by_hand, done_hand, done_row, settle_row, look_found, look_row, raise_row, read_event, read_row, decided_seat, after, Works}
 use Rattle.scheduling.specs.Schedule.{is_open, IsFirstOpen, taking}
+use Rattle.scheduling.proofs.Direct.{after_direct}
 use Rattle.scheduling.specs.Lowest.{NoneOpenBelow, lower, offered_by, lowest_after}
 
 -- a status from the number on may change
@@ -197,6 +198,11 @@ module _ (p : PlanParts) (s : State) (w : ℕ) (seat : Seat) (reply : Reply) whe
 pub row_none_below : (p : PlanParts) (s t : State) (w : ℕ) (seat : Seat) (reply : Reply) (a : Action) (lowest : ℕ) → row p s w seat reply a ≡ Some t → NoneOpenBelow s lowest → NoneOpenBelow t (lowest_after seat.task lowest)
 row_none_below p s t w seat reply a lowest leads none = subst (Found (lowest_after seat.task lowest)) leads (row_found p s w seat reply a lowest none)
 
+-- So it is with a step of a worker, whose task the reply decides first.
+pub after_none_below : (p : PlanParts) (s t : State) (w : ℕ) (seat : Seat) (reply : Reply) (a : Action) (lowest : ℕ) → slice_get s.seats w ≡ Some seat → after p s (Works w a reply) ≡ Some t → NoneOpenBelow s lowest
+    → NoneOpenBelow t (lowest_after (decided p reply seat.task) lowest)
+after_none_below p s t w seat reply a lowest is leads = row_none_below p s t w (decided_seat p reply seat) reply a lowest (sym (after_direct p s w a reply seat is) ∙ leads)
+
 -- The first open node is claimed, and then no node is open up to it.
 module _ (p : PlanParts) (s t : State) (w : ℕ) (seat : Seat) (reply : Reply) (n : ℕ) (first : IsFirstOpen s n) where
   claimed_found : Found (n + 1) (Some (claimed p s w seat n))
@@ -206,12 +212,12 @@ module _ (p : PlanParts) (s t : State) (w : ℕ) (seat : Seat) (reply : Reply) (
         | inr ne ↦ set_closed s.statuses n m (Claimed w) refl (first.first m (omega (arith, lt, ne)))
       ]
 
+  claim_found : (b : Bool) → Found (n + 1) (cond b (Some (claimed p s w seat n)) None)
+  claim_found b = cond_found (n + 1) b (Some (claimed p s w seat n)) None claimed_found tt
+
   taking_found : (status : NodeStatus) → Found (n + 1) (row p s w seat reply (taking status n))
-  taking_found (Ready (Some o)) = cond_found (n + 1) (is_free seat.task && (is_of_hand p seat.hand n && is_ready_for (Some w) (status_at s n))) (Some (claimed p s w seat n)) None claimed_found tt
-  taking_found (Ready None) = cond_found (n + 1) (is_free seat.task && (is_empty seat.hand && is_ready_for None (status_at s n))) (Some (claimed p s w seat n)) None claimed_found tt
-  taking_found Hidden = cond_found (n + 1) (is_free seat.task && (is_empty seat.hand && is_ready_for None (status_at s n))) (Some (claimed p s w seat n)) None claimed_found tt
-  taking_found (Claimed o) = cond_found (n + 1) (is_free seat.task && (is_empty seat.hand && is_ready_for None (status_at s n))) (Some (claimed p s w seat n)) None claimed_found tt
-  taking_found Settled = cond_found (n + 1) (is_free seat.task && (is_empty seat.hand && is_ready_for None (status_at s n))) (Some (claimed p s w seat n)) None claimed_found tt
+  taking_found (Ready (Some o)) = claim_found (is_free seat.task && (is_of_hand p seat.hand n && is_ready_for (Some w) (status_at s n)))
+  taking_found _ = claim_found (is_free seat.task && (is_empty seat.hand && is_ready_for None (status_at s n)))
 
   pub claims_through : row p s w seat reply (taking (status_at s n) n) ≡ Some t → NoneOpenBelow t (n + 1)
   claims_through leads = subst (Found (n + 1)) leads (taking_found (status_at s n))

@@ -1,6 +1,6 @@
 -- In every run, what was drawn stands at the place that its worker's task names, and is not shown yet.
 use Rattle.std.specs.Prelude.{option_and_then}
-use Rattle.std.proofs.Common.{◌≡◌, ℕ, zero, suc, Bool, true, false, cond, ◌&&◌, ◌||◌, ◌==◌, not, nat_lt, List, [], ◌∷◌, length, Option, Some, None, slice_get, slice_index_or, refl, sym, ap, ◌∙◌, set}
+use Rattle.std.proofs.Common.{◌≡◌, ℕ, zero, suc, Bool, true, false, cond, ◌&&◌, ◌||◌, ◌==◌, not, nat_lt, List, [], ◌∷◌, length, Option, Some, None, slice_get, slice_index_or, refl, sym, ap, ◌∙◌, subst, set}
 use Rattle.std.proofs.lemmas.Bool.{and_parts, false≢true}
 use Rattle.std.proofs.lemmas.Option.{none-some}
 use Rattle.descriptor.specs.Nodes.{size, parent_of, body_of, is_disabled, is_spare_at}
@@ -260,6 +260,9 @@ after_placed p s (Works w a reply) placed = go (slice_get s.seats w) refl
         let u : State = record s { seats = goes_to s w other } in
         let here : slice_get u.seats w ≡ Some other = get_set_same s.seats w other seat is in
         kept u other (reseat_keeps s w seat other placed is (decided_named p w reply seat.task)) here (row p u w other reply a) (row_moves p u w other here reply a)
+
+pub step_placed : (p : PlanParts) (s t : State) (a : Step) → IsPlaced s → after p s a ≡ Some t → IsPlaced t
+step_placed p s t a placed q = subst AllPlaced q (after_placed p s a placed)
 
 pub opening_placed : (p : PlanParts) (workers : ℕ) → IsPlaced (opening p workers)
 opening_placed p workers = record {

@@ -8,8 +8,7 @@ use Rattle.descriptor.proofs.Counts.{count_most}
 use Rattle.plan_events.specs.declared.event.Event.{Event}
 use Rattle.plan_events.specs.declared.event.EventKind.TheVariants.{Started, Finished, Skipped, Registered}
 use Rattle.plan_events.specs.declared.outcome.Reply.{Reply}
-use Rattle.resource_locks.specs.LockSets.{IsLockSet}
-use Rattle.resource_locks.specs.Plans.{PlanParts, held_of, most_events, IsPlan}
+use Rattle.resource_locks.specs.Plans.{PlanParts, most_events, IsPlan}
 use Rattle.event_history.specs.Plans.{is_spare_of, pulls_job}
 use Rattle.event_history.specs.Places.{has}
 use Rattle.event_history.specs.Following.{registered_in}
@@ -71,8 +70,8 @@ module _ (p : PlanParts) (replies : ℕ → List Reply) (s : State) (g : ℕ →
   sibling : (n m : ℕ) → (how : How) × IsNextSame p n m → (m < size p.tree) × (0 < n)
   sibling n m next = (next.1.elder.younger.inside, next.1.elder.elder.above_zero)
 
-  in_range : IsPlan p → ((n : ℕ) → IsLockSet (held_of p n)) → IsPlaced s → InRange p s w seat
-  in_range plan sets placed =
+  in_range : IsPlan p → IsPlaced s → InRange p s w seat
+  in_range plan placed =
       let few : size p.tree ≤ 4096 = plan.tree.few in
       record {
         inside = λ n q. task_inside p g w seat.task n mine.task q;
@@ -93,7 +92,7 @@ module _ (p : PlanParts) (replies : ℕ → List Reply) (s : State) (g : ℕ →
         weighed = λ n i v q. (opening_shape n (Weighed i v) q).0;
         backs = λ n i q. (let le : i + 1 ≤ keys_count p n = opening_shape n (Backing (i + 1)) q in omega (arith, le));
         gives = λ n i q. (let le : i + 1 ≤ keys_count p n = (closing_shape n (Giving (i + 1)) q).1 in omega (arith, le));
-        readers = λ k n q. (let most = readers_few p plan sets replies s g h k n q in omega (arith, most, few));
+        readers = λ k n q. (let most = readers_few p plan replies s g h k n q in omega (arith, most, few));
         admits = λ n c q. (let a = opening_shape n (Admitting c) q in is_child_test p.tree n c a.1 (and_parts (is_child p.tree n c) _ a.2).0);
         passes = λ n k o q. (sibling n k (closing_shape n (Passing k o) q)).0;
         counts = λ c q. (closing_shape c CountingOff q).1;
@@ -101,16 +100,16 @@ module _ (p : PlanParts) (replies : ℕ → List Reply) (s : State) (g : ℕ →
       }
 
 -- What a worker's step reads is in range.
-pub ranges : (p : PlanParts) → IsPlan p → ((n : ℕ) → IsLockSet (held_of p n)) → (replies : ℕ → List Reply) (s : State) → IsKept p replies s → IsPlaced s → (w : ℕ) (seat : Seat) → slice_get s.seats w ≡ Some seat → InRange p s w seat
-ranges p plan sets replies s kept placed w seat is = in_range p replies s kept.0 kept.1 w seat is plan sets placed
+pub ranges : (p : PlanParts) → IsPlan p → (replies : ℕ → List Reply) (s : State) → IsKept p replies s → IsPlaced s → (w : ℕ) (seat : Seat) → slice_get s.seats w ≡ Some seat → InRange p s w seat
+ranges p plan replies s kept placed w seat is = in_range p replies s kept.0 kept.1 w seat is plan placed
 
 -- And so it is of the seat whose task the reply has decided.
-pub ranges_decided : (p : PlanParts) → IsPlan p → ((n : ℕ) → IsLockSet (held_of p n)) → (replies : ℕ → List Reply) (s : State) → IsKept p replies s → IsPlaced s → (w : ℕ) (a : Action) (reply : Reply) (seat : Seat)
+pub ranges_decided : (p : PlanParts) → IsPlan p → (replies : ℕ → List Reply) (s : State) → IsKept p replies s → IsPlaced s → (w : ℕ) (a : Action) (reply : Reply) (seat : Seat)
     → IsReplied p replies s (Works w a reply) → slice_get s.seats w ≡ Some seat → InRange p s w (decided_seat p reply seat)
-ranges_decided p plan sets replies s kept placed w a reply seat replied is =
+ranges_decided p plan replies s kept placed w a reply seat replied is =
     let d : Seat = decided_seat p reply seat in
     let first = decide_keeps p (core_plan p plan.tree) replies s kept.0 kept.1 w seat is reply (replied seat is) in
-    let r = ranges p plan sets replies (record s { seats = goes_to s w d }) first (reseat_keeps s w seat d placed is (decided_named p w reply seat.task)) w d (get_set_same s.seats w d seat is) in
+    let r = ranges p plan replies (record s { seats = goes_to s w d }) first (reseat_keeps s w seat d placed is (decided_named p w reply seat.task)) w d (get_set_same s.seats w d seat is) in
     record {
       inside = r.inside;
       hand = r.hand;

@@ -49,7 +49,7 @@ failed_any w (e ∷ l) r =
       | inr b ↦ or_right (is_failure e) (has_failed l) (failed_any w l b)
     ]
 
-claim_number : (a b : ℕ) → Claimed a ≡ Claimed b → a ≡ b
+pub claim_number : (a b : ℕ) → Claimed a ≡ Claimed b → a ≡ b
 claim_number a b q = cc
 
 pub parent_inside : (p : PlanParts) → IsPlanTree p.tree → (c x : ℕ) → IsChild p.tree c x → c < size p.tree

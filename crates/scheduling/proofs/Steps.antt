@@ -65,7 +65,7 @@ module _ (p : PlanParts) (core : IsCorePlan p) (replies : ℕ → List Reply) (s
   row_keeps reply given Raise t q = raise_keeps p core replies s g h w seat is seat.task refl t q
 
 -- a task that is free when it is decided was free before
-decided_free : (p : PlanParts) (reply : Reply) (t : Task) → decided p reply t ≡ Free → t ≡ Free
+pub decided_free : (p : PlanParts) (reply : Reply) (t : Task) → decided p reply t ≡ Free → t ≡ Free
 decided_free p reply Free q = refl
 decided_free p reply (Opens n Awaiting) q =
     absurd (by_cond (λ t. t ≡ Free → ⊥) (is_leaf (sort_of p.tree n) || not (is_successful (status_by (body_of p.tree n) reply))) (Closes n (Ending (status_by (body_of p.tree n) reply))) (Opens n (admit_from p n 0))
