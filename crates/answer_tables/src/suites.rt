@@ -1,6 +1,6 @@
 //! Questions about the texts of suites, selectors and steps.
 
-use sched_core::Step;
+use scheduling::Step;
 use selectors::{Selector, SelectorKind};
 use std::alloc::{AllocError, Global};
 use suite_text::{Suite, SuiteFault, parse_steps};

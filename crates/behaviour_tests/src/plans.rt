@@ -1,6 +1,6 @@
 //! Plans and events for the tests.
 
-use descriptor::{Kind, Node, NodeId, TreeBuilder};
+use descriptor::{BodyId, Kind, Node, NodeId, Role, TreeBuilder};
 use plan_events::{Event, EventKind, Status};
 use resource_locks::Plan;
 use std::alloc::Global;
@@ -31,6 +31,39 @@ fn plan_with(alloc: Global, node: Node) -> Result<Plan, Fail> {
 pub(crate) fn plan_of_one(alloc: Global, name: &str, kind: Kind) -> Result<Plan, Fail> {
     let id = UniqueId::of(alloc, "engine", name)?;
     plan_with(alloc, node_of(alloc, id, name, kind)?)
+}
+
+/// A node of this name, kind and role, run by this body.
+fn node_with(
+    alloc: Global,
+    name: &str,
+    kind: Kind,
+    role: Role,
+    body: Option<BodyId>,
+) -> Result<Node, Fail> {
+    let mut node = node_of(alloc, UniqueId::of(alloc, "engine", name)?, name, kind)?;
+    node.role = role;
+    node.body = body;
+    Ok(node)
+}
+
+/// Adds a node where the tree may take it.
+fn put(alloc: Global, builder: &mut TreeBuilder, parent: NodeId, node: Node) -> Result<(), Fail> {
+    if builder.may_take(parent) {
+        builder.add(alloc, parent, node)?;
+    }
+    Ok(())
+}
+
+/// The plan of a factory, node 1, which is run by body 1, and of its only spare, node 2.
+pub(crate) fn factory_plan(alloc: Global) -> Result<Plan, Fail> {
+    let body = Some(BodyId::new(1));
+    let factory = node_with(alloc, "makes", Kind::Container, Role::Factory, body)?;
+    let mut builder = TreeBuilder::new(alloc)?;
+    put(alloc, &mut builder, NodeId::ROOT, factory)?;
+    let spare = node_with(alloc, "made", Kind::Test, Role::Spare, None)?;
+    put(alloc, &mut builder, NodeId::new(1), spare)?;
+    Ok(Plan::plain(alloc, builder.finish())?)
 }
 
 /// The event of this kind, by worker 1.

@@ -1,9 +1,10 @@
-//! Texts of nodes: what a job said, and reasons.
+//! Texts of nodes: what a job said, reasons, a cancelled plan, and too many dynamic tests.
 
-use crate::plans::plan_of;
-use descriptor::NodeId;
-use plan_events::{Note, Texts};
+use crate::plans::{event, factory_plan, finished, plan_of};
+use descriptor::{BodyId, NodeId};
+use plan_events::{EventKind, Note, Outcome, Reply, Status, Texts};
 use resource_locks::Plan;
+use sched_core::{Answers, texts_of};
 use std::alloc::{AllocError, Global};
 use std::test::Fail;
 use unique_id::Text;
@@ -62,5 +63,39 @@ fn have_texts(alloc: Global, plan: &Plan) -> Result<bool, AllocError> {
 fn the_last_note_of_a_node_is_its_text(rt: HostRuntime) -> Result<(), Fail> {
     let plan = plan_of(rt.alloc(), TESTS)?;
     assert!(rt; have_texts(rt.alloc(), &plan)?);
+    Ok(())
+}
+
+/// The answer of body 1, which asks for so many dynamic tests.
+fn asking(alloc: Global, pulls: u16) -> Result<Answers, Fail> {
+    let text = Text::new(alloc, "made")?;
+    let status = Status::Successful;
+    let outcome = Outcome { status, text };
+    let mut replies = Vec::new(alloc);
+    replies.push((BodyId::new(1), Reply { pulls, outcome }))?;
+    Ok(Answers::of(replies))
+}
+
+/// Whether node 1, which is finished, has this text, and node 2, which is skipped, that of a cancelled plan.
+fn tells(alloc: Global, plan: &Plan, answers: &Answers, text: &str) -> Result<bool, AllocError> {
+    let events = [
+        event(EventKind::Skipped, 2, None),
+        finished(1, Status::Failed),
+    ];
+    let texts = texts_of(alloc, plan, answers, &events)?;
+    Ok(texts.of(NodeId::new(1)) == Some(text) && texts.of(NodeId::new(2)) == Some("cancelled"))
+}
+
+/// Whether a factory that asks for so many dynamic tests has this text.
+fn factory_tells(alloc: Global, plan: &Plan, pulls: u16, text: &str) -> Result<bool, Fail> {
+    let answers = asking(alloc, pulls)?;
+    Ok(tells(alloc, plan, &answers, text)?)
+}
+
+#[test]
+fn a_factory_tells_of_too_many_dynamic_tests(rt: HostRuntime) -> Result<(), Fail> {
+    let plan = factory_plan(rt.alloc())?;
+    assert!(rt; factory_tells(rt.alloc(), &plan, 1, "made")?);
+    assert!(rt; factory_tells(rt.alloc(), &plan, 2, "too many dynamic tests")?);
     Ok(())
 }

@@ -1,3 +1,4 @@
 pub mod Launching
 pub mod Reading
 pub mod Requesting
+pub mod Reporting

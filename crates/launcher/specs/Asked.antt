@@ -5,7 +5,7 @@ use Rattle.std.specs.Option.{option_or}
 use Rattle.std.specs.Str.{bytes_eq}
 use Rattle.listeners.specs.declared.theme.Theme.{Theme}
 use Rattle.listeners.specs.declared.theme.Theme.TheVariants as themes
-use Rattle.sched_core.specs.declared.step.Step.{Step}
+use Rattle.scheduling.specs.declared.step.Step.{Step}
 use Rattle.selectors.specs.declared.request.Request.{Request}
 use Rattle.selectors.specs.declared.selector.Selector.{Selector}
 use Rattle.selectors.specs.declared.selector.SelectorKind.{SelectorKind}

@@ -4,8 +4,9 @@ use Rattle.plan_events.specs.declared.event.Event.{Event}
 use Rattle.plan_events.specs.declared.outcome.Reply.{Reply}
 use Rattle.plan_events.specs.Texts.{TextParts}
 use Rattle.resource_locks.specs.Plans.{PlanParts}
-use Rattle.sched_core.specs.declared.step.Step.{Step}
-use Rattle.sched_core.specs.Machine.{State, opening, given_list}
+use Rattle.scheduling.specs.declared.step.Step.{Step}
+use Rattle.scheduling.specs.Runs.{opening}
+use Rattle.scheduling.specs.State.{State}
 use Rattle.sched_core.specs.Runs.{run, passed_over}
 use Rattle.sched_core.specs.Drives.{Drives}
 use Rattle.sched_core.specs.Texts.{AreTexts}
@@ -56,7 +57,7 @@ replayed p answers steps = run p answers (opening p 64) steps
 
 -- what a replay that ends in this state counts
 abbrev pub counts_of : List Step → State → ℕ → ReplayCounts
-counts_of steps final missed = record { steps = length steps; passed_over = missed; published = length final.published; given = length (given_list final) }
+counts_of steps final missed = record { steps = length steps; passed_over = missed; published = length final.published; given = length final.given }
 
 -- what a replay of these steps counts
 abbrev pub replay_counts : PlanParts → List (ℕ × Reply) → List Step → ReplayCounts
@@ -65,8 +66,8 @@ replay_counts p answers steps = counts_of steps (replayed p answers steps) (pass
 -- the steps are replayed: the feed of what they gave is printed, then the line of counts, and the status is success
 pub record IsReplayOutput (steps : List Step) (p : PlanParts) (answers : List (ℕ × Reply)) (text : List ℕ) (status : ExitStatus) : Type 0 where
   pub texts : TextParts
-  pub are : AreTexts p answers (given_list (replayed p answers steps)) texts
-  pub printed : text ≡ feed_of p texts (given_list (replayed p answers steps)) ++ replay_line (replay_counts p answers steps)
+  pub are : AreTexts p answers (replayed p answers steps).given texts
+  pub printed : text ≡ feed_of p texts (replayed p answers steps).given ++ replay_line (replay_counts p answers steps)
   pub exits : status ≡ Success
 
 -- what is printed of a plan, and the status: where there are steps to be replayed, nothing else counts

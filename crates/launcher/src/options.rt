@@ -11,7 +11,7 @@ use crate::details::Details;
 use crate::fault::LaunchFault;
 use crate::given::Given;
 use listeners::Theme;
-use sched_core::Step;
+use scheduling::Step;
 use selectors::{Request, Selector, SelectorFault, SelectorKind};
 use std::alloc::{AllocError, Global};
 use suite_text::parse_steps;

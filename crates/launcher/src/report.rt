@@ -14,7 +14,8 @@ use crate::replay::{ReplayCounts, push_replay_line};
 use listeners::{Audience, Listener, Recorder, Results, Theme, feed_text};
 use plan_events::{Event, Texts};
 use resource_locks::Plan;
-use sched_core::{Answers, Step, drive, run_steps, texts_of};
+use sched_core::{Answers, drive, run_steps, texts_of};
+use scheduling::Step;
 use std::alloc::{AllocError, Global};
 
 /// How many workers a replay has.

@@ -3,7 +3,8 @@
 use crate::events::push_words;
 use crate::run::Run;
 use plan_events::Event;
-use sched_core::{Core, Step, Trace, run_steps};
+use sched_core::{Core, Trace, run_steps};
+use scheduling::Step;
 use std::alloc::{AllocError, Global};
 use suite_text::parse_steps;
 

@@ -7,7 +7,7 @@ use Rattle.std.proofs.lemmas.List.Elements.{filter-append}
 use Rattle.std.proofs.lemmas.Bool.{eq-eqb, ne_eqb, cases_eq}
 use Rattle.std.proofs.lemmas.Grind.{common_steps}
 use Rattle.plan_events.specs.declared.event.Event.{Event}
-use Rattle.sched_core.specs.History.{part_of}
+use Rattle.event_history.specs.Parts.{part_of}
 use Rattle.sched_core.specs.Fields.{parts_upto}
 
 -- the part of a worker after one more event

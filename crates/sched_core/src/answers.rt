@@ -1,12 +1,21 @@
 //! What the jobs of a plan answer.
 
 ghost use Rattle.std.specs.Prelude.{◌≡◌, IsTrue, None, Some, MatchOption};
-ghost use Rattle.sched_core.specs.Replies.{reply_to, status_by};
+ghost use Rattle.scheduling.specs.Answers.{answer_of};
+ghost use Rattle.sched_core.specs.Replies.{reply_to};
+ghost use Rattle.sched_core.specs.Steps.{reply_awaited};
 ghost use Rattle.sched_core.specs.AnswerFields.{IsInOrder};
 
 use descriptor::BodyId;
 use plan_events::{Reply, Status};
+use scheduling::Answer;
 use std::marker::Model;
+
+/// What a step knows of a body without a reply.
+const SILENT: Answer = Answer {
+    pulls: 0,
+    status: Status::Successful,
+};
 
 /// What each body answers, wherever it runs. A body without a reply is successful, without text and without pulls.
 #[derive(Drop)]
@@ -80,16 +89,19 @@ impl Answers {
         }
     }
 
-    /// The status with which a job answers: successful for a node without one.
-    pub(crate) fn status(&self, body: Option<BodyId>) -> Status
-        ensures { result ≡ status_by self.now body }
+    /// What a step has to know of the reply of a body, where one is awaited.
+    pub(crate) fn answer(&self, body: Option<BodyId>) -> Answer
+        ensures { result ≡ answer_of (reply_awaited self.now body) }
     {
         let Some(body) = body else {
-            return Status::Successful;
+            return SILENT;
         };
         match self.reply(body) {
-            Some(reply) => reply.outcome.status,
-            None => Status::Successful,
+            Some(reply) => Answer {
+                pulls: reply.pulls,
+                status: reply.outcome.status,
+            },
+            None => SILENT,
         }
     }
 }

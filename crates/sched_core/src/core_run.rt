@@ -6,9 +6,9 @@ ghost use Rattle.sched_core.specs.Snapshot.{workers_refusal};
 use crate::answers::Answers;
 use crate::fault::{CoreFault, NotEnabled};
 use crate::machine::Machine;
-use crate::step::Step;
 use crate::trace::Trace;
 use resource_locks::Plan;
+use scheduling::{Step, Turns};
 use std::alloc::{AllocError, Global};
 use std::marker::Model;
 
@@ -34,6 +34,7 @@ pub(crate) fn worker_count(workers: u32) -> Result<u8, CoreFault>
 pub struct Core {
     plan: Plan,
     answers: Answers,
+    turns: Turns,
     machine: Machine,
 }
 
@@ -50,7 +51,7 @@ impl Model for Core {
 }
 
 impl Core {
-    ghost use Rattle.sched_core.specs.Machine.{opening};
+    ghost use Rattle.scheduling.specs.Runs.{opening};
     ghost use Rattle.sched_core.specs.Snapshot.{stepped, IsStep};
     ghost use Rattle.sched_core.specs.Traces.{IsTraceOf};
 
@@ -63,10 +64,12 @@ impl Core {
         ensures no_memory { IfErr result (λ fault. fault ≡ CoreFault.NoMemory → workers_refusal workers ≡ None) }
     {
         let count = worker_count(workers)?;
+        let turns = Turns::new(alloc, &plan)?;
         let machine = Machine::new(alloc, &plan, count)?;
         Ok(Core {
             plan,
             answers,
+            turns,
             machine,
         })
     }
@@ -75,7 +78,8 @@ impl Core {
     pub fn step(&mut self, step: Step) -> Result<(), NotEnabled>
         ensures { IsStep self.old (stepped self.old step) result self.new }
     {
-        self.machine.step(&self.plan, &self.answers, step)
+        self.machine
+            .step(&self.plan, &self.turns, &self.answers, step)
     }
 
     /// What the run has left so far. No step counts as passed over.

@@ -1,18 +1,18 @@
 #![tactic(auto)]
 
-//! The scheduling core: a pure state machine of workers and a dispatcher that publishes events.
+//! The scheduling core: a state machine of workers and a dispatcher that publishes events.
 
 mod answers;
+mod children;
 mod core_run;
-mod decision;
 mod fault;
 mod jobs;
 mod machine;
+mod opening;
 mod run;
 mod schedule;
-mod status;
-mod step;
-mod task;
+mod taking;
+mod telling;
 mod text;
 mod trace;
 
@@ -20,8 +20,5 @@ pub use answers::Answers;
 pub use core_run::Core;
 pub use fault::{CoreFault, NotEnabled};
 pub use run::{drive, run_steps};
-pub use status::NodeStatus;
-pub use step::{Action, Actor, Step};
-pub use task::Task;
 pub use text::texts_of;
 pub use trace::Trace;

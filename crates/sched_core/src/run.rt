@@ -1,25 +1,27 @@
 //! Whole runs: of a list of steps, and of the fixed schedule.
 
 ghost use Rattle.std.specs.Prelude.{◌≡◌, ◌≢◌, Some, None, IfOk, IfErr};
-ghost use Rattle.sched_core.specs.Machine.{opening};
+ghost use Rattle.scheduling.specs.LinkLists.{AreTurns};
+ghost use Rattle.scheduling.specs.Runs.{opening};
 ghost use Rattle.sched_core.specs.Snapshot.{workers_refusal};
 ghost use Rattle.sched_core.specs.Runs.{run, passed_over};
-ghost use Rattle.sched_core.specs.Traces.{IsTraceOf, IsRightTrace, IsDriven, IsOnlyDriven, IsWhole};
+ghost use Rattle.sched_core.specs.Traces.{IsTraceOf, IsRightTrace, IsDriven, IsOnlyDriven, IsWhole, KeepsApart, HasExpected, IsOnlyHistory};
 ghost use Rattle.sched_core.specs.Fields.{state_of, IsSound};
 
 use crate::answers::Answers;
 use crate::core_run::worker_count;
 use crate::fault::CoreFault;
 use crate::machine::Machine;
-use crate::step::Step;
 use crate::trace::Trace;
 use resource_locks::Plan;
+use scheduling::{Step, Turns};
 use std::alloc::{AllocError, Global};
 
 impl Machine {
     /// Takes the steps in order, and says how many were passed over.
-    fn run(&mut self, plan: &Plan, answers: &Answers, steps: &[Step]) -> usize
-        requires { IsSound plan.now answers.now self.old }
+    fn run(&mut self, plan: &Plan, turns: &Turns, answers: &Answers, steps: &[Step]) -> usize
+        requires turns { AreTurns plan.now turns.now }
+        requires sound { IsSound plan.now answers.now self.old }
         ensures state { state_of self.new ≡ run plan.now answers.now (state_of self.old) steps.now }
         ensures passed_over { result ≡ passed_over plan.now answers.now (state_of self.old) steps.now }
         ensures sound { IsSound plan.now answers.now self.new }
@@ -27,7 +29,7 @@ impl Machine {
     {
         let mut missed = 0;
         for step in steps {
-            if self.step(plan, answers, *step).is_err() {
+            if self.step(plan, turns, answers, *step).is_err() {
                 missed += 1;
             }
         }
@@ -46,25 +48,33 @@ pub fn run_steps(
 ) -> Result<Trace, CoreFault>
     ensures exact { IfOk result (λ trace. IsTraceOf (run plan.now answers.now (opening plan.now workers) steps.now) (passed_over plan.now answers.now (opening plan.now workers) steps.now) trace) }
     ensures right { IfOk result (λ trace. IsRightTrace plan.now answers.now workers trace) }
+    ensures apart { IfOk result (λ trace. KeepsApart plan.now trace) }
+    ensures expected { IfOk result (λ trace. HasExpected plan.now answers.now trace) }
     ensures accepted { IfOk result (λ _. workers_refusal workers ≡ None) }
     ensures refused { IfErr result (λ fault. fault ≢ CoreFault.NoMemory → workers_refusal workers ≡ Some fault) }
     ensures no_memory { IfErr result (λ fault. fault ≡ CoreFault.NoMemory → workers_refusal workers ≡ None) }
 {
     let count = worker_count(workers)?;
+    let turns = Turns::new(alloc, plan)?;
     let mut machine = Machine::new(alloc, plan, count)?;
-    let missed = machine.run(plan, answers, steps);
+    let missed = machine.run(plan, &turns, answers, steps);
     Ok(machine.trace(alloc, missed)?)
 }
 
 /// Runs the plan to its end with one worker, by the fixed schedule: the dispatcher reads whatever is shown, and else the
-/// worker takes the one step that it has to take, or claims the least numbered node that is ready.
+/// worker takes the one step that its task allows. A free worker goes on with the factory in its hand, or takes the least
+/// numbered node that is offered to it or to any.
 pub fn drive(alloc: Global, plan: &Plan, answers: &Answers) -> Result<Trace, AllocError>
     ensures driven { IfOk result (λ trace. IsDriven plan.now answers.now trace) }
     ensures only { IfOk result (λ trace. IsOnlyDriven plan.now answers.now trace) }
     ensures right { IfOk result (λ trace. IsRightTrace plan.now answers.now 1 trace) }
     ensures whole { IfOk result (λ trace. IsWhole plan.now trace) }
+    ensures apart { IfOk result (λ trace. KeepsApart plan.now trace) }
+    ensures expected { IfOk result (λ trace. HasExpected plan.now answers.now trace) }
+    ensures only_history { IfOk result (λ trace. IsOnlyHistory plan.now answers.now trace) }
 {
+    let turns = Turns::new(alloc, plan)?;
     let mut machine = Machine::new(alloc, plan, 1)?;
-    machine.drive(plan, answers);
+    machine.drive(plan, &turns, answers);
     machine.trace(alloc, 0)
 }

@@ -1,49 +1,125 @@
 //! The fixed schedule with one worker.
 
-ghost use Rattle.std.specs.Prelude.{◌≡◌, ◌≢◌, ◌<◌, ◌≤◌, ℕ, true, None, IsTrue, IsNone, IfSome, ◌↔◌, length};
-ghost use Rattle.descriptor.specs.Nodes.{size};
-ghost use Rattle.sched_core.specs.Machine.{State, status_at, read_row, is_ready, decided as decided_of, status_awaited};
-ghost use Rattle.sched_core.specs.Drives.{Drives, IsFirstReady, IsNext, LeadsTo, action_for as action_of};
-ghost use Rattle.sched_core.specs.Lowest.{NoneReadyBelow, lowest_after as lowest_then};
-ghost use Rattle.sched_core.specs.Fields.{state_of, IsSound};
-ghost use Rattle.sched_core.specs.Work.{work_left};
+ghost use Rattle.std.specs.Prelude.{◌≡◌, ◌≢◌, ◌<◌, ◌≤◌, ℕ, true, false, Some, None, IsTrue, IsNone, IfSome, ◌↔◌, length};
+ghost use Rattle.descriptor.specs.Nodes.{size, is_factory_at};
+ghost use Rattle.scheduling.specs.Answers.{reply_by};
+ghost use Rattle.scheduling.specs.LinkLists.{AreTurns};
+ghost use Rattle.scheduling.specs.Lowest.{NoneOpenBelow, lowest_after as lowest_then, lower as lower_then, offered_closing};
+ghost use Rattle.scheduling.specs.Rows.{read_row};
+ghost use Rattle.scheduling.specs.Schedule.{is_open as is_open_of, taking as taking_of, IsFirstOpen, IsNext, may_add as may_add_of, hand_action as hand_action_of, opening_action as opening_action_of, closing_action as closing_action_of};
+ghost use Rattle.scheduling.specs.State.{State, status_at};
+ghost use Rattle.scheduling.specs.Work.{work_left};
+ghost use Rattle.scheduling.specs.declared.status.NodeStatus.TheVariants.{Settled};
+ghost use Rattle.scheduling.specs.declared.seat.Hand.{Hand as HandValue};
+ghost use Rattle.sched_core.specs.Bounds.{IsFactory};
+ghost use Rattle.sched_core.specs.Drives.{Drives, LeadsTo, IsOnSchedule};
+ghost use Rattle.sched_core.specs.Fields.{state_of, seated, IsSound};
 
 use crate::answers::Answers;
-use crate::decision::decided;
 use crate::machine::Machine;
-use crate::status::NodeStatus;
-use crate::step::{Action, Step};
-use crate::task::Task;
 use descriptor::NodeId;
 use resource_locks::Plan;
+use scheduling::{
+    Action, Answer, Closing, Hand, NodeStatus, Opening, Step, Task, Turns, awaited, decided,
+    next_spare,
+};
 
-/// What the worker does next, and a number below which no node is ready then.
+/// What the worker does next, and a number below which no node is open then.
 struct Next {
     action: Action,
     lowest: usize,
 }
 
-/// The one step that a task which is decided allows.
-fn action_for(task: &Task) -> Action
-    ensures { result ≡ action_of task.now }
+/// Whether the only worker may take a node that is there.
+fn is_open(status: NodeStatus) -> bool
+    ensures { result ≡ is_open_of status }
 {
-    match task {
-        Task::Free | Task::Open(_) => Action::Look,
-        Task::Begin(_) | Task::End(_, _) => Action::Draw,
-        Task::Drawn(_, _) => Action::Show,
-        Task::Admit(_, _) => Action::Admit,
-        Task::Guard(_) | Task::Up(_) => Action::Done,
-        Task::Settle(_) => Action::Settle,
+    match status {
+        NodeStatus::Ready(None) => true,
+        NodeStatus::Ready(Some(place)) => place == 0,
+        NodeStatus::Hidden | NodeStatus::Claimed(_) | NodeStatus::Settled => false,
     }
 }
 
-/// The number after that step, where it was `lowest` before. In a run it does not fall, since a worker admits children
-/// of the node alone that it claimed last.
-fn lowest_after(task: &Task, lowest: usize) -> usize
-    ensures { result ≡ lowest_then task.now Action.Look lowest }
+/// How it takes it.
+fn taking(status: NodeStatus, node: NodeId) -> Action
+    ensures { result ≡ taking_of status node }
 {
-    match task {
-        Task::Admit(node, _) => lowest.min(node.index()),
+    match status {
+        NodeStatus::Ready(Some(_)) => Action::Own(node),
+        _ => Action::Claim(node),
+    }
+}
+
+/// The one step that a task allows which opens a node and is decided.
+fn opening_action(opening: &Opening) -> Action
+    ensures { result ≡ opening_action_of opening.now }
+{
+    match opening {
+        Opening::Registering | Opening::Beginning(_) => Action::Draw,
+        Opening::RegisteredAt(_) | Opening::StartedAt(_) => Action::Show,
+        Opening::Offering | Opening::Admitting(_) => Action::Admit,
+        Opening::Noticing => Action::Notice,
+        Opening::Locking(_) => Action::Weigh,
+        Opening::Weighed(_, _) => Action::Take,
+        Opening::Backing(0) => Action::GiveUp,
+        Opening::Backing(_) => Action::Give,
+        Opening::Awaiting => Action::Look,
+        Opening::Guarding => Action::Done,
+    }
+}
+
+/// The same of one that closes a node.
+fn closing_action(closing: &Closing) -> Action
+    ensures { result ≡ closing_action_of closing.now }
+{
+    match closing {
+        Closing::Ending(_) => Action::Draw,
+        Closing::FinishedAt(_, _) | Closing::SkippedAt(_) => Action::Show,
+        Closing::Raising => Action::Raise,
+        Closing::Giving(_) => Action::Give,
+        Closing::Settling => Action::Settle,
+        Closing::AwaitingAfter | Closing::Looking(_) => Action::Look,
+        Closing::Passing(_, _) => Action::Admit,
+        Closing::CountingOff => Action::Done,
+    }
+}
+
+/// What a free worker does with a factory in hand.
+fn hand_action(plan: &Plan, hand: &Hand, answer: Answer) -> Action
+    requires inside { hand.now.factory < size plan.now.tree }
+    requires factory { is_factory_at plan.now.tree hand.now.factory ≡ true }
+    ensures { result ≡ hand_action_of plan.now (reply_by answer) hand.now }
+{
+    if let Some(child) = hand.waiting {
+        return Action::Own(child);
+    }
+    let more = hand.registered < usize::from(answer.pulls);
+    if more && next_spare(plan, hand.factory, hand.registered).is_some() {
+        Action::AddChild
+    } else {
+        Action::Done
+    }
+}
+
+/// The number after the step of a task which opens a node, where it was `lowest` before. In a run it does not fall, since
+/// what is offered stands after the node that was taken last.
+fn lowest_opening(node: NodeId, opening: &Opening, lowest: usize) -> usize
+    ensures { result ≡ lowest_then (Task.Opens node opening.now) lowest }
+{
+    match opening {
+        Opening::Admitting(child) => lowest.min(child.index()),
+        Opening::Offering | Opening::Backing(0) => lowest.min(node.index()),
+        _ => lowest,
+    }
+}
+
+/// The same of one which closes a node.
+fn lowest_closing(closing: &Closing, lowest: usize) -> usize
+    ensures { result ≡ lower_then (offered_closing closing.now) lowest }
+{
+    match closing {
+        Closing::Passing(sibling, _) => lowest.min(sibling.index()),
         _ => lowest,
     }
 }
@@ -51,99 +127,156 @@ fn lowest_after(task: &Task, lowest: usize) -> usize
 impl Machine {
     /// Whether the plan's node is settled.
     fn is_settled(&self) -> bool
-        ensures { IsTrue result ↔ (status_at (state_of self.now) 0 ≡ NodeStatus.Settled) }
+        ensures { IsTrue result ↔ (status_at (state_of self.now) 0 ≡ Settled) }
     {
         matches!(self.statuses.first(), Some(NodeStatus::Settled))
     }
 
-    /// The number of the first node that is ready, where none is below `lowest`.
-    fn first_ready(&self, lowest: usize) -> usize
-        requires none_below { NoneReadyBelow (state_of self.now) lowest }
-        requires some { (m : ℕ) × (m < length self.now.statuses.items) × (is_ready (status_at (state_of self.now) m) ≡ true) }
-        ensures first { IsFirstReady (state_of self.now) result }
+    /// The number of the first node that is open, where none is below `lowest`.
+    fn first_open(&self, lowest: usize) -> usize
+        requires none_below { NoneOpenBelow (state_of self.now) lowest }
+        requires some { (m : ℕ) × (m < length self.now.statuses.items) × (is_open_of (status_at (state_of self.now) m) ≡ true) }
+        ensures first { IsFirstOpen (state_of self.now) result }
         ensures inside { result < length self.now.statuses.items }
     {
         for index in lowest..self.statuses.len() {
-            if matches!(self.statuses[index], NodeStatus::Ready) {
+            if is_open(self.statuses[index]) {
                 return index;
             }
         }
         unreachable!()
     }
 
-    /// What the worker does next, where no node below `lowest` is ready.
-    fn next(&self, plan: &Plan, answers: &Answers, task: Task, lowest: usize) -> Next
+    /// What a free worker does next with nothing in hand: it takes the first node that is open.
+    fn next_free(&self, lowest: usize) -> Next
         requires few { length self.now.statuses.items ≤ 4096 }
-        requires none_below { NoneReadyBelow (state_of self.now) lowest }
-        requires open { (n : ℕ) → task ≡ Task.Open n → n < size plan.now.tree }
-        requires some { task ≡ Task.Free → (m : ℕ) × (m < length self.now.statuses.items) × (is_ready (status_at (state_of self.now) m) ≡ true) }
-        ensures action { IsNext plan.now answers.now (state_of self.now) task result.action }
-        ensures lowest { result.lowest ≡ lowest_then (decided_of plan.now (status_awaited plan.now answers.now task) task) result.action lowest }
+        requires none_below { NoneOpenBelow (state_of self.now) lowest }
+        requires some { (m : ℕ) × (m < length self.now.statuses.items) × (is_open_of (status_at (state_of self.now) m) ≡ true) }
+        ensures first { IsFirstOpen (state_of self.now) result.lowest }
+        ensures action { result.action ≡ taking_of (status_at (state_of self.now) result.lowest) result.lowest }
     {
-        if matches!(task, Task::Free) {
-            let lowest = self.first_ready(lowest);
-            let action = Action::Claim(NodeId::new(lowest as u16));
-            return Next { action, lowest };
-        }
-        let task = decided(plan, answers, task);
-        let action = action_for(&task);
-        let lowest = lowest_after(&task, lowest);
+        let lowest = self.first_open(lowest);
+        let action = taking(self.statuses[lowest], NodeId::new(lowest as u16));
         Next { action, lowest }
     }
 
-    /// Takes the worker's next step, and answers the number below which no node is ready then.
-    fn advance(&mut self, plan: &Plan, answers: &Answers, lowest: usize) -> usize
-        requires sound { IsSound plan.now answers.now self.old }
-        requires one { self.old.workers ≡ 1 }
-        requires none_below { NoneReadyBelow (state_of self.old) lowest }
-        requires unread { read_row (state_of self.old) ≡ None }
-        requires running { status_at (state_of self.old) 0 ≢ NodeStatus.Settled }
-        ensures sound { IsSound plan.now answers.now self.new }
-        ensures one { self.new.workers ≡ 1 }
-        ensures none_below { NoneReadyBelow (state_of self.new) result }
-        ensures leads { (first : State) → LeadsTo plan.now answers.now first (state_of self.old) → LeadsTo plan.now answers.now first (state_of self.new) }
-        ensures less { work_left (state_of self.new) < work_left (state_of self.old) }
+    /// What the worker does next, whose task is decided, where no node below `lowest` is open.
+    fn next(
+        &self,
+        plan: &Plan,
+        task: &Task,
+        hand: &Option<Hand>,
+        answer: Answer,
+        lowest: usize,
+    ) -> Next
+        requires few { length self.now.statuses.items ≤ 4096 }
+        requires none_below { NoneOpenBelow (state_of self.now) lowest }
+        requires hand { (h : HandValue) → hand.now ≡ Some h → IsFactory plan.now self.now h.factory }
+        requires some { task.now ≡ Task.Free → hand.now ≡ None → (m : ℕ) × (m < length self.now.statuses.items) × (is_open_of (status_at (state_of self.now) m) ≡ true) }
+        ensures action { IsNext plan.now (state_of self.now) (seated task.now hand.now) (reply_by answer) result.action }
+        ensures free { task.now ≡ Task.Free → hand.now ≡ None → IsFirstOpen (state_of self.now) result.lowest }
+        ensures held { (h : HandValue) → task.now ≡ Task.Free → hand.now ≡ Some h → result.lowest ≡ lowest }
+        ensures busy { (task.now ≡ Task.Free → ⊥) → result.lowest ≡ lowest_then task.now lowest }
     {
-        let task = self.tasks[0];
-        let Next { action, lowest } = self.next(plan, answers, task, lowest);
-        let _ = self.step(plan, answers, Step::Worker(1, action));
+        match task {
+            Task::Free => match hand {
+                Some(hand) => Next {
+                    action: hand_action(plan, hand, answer),
+                    lowest,
+                },
+                None => self.next_free(lowest),
+            },
+            Task::Opens(node, opening) => Next {
+                action: opening_action(opening),
+                lowest: lowest_opening(*node, opening, lowest),
+            },
+            Task::Closes(_, closing) => Next {
+                action: closing_action(closing),
+                lowest: lowest_closing(closing, lowest),
+            },
+        }
+    }
+
+    /// Takes the worker's next step, and answers the number below which no node is open then.
+    fn advance(&mut self, plan: &Plan, turns: &Turns, answers: &Answers, lowest: usize) -> usize
+        requires turns { AreTurns plan.now turns.now }
+        requires sound { IsSound plan.now answers.now self.old }
+        requires going { IsOnSchedule plan.now answers.now (state_of self.old) }
+        requires none_below { NoneOpenBelow (state_of self.old) lowest }
+        requires unread { read_row (state_of self.old) ≡ None }
+        requires running { status_at (state_of self.old) 0 ≢ Settled }
+        ensures sound { IsSound plan.now answers.now self.new }
+        ensures workers { self.new.workers ≡ self.old.workers }
+        ensures going { IsOnSchedule plan.now answers.now (state_of self.new) }
+        ensures none_below { NoneOpenBelow (state_of self.new) result }
+        ensures leads { (first : State) → LeadsTo plan.now answers.now first (state_of self.old) → LeadsTo plan.now answers.now first (state_of self.new) }
+        ensures less { work_left plan.now (state_of self.new) < work_left plan.now (state_of self.old) }
+    {
+        let seat = &self.seats[0];
+        let answer = answers.answer(awaited(plan, seat));
+        let task = decided(plan, turns, answer, seat.task);
+        let hand = seat.hand;
+        let Next { action, lowest } = self.next(plan, &task, &hand, answer, lowest);
+        let _ = self.act(plan, turns, 0, task, hand, answer, action);
         lowest
     }
 
-    /// Goes on by one step of the schedule, and answers the number below which no node is ready then, unless the schedule
-    /// has ended: then nothing changes.
-    fn goes_on(&mut self, plan: &Plan, answers: &Answers, lowest: usize) -> Option<usize>
+    /// Gives the next event, if it is shown, and says whether it did.
+    fn reads(&mut self, plan: &Plan, turns: &Turns, answers: &Answers) -> bool
+        requires turns { AreTurns plan.now turns.now }
         requires sound { IsSound plan.now answers.now self.old }
-        requires one { self.old.workers ≡ 1 }
-        requires none_below { NoneReadyBelow (state_of self.old) lowest }
         ensures sound { IsSound plan.now answers.now self.new }
-        ensures one { self.new.workers ≡ 1 }
-        ensures none_below { IfSome result (λ lowest. NoneReadyBelow (state_of self.new) lowest) }
-        ensures leads { (first : State) → LeadsTo plan.now answers.now first (state_of self.old) → LeadsTo plan.now answers.now first (state_of self.new) }
-        ensures less { IfSome result (λ _. work_left (state_of self.new) < work_left (state_of self.old)) }
-        ensures unread { IsNone result → read_row (state_of self.new) ≡ None }
-        ensures settled { IsNone result → status_at (state_of self.new) 0 ≡ NodeStatus.Settled }
+        ensures workers { self.new.workers ≡ self.old.workers }
+        ensures read { result ≡ true → read_row (state_of self.old) ≡ Some (state_of self.new) }
+        ensures idle { result ≡ false → (read_row (state_of self.old) ≡ None) × (self.new ≡ self.old) }
     {
-        if self.step(plan, answers, Step::Read).is_ok() {
+        self.step(plan, turns, answers, Step::Read).is_ok()
+    }
+
+    /// Goes on by one step of the schedule, and answers the number below which no node is open then, unless the schedule
+    /// has ended: then nothing changes.
+    fn goes_on(
+        &mut self,
+        plan: &Plan,
+        turns: &Turns,
+        answers: &Answers,
+        lowest: usize,
+    ) -> Option<usize>
+        requires turns { AreTurns plan.now turns.now }
+        requires sound { IsSound plan.now answers.now self.old }
+        requires going { IsOnSchedule plan.now answers.now (state_of self.old) }
+        requires none_below { NoneOpenBelow (state_of self.old) lowest }
+        ensures sound { IsSound plan.now answers.now self.new }
+        ensures workers { self.new.workers ≡ self.old.workers }
+        ensures going { IsOnSchedule plan.now answers.now (state_of self.new) }
+        ensures none_below { IfSome result (λ lowest. NoneOpenBelow (state_of self.new) lowest) }
+        ensures leads { (first : State) → LeadsTo plan.now answers.now first (state_of self.old) → LeadsTo plan.now answers.now first (state_of self.new) }
+        ensures less { IfSome result (λ _. work_left plan.now (state_of self.new) < work_left plan.now (state_of self.old)) }
+        ensures unread { IsNone result → read_row (state_of self.new) ≡ None }
+        ensures settled { IsNone result → status_at (state_of self.new) 0 ≡ Settled }
+    {
+        if self.reads(plan, turns, answers) {
             return Some(lowest);
         }
         if self.is_settled() {
             return None;
         }
-        Some(self.advance(plan, answers, lowest))
+        Some(self.advance(plan, turns, answers, lowest))
     }
 
     /// Runs the schedule to its end.
-    pub(crate) fn drive(&mut self, plan: &Plan, answers: &Answers)
+    pub(crate) fn drive(&mut self, plan: &Plan, turns: &Turns, answers: &Answers)
+        requires turns { AreTurns plan.now turns.now }
         requires sound { IsSound plan.now answers.now self.old }
-        requires one { self.old.workers ≡ 1 }
+        requires going { IsOnSchedule plan.now answers.now (state_of self.old) }
         ensures sound { IsSound plan.now answers.now self.new }
-        ensures one { self.new.workers ≡ 1 }
+        ensures workers { self.new.workers ≡ self.old.workers }
+        ensures going { IsOnSchedule plan.now answers.now (state_of self.new) }
         ensures drives { Drives plan.now answers.now (state_of self.old) (state_of self.new) }
     {
         let mut lowest = 0;
         'schedule: loop {
-            let Some(next) = self.goes_on(plan, answers, lowest) else {
+            let Some(next) = self.goes_on(plan, turns, answers, lowest) else {
                 break 'schedule;
             };
             lowest = next;

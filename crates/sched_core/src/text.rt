@@ -48,7 +48,7 @@ fn last_job(answers: &Answers, body: Option<BodyId>, after: Option<BodyId>) -> O
 {
     match (body, after) {
         (Some(body), Some(after)) => {
-            if answers.status(Some(body)).is_successful() {
+            if answers.answer(Some(body)).status.is_successful() {
                 Some(after)
             } else {
                 Some(body)

@@ -61,6 +61,7 @@ impl Machine {
     /// What the run has left so far.
     pub(crate) fn trace(&self, alloc: Global, passed_over: usize) -> Result<Trace, AllocError>
         requires given { self.now.given ≤ length self.now.published.items }
+        requires workers { length self.now.seats.items ≡ self.now.workers }
         ensures { IfOk result (λ t. IsTraceOf (state_of self.now) passed_over t) }
     {
         Ok(Trace {

@@ -9,10 +9,10 @@ use Rattle.std.specs.Char.{is_ascii_digit}
 use Rattle.std.specs.Fmt.{decimal}
 use Rattle.std.specs.List.{list_all, position, position_or_len, before_first, after_first}
 use Rattle.std.specs.Str.Parse.{digits_value}
-use Rattle.sched_core.specs.declared.step.Action.{Action}
-use Rattle.sched_core.specs.declared.step.Action.TheVariants.{Claim, Own, Draw, Show, Admit, Done, Settle, Look, Weigh, Take, Give, GiveUp, AddChild}
-use Rattle.sched_core.specs.declared.step.Step.{Step}
-use Rattle.sched_core.specs.declared.step.Step.TheVariants.{Worker, Read}
+use Rattle.scheduling.specs.declared.step.Action.{Action}
+use Rattle.scheduling.specs.declared.step.Action.TheVariants.{Claim, Own, Draw, Show, Admit, Done, Settle, Look, Weigh, Take, Give, GiveUp, AddChild, Notice, Raise}
+use Rattle.scheduling.specs.declared.step.Step.{Step}
+use Rattle.scheduling.specs.declared.step.Step.TheVariants.{Worker, Read}
 use Rattle.suite_text.specs.Numbers.{is_number, number_up_to}
 use Rattle.suite_text.specs.StepTexts.{is_colon, is_decimal, number_within, worker_of, node_of, plain_action, has_colon, action_of, step_of, is_bad_word}
 use Rattle.suite_text.specs.StepSpelling.{spelled_action, spelled_step, NamesNode, IsNamable, AreNamable}
@@ -85,6 +85,8 @@ action_back Take h = refl
 action_back Give h = refl
 action_back GiveUp h = refl
 action_back AddChild h = refl
+action_back Notice h = refl
+action_back Raise h = refl
 
 -- a word
 pub step_back : (s : Step) → IsNamable s → step_of (spelled_step s) ≡ Some s

@@ -9,10 +9,10 @@ use Rattle.std.specs.Fmt.{decimal}
 use Rattle.std.specs.List.{position, position_or_len, before_first, after_first, filter_map, cons_option}
 use Rattle.std.specs.Str.{bytes_eq}
 use Rattle.std.specs.Str.Parse.{digits_value}
-use Rattle.sched_core.specs.declared.step.Action.{Action}
-use Rattle.sched_core.specs.declared.step.Action.TheVariants.{Claim, Own, Draw, Show, Admit, Done, Settle, Look, Weigh, Take, Give, GiveUp, AddChild}
-use Rattle.sched_core.specs.declared.step.Step.{Step}
-use Rattle.sched_core.specs.declared.step.Step.TheVariants.{Worker, Read}
+use Rattle.scheduling.specs.declared.step.Action.{Action}
+use Rattle.scheduling.specs.declared.step.Action.TheVariants.{Claim, Own, Draw, Show, Admit, Done, Settle, Look, Weigh, Take, Give, GiveUp, AddChild, Notice, Raise}
+use Rattle.scheduling.specs.declared.step.Step.{Step}
+use Rattle.scheduling.specs.declared.step.Step.TheVariants.{Worker, Read}
 use Rattle.suite_text.specs.Numbers.{is_number, number_up_to}
 use Rattle.suite_text.specs.StepTexts.{is_colon, is_decimal, number_within, worker_of, node_of, node_action, plain_action, has_colon, action_of, worker_step, step_of, is_bad_word}
 use Rattle.suite_text.specs.StepSpelling.{spelled_action, spelled_step}
@@ -94,7 +94,8 @@ word_or name word a x rest s later h = elim (picked (bytes_eq name word) a x res
 plain_spelled : (name : List ℕ) (a : Action) → plain_action name ≡ Some a → spelled_action a ≡ name
 plain_spelled name x h =
     word_or name _ Draw x _ refl (word_or name _ Show x _ refl (word_or name _ Admit x _ refl (word_or name _ Done x _ refl (word_or name _ Settle x _ refl (word_or name _ Look x _ refl
-    (word_or name _ Weigh x _ refl (word_or name _ Take x _ refl (word_or name _ Give x _ refl (word_or name _ GiveUp x _ refl (word_or name _ AddChild x None refl (λ r. cc))))))))))) h
+    (word_or name _ Weigh x _ refl (word_or name _ Take x _ refl (word_or name _ Give x _ refl (word_or name _ GiveUp x _ refl (word_or name _ AddChild x _ refl
+    (word_or name _ Notice x _ refl (word_or name _ Raise x None refl (λ r. cc))))))))))))) h
 
 action_by : (text : List ℕ) (a : Action) (colon : Bool) → has_colon text ≡ colon → (if colon then node_action (before_first is_colon text) (after_first is_colon text) else plain_action text) ≡ Some a → spelled_action a ≡ text
 action_by text a true c h = node_action_spelled (before_first is_colon text) (after_first is_colon text) a h ∙ sym (colon_parts text c)

@@ -1,7 +1,7 @@
 -- What a call that reads steps may answer.
 use Rattle.std.specs.Prelude.{◌≡◌, ℕ, List, Result, Ok, Err, IsOk}
 use Rattle.std.specs.Global.{Vec}
-use Rattle.sched_core.specs.declared.step.Step.{Step}
+use Rattle.scheduling.specs.declared.step.Step.{Step}
 use Rattle.suite_text.specs.declared.steps.StepsFault.{StepsFault}
 use Rattle.suite_text.specs.declared.steps.StepsFault.TheVariants.{NoMemory, BadStep}
 

@@ -1,10 +1,10 @@
 -- How steps are written.
 use Rattle.std.specs.Prelude.{ℕ, ◌≤◌, List, [], ◌∷◌, ◌++◌, codes}
 use Rattle.std.specs.Fmt.{decimal}
-use Rattle.sched_core.specs.declared.step.Action.{Action}
-use Rattle.sched_core.specs.declared.step.Action.TheVariants.{Claim, Own, Draw, Show, Admit, Done, Settle, Look, Weigh, Take, Give, GiveUp, AddChild}
-use Rattle.sched_core.specs.declared.step.Step.{Step}
-use Rattle.sched_core.specs.declared.step.Step.TheVariants.{Worker, Read}
+use Rattle.scheduling.specs.declared.step.Action.{Action}
+use Rattle.scheduling.specs.declared.step.Action.TheVariants.{Claim, Own, Draw, Show, Admit, Done, Settle, Look, Weigh, Take, Give, GiveUp, AddChild, Notice, Raise}
+use Rattle.scheduling.specs.declared.step.Step.{Step}
+use Rattle.scheduling.specs.declared.step.Step.TheVariants.{Worker, Read}
 
 -- what a worker does
 abbrev pub spelled_action : Action → List ℕ
@@ -21,6 +21,8 @@ spelled_action Take = codes "take"
 spelled_action Give = codes "give"
 spelled_action GiveUp = codes "give_up"
 spelled_action AddChild = codes "add_child"
+spelled_action Notice = codes "notice"
+spelled_action Raise = codes "raise"
 
 -- a step: the dispatcher's reading, or a worker's number and what it does
 abbrev pub spelled_step : Step → List ℕ

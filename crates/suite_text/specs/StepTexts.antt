@@ -5,10 +5,10 @@ use Rattle.std.specs.Str.{bytes_eq}
 use Rattle.std.specs.Str.Parse.{digits_value}
 use Rattle.suite_text.specs.Numbers.{is_number, number_up_to}
 use Rattle.suite_text.specs.Words.{words_in}
-use Rattle.sched_core.specs.declared.step.Action.{Action}
-use Rattle.sched_core.specs.declared.step.Action.TheVariants.{Claim, Own, Draw, Show, Admit, Done, Settle, Look, Weigh, Take, Give, GiveUp, AddChild}
-use Rattle.sched_core.specs.declared.step.Step.{Step}
-use Rattle.sched_core.specs.declared.step.Step.TheVariants.{Worker, Read}
+use Rattle.scheduling.specs.declared.step.Action.{Action}
+use Rattle.scheduling.specs.declared.step.Action.TheVariants.{Claim, Own, Draw, Show, Admit, Done, Settle, Look, Weigh, Take, Give, GiveUp, AddChild, Notice, Raise}
+use Rattle.scheduling.specs.declared.step.Step.{Step}
+use Rattle.scheduling.specs.declared.step.Step.TheVariants.{Worker, Read}
 
 -- the byte after a worker, and before a node
 abbrev pub is_colon : ℕ → Bool
@@ -49,7 +49,9 @@ plain_action name =
     if bytes_eq name (codes "take") then Some Take else (
     if bytes_eq name (codes "give") then Some Give else (
     if bytes_eq name (codes "give_up") then Some GiveUp else (
-    if bytes_eq name (codes "add_child") then Some AddChild else None))))))))))
+    if bytes_eq name (codes "add_child") then Some AddChild else (
+    if bytes_eq name (codes "notice") then Some Notice else (
+    if bytes_eq name (codes "raise") then Some Raise else None))))))))))))
 
 -- whether a colon stands in the text
 abbrev pub has_colon : List ℕ → Bool

@@ -5,7 +5,7 @@ ghost use Rattle.suite_text.specs.StepTexts.{is_decimal, number_within, worker_o
 
 use crate::number::{is_number, number_up_to};
 use descriptor::NodeId;
-use sched_core::{Action, Step};
+use scheduling::{Action, Step};
 
 /// Whether a text is a number, with no zero before other digits.
 fn is_decimal(text: &str) -> bool
@@ -72,6 +72,8 @@ fn plain_action(name: &str) -> Option<Action>
         "give" => Some(Action::Give),
         "give_up" => Some(Action::GiveUp),
         "add_child" => Some(Action::AddChild),
+        "notice" => Some(Action::Notice),
+        "raise" => Some(Action::Raise),
         _ => None,
     }
 }

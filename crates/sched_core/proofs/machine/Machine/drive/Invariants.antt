@@ -1,13 +1,13 @@
--- No node below the number is ready; wherever the schedule ends from here, it ends from the start; and what is left to do falls.
+-- No node below the number is open; wherever the schedule ends from here, it ends from the start; and what is left to do falls.
 use Rattle.std.proofs.Common.{◌≡◌}
-use Rattle.sched_core.specs.Drives.{LeadsTo}
-use Rattle.sched_core.specs.Lowest.{NoneReadyBelow}
+use Rattle.scheduling.specs.Lowest.{NoneOpenBelow}
+use Rattle.scheduling.specs.Work.{work_left}
+use Rattle.sched_core.specs.Drives.{LeadsTo, IsOnSchedule}
 use Rattle.sched_core.specs.Fields.{state_of, IsSound}
-use Rattle.sched_core.specs.Work.{work_left}
 use Rattle.sched_core.proofs.machine.Machine.drive.Given as goal
 
 abbrev pub invariant-schedule : goal.invariant-schedule
-invariant-schedule l = IsSound l.plan l.answers l.self × (l.self.workers ≡ 1) × NoneReadyBelow (state_of l.self) l.lowest × LeadsTo l.plan l.answers (state_of l.initial.self) (state_of l.self)
+invariant-schedule l = IsSound l.plan l.answers l.self × (l.self.workers ≡ l.initial.self.workers) × IsOnSchedule l.plan l.answers (state_of l.self) × NoneOpenBelow (state_of l.self) l.lowest × LeadsTo l.plan l.answers (state_of l.initial.self) (state_of l.self)
 
 abbrev pub decreases-schedule : goal.decreases-schedule
-decreases-schedule l = work_left (state_of l.self)
+decreases-schedule l = work_left l.plan (state_of l.self)

@@ -1,8 +1,19 @@
--- A read that was possible is a step of the schedule.
-use Rattle.std.proofs.Common.{sym}
-use Rattle.sched_core.proofs.Running.{leads_by_read}
+-- A read that was possible is a step of the schedule, and so is the worker's step where none was.
+use Rattle.std.proofs.Common.{◌≡◌, sym, subst}
+use Rattle.scheduling.proofs.FallsNext.{read_falls}
+use Rattle.sched_core.specs.declared.machine.Machine.{Machine}
+use Rattle.sched_core.specs.Drives.{LeadsTo}
+use Rattle.sched_core.specs.Fields.{state_of}
+use Rattle.sched_core.proofs.OneWorker.{read_leads}
 use Rattle.sched_core.proofs.machine.Machine.goes_on.Goals as goal
 
-pub returns-then-is_ok-clause-leads : goal.returns-then-is_ok-clause-leads
-returns-then-is_ok-clause-leads c first leads =
-    leads_by_read c.args.plan.now c.args.answers.now c.args.self.now c.step.new.self c.step.result first c.step.ensures.answered (sym c.if-is_ok.ensures.value) leads
+pub returns-then-reads-clause-leads : goal.returns-then-reads-clause-leads
+returns-then-reads-clause-leads c first leads = read_leads c.args.plan.now c.args.answers.now (state_of c.args.self.now) (state_of c.reads.new.self) first (c.reads.ensures.read c.if-reads.true) leads
+
+pub returns-then-reads-clause-less : goal.returns-then-reads-clause-less
+returns-then-reads-clause-less c = read_falls c.args.plan.now (state_of c.args.self.now) (state_of c.reads.new.self) (c.reads.ensures.read c.if-reads.true)
+
+pub returns-clause-leads : goal.returns-clause-leads
+returns-clause-leads c first leads =
+    let idle = c.reads.ensures.idle c.if-reads.false in
+    c.advance.ensures.leads first (subst (λ (m : Machine). LeadsTo c.args.plan.now c.args.answers.now first (state_of m)) (sym idle.1) leads)

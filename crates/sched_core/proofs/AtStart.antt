@@ -1,0 +1,93 @@
+-- The machine's fields at the start are those of the opening state, and it is sound.
+use Rattle.std.proofs.Common.{◌≡◌, ◌∙◌, ℕ, zero, suc, ◌+◌, ◌<◌, ◌≤◌, Bool, true, false, ◌&&◌, not, cond, List, [], set, get_or, length, replicate, take, None, refl, sym, ap, subst, arith, length-set, inl, inr}
+use Rattle.std.proofs.lemmas.List.{length-replicate, get_or-replicate, get_or-set_other}
+use Rattle.std.proofs.lemmas.Grind.{get_or-set_at}
+use Rattle.std.proofs.lemmas.Bool.{cases_Bool, cases_eq}
+use Rattle.descriptor.specs.Nodes.{Nodes, IsTree, size, children_of, is_child, is_spare_at, is_factory_at, count_below}
+use Rattle.descriptor.proofs.Children.{children_counted}
+use Rattle.plan_events.specs.declared.event.Event.{Event}
+use Rattle.plan_events.specs.declared.outcome.Reply.{Reply}
+use Rattle.plan_events.specs.declared.status.Status.{Status}
+use Rattle.plan_events.specs.declared.status.Status.TheVariants.{Successful}
+use Rattle.resource_locks.specs.Held.{table}
+use Rattle.resource_locks.specs.Plans.{PlanParts, IsPlan}
+use Rattle.resource_locks.proofs.Turns.{table_is}
+use Rattle.event_history.proofs.Trees.{is_child_test}
+use Rattle.scheduling.specs.declared.status.NodeStatus.{NodeStatus}
+use Rattle.scheduling.specs.declared.status.NodeStatus.TheVariants.{Hidden, Ready}
+use Rattle.scheduling.specs.declared.lock_word.LockWord.{LockWord}
+use Rattle.scheduling.specs.declared.lock_word.LockWord.TheVariants.{Readers}
+use Rattle.scheduling.specs.declared.seat.Seat.{Seat}
+use Rattle.scheduling.specs.Runs.{first_status, first_counter, opening}
+use Rattle.scheduling.specs.State.{State}
+use Rattle.scheduling.proofs.Basics.{count_same}
+use Rattle.scheduling.proofs.Spares.{count_zero}
+use Rattle.scheduling.proofs.Spots.{and_same}
+use Rattle.scheduling.proofs.FirstState.{each_length, each_at, opening_is}
+use Rattle.scheduling.proofs.Headline.{core_plan}
+use Rattle.scheduling.proofs.Placing.{opening_placed}
+use Rattle.scheduling.specs.Invariant.{IsKept}
+use Rattle.scheduling.specs.Shown.{IsPlaced}
+use Rattle.sched_core.specs.declared.machine.Machine.{Machine}
+use Rattle.sched_core.specs.Replies.{replies_of}
+use Rattle.sched_core.specs.Fields.{state_of, HasRoom, IsSound}
+use Rattle.sched_core.specs.Start.{guard_and_children, free_seat}
+
+statuses_are : (n : ℕ) → 0 < n → set (replicate n Hidden) 0 (Ready None) ≡ table first_status n
+statuses_are n above =
+    table_is first_status Hidden n (set (replicate n Hidden) 0 (Ready None)) (length-set (replicate n Hidden) 0 (Ready None) ∙ length-replicate n Hidden)
+    (λ k lt. elim (cases_eq k 0) [
+      | inl first ↦ get_or-set_at (replicate n Hidden) 0 k (Ready None) Hidden first (omega (arith, above, length-replicate n Hidden)) ∙ ap first_status (sym first)
+      | inr other ↦ get_or-set_other (replicate n Hidden) 0 k (Ready None) Hidden other ∙ get_or-replicate n k Hidden Hidden lt ∙ later k other
+    ])
+  where
+    later : (k : ℕ) → (k ≡ 0 → ⊥) → Hidden ≡ first_status k
+    later zero no' = absurd (no' refl)
+    later (suc k) no' = refl
+
+same_for_all : {X : Type 0} (n : ℕ) (x : X) → replicate n x ≡ table (λ k. x) n
+same_for_all n x = table_is (λ k. x) x n (replicate n x) (length-replicate n x) (λ k lt. get_or-replicate n k x x lt)
+
+-- a factory's children are spares, and no others are
+counter_is : (p : PlanParts) → IsTree p.tree → (n : ℕ) → guard_and_children p.tree n ≡ first_counter p n
+counter_is p tree n = go (is_factory_at p.tree n) refl
+  where
+    go : (factory : Bool) → is_factory_at p.tree n ≡ factory → cond factory 1 (length (children_of p.tree n) + 1) ≡ first_counter p n
+    go true is =
+        let none = count_same (λ c. is_child p.tree n c && not (is_spare_at p.tree c)) (λ c. false) (size p.tree) (λ c lt. elim (cases_Bool (is_child p.tree n c)) [
+          | inl child ↦ ap (λ (b : Bool). b && not (is_spare_at p.tree c)) child ∙ ap not (tree.spares n c (is_child_test p.tree n c lt child) ∙ is)
+          | inr other ↦ ap (λ (b : Bool). b && not (is_spare_at p.tree c)) other
+        ]) in
+        let zero' = count_zero (λ (c : ℕ). false) (size p.tree) (λ c lt. refl) in
+        omega (arith, none, zero')
+    go false is =
+        let all = count_same (λ c. is_child p.tree n c && not (is_spare_at p.tree c)) (is_child p.tree n) (size p.tree) (λ c lt. elim (cases_Bool (is_child p.tree n c)) [
+          | inl child ↦ ap (λ (b : Bool). b && not (is_spare_at p.tree c)) child ∙ ap not (tree.spares n c (is_child_test p.tree n c lt child) ∙ is) ∙ sym child
+          | inr other ↦ ap (λ (b : Bool). b && not (is_spare_at p.tree c)) other ∙ sym other
+        ]) in
+        let counted = children_counted p.tree n in
+        omega (arith, all, counted)
+
+counters_are : (p : PlanParts) → IsTree p.tree → table (guard_and_children p.tree) (size p.tree) ≡ table (first_counter p) (size p.tree)
+counters_are p tree = table_is (first_counter p) 0 (size p.tree) (table (guard_and_children p.tree) (size p.tree)) (each_length (guard_and_children p.tree) (size p.tree)) (λ k lt. each_at (guard_and_children p.tree) 0 (size p.tree) k lt ∙ counter_is p tree k)
+
+pub starts : (p : PlanParts) → IsTree p.tree → (workers : ℕ) (statuses : List NodeStatus) (counters : List ℕ) (results : List Status) (locks : List LockWord) (seats : List Seat) (published : List Event) (shown : List Bool)
+    → statuses ≡ set (replicate (size p.tree) Hidden) 0 (Ready None) → counters ≡ table (guard_and_children p.tree) (size p.tree) → results ≡ replicate (size p.tree) Successful → locks ≡ replicate (length p.keys) (Readers 0)
+    → seats ≡ replicate workers free_seat → published ≡ [] → shown ≡ []
+    → record { statuses = statuses; counters = counters; results = results; locks = locks; cancel = false; seats = seats; published = published; shown = shown; given = take 0 published } ≡ opening p workers
+starts p tree workers statuses counters results locks seats published shown a b c d f g h =
+    alike (a ∙ statuses_are (size p.tree) tree.root) (b ∙ counters_are p tree) (c ∙ same_for_all (size p.tree) Successful) d f g h
+  where
+    alike : statuses ≡ (opening p workers).statuses → counters ≡ (opening p workers).counters → results ≡ (opening p workers).results → locks ≡ (opening p workers).locks → seats ≡ (opening p workers).seats → published ≡ [] → shown ≡ []
+        → record { statuses = statuses; counters = counters; results = results; locks = locks; cancel = false; seats = seats; published = published; shown = shown; given = take 0 published } ≡ opening p workers
+    alike q1 q2 q3 q4 q5 q6 q7 = λ j. record { statuses = q1 j; counters = q2 j; results = q3 j; locks = q4 j; cancel = false; seats = q5 j; published = q6 j; shown = q7 j; given = [] }
+
+pub sound_start : (p : PlanParts) (answers : List (ℕ × Reply)) (m : Machine) (workers : ℕ) → IsPlan p → workers ≤ 64 → m.workers ≡ workers → m.given ≡ 0 → state_of m ≡ opening p workers → HasRoom p m → IsSound p answers m
+sound_start p answers m workers plan few count none is room = record {
+  plan = plan;
+  workers = ap (λ (s : State). length s.seats) is ∙ length-replicate workers free_seat ∙ sym count;
+  kept = subst (IsKept p (replies_of answers)) (sym is) (opening_is p (core_plan p plan.tree) (replies_of answers) workers few);
+  placed = subst IsPlaced (sym is) (opening_placed p workers);
+  given = omega (arith, none);
+  room = room;
+}

@@ -1,0 +1,5 @@
+-- The key that is taken is one of the node's.
+use Rattle.sched_core.proofs.machine.Machine.take.Goals as goal
+
+pub take_key-requires-clause-node : goal.take_key-requires-clause-node
+take_key-requires-clause-node c = (c.requires.keys c.in-Opens.node c.in-Weighed.index c.in-Weighed.seen c.in-Opens.opening c.in-Opens.is c.in-Weighed.is).node

@@ -1,0 +1,9 @@
+-- The key that is looked at is one of the node's.
+use Rattle.sched_core.specs.Bounds.{HasKey}
+use Rattle.sched_core.proofs.machine.Machine.weigh.Goals as goal
+
+pub key_at_place-requires-clause-node : goal.key_at_place-requires-clause-node
+key_at_place-requires-clause-node c = (c.requires.keys c.in-Opens.node c.in-Locking.index c.in-Opens.opening c.in-Opens.is c.in-Locking.is).node
+
+pub weighed-requires-clause-node : goal.weighed-requires-clause-node
+weighed-requires-clause-node c = (c.requires.keys c.in-Opens.node c.in-Locking.index c.in-Opens.opening c.in-Opens.is c.in-Locking.is).node

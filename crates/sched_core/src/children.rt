@@ -1,0 +1,361 @@
+//! The steps by which nodes are offered, registered, counted off and settled.
+
+ghost use Rattle.std.specs.Prelude.{◌≡◌, ◌<◌, ℕ, suc, Some, length};
+ghost use Rattle.descriptor.specs.Nodes.{size, parent_of, IsChild};
+ghost use Rattle.scheduling.specs.Answers.{reply_by};
+ghost use Rattle.scheduling.specs.LinkLists.{AreTurns};
+ghost use Rattle.scheduling.specs.Choices.{admit_from, offered_to as offered_to_of};
+ghost use Rattle.scheduling.specs.Rows.{offers, waits_for as waits_for_of, admit_row, add_child_row, ends_or_free as ends_or_free_of, guard_given, counted_off, done_hand, done_row, waits_no_more as waits_no_more_of, settle_row, look_found, look_row};
+ghost use Rattle.scheduling.specs.State.{status_at};
+ghost use Rattle.scheduling.specs.declared.seat.Hand.{Hand as HandValue};
+ghost use Rattle.scheduling.specs.declared.task.Opening.{Opening as OpeningValue};
+ghost use Rattle.scheduling.specs.declared.task.Opening.TheVariants.{Admitting};
+ghost use Rattle.scheduling.specs.declared.task.Closing.{Closing as ClosingValue};
+ghost use Rattle.scheduling.specs.declared.task.Closing.TheVariants.{Looking, Passing, CountingOff};
+ghost use Rattle.scheduling.specs.declared.task.Task.TheVariants.{Opens, Closes};
+ghost use Rattle.sched_core.specs.Bounds.{IsFactory, HasParent};
+ghost use Rattle.sched_core.specs.Fields.{state_of, seated, IsAnswered, KeepsRoom};
+
+use crate::fault::NotEnabled;
+use crate::machine::Machine;
+use descriptor::NodeId;
+use plan_events::Status;
+use resource_locks::Plan;
+use scheduling::{
+    Answer, Closing, Hand, NodeStatus, Opening, Seat, Task, Turns, after_settle, ending, is_pulled,
+    is_same, next_spare, offered_to, pulled_result,
+};
+
+/// What a worker does next that has taken one from a node's counter: whoever takes the last one ends the node.
+fn ends_or_free(plan: &Plan, node: NodeId, status: Status, outstanding: usize) -> Task
+    requires { node < size plan.now.tree }
+    ensures { result ≡ ends_or_free_of plan.now node status outstanding }
+{
+    if outstanding == 1 {
+        Task::Closes(node, ending(plan, node, status))
+    } else {
+        Task::Free
+    }
+}
+
+/// The factory in hand, if there is one, after this dynamic test of it is offered: it waits for one that is executed in the
+/// same thread.
+fn waits_for(plan: &Plan, child: NodeId, hand: Option<Hand>) -> Option<Hand>
+    requires { child < size plan.now.tree }
+    ensures { result ≡ waits_for_of plan.now child hand }
+{
+    let hand = hand?;
+    let waiting = if is_same(plan, child) {
+        Some(child)
+    } else {
+        hand.waiting
+    };
+    Some(Hand {
+        factory: hand.factory,
+        registered: hand.registered,
+        waiting,
+    })
+}
+
+/// The factory in hand, if there is one, after this node is settled: it waits for it no longer.
+fn waits_no_more(node: NodeId, hand: Option<Hand>) -> Option<Hand>
+    ensures { result ≡ waits_no_more_of node hand }
+{
+    let hand = hand?;
+    let waiting = match hand.waiting {
+        Some(child) if child == node => None,
+        other => other,
+    };
+    Some(Hand {
+        factory: hand.factory,
+        registered: hand.registered,
+        waiting,
+    })
+}
+
+impl Machine {
+    /// A node is offered, to any or to the worker at a place, and the worker goes on.
+    fn offer(&mut self, place: u8, seat: Seat, child: NodeId, to: Option<u8>)
+        requires place { place < length self.old.seats.items }
+        requires inside { child < length self.old.statuses.items }
+        ensures state { state_of self.new ≡ offers (state_of self.old) place seat child to }
+        ensures room { KeepsRoom self.old self.new }
+    {
+        self.statuses[child.index()] = NodeStatus::Ready(to);
+        self.seats[usize::from(place)] = seat;
+    }
+
+    /// A child of a node is offered, and the worker goes on to the next one.
+    fn admit_child(
+        &mut self,
+        plan: &Plan,
+        turns: &Turns,
+        place: u8,
+        hand: Option<Hand>,
+        node: NodeId,
+        child: NodeId,
+    )
+        requires turns { AreTurns plan.now turns.now }
+        requires place { place < length self.old.seats.items }
+        requires sizes { length self.old.statuses.items ≡ size plan.now.tree }
+        requires child { IsChild plan.now.tree node child }
+        ensures state { state_of self.new ≡ offers (state_of self.old) place (seated (Opens node (admit_from plan.now node (suc child))) hand) child (offered_to_of plan.now place child) }
+        ensures room { KeepsRoom self.old self.new }
+    {
+        let task = Task::Opens(node, turns.admit_after(child));
+        let to = offered_to(plan, place, child);
+        self.offer(place, Seat { task, hand }, child, to);
+    }
+
+    pub(crate) fn admit(
+        &mut self,
+        plan: &Plan,
+        turns: &Turns,
+        place: u8,
+        task: Task,
+        hand: Option<Hand>,
+    ) -> Result<(), NotEnabled>
+        requires turns { AreTurns plan.now turns.now }
+        requires place { place < length self.old.seats.items }
+        requires sizes { length self.old.statuses.items ≡ size plan.now.tree }
+        requires admits { (n c : ℕ) (d : OpeningValue) → task ≡ Opens n d → d ≡ Admitting c → IsChild plan.now.tree n c }
+        requires offers { (n : ℕ) (d : OpeningValue) → task ≡ Opens n d → n < size plan.now.tree }
+        requires passes { (n m o : ℕ) (d : ClosingValue) → task ≡ Closes n d → d ≡ Passing m o → m < size plan.now.tree }
+        ensures { IsAnswered self.old (admit_row plan.now (state_of self.old) place (seated task hand) task) result self.new }
+    {
+        match task {
+            Task::Free => return Err(NotEnabled),
+            Task::Opens(node, opening) => match opening {
+                Opening::Admitting(child) => {
+                    self.admit_child(plan, turns, place, hand, node, child);
+                }
+                Opening::Offering => {
+                    let hand = waits_for(plan, node, hand);
+                    let to = offered_to(plan, place, node);
+                    self.offer(
+                        place,
+                        Seat {
+                            task: Task::Free,
+                            hand,
+                        },
+                        node,
+                        to,
+                    );
+                }
+                _ => return Err(NotEnabled),
+            },
+            Task::Closes(node, closing) => match closing {
+                Closing::Passing(sibling, owner) => {
+                    let task = Task::Closes(node, Closing::CountingOff);
+                    self.offer(place, Seat { task, hand }, sibling, Some(owner));
+                }
+                _ => return Err(NotEnabled),
+            },
+        }
+        Ok(())
+    }
+
+    pub(crate) fn add_child(
+        &mut self,
+        plan: &Plan,
+        place: u8,
+        task: Task,
+        hand: Option<Hand>,
+        answer: Answer,
+    ) -> Result<(), NotEnabled>
+        requires place { place < length self.old.seats.items }
+        requires hand { (h : HandValue) → hand ≡ Some h → IsFactory plan.now self.old h.factory }
+        ensures { IsAnswered self.old (add_child_row plan.now (state_of self.old) place (seated task hand) (reply_by answer) task) result self.new }
+    {
+        let (Task::Free, Some(held)) = (task, hand) else {
+            return Err(NotEnabled);
+        };
+        if held.waiting.is_some() || held.registered >= usize::from(answer.pulls) {
+            return Err(NotEnabled);
+        }
+        let Some(child) = next_spare(plan, held.factory, held.registered) else {
+            return Err(NotEnabled);
+        };
+        self.counters[held.factory.index()] += 1;
+        self.go(place, hand, Task::Opens(child, Opening::Registering));
+        Ok(())
+    }
+
+    /// A node's own guard is given up, with the node's result.
+    fn give_guard(
+        &mut self,
+        plan: &Plan,
+        place: u8,
+        hand: Option<Hand>,
+        node: NodeId,
+        status: Status,
+    )
+        requires place { place < length self.old.seats.items }
+        requires inside { node < size plan.now.tree }
+        requires counters { length self.old.counters.items ≡ size plan.now.tree }
+        requires results { length self.old.results.items ≡ size plan.now.tree }
+        ensures state { state_of self.new ≡ guard_given plan.now (state_of self.old) place hand node status }
+        ensures room { KeepsRoom self.old self.new }
+    {
+        let outstanding = self.counters[node.index()];
+        self.counters[node.index()] = outstanding.saturating_sub(1);
+        self.results[node.index()] = status;
+        self.seats[usize::from(place)] = Seat {
+            task: ends_or_free(plan, node, status, outstanding),
+            hand,
+        };
+    }
+
+    /// A child of a node is counted off.
+    fn count_off(&mut self, plan: &Plan, place: u8, hand: Option<Hand>, node: NodeId)
+        requires place { place < length self.old.seats.items }
+        requires inside { node < size plan.now.tree }
+        requires counters { length self.old.counters.items ≡ size plan.now.tree }
+        requires results { length self.old.results.items ≡ size plan.now.tree }
+        ensures state { state_of self.new ≡ counted_off plan.now (state_of self.old) place (seated Task.Free hand) node }
+        ensures room { KeepsRoom self.old self.new }
+    {
+        let outstanding = self.counters[node.index()];
+        let status = self.results[node.index()];
+        self.counters[node.index()] = outstanding.saturating_sub(1);
+        self.go(place, hand, ends_or_free(plan, node, status, outstanding));
+    }
+
+    /// The factory in hand is done, if all its dynamic tests are registered that its body answered.
+    fn done_by_hand(
+        &mut self,
+        plan: &Plan,
+        place: u8,
+        hand: Option<Hand>,
+        answer: Answer,
+    ) -> Result<(), NotEnabled>
+        requires place { place < length self.old.seats.items }
+        requires hand { (h : HandValue) → hand ≡ Some h → IsFactory plan.now self.old h.factory }
+        requires counters { length self.old.counters.items ≡ size plan.now.tree }
+        requires results { length self.old.results.items ≡ size plan.now.tree }
+        ensures { IsAnswered self.old (done_hand plan.now (state_of self.old) place (reply_by answer) hand) result self.new }
+    {
+        let Some(hand) = hand else {
+            return Err(NotEnabled);
+        };
+        if hand.waiting.is_some() || !is_pulled(plan, hand.factory, hand.registered, answer) {
+            return Err(NotEnabled);
+        }
+        let status = pulled_result(hand.registered, answer);
+        self.give_guard(plan, place, None, hand.factory, status);
+        Ok(())
+    }
+
+    pub(crate) fn done(
+        &mut self,
+        plan: &Plan,
+        place: u8,
+        task: Task,
+        hand: Option<Hand>,
+        answer: Answer,
+    ) -> Result<(), NotEnabled>
+        requires place { place < length self.old.seats.items }
+        requires hand { (h : HandValue) → hand ≡ Some h → IsFactory plan.now self.old h.factory }
+        requires counters { length self.old.counters.items ≡ size plan.now.tree }
+        requires results { length self.old.results.items ≡ size plan.now.tree }
+        requires guards { (n : ℕ) (d : OpeningValue) → task ≡ Opens n d → n < size plan.now.tree }
+        requires counts { (c : ℕ) (d : ClosingValue) → task ≡ Closes c d → d ≡ CountingOff → HasParent plan.now c }
+        ensures { IsAnswered self.old (done_row plan.now (state_of self.old) place (seated task hand) (reply_by answer) task) result self.new }
+    {
+        match task {
+            Task::Free => return self.done_by_hand(plan, place, hand, answer),
+            Task::Opens(node, opening) => match opening {
+                Opening::Guarding => {
+                    self.give_guard(plan, place, hand, node, Status::Successful);
+                }
+                _ => return Err(NotEnabled),
+            },
+            Task::Closes(child, closing) => match closing {
+                Closing::CountingOff => {
+                    let Some(node) = plan.tree().parent(child) else {
+                        unreachable!()
+                    };
+                    self.count_off(plan, place, hand, node);
+                }
+                _ => return Err(NotEnabled),
+            },
+        }
+        Ok(())
+    }
+
+    pub(crate) fn settle(
+        &mut self,
+        plan: &Plan,
+        turns: &Turns,
+        place: u8,
+        task: Task,
+        hand: Option<Hand>,
+    ) -> Result<(), NotEnabled>
+        requires turns { AreTurns plan.now turns.now }
+        requires place { place < length self.old.seats.items }
+        requires sizes { length self.old.statuses.items ≡ size plan.now.tree }
+        requires inside { (n : ℕ) (d : ClosingValue) → task ≡ Closes n d → n < size plan.now.tree }
+        ensures { IsAnswered self.old (settle_row plan.now (state_of self.old) place (seated task hand) task) result self.new }
+    {
+        let Task::Closes(node, closing) = task else {
+            return Err(NotEnabled);
+        };
+        let Closing::Settling = closing else {
+            return Err(NotEnabled);
+        };
+        self.statuses[node.index()] = NodeStatus::Settled;
+        self.seats[usize::from(place)] = Seat {
+            task: after_settle(plan, turns, node),
+            hand: waits_no_more(node, hand),
+        };
+        Ok(())
+    }
+
+    /// The next sibling of a node is to be offered to the worker that claimed their parent.
+    fn look_for(
+        &mut self,
+        plan: &Plan,
+        place: u8,
+        hand: Option<Hand>,
+        node: NodeId,
+        sibling: NodeId,
+    ) -> Result<(), NotEnabled>
+        requires place { place < length self.old.seats.items }
+        requires parent { HasParent plan.now node }
+        ensures { IsAnswered self.old (look_found (state_of self.old) place (seated Task.Free hand) node sibling (status_at (state_of self.old) (parent_of plan.now.tree node))) result self.new }
+    {
+        let Some(parent) = plan.tree().parent(node) else {
+            unreachable!()
+        };
+        let Some(&NodeStatus::Claimed(owner)) = self.statuses.get(parent.index()) else {
+            return Err(NotEnabled);
+        };
+        self.go(
+            place,
+            hand,
+            Task::Closes(node, Closing::Passing(sibling, owner)),
+        );
+        Ok(())
+    }
+
+    pub(crate) fn look(
+        &mut self,
+        plan: &Plan,
+        place: u8,
+        task: Task,
+        hand: Option<Hand>,
+    ) -> Result<(), NotEnabled>
+        requires place { place < length self.old.seats.items }
+        requires looks { (n m : ℕ) (d : ClosingValue) → task ≡ Closes n d → d ≡ Looking m → HasParent plan.now n }
+        ensures { IsAnswered self.old (look_row plan.now (state_of self.old) place (seated task hand) task) result self.new }
+    {
+        match task {
+            Task::Free => Ok(()),
+            Task::Opens(_, _) => Err(NotEnabled),
+            Task::Closes(node, closing) => match closing {
+                Closing::Looking(sibling) => self.look_for(plan, place, hand, node, sibling),
+                _ => Err(NotEnabled),
+            },
+        }
+    }
+}

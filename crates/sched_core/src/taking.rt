@@ -1,0 +1,303 @@
+//! The steps by which a worker comes to a node, and to the keys that the node holds.
+
+ghost use Rattle.std.specs.Prelude.{◌≡◌, ◌<◌, ◌-◌, ℕ, Some, length, slice_get};
+ghost use Rattle.descriptor.specs.Nodes.{size};
+ghost use Rattle.scheduling.specs.Choices.{key_at, keys_count, same_word as same_word_of};
+ghost use Rattle.scheduling.specs.Rows.{claimed, claim_row, own_row, is_of_hand as is_of_hand_of, notice_row, weighed as weighed_of, weigh_row, take_found, take_row, gives_key, give_row, give_up_row};
+ghost use Rattle.scheduling.specs.declared.lock_word.LockWord.{LockWord as Word};
+ghost use Rattle.scheduling.specs.declared.lock_word.LockWord.TheVariants.{Readers};
+ghost use Rattle.scheduling.specs.declared.task.Opening.{Opening as OpeningValue};
+ghost use Rattle.scheduling.specs.declared.task.Opening.TheVariants.{Locking, Weighed, Backing};
+ghost use Rattle.scheduling.specs.declared.task.Closing.{Closing as ClosingValue};
+ghost use Rattle.scheduling.specs.declared.task.Closing.TheVariants.{Giving};
+ghost use Rattle.scheduling.specs.declared.task.Task.TheVariants.{Opens, Closes};
+ghost use Rattle.sched_core.specs.Bounds.{HasKey};
+ghost use Rattle.sched_core.specs.Fields.{state_of, seated, IsAnswered, KeepsRoom};
+
+use crate::fault::NotEnabled;
+use crate::machine::Machine;
+use descriptor::NodeId;
+use resource_locks::Plan;
+use scheduling::{
+    Closing, Hand, LockWord, NodeStatus, Opening, Task, admits, back_to, begins, claims,
+    given_back, giving, key_at_place, lock_after, mode_at_place, taken,
+};
+
+/// Whether a node is one of the dynamic tests of the factory in hand, if there is one.
+fn is_of_hand(plan: &Plan, hand: &Option<Hand>, node: NodeId) -> bool
+    requires { node < size plan.now.tree }
+    ensures { result ≡ is_of_hand_of plan.now hand.now node }
+{
+    match hand {
+        None => true,
+        Some(hand) => plan.tree().parent(node) == Some(hand.factory),
+    }
+}
+
+/// How a node goes on whose next key has this word.
+fn weighed(plan: &Plan, node: NodeId, index: usize, word: LockWord) -> Opening
+    requires node { node < size plan.now.tree }
+    requires key { index < keys_count plan.now node }
+    ensures { result ≡ weighed_of plan.now node index word }
+{
+    if admits(mode_at_place(plan, node, index), word) {
+        Opening::Weighed(index, word)
+    } else {
+        Opening::Backing(index)
+    }
+}
+
+/// Whether a key's word is still the one that was seen.
+fn is_same_word(word: LockWord, seen: LockWord) -> bool
+    ensures { result ≡ same_word_of word seen }
+{
+    match (word, seen) {
+        (LockWord::Readers(a), LockWord::Readers(b)) => a == b,
+        (LockWord::Written, LockWord::Written) => true,
+        _ => false,
+    }
+}
+
+impl Machine {
+    /// A node becomes the worker's at this place.
+    fn take_node(&mut self, plan: &Plan, place: u8, hand: Option<Hand>, node: NodeId)
+        requires place { place < length self.old.seats.items }
+        requires inside { node < size plan.now.tree }
+        requires sizes { length self.old.statuses.items ≡ size plan.now.tree }
+        ensures state { state_of self.new ≡ claimed plan.now (state_of self.old) place (seated Task.Free hand) node }
+        ensures room { KeepsRoom self.old self.new }
+    {
+        self.statuses[node.index()] = NodeStatus::Claimed(place);
+        self.go(place, hand, Task::Opens(node, claims(plan, node)));
+    }
+
+    pub(crate) fn claim(
+        &mut self,
+        plan: &Plan,
+        place: u8,
+        task: Task,
+        hand: Option<Hand>,
+        node: NodeId,
+    ) -> Result<(), NotEnabled>
+        requires place { place < length self.old.seats.items }
+        requires sizes { length self.old.statuses.items ≡ size plan.now.tree }
+        ensures { IsAnswered self.old (claim_row plan.now (state_of self.old) place (seated task hand) node) result self.new }
+    {
+        let (Task::Free, None) = (task, hand) else {
+            return Err(NotEnabled);
+        };
+        let Some(NodeStatus::Ready(None)) = self.statuses.get(node.index()) else {
+            return Err(NotEnabled);
+        };
+        self.take_node(plan, place, hand, node);
+        Ok(())
+    }
+
+    pub(crate) fn own(
+        &mut self,
+        plan: &Plan,
+        place: u8,
+        task: Task,
+        hand: Option<Hand>,
+        node: NodeId,
+    ) -> Result<(), NotEnabled>
+        requires place { place < length self.old.seats.items }
+        requires sizes { length self.old.statuses.items ≡ size plan.now.tree }
+        ensures { IsAnswered self.old (own_row plan.now (state_of self.old) place (seated task hand) node) result self.new }
+    {
+        let Task::Free = task else {
+            return Err(NotEnabled);
+        };
+        let Some(&NodeStatus::Ready(Some(owner))) = self.statuses.get(node.index()) else {
+            return Err(NotEnabled);
+        };
+        if owner != place || !is_of_hand(plan, &hand, node) {
+            return Err(NotEnabled);
+        }
+        self.take_node(plan, place, hand, node);
+        Ok(())
+    }
+
+    pub(crate) fn notice(
+        &mut self,
+        plan: &Plan,
+        place: u8,
+        task: Task,
+        hand: Option<Hand>,
+    ) -> Result<(), NotEnabled>
+        requires place { place < length self.old.seats.items }
+        requires inside { (n : ℕ) (d : OpeningValue) → task ≡ Opens n d → n < size plan.now.tree }
+        ensures { IsAnswered self.old (notice_row plan.now (state_of self.old) place (seated task hand) task) result self.new }
+    {
+        let Task::Opens(node, opening) = task else {
+            return Err(NotEnabled);
+        };
+        let Opening::Noticing = opening else {
+            return Err(NotEnabled);
+        };
+        self.go(
+            place,
+            hand,
+            Task::Opens(node, begins(plan, node, self.cancel)),
+        );
+        Ok(())
+    }
+
+    pub(crate) fn weigh(
+        &mut self,
+        plan: &Plan,
+        place: u8,
+        task: Task,
+        hand: Option<Hand>,
+    ) -> Result<(), NotEnabled>
+        requires place { place < length self.old.seats.items }
+        requires keys { (n i : ℕ) (d : OpeningValue) → task ≡ Opens n d → d ≡ Locking i → HasKey plan.now n i }
+        ensures { IsAnswered self.old (weigh_row plan.now (state_of self.old) place (seated task hand) task) result self.new }
+    {
+        let Task::Opens(node, opening) = task else {
+            return Err(NotEnabled);
+        };
+        let Opening::Locking(index) = opening else {
+            return Err(NotEnabled);
+        };
+        let word = self.word(key_at_place(plan, node, index));
+        self.go(
+            place,
+            hand,
+            Task::Opens(node, weighed(plan, node, index, word)),
+        );
+        Ok(())
+    }
+
+    /// The key at this place of those of a node is taken, if its word is still the one that was seen, and the worker goes on.
+    fn take_key(
+        &mut self,
+        plan: &Plan,
+        place: u8,
+        hand: Option<Hand>,
+        node: NodeId,
+        index: usize,
+        seen: LockWord,
+    ) -> Result<(), NotEnabled>
+        requires place { place < length self.old.seats.items }
+        requires node { node < size plan.now.tree }
+        requires key { index < keys_count plan.now node }
+        requires few { (k n : ℕ) → slice_get self.old.locks.items k ≡ Some (Readers n) → n < 65535 }
+        ensures { IsAnswered self.old (take_found plan.now (state_of self.old) place (seated Task.Free hand) node index seen (slice_get self.old.locks.items (key_at plan.now node index))) result self.new }
+    {
+        let key = key_at_place(plan, node, index);
+        let Some(&word) = self.locks.get(key) else {
+            return Err(NotEnabled);
+        };
+        if !is_same_word(word, seen) {
+            self.go(place, hand, Task::Opens(node, Opening::Locking(index)));
+            return Ok(());
+        }
+        self.locks[key] = taken(mode_at_place(plan, node, index), word);
+        self.go(
+            place,
+            hand,
+            Task::Opens(node, lock_after(plan, node, index)),
+        );
+        Ok(())
+    }
+
+    pub(crate) fn take(
+        &mut self,
+        plan: &Plan,
+        place: u8,
+        task: Task,
+        hand: Option<Hand>,
+    ) -> Result<(), NotEnabled>
+        requires place { place < length self.old.seats.items }
+        requires keys { (n i : ℕ) (v : Word) (d : OpeningValue) → task ≡ Opens n d → d ≡ Weighed i v → HasKey plan.now n i }
+        requires few { (k n : ℕ) → slice_get self.old.locks.items k ≡ Some (Readers n) → n < 65535 }
+        ensures { IsAnswered self.old (take_row plan.now (state_of self.old) place (seated task hand) task) result self.new }
+    {
+        let Task::Opens(node, opening) = task else {
+            return Err(NotEnabled);
+        };
+        let Opening::Weighed(index, seen) = opening else {
+            return Err(NotEnabled);
+        };
+        self.take_key(plan, place, hand, node, index, seen)
+    }
+
+    /// The key at this place of those of a node is given back, and the worker goes on.
+    fn give_key(
+        &mut self,
+        plan: &Plan,
+        place: u8,
+        hand: Option<Hand>,
+        task: Task,
+        node: NodeId,
+        index: usize,
+    ) -> Result<(), NotEnabled>
+        requires place { place < length self.old.seats.items }
+        requires node { node < size plan.now.tree }
+        requires key { index < keys_count plan.now node }
+        ensures { IsAnswered self.old (gives_key plan.now (state_of self.old) place (seated task hand) task node index (slice_get self.old.locks.items (key_at plan.now node index))) result self.new }
+    {
+        let key = key_at_place(plan, node, index);
+        let Some(&word) = self.locks.get(key) else {
+            return Err(NotEnabled);
+        };
+        self.locks[key] = given_back(mode_at_place(plan, node, index), word);
+        self.go(place, hand, task);
+        Ok(())
+    }
+
+    pub(crate) fn give(
+        &mut self,
+        plan: &Plan,
+        place: u8,
+        task: Task,
+        hand: Option<Hand>,
+    ) -> Result<(), NotEnabled>
+        requires place { place < length self.old.seats.items }
+        requires backs { (n left : ℕ) (d : OpeningValue) → task ≡ Opens n d → d ≡ Backing left → 0 < left → HasKey plan.now n (left - 1) }
+        requires gives { (n left : ℕ) (d : ClosingValue) → task ≡ Closes n d → d ≡ Giving left → 0 < left → HasKey plan.now n (left - 1) }
+        ensures { IsAnswered self.old (give_row plan.now (state_of self.old) place (seated task hand) task) result self.new }
+    {
+        match task {
+            Task::Free => Err(NotEnabled),
+            Task::Opens(node, opening) => match opening {
+                Opening::Backing(left) if left > 0 => {
+                    let task = Task::Opens(node, Opening::Backing(left - 1));
+                    self.give_key(plan, place, hand, task, node, left - 1)
+                }
+                _ => Err(NotEnabled),
+            },
+            Task::Closes(node, closing) => match closing {
+                Closing::Giving(left) if left > 0 => {
+                    let task = Task::Closes(node, giving(left - 1));
+                    self.give_key(plan, place, hand, task, node, left - 1)
+                }
+                _ => Err(NotEnabled),
+            },
+        }
+    }
+
+    pub(crate) fn give_up(
+        &mut self,
+        plan: &Plan,
+        place: u8,
+        task: Task,
+        hand: Option<Hand>,
+    ) -> Result<(), NotEnabled>
+        requires place { place < length self.old.seats.items }
+        requires sizes { length self.old.statuses.items ≡ size plan.now.tree }
+        requires inside { (n : ℕ) (d : OpeningValue) → task ≡ Opens n d → n < size plan.now.tree }
+        ensures { IsAnswered self.old (give_up_row plan.now (state_of self.old) place (seated task hand) task) result self.new }
+    {
+        let Task::Opens(node, opening) = task else {
+            return Err(NotEnabled);
+        };
+        let Opening::Backing(0) = opening else {
+            return Err(NotEnabled);
+        };
+        self.statuses[node.index()] = NodeStatus::Ready(back_to(plan, place, node));
+        self.go(place, hand, Task::Free);
+        Ok(())
+    }
+}
