@@ -8,6 +8,7 @@ mod adding;
 mod answers;
 mod nodes;
 mod plans;
+mod runs;
 mod selection;
 mod table;
 

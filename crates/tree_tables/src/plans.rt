@@ -1,5 +1,6 @@
-//! The plan of a tree under a configuration: how each node is executed, and which locks it holds meanwhile.
+//! The plan of a tree under a configuration: how each node is executed, which locks it holds meanwhile, and its runs.
 
+use crate::runs::{fails_fast, run_text};
 use config_params::{Params, Settings, Source};
 use descriptor::{Lock, LockMode, Mode, NodeId, Tree};
 use exec_mode::modes;
@@ -71,18 +72,48 @@ fn copied_text(alloc: Global, plan: &Plan) -> Result<String, AllocError> {
     String::from_str(alloc, " => the copy differs")
 }
 
-fn hoisted(alloc: Global, tree: &Tree, settings: &Settings) -> Result<String, AllocError> {
+/// What is asked of a plan: how it executes its nodes, or what a run of it leaves.
+fn plan_answer(
+    alloc: Global,
+    plan: &Plan,
+    asked: &str,
+    words: &str,
+    steps: &str,
+) -> Result<String, AllocError> {
+    match asked {
+        "plan" => copied_text(alloc, plan),
+        _ => run_text(alloc, plan, asked, words, steps),
+    }
+}
+
+fn hoisted(
+    alloc: Global,
+    tree: &Tree,
+    settings: &Settings,
+    asked: &str,
+    words: &str,
+    steps: &str,
+) -> Result<String, AllocError> {
     match hoist(alloc, tree, modes(alloc, tree, settings)?) {
-        Ok(plan) => copied_text(alloc, &plan),
+        Ok(plan) => {
+            let plan = plan.with_fail_fast(fails_fast(words));
+            plan_answer(alloc, &plan, asked, words, steps)
+        }
         Err(fault) => format!(in alloc; " => error {}: {fault}", fault.number()),
     }
 }
 
-/// The plan of a tree where the request has these words, on a machine of four processors.
-pub(crate) fn planned(alloc: Global, tree: &Tree, words: &str) -> Result<String, AllocError> {
+/// What is asked of the plan of a tree where the request has these words, before the steps, on a machine of four processors.
+pub(crate) fn planned(
+    alloc: Global,
+    tree: &Tree,
+    asked: &str,
+    words: &str,
+) -> Result<String, AllocError> {
+    let (words, steps) = words.split_once(" : ").unwrap_or((words, ""));
     let params = requested(alloc, words)?;
     match Settings::read(&params, 4) {
-        Ok(settings) => hoisted(alloc, tree, &settings),
+        Ok(settings) => hoisted(alloc, tree, &settings, asked, words, steps),
         Err(fault) => format!(in alloc; " => error {}: {fault}", fault.number()),
     }
 }
