@@ -15,6 +15,7 @@ fn answer(alloc: Global, asked: &str, text: &str) -> Result<String, AllocError> 
         "expr" => tags::truth(alloc, text),
         "selector" => suites::selector(alloc, text),
         "suite" => suites::size(alloc, text),
+        "said" => suites::said(alloc, text),
         "test" => suites::test_line(alloc, text),
         "steps" => suites::steps(alloc, text),
         "word" => events::event(alloc, text),

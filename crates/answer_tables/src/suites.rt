@@ -21,6 +21,23 @@ pub(crate) fn size(alloc: Global, text: &str) -> Result<String, AllocError> {
     }
 }
 
+/// The value that the property lines of a suite have for a key.
+fn value(alloc: Global, suite: &Suite, key: &str) -> Result<String, AllocError> {
+    match suite.properties.get(key) {
+        Some(value) => format!(in alloc; "{value:?}"),
+        None => String::from_str(alloc, "none"),
+    }
+}
+
+/// The value of `KEY|TEXT`: the key's in the suite of the text.
+pub(crate) fn said(alloc: Global, text: &str) -> Result<String, AllocError> {
+    let (key, text) = text.split_once('|').unwrap_or((text, ""));
+    match Suite::parse(alloc, text) {
+        Ok(suite) => value(alloc, &suite, key),
+        Err(fault) => refusal(alloc, fault),
+    }
+}
+
 /// How many nodes a suite has whose third line is a test with this end.
 pub(crate) fn test_line(alloc: Global, end: &str) -> Result<String, AllocError> {
     let text = format!(in alloc; "engine e\n  class A\n    test t {end}")?;

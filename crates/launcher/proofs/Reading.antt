@@ -3,7 +3,7 @@ use Rattle.std.proofs.Common.{ℕ, List, Option, Some, None, IfSome, Result, Ok,
 use Rattle.std.specs.Result.{IsErrAnd}
 use Rattle.suite_text.specs.declared.suite.Suite.{Suite}
 use Rattle.suite_text.specs.declared.suite_fault.SuiteFault.{SuiteFault}
-use Rattle.suite_text.specs.declared.suite_fault.SuiteFault.TheVariants.{NoMemory, BadLine, BadIndent, MissingVerdict, TooLarge, Refused}
+use Rattle.suite_text.specs.declared.suite_fault.SuiteFault.TheVariants.{NoMemory, BadLine, BadIndent, MissingVerdict, TooLarge, Refused, BadProperty}
 use Rattle.launcher.specs.declared.fault.LaunchFault.{LaunchFault}
 use Rattle.launcher.specs.Faults.{IsSuiteFault}
 use Rattle.suite_text.specs.SuiteFaults.{Fails}
@@ -18,6 +18,7 @@ suite_fails (BadIndent line) fault read is fails = rw is (fails (λ same. cc))
 suite_fails (MissingVerdict line) fault read is fails = rw is (fails (λ same. cc))
 suite_fails TooLarge fault read is fails = rw is (fails (λ same. cc))
 suite_fails (Refused cause line) fault read is fails = rw is (fails (λ same. cc))
+suite_fails (BadProperty cause) fault read is fails = rw is (fails (λ same. cc))
 
 pub suite_refused : (cause : SuiteFault) (result : Result Suite LaunchFault) (read : Result SuiteParts SuiteFault) → IsErrAnd result (IsSuiteFault cause) → Fails cause read → ReadsSuite read result
 suite_refused cause (Ok suite) read is fails = absurd is

@@ -14,5 +14,7 @@ pub mod SuiteSteps
 mod WrittenWords
 mod WrittenTexts
 mod WrittenLines
+mod WrittenProperties
+mod Trimmed
 pub mod WrittenSuites
 mod WrittenTrees

@@ -2,6 +2,7 @@
 use Rattle.std.proofs.Common.{◌≡◌, ◌≤◌, length, ℕ, List, [], ◌∷◌, ◌++◌, option_map, Option, Some, None, option_to_list, refl, ap, sym, ◌∙◌, append-nil}
 use Rattle.std.proofs.lemmas.List.{map-append}
 use Rattle.std.proofs.lemmas.Grind.{flat_map-append}
+use Rattle.config_params.specs.Parameters.{Parameters}
 use Rattle.descriptor.specs.declared.node.Node.{Node}
 use Rattle.plan_events.specs.declared.status.Status.{Status}
 use Rattle.suite_text.specs.declared.script.Script.{Script}
@@ -11,6 +12,7 @@ use Rattle.suite_text.specs.SuiteNodes.{body_declared, script_declared, parent_o
 use Rattle.suite_text.specs.SuiteParts.{LinesRead, bodies_of, bodies_answered}
 use Rattle.suite_text.specs.SuitePaths.{IsSound}
 use Rattle.suite_text.specs.SuiteScripts.{ending}
+use Rattle.suite_text.specs.Suites.{with_properties}
 use Rattle.suite_text.specs.SuiteVerdicts.{status_declared}
 use Rattle.suite_text.specs.SuiteWords.{Declaration}
 use Rattle.suite_text.proofs.SuitePaths.{path_next, parent_inside}
@@ -35,6 +37,10 @@ answers_next nodes scripts node d n same body =
     ∙ ap (λ l. l ++ bodies_answered (option_to_list (script_declared d n))) same
     ∙ ap (λ l. bodies_of nodes ++ l) (one d n ∙ ap option_to_list (sym body) ∙ sym (one_body node))
     ∙ sym (flat_map-append (λ (x : Node). option_to_list x.body) nodes (node ∷ []))
+
+-- properties are no part of it
+pub properties_sound : (read : LinesRead) (properties : Parameters) → IsSound read → IsSound (with_properties read properties)
+properties_sound read properties sound = record { has_path = sound.has_path; answered = sound.answered; ids = sound.ids }
 
 pub grown_sound : (read : LinesRead) (level : ℕ) (d : Declaration) → IsSound read → IsTree read.tree → level ≤ length read.path → IsSound (grown read level d)
 grown_sound read level d sound tree fits = record {

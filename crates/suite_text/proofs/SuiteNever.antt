@@ -24,7 +24,13 @@ use Rattle.suite_text.specs.Numbers.{number_up_to}
 use Rattle.suite_text.specs.SuiteSpins.{value_of, or_bad_line, spin_of}
 use Rattle.suite_text.specs.SuiteVerdicts.{verdict_spelled, no_verdict, verdict_with, verdict_of}
 use Rattle.suite_text.specs.SuiteWords.{word_of, may_stand, placed, with_verdict, with_attributes, with_name, declared_by}
-use Rattle.suite_text.specs.Suites.{with_declared, with_declaration, with_line, suite_from, suite_of}
+use Rattle.std.specs.List.{list_any}
+use Rattle.config_params.specs.declared.fault.ParamsFault.TheVariants.{NoEquals, EmptyKey}
+use Rattle.config_params.specs.Pairs as pairs
+use Rattle.config_params.specs.Pairs.{Pair, is_equals_sign, said}
+use Rattle.config_params.specs.Parameters.{Parameters}
+use Rattle.suite_text.specs.SuiteProperties.{with_said, with_property}
+use Rattle.suite_text.specs.Suites.{with_declared, with_words_on, is_property_in, with_pair, with_properties, with_line, suite_from, suite_of}
 
 abbrev Never : {A : Type 0} → Result A SuiteFault → Type 0
 Never r = r ≢ Err NoMemory
@@ -116,11 +122,24 @@ refused_never : (number : ℕ) (why : Option TreeFault) (read : LinesRead) → N
 refused_never number None read = λ e. cc
 refused_never number (Some why) read = λ e. cc
 
+said_never : (number : ℕ) (params : Parameters) (pair : Pair) (nothing none empty : Bool)
+    → Never (with_said params (if nothing then Ok None else said (if none then Err (NoEquals number) else (if empty then Err (EmptyKey number) else Ok pair))))
+said_never number params pair true none empty = λ e. cc
+said_never number params pair false true empty = λ e. cc
+said_never number params pair false false true = λ e. cc
+said_never number params pair false false false = λ e. cc
+
+pair_never : (number : ℕ) (read : LinesRead) (line : List ℕ) → Never (with_pair number read line)
+pair_never number read line =
+    let rest = after_word line in
+    then_never (with_property number read.properties line) (λ properties. Ok (with_properties read properties))
+    (said_never number read.properties (pairs.key_of rest, pairs.value_of rest) (pairs.says_nothing rest) (not (list_any is_equals_sign rest)) (length (pairs.key_of rest) == 0)) (λ properties. λ e. cc)
+
 line_never : (number : ℕ) (read : LinesRead) (line : List ℕ) → Never (with_line number read line)
 line_never number read line = if_never (says_nothing line) _ _ (λ e. cc)
-    (then_never (level_of number (length read.path) line) (λ level. with_declaration number read level line) (level_never number (length read.path) line)
-    (λ level. then_never (declared_by number (word_on read level) line) (λ d. with_declared number read level d) (by_never number (word_on read level) line)
-    (λ d. refused_never number (refusal_on read level d) (grown read level d))))
+    (then_never (level_of number (length read.path) line) (λ level. with_words_on number read level line) (level_never number (length read.path) line)
+    (λ level. if_never (is_property_in read line) _ _ (pair_never number read line) (then_never (declared_by number (word_on read level) line) (λ d. with_declared number read level d) (by_never number (word_on read level) line)
+    (λ d. refused_never number (refusal_on read level d) (grown read level d)))))
 
 from_never : (number : ℕ) (read : LinesRead) (ls : List (List ℕ)) → Never (suite_from number read ls)
 from_never number read [] = λ e. cc

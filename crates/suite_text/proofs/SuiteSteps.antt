@@ -1,7 +1,7 @@
 -- One more line of a suite.
-use Rattle.std.proofs.Common.{rules, ◌≤◌, ◌≡◌, ℕ, ◌+◌, ◌<◌, List, ◌∷◌, map, drop, length, get_or, Result, Ok, sym, ap, ◌∙◌, refl}
+use Rattle.std.proofs.Common.{rules, ◌≤◌, ◌≡◌, ℕ, ◌+◌, ◌<◌, List, [], ◌∷◌, map, drop, length, get_or, Result, Ok, sym, ap, ◌∙◌, refl, arith}
 use Rattle.std.specs.Prelude.{nat_lt, Bool, false}
-use Rattle.std.proofs.lemmas.List.{drop-map, drop_more}
+use Rattle.std.proofs.lemmas.List.{drop-map, drop_more, drop_all, length-map}
 use borrow.Author.Tests.{tests}
 use Rattle.std.specs.Str.Lines.{lines}
 use denote.Ref.{Bor}
@@ -9,7 +9,7 @@ use Rattle.suite_text.specs.declared.suite_fault.SuiteFault.{SuiteFault}
 use Rattle.suite_text.specs.SuiteFaults.{Fails}
 use Rattle.unique_id.specs.Answers.{◌>>=◌}
 use Rattle.unique_id.specs.Answers.{texts}
-use Rattle.suite_text.specs.SuiteParts.{LinesRead, no_lines, parts_of}
+use Rattle.suite_text.specs.SuiteParts.{SuiteParts, LinesRead, no_lines, parts_of}
 use Rattle.suite_text.specs.Suites.{with_line, suite_from, suite_of}
 
 -- a fault of the first step is one of both
@@ -42,6 +42,18 @@ small text b is e = rw (is ∙ e) refl
 
 pub suite_small : (text : List ℕ) → length text ≤ 1048576 → suite_of text ≡ (suite_from 1 no_lines (lines text) >>= (λ read. Ok (parts_of read)))
 suite_small text h = small text (nat_lt 1048576 (length text)) refl (search (rules, tests))
+
+-- where no line is left
+pub suite_done : (text : List ℕ) (xs : List (Bor (List ℕ))) (i : ℕ) (read : LinesRead) (parts : SuiteParts) → length text ≤ 1048576 → texts xs ≡ lines text → length xs ≤ i
+    → suite_from (i + 1) read (drop i (texts xs)) ≡ suite_from 1 no_lines (texts xs) → parts ≡ parts_of read → suite_of text ≡ Ok parts
+suite_done text xs i read parts h e fits so_far is =
+    let now : Bor (List ℕ) → List ℕ = λ x. x.now in
+    let few = length-map xs now in
+    let none : drop i (texts xs) ≡ [] = drop_all i (texts xs) (omega (arith, few, fits)) in
+    suite_small text h
+    ∙ ap (λ l. suite_from 1 no_lines l >>= (λ r. Ok (parts_of r))) (sym e)
+    ∙ ap (λ r. r >>= (λ x. Ok (parts_of x))) (sym so_far ∙ ap (suite_from (i + 1) read) none)
+    ∙ ap Ok (sym is)
 
 pub suite_fails : (text : List ℕ) (ls : List (List ℕ)) (fault : SuiteFault) → length text ≤ 1048576 → ls ≡ lines text → Fails fault (suite_from 1 no_lines ls) → Fails fault (suite_of text)
 suite_fails text ls fault h e fails =

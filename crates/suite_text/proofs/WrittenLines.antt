@@ -6,6 +6,7 @@ use Rattle.std.proofs.lemmas.List.{append_assoc}
 use Rattle.std.specs.Char.{is_ascii_digit}
 use Rattle.std.specs.List.{list_all, prefix_len}
 use Rattle.std.specs.Option.{is_some}
+use Rattle.std.specs.Str.{bytes_eq}
 use Rattle.std.specs.Str.Parse.{digits_value}
 use Rattle.suite_text.specs.declared.suite_words.Word.{Word}
 use Rattle.suite_text.specs.declared.suite_words.Word.TheVariants.{Engine, Class, Test}
@@ -23,6 +24,7 @@ use Rattle.suite_text.specs.Numbers.{is_number}
 use Rattle.suite_text.specs.SuiteSpins.{or_bad_line, spin_of}
 use Rattle.suite_text.specs.SuiteVerdicts.{verdict_spelled, no_verdict, verdict_with, verdict_of}
 use Rattle.suite_text.specs.SuiteWords.{Declaration, word_of, placed, with_verdict, with_attributes, with_name, declared_by}
+use Rattle.suite_text.specs.SuiteProperties.{is_property}
 use Rattle.suite_text.specs.Words.{is_space, words_in}
 use Rattle.suite_text.specs.WrittenLines.{spaces, indentation, IsWord, word_text, Said, Tagged, Counts, said_text, said_also, MaySay, Attribute, attributes_text, all_said, MaySayAll, Ending, verdict_text, ending_text, MayExplain, IsEnding, MayEnd, NodeLine, node_text, verdict_said, text_said, declares, IsNodeLine}
 use Rattle.suite_text.proofs.Numbers.{number_parts}
@@ -51,6 +53,12 @@ verdict_back Pass = refl
 verdict_back Fail = refl
 verdict_back Abort = refl
 verdict_back Disabled = refl
+
+-- and none is the word of a property
+no_property : (w : Word) → bytes_eq (word_text w) (codes "property") ≡ false
+no_property Engine = refl
+no_property Class = refl
+no_property Test = refl
 
 -- no verdict is an attribute
 no_attribute : (w : Word) (v : Verdict) → attribute_of w (verdict_text v) ≡ None
@@ -274,6 +282,9 @@ module _ (number level : ℕ) (l : NodeLine) where
       let found = prefix_spaces (level + level) (words number l) in
       let none = word_indents l.word (behind_word number l) in
       ap (level_of number deepest) shape ∙ level_by number deepest level (indentation_of (spaces (level + level) ++ words number l)) (omega (arith, found, none)) h
+
+  pub line_no_property : is_property (node_text level l) ≡ false
+  line_no_property = ap is_property shape ∙ ap (λ t. bytes_eq t (codes "property")) (first_is (level + level) (word_text l.word) (behind_word number l) (is_word l.word) refl) ∙ no_property l.word
 
   pub line_declares : (above : Option Word) → IsNodeLine above l → declared_by number above (node_text level l) ≡ Ok (declares l)
   line_declares above is = ap (declared_by number above) shape ∙ words_read number l (level + level) above is

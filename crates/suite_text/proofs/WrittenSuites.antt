@@ -1,6 +1,6 @@
 -- A written suite is read back.
 use borrow.Author.Tests.{tests}
-use Rattle.std.proofs.Common.{rules, nat_lt, ◌≡◌, ℕ, zero, suc, ◌+◌, ◌<◌, ◌≤◌, List, [], ◌∷◌, ◌++◌, length, take, Bool, true, false, cond, if◌then◌else◌, ◌||◌, ◌==◌, inl, inr, Option, Some, None, Result, Ok, refl, ap, sym, subst, ◌∙◌, arith, append-nil, length-append}
+use Rattle.std.proofs.Common.{rules, nat_lt, ◌≡◌, ℕ, zero, suc, ◌+◌, ◌<◌, ◌≤◌, List, [], ◌∷◌, ◌++◌, length, take, Bool, true, false, cond, if◌then◌else◌, ◌||◌, ◌&&◌, ◌==◌, inl, inr, Option, Some, None, Result, Ok, refl, ap, sym, subst, ◌∙◌, arith, append-nil, length-append}
 use Rattle.std.specs.Prelude.{slice_get}
 use Rattle.std.specs.List.{AllByRecursion}
 use Rattle.std.specs.Option.{is_some}
@@ -23,24 +23,24 @@ use Rattle.unique_id.specs.Answers.{◌>>=◌}
 use Rattle.suite_text.specs.SuiteLines.{says_nothing, begins_with_sign}
 use Rattle.suite_text.specs.SuiteNodes.{id_at, segment_kind, parent_on, word_on, node_on, refusal_on, grown, unless_refused}
 use Rattle.suite_text.specs.SuiteParts.{SuiteParts, LinesRead, no_lines, parts_of, above, word_of_opened, node_of_opened}
-use Rattle.suite_text.specs.Suites.{with_declared, with_declaration, with_words, with_line, suite_from, suite_of, suite_parts}
+use Rattle.config_params.specs.Parameters as parameters
+use Rattle.config_params.specs.Parameters.{Parameters}
+use Rattle.suite_text.specs.WrittenProperties.{IsProperty, property_text, said_to}
+use Rattle.suite_text.specs.Suites.{with_words_on, with_pair, with_properties, with_declared, with_declaration, with_words, with_line, suite_from, suite_of, suite_parts}
 use Rattle.suite_text.specs.WrittenLines.{IsWord, NodeLine, node_text, declares, IsNodeLine}
-use Rattle.suite_text.specs.WrittenSuites.{Line, SaysNothing, Items, NoMore, Item, lines_of_items, Written, lines_of_written, text_of_written, with_item, in_item, with_items, no_parts, meant, node_in, IsShortId, AreItems, IsWritten, IsSuite}
+use Rattle.suite_text.specs.WrittenSuites.{Line, SaysNothing, Items, NoMore, Item, lines_of_items, Written, lines_of_written, text_of_written, with_item, in_item, with_items, no_nodes, PropertyLine, lines_of_properties, all_said_to, meant, node_in, IsShortId, AreItems, IsWritten, IsSuite}
 use Rattle.suite_text.proofs.SuiteReading.{read_text}
 use Rattle.suite_text.proofs.SuiteSteps.{suite_small}
-use Rattle.suite_text.proofs.WrittenLines.{line_says, line_level, line_declares}
+use Rattle.suite_text.proofs.WrittenLines.{line_says, line_level, line_no_property, line_declares}
 use Rattle.suite_text.proofs.WrittenTrees.{Extends, extends_self, extends_one, extends_then, taken_next, id_next, id_short}
 use Rattle.suite_text.proofs.WrittenTexts.{texts_of, lines_back}
-use Rattle.suite_text.proofs.WrittenWords.{all_spaces}
+use Rattle.suite_text.proofs.WrittenProperties.{property_says, property_level, property_is, property_back}
+use Rattle.suite_text.proofs.WrittenWords.{all_spaces, or_true}
 
 abbrev goes : ℕ → LinesRead → List Line → Result LinesRead SuiteFault
 goes number read ls = suite_from number read (texts_of ls)
 
 -- lines that say nothing
-or_true : (b : Bool) → (b || true) ≡ true
-or_true true = refl
-or_true false = refl
-
 nothing_said : (line : Line) → SaysNothing line → says_nothing line.text ≡ true
 nothing_said line (inl sign) = ap says_nothing sign.1
 nothing_said line (inr spaces) = ap (λ t. begins_with_sign line.text || (length t == 0)) (all_spaces line.text spaces) ∙ or_true (begins_with_sign line.text)
@@ -100,6 +100,11 @@ taken_item parts place line final counted name more tree ids = record {
   tree = taken_next parts.tree final (node_of_opened place) (node_in parts place line) counted more tree;
 }
 
+-- no property's line
+neither : {A : Type 0} (b : Bool) (x y : A) → (if b && false then x else y) ≡ y
+neither true x y = refl
+neither false x y = refl
+
 -- a line that declares a node
 module _ (number level : ℕ) (read : LinesRead) (line : NodeLine) (fits : level ≤ length read.path) where
   refused_not : IsTaken (parts_of read) (above read.path level) line → refusal_on read level (declares line) ≡ None
@@ -109,7 +114,9 @@ module _ (number level : ℕ) (read : LinesRead) (line : NodeLine) (fits : level
   line_taken is taken =
       let text = node_text level line in
       ap (λ b. if b then Ok read else with_words number read text) (line_says number level line)
-      ∙ ap (λ r. r >>= (λ l. with_declaration number read l text)) (line_level number level line (length read.path) fits)
+      ∙ ap (λ r. r >>= (λ l. with_words_on number read l text)) (line_level number level line (length read.path) fits)
+      ∙ ap (λ b. if (length read.path == 0) && b then with_pair number read text else with_declaration number read level text) (line_no_property number level line)
+      ∙ neither (length read.path == 0) (with_pair number read text) (with_declaration number read level text)
       ∙ ap (λ r. r >>= (λ d. with_declared number read level d)) (line_declares number level line (word_on read level) is)
       ∙ ap (λ why. unless_refused number why (grown read level (declares line))) (refused_not taken)
 
@@ -192,13 +199,41 @@ module _ (final : Nodes) (tree : IsTree final) (short : AllByRecursion (λ (node
         kept = record { fits = second.kept.fits; same = λ l h. second.kept.same l h ∙ kept.same l h };
       }
 
+-- the lines of properties, before the first engine
+abbrev before_engines : Parameters → LinesRead
+before_engines params = with_properties no_lines params
+
+property_read : (number : ℕ) (params : Parameters) (line : PropertyLine) → IsProperty line.property → with_line number (before_engines params) (property_text line.property) ≡ Ok (before_engines (said_to params line.property))
+property_read number params line is =
+    let text = property_text line.property in
+    let read = before_engines params in
+    ap (λ b. if b then Ok read else with_words number read text) (property_says line.property)
+    ∙ ap (λ r. r >>= (λ l. with_words_on number read l text)) (property_level line.property number)
+    ∙ ap (λ b. if b then with_pair number read text else with_declaration number read 0 text) (property_is line.property)
+    ∙ ap (λ r. r >>= (λ p. Ok (before_engines p))) (property_back line.property number params is)
+
+properties_back : (number : ℕ) (params : Parameters) (properties : List PropertyLine) (rest : List Line) → AllByRecursion (λ (line : PropertyLine). AllByRecursion SaysNothing line.before × IsProperty line.property) properties
+    → (n : ℕ) × (goes number (before_engines params) (lines_of_properties properties ++ rest) ≡ goes n (before_engines (all_said_to params properties)) rest)
+properties_back number params [] rest h = (number, refl)
+properties_back number params (line ∷ more) rest h =
+    let own : Line = record { text = property_text line.property; end = line.end } in
+    let behind = lines_of_properties more ++ rest in
+    let front = passed number (before_engines params) line.before (own ∷ behind) h.0.0 in
+    let next = properties_back (front.0 + 1) (said_to params line.property) more rest h.1 in (
+      next.0,
+      ap (goes number (before_engines params)) (append_assoc line.before (own ∷ lines_of_properties more) rest) ∙ front.1
+          ∙ ap (λ r. r >>= (λ x. goes (front.0 + 1) x behind)) (property_read front.0 params line h.0.1) ∙ next.1,
+    )
+
 suite_back : (written : Written) → IsWritten written → suite_of (text_of_written written) ≡ Ok (meant written)
 suite_back written is =
-    let items = items_back (meant written).tree is.tree is.ids written.engines 1 0 no_lines no_parts None written.after refl refl (omega arith) refl (extends_self (meant written).tree) is.items in
+    let params = all_said_to parameters.nothing_said written.properties in
+    let front = properties_back 1 parameters.nothing_said written.properties (lines_of_items 0 written.engines ++ written.after) is.properties in
+    let items = items_back (meant written).tree is.tree is.ids written.engines front.0 0 (before_engines params) (no_nodes params) None written.after refl refl (omega arith) refl (extends_self (meant written).tree) is.items in
     let end = passed items.next items.made written.after [] is.after in
     suite_small (text_of_written written) is.short
     ∙ ap (λ ls. suite_from 1 no_lines ls >>= (λ read. Ok (parts_of read))) (lines_back (lines_of_written written) is.lines)
-    ∙ ap (λ r. r >>= (λ read. Ok (parts_of read))) (items.goes_on ∙ ap (goes items.next items.made) (sym (append-nil written.after)) ∙ end.1)
+    ∙ ap (λ r. r >>= (λ read. Ok (parts_of read))) (front.1 ∙ items.goes_on ∙ ap (goes items.next items.made) (sym (append-nil written.after)) ∙ end.1)
     ∙ ap Ok items.parts_are
 
 -- what gives the suite of a text gives the one that the text is written for

@@ -1,11 +1,15 @@
 -- Words and texts between spaces are read as they are written.
-use Rattle.std.proofs.Common.{◌≡◌, ℕ, zero, suc, ◌+◌, ◌-◌, ◌<◌, List, [], ◌∷◌, ◌++◌, length, reverse, take, drop, Bool, true, false, cond, not, ◌⊎◌, inl, inr, refl, ap, sym, subst, ◌∙◌, arith, length-append}
+use Rattle.std.proofs.Common.{◌≡◌, ℕ, zero, suc, ◌+◌, ◌-◌, ◌<◌, ◌||◌, List, [], ◌∷◌, ◌++◌, length, reverse, take, drop, Bool, true, false, cond, not, ◌⊎◌, inl, inr, refl, ap, sym, subst, ◌∙◌, arith, length-append}
 use Rattle.std.proofs.lemmas.List.{take_at, drop_at, drop-drop, reverse-append}
 use Rattle.std.specs.List.{AllByRecursion, before_first, after_first, position_or_len, prefix_len, suffix_len}
 use Rattle.suite_text.specs.SuiteLines.{without_front, without_end, first_word, after_word}
 use Rattle.suite_text.specs.Words.{is_space}
 use Rattle.suite_text.specs.WrittenLines.{spaces, IsWord}
 use Rattle.suite_text.proofs.FirstWords.{spaced, unspaced}
+
+pub or_true : (b : Bool) → (b || true) ≡ true
+or_true true = refl
+or_true false = refl
 
 -- no byte is a space
 abbrev pub Unspaced : List ℕ → Type 0

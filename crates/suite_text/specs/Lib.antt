@@ -11,6 +11,7 @@ pub mod SuiteLines
 pub mod SuiteNodes
 pub mod SuiteParts
 pub mod SuitePaths
+pub mod SuiteProperties
 pub mod SuiteScripts
 pub mod SuiteSpins
 pub mod SuiteVerdicts
@@ -18,4 +19,5 @@ pub mod SuiteWords
 pub mod Suites
 pub mod Words
 pub mod WrittenLines
+pub mod WrittenProperties
 pub mod WrittenSuites

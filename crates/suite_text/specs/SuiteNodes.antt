@@ -95,6 +95,7 @@ grown read level d = record {
   tree = appended read.tree (parent_on read level) (node_on read level d);
   path = take level read.path ++ record { node = size read.tree; word = d.word } ∷ [];
   scripts = read.scripts ++ option_to_list (script_declared d (size read.tree));
+  properties = read.properties;
 }
 
 -- what is made, unless it is refused at this line

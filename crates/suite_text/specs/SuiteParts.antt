@@ -1,30 +1,33 @@
 -- What the lines of a suite that were read have made.
 use Rattle.std.specs.Prelude.{ℕ, zero, suc, List, [], Option, Some, None, option_map, option_to_list, map, slice_get}
 use Rattle.std.specs.List.{flat_map}
+use Rattle.config_params.specs.Parameters.{Parameters, nothing_said}
 use Rattle.descriptor.specs.declared.node.Node.{Node}
 use Rattle.descriptor.specs.Nodes.{Nodes, plan_alone}
 use Rattle.suite_text.specs.declared.script.Script.{Script}
 use Rattle.suite_text.specs.declared.suite_builder.Opened.{Opened}
 use Rattle.suite_text.specs.declared.suite_words.Word.{Word}
 
--- the tree of a suite, and what its bodies answer
+-- the tree of a suite, what its bodies answer, and what it says of the configuration
 pub record SuiteParts : Type 0 where
   pub tree : Nodes
   pub scripts : List Script
+  pub properties : Parameters
 
 -- so far: `path` has the last node line's node and those above it, from level 0 on
 pub record LinesRead : Type 0 where
   pub tree : Nodes
   pub path : List Opened
   pub scripts : List Script
+  pub properties : Parameters
 
 -- before the first line
 abbrev pub no_lines : LinesRead
-no_lines = record { tree = plan_alone; path = []; scripts = [] }
+no_lines = record { tree = plan_alone; path = []; scripts = []; properties = nothing_said }
 
 -- what is left of it after the last line
 abbrev pub parts_of : LinesRead → SuiteParts
-parts_of read = record { tree = read.tree; scripts = read.scripts }
+parts_of read = record { tree = read.tree; scripts = read.scripts; properties = read.properties }
 
 -- the open node that a line of this level hangs below; none at level 0
 abbrev pub above : List Opened → ℕ → Option Opened

@@ -1,5 +1,5 @@
 -- The suite of a text, line by line, or its first fault.
-use Rattle.std.specs.Prelude.{ℕ, ◌+◌, nat_lt, List, [], ◌∷◌, length, if◌then◌else◌, Result, Ok, Err}
+use Rattle.std.specs.Prelude.{ℕ, ◌+◌, ◌==◌, ◌&&◌, nat_lt, Bool, List, [], ◌∷◌, length, if◌then◌else◌, Result, Ok, Err}
 use Rattle.std.specs.Str.Lines.{lines}
 use Rattle.suite_text.specs.declared.suite_fault.SuiteFault.{SuiteFault}
 use Rattle.suite_text.specs.declared.suite_fault.SuiteFault.TheVariants.{TooLarge}
@@ -7,6 +7,8 @@ use Rattle.suite_text.specs.declared.suite.Suite.{Suite}
 use Rattle.unique_id.specs.Answers.{◌>>=◌}
 use Rattle.suite_text.specs.SuiteLines.{says_nothing, level_of}
 use Rattle.suite_text.specs.SuiteWords.{Declaration, declared_by}
+use Rattle.config_params.specs.Parameters.{Parameters}
+use Rattle.suite_text.specs.SuiteProperties.{is_property, with_property}
 use Rattle.suite_text.specs.SuiteParts.{SuiteParts, LinesRead, no_lines, parts_of}
 use Rattle.suite_text.specs.SuiteNodes.{word_on, refusal_on, grown, unless_refused}
 
@@ -18,9 +20,25 @@ with_declared number read level d = unless_refused number (refusal_on read level
 abbrev pub with_declaration : ℕ → LinesRead → ℕ → List ℕ → Result LinesRead SuiteFault
 with_declaration number read level line = declared_by number (word_on read level) line >>= (λ d. with_declared number read level d)
 
+-- with other properties
+abbrev pub with_properties : LinesRead → Parameters → LinesRead
+with_properties read properties = record { tree = read.tree; path = read.path; scripts = read.scripts; properties = properties }
+
+-- whether a line is a property's: it stands before the first engine
+abbrev pub is_property_in : LinesRead → List ℕ → Bool
+is_property_in read line = length read.path == 0 && is_property line
+
+-- with what a property's line says
+abbrev pub with_pair : ℕ → LinesRead → List ℕ → Result LinesRead SuiteFault
+with_pair number read line = with_property number read.properties line >>= (λ properties. Ok (with_properties read properties))
+
+-- with what a line of words declares on its level
+abbrev pub with_words_on : ℕ → LinesRead → ℕ → List ℕ → Result LinesRead SuiteFault
+with_words_on number read level line = if is_property_in read line then with_pair number read line else with_declaration number read level line
+
 -- with what a line of words declares
 abbrev pub with_words : ℕ → LinesRead → List ℕ → Result LinesRead SuiteFault
-with_words number read line = level_of number (length read.path) line >>= (λ level. with_declaration number read level line)
+with_words number read line = level_of number (length read.path) line >>= (λ level. with_words_on number read level line)
 
 -- with one more line, of this number
 abbrev pub with_line : ℕ → LinesRead → List ℕ → Result LinesRead SuiteFault
@@ -37,4 +55,4 @@ suite_of text = if nat_lt 1048576 (length text) then Err TooLarge else (suite_fr
 
 -- a suite, without where it lies in memory
 abbrev pub suite_parts : Suite → SuiteParts
-suite_parts suite = record { tree = suite.tree; scripts = suite.scripts.items }
+suite_parts suite = record { tree = suite.tree; scripts = suite.scripts.items; properties = suite.properties }

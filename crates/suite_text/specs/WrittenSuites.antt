@@ -1,6 +1,7 @@
 -- What may be written as a suite: nodes that stand in nodes, each with its line, the texts that spell it, and the suite that it means.
 use Rattle.std.specs.Prelude.{◌≡◌, ◌≢◌, ◌<◌, ◌≤◌, ℕ, suc, ◌-◌, ◌==◌, ◌⊎◌, true, false, List, [], ◌∷◌, ◌++◌, length, slice_index, Option, Some, None, option_to_list}
 use Rattle.std.specs.List.{AllByRecursion, flat_map}
+use Rattle.config_params.specs.Parameters.{Parameters, nothing_said}
 use Rattle.descriptor.specs.declared.node.Node.{Node}
 use Rattle.descriptor.specs.Nodes.{IsTree, plan_alone, size, appended}
 use Rattle.unique_id.specs.declared.unique_id.Segment.{Segment}
@@ -11,6 +12,7 @@ use Rattle.suite_text.specs.SuiteNodes.{id_at, node_declared, script_declared}
 use Rattle.suite_text.specs.SuiteParts.{SuiteParts, word_of_opened, node_of_opened}
 use Rattle.suite_text.specs.Words.{is_space}
 use Rattle.suite_text.specs.WrittenLines.{NodeLine, node_text, declares, IsNodeLine}
+use Rattle.suite_text.specs.WrittenProperties.{Property, property_text, IsProperty, said_to}
 
 -- how a line ends: with a line feed, with a carriage return before it, or, the last one, with the text
 pub data LineEnd : Type 0 where
@@ -58,13 +60,30 @@ lines_of_items level NoMore = []
 lines_of_items level (Item before line end inside after) =
     before ++ (record { text = node_text level line; end = end } ∷ (lines_of_items (suc level) inside ++ lines_of_items level after))
 
--- a suite as it is written: its engines, and at the end lines that say nothing
+-- the line of a property, behind lines that say nothing
+pub record PropertyLine : Type 0 where
+  pub before : List Line
+  pub property : Property
+  pub end : LineEnd
+
+-- their lines
+abbrev pub lines_of_properties : List PropertyLine → List Line
+lines_of_properties [] = []
+lines_of_properties (line ∷ more) = line.before ++ (record { text = property_text line.property; end = line.end } ∷ lines_of_properties more)
+
+-- what they say, one after the other
+abbrev pub all_said_to : Parameters → List PropertyLine → Parameters
+all_said_to params [] = params
+all_said_to params (line ∷ more) = all_said_to (said_to params line.property) more
+
+-- a suite as it is written: what it says of the configuration, its engines, and at the end lines that say nothing
 pub record Written : Type 0 where
+  pub properties : List PropertyLine
   pub engines : Items
   pub after : List Line
 
 abbrev pub lines_of_written : Written → List Line
-lines_of_written written = lines_of_items 0 written.engines ++ written.after
+lines_of_written written = lines_of_properties written.properties ++ (lines_of_items 0 written.engines ++ written.after)
 
 abbrev pub text_of_written : Written → List ℕ
 text_of_written written = text_of_lines (lines_of_written written)
@@ -78,6 +97,7 @@ abbrev pub with_item : SuiteParts → Option Opened → NodeLine → SuiteParts
 with_item parts place line = record {
   tree = appended parts.tree (node_of_opened place) (node_in parts place line);
   scripts = parts.scripts ++ option_to_list (script_declared (declares line) (size parts.tree));
+  properties = parts.properties;
 }
 
 -- that node, for those in it
@@ -89,13 +109,13 @@ abbrev pub with_items : SuiteParts → Option Opened → Items → SuiteParts
 with_items parts place NoMore = parts
 with_items parts place (Item before line end inside after) = with_items (with_items (with_item parts place line) (in_item parts line) inside) place after
 
--- the plan alone
-abbrev pub no_parts : SuiteParts
-no_parts = record { tree = plan_alone; scripts = [] }
+-- the plan alone, with these properties
+abbrev pub no_nodes : Parameters → SuiteParts
+no_nodes properties = record { tree = plan_alone; scripts = []; properties = properties }
 
 -- the suite that is meant
 abbrev pub meant : Written → SuiteParts
-meant written = with_items no_parts None written.engines
+meant written = with_items (no_nodes (all_said_to nothing_said written.properties)) None written.engines
 
 -- items may be written right in a node of this word, or at level 0 where there is none
 abbrev pub AreItems : Option Word → Items → Type 0
@@ -108,6 +128,7 @@ IsShortId id = (length id ≤ 64) × (length (spelling id) ≤ 1024)
 
 -- a suite may be written so: each line may stand where it stands, and what they mean is a tree, with no id twice and nothing too long
 pub record IsWritten (written : Written) : Type 0 where
+  pub properties : AllByRecursion (λ line. AllByRecursion SaysNothing line.before × IsProperty line.property) written.properties
   pub items : AreItems None written.engines
   pub after : AllByRecursion SaysNothing written.after
   pub lines : AreLines (lines_of_written written)

@@ -13,6 +13,7 @@ use crate::script::Script;
 use crate::suite_builder::SuiteBuilder;
 use crate::suite_fault::SuiteFault;
 use crate::suite_lines::lines_in;
+use config_params::Params;
 use descriptor::Tree;
 use std::alloc::Global;
 
@@ -67,19 +68,21 @@ fn suite_of_bytes(alloc: Global, bytes: &[u8]) -> Result<Suite, SuiteFault>
     }
 }
 
-/// A tree of tests, and what its bodies answer.
+/// A tree of tests, what its bodies answer, and what property lines say of the configuration.
 #[derive(Drop)]
 pub struct Suite {
     pub tree: Tree,
     pub scripts: Vec<Script>,
+    /// As the file's parameters.
+    pub properties: Params,
 }
 
 impl Suite {
     /// The suite of a text. Lines end at a line feed, before which a carriage return is dropped;
     /// the last may go without. Refusals: 103 for more than 1,048,576 bytes, else the first
-    /// faulty line's: 101, 100, 102, 17 (its id), 10, 12 and 17 (its reason), in this order. Memory
-    /// is taken before the first line is judged, so want of memory may stand in place of a line's
-    /// refusal.
+    /// faulty line's: 101, 100, 102, 17 (its id), 10, 12 and 17 (its reason), in this order; of a
+    /// property's line 101, 100, 30, 31. Memory is taken before the first line is judged, so want
+    /// of memory may stand in place of a line's refusal.
     pub fn parse(alloc: Global, text: &str) -> Result<Suite, SuiteFault>
         ensures exact { Gives suite_parts result (suite_of text.now) }
         // A text that may be written for a suite is read as that suite.

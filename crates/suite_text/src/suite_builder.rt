@@ -6,7 +6,9 @@ use crate::script::Script;
 use crate::suite::Suite;
 use crate::suite_fault::SuiteFault;
 use crate::suite_lines::{level_at, without_front};
+use crate::suite_properties::{is_property, put_property};
 use crate::suite_words::{Declared, Word, declared_in};
+use config_params::Params;
 use descriptor::{Node, NodeId, Tree, TreeBuilder, TreeFault};
 use std::alloc::{AllocError, Global};
 use std::marker::Model;
@@ -22,12 +24,14 @@ pub(crate) struct Opened {
     pub(crate) word: Word,
 }
 
-/// The tree and the scripts of the lines so far, and the last node with those above it.
+/// The tree, the scripts and the properties of the lines so far, and the last node with those
+/// above it.
 #[derive(Drop)]
 pub(crate) struct SuiteBuilder {
     tree: TreeBuilder,
     path: Vec<Opened>,
     scripts: Vec<Script>,
+    properties: Params,
 }
 
 impl Model for SuiteBuilder {
@@ -36,9 +40,9 @@ impl Model for SuiteBuilder {
 
     ghost Value = { LinesRead };
 
-    ghost view = { λ b. record { tree = b.tree; path = b.path.items; scripts = b.scripts.items } };
+    ghost view = { λ b. record { tree = b.tree; path = b.path.items; scripts = b.scripts.items; properties = b.properties } };
 
-    ghost invariant = { λ b. IsSound (record { tree = b.tree; path = b.path.items; scripts = b.scripts.items }) };
+    ghost invariant = { λ b. IsSound (record { tree = b.tree; path = b.path.items; scripts = b.scripts.items; properties = b.properties }) };
 }
 
 ghost use Rattle.unique_id.specs.Spelling.{refusal};
@@ -116,9 +120,9 @@ fn node_or_plan(opened: Option<Opened>) -> NodeId
 impl SuiteBuilder {
     ghost use Rattle.suite_text.specs.SuiteParts.{no_lines};
     ghost use Rattle.suite_text.specs.SuiteIds.{IdsFollow};
-    ghost use Rattle.suite_text.specs.SuiteNodes.{node_on, is_over_limit_on};
+    ghost use Rattle.suite_text.specs.SuiteNodes.{word_on, node_on, is_over_limit_on};
     ghost use Rattle.suite_text.specs.SuiteFaults.{Fails};
-    ghost use Rattle.suite_text.specs.Suites.{with_declared, with_words, with_line, suite_parts};
+    ghost use Rattle.suite_text.specs.Suites.{is_property_in, with_declared, with_declaration, with_words, with_line, suite_parts};
     ghost use Rattle.suite_text.specs.SuiteParts.{parts_of, bodies_of, bodies_answered};
 
     /// Before the first line, with room for the nodes of so many lines.
@@ -130,6 +134,7 @@ impl SuiteBuilder {
             tree: TreeBuilder::with_capacity(alloc, nodes)?,
             path: Vec::new(alloc),
             scripts: Vec::with_capacity(alloc, nodes)?,
+            properties: Params::new(alloc),
         })
     }
 
@@ -144,6 +149,17 @@ impl SuiteBuilder {
             None
         } else {
             Some(self.path[level - 1])
+        }
+    }
+
+    /// The word of the node that a line of this level hangs below; none at level 0.
+    fn word_above(&self, level: usize) -> Option<Word>
+        requires { level ≤ length self.now.path }
+        ensures { result ≡ word_on self.now level }
+    {
+        match self.above(level) {
+            Some(opened) => Some(opened.word),
+            None => None,
         }
     }
 
@@ -212,15 +228,40 @@ impl SuiteBuilder {
         }
     }
 
-    /// Reads a line that declares a node.
+    /// Whether a line is a property's: it stands before the first engine.
+    fn is_property(&self, line: &str) -> bool
+        ensures { result ≡ is_property_in self.now line.now }
+    {
+        self.levels() == 0 && is_property(line)
+    }
+
+    /// Reads a line that declares a node on this level.
+    fn read_node(
+        &mut self,
+        alloc: Global,
+        number: usize,
+        level: usize,
+        line: &str,
+    ) -> Result<(), SuiteFault>
+        requires { level ≤ length self.old.path }
+        ensures added { OnOk result (with_declaration number self.old level line.now ≡ Ok self.new) }
+        ensures refused { IfErr result (λ fault. Fails fault (with_declaration number self.old level line.now)) }
+    {
+        let above = self.word_above(level);
+        let declared = declared_in(alloc, number, above, line)?;
+        self.declare(alloc, number, level, declared)
+    }
+
+    /// Reads a line of words: a property's or a node's.
     fn read_words(&mut self, alloc: Global, number: usize, line: &str) -> Result<(), SuiteFault>
         ensures added { OnOk result (with_words number self.old line.now ≡ Ok self.new) }
         ensures refused { IfErr result (λ fault. Fails fault (with_words number self.old line.now)) }
     {
         let level = level_at(number, self.levels(), line)?;
-        let above = self.above(level).map(|opened| opened.word);
-        let declared = declared_in(alloc, number, above, line)?;
-        self.declare(alloc, number, level, declared)
+        if self.is_property(line) {
+            return put_property(alloc, &mut self.properties, number, line);
+        }
+        self.read_node(alloc, number, level, line)
     }
 
     /// The number of levels on which a line may stand next.
@@ -255,6 +296,7 @@ impl SuiteBuilder {
         Suite {
             tree: self.tree.finish(),
             scripts: self.scripts,
+            properties: self.properties,
         }
     }
 }

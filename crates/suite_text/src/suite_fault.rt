@@ -1,9 +1,10 @@
 //! Why a text is no suite.
 
 ghost use Rattle.std.specs.Prelude.{◌≡◌};
-ghost use Rattle.suite_text.specs.SuiteFaults.{at_line, number_of, place_of};
+ghost use Rattle.suite_text.specs.SuiteFaults.{at_line, of_property, number_of, place_of};
 ghost use Rattle.suite_text.specs.declared.suite_fault.SuiteFault.TheVariants.{NoMemory};
 
+use config_params::ParamsFault;
 use descriptor::TreeFault;
 use std::alloc::AllocError;
 use thiserror::Error;
@@ -23,6 +24,9 @@ pub enum SuiteFault {
     TooLarge,
     #[error("line {line}: {fault}")]
     Refused { fault: TreeFault, line: usize },
+    /// A property's line, which the fault counts.
+    #[error("{0}")]
+    BadProperty(ParamsFault),
 }
 
 impl From<AllocError> for SuiteFault {
@@ -44,6 +48,16 @@ impl SuiteFault {
         }
     }
 
+    /// What a property's refusal is.
+    pub(crate) fn of_property(fault: ParamsFault) -> SuiteFault
+        ensures { result ≡ of_property fault }
+    {
+        match fault {
+            ParamsFault::NoMemory => SuiteFault::NoMemory,
+            fault => SuiteFault::BadProperty(fault),
+        }
+    }
+
     /// The refusal's number.
     pub fn number(&self) -> u8
         ensures { result ≡ number_of self.now }
@@ -55,6 +69,7 @@ impl SuiteFault {
             SuiteFault::MissingVerdict(_) => 102,
             SuiteFault::TooLarge => 103,
             SuiteFault::Refused { fault, .. } => fault.number(),
+            SuiteFault::BadProperty(fault) => fault.number(),
         }
     }
 
@@ -68,6 +83,7 @@ impl SuiteFault {
             | SuiteFault::BadIndent(line)
             | SuiteFault::MissingVerdict(line)
             | SuiteFault::Refused { line, .. } => Some(*line as u64),
+            SuiteFault::BadProperty(fault) => fault.place(),
         }
     }
 }
