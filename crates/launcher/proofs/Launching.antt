@@ -95,6 +95,7 @@ module _ (old new : Option (List ℕ)) where
   not_reading (causes.MissingVerdict n) fault is same = cc
   not_reading causes.TooLarge fault is same = cc
   not_reading (causes.Refused f n) fault is same = cc
+  not_reading (causes.BadProperty f) fault is same = cc
 
   -- memory runs out in reading a suite only where the suite's reading says so
   out_of_memory : (bytes : List ℕ) (cause : SuiteFault) (fault : LaunchFault) → IsSuiteFault cause fault → (cause ≡ causes.NoMemory → length bytes ≤ 1048576) → Some fault ≡ Some NoMemory → length bytes < 1048577
@@ -104,6 +105,7 @@ module _ (old new : Option (List ℕ)) where
   out_of_memory bytes (causes.MissingVerdict n) fault is few same = cc
   out_of_memory bytes causes.TooLarge fault is few same = cc
   out_of_memory bytes (causes.Refused f n) fault is few same = cc
+  out_of_memory bytes (causes.BadProperty f) fault is few same = cc
 
   -- bytes that were read and are no suite
   pub takes_refused : (bytes : List ℕ) (cause : SuiteFault) (result : Result Suite LaunchFault) → IsErrAnd result (IsSuiteFault cause) → (cause ≡ causes.NoMemory → length bytes ≤ 1048576) → ReadsFront old new 1048577 bytes → ReadsSuite (suite_read bytes) result
