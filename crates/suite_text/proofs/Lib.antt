@@ -6,6 +6,7 @@ mod SpelledWords
 pub mod SuiteAnswers
 pub mod SuiteAttributes
 pub mod SuiteIds
+pub mod SuiteLocks
 pub mod SuiteNever
 pub mod SuitePaths
 pub mod SuiteReading
@@ -14,6 +15,7 @@ pub mod SuiteSteps
 mod WrittenWords
 mod WrittenTexts
 mod WrittenLines
+mod WrittenLocks
 mod WrittenProperties
 mod Trimmed
 pub mod WrittenSuites

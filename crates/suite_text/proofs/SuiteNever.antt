@@ -9,7 +9,7 @@ use Rattle.descriptor.specs.declared.fault.TreeFault.{TreeFault}
 use Rattle.suite_text.specs.declared.suite_words.Word.{Word}
 use Rattle.suite_text.specs.declared.suite_words.Word.TheVariants.{Engine, Class, Test}
 use Rattle.suite_text.specs.declared.suite_attributes.Attribute.{Attribute}
-use Rattle.suite_text.specs.declared.suite_attributes.Attribute.TheVariants.{Tag, Spin}
+use Rattle.suite_text.specs.declared.suite_attributes.Attribute.TheVariants.{Tag, Spin, Runs, Lock, Isolated}
 use Rattle.suite_text.specs.declared.suite_attributes.Attributes.{Attributes}
 use Rattle.suite_text.specs.declared.suite_verdicts.Verdict.{Verdict}
 use Rattle.suite_text.specs.declared.suite_verdicts.Verdict.TheVariants.{Pass, Fail, Abort, Disabled}
@@ -21,6 +21,7 @@ use Rattle.suite_text.specs.SuiteLines.{says_nothing, first_word, after_word, te
 use Rattle.suite_text.specs.SuiteNodes.{word_on, refusal_on, grown, unless_refused}
 use Rattle.suite_text.specs.SuiteParts.{LinesRead, no_lines}
 use Rattle.suite_text.specs.Numbers.{number_up_to}
+use Rattle.suite_text.specs.SuiteLocks.{lock_of, with_lock_of}
 use Rattle.suite_text.specs.SuiteSpins.{value_of, or_bad_line, spin_of}
 use Rattle.suite_text.specs.SuiteVerdicts.{verdict_spelled, no_verdict, verdict_with, verdict_of}
 use Rattle.suite_text.specs.SuiteWords.{word_of, may_stand, placed, with_verdict, with_attributes, with_name, declared_by}
@@ -88,6 +89,9 @@ spin_set_never number said value =
 attribute_never : (number : ℕ) (said : Attributes) (text : List ℕ) (attribute : Attribute) → Never (with_attribute number said text attribute)
 attribute_never number said text Tag = tag_never number said (after_sign text)
 attribute_never number said text Spin = spin_set_never number said (value_of text)
+attribute_never number said text (Runs mode) = if_never (is_some said.mode) _ _ (λ e. cc) (λ e. cc)
+attribute_never number said text Lock = then_never (with_lock_of number said.locks (value_of text)) _ (if_never (length (lock_of (value_of text)).key == 0) _ _ (λ e. cc) (λ e. cc)) (λ locks. λ e. cc)
+attribute_never number said text Isolated = λ e. cc
 
 found_never : {A : Type 0} (found : Option Attribute) (f : Attribute → Result A SuiteFault) (r : Result A SuiteFault) → ((a : Attribute) → Never (f a)) → Never r → Never (option_map_or f found r)
 found_never None f r h k = k

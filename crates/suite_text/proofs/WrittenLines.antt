@@ -12,8 +12,10 @@ use Rattle.suite_text.specs.declared.suite_words.Word.{Word}
 use Rattle.suite_text.specs.declared.suite_words.Word.TheVariants.{Engine, Class, Test}
 use Rattle.suite_text.specs.declared.suite_verdicts.Verdict.{Verdict}
 use Rattle.suite_text.specs.declared.suite_verdicts.Verdict.TheVariants.{Pass, Fail, Abort, Disabled}
+use Rattle.descriptor.specs.declared.mode.Mode.TheVariants.{SameThread, Concurrent}
 use Rattle.suite_text.specs.declared.suite_attributes.Attribute as kinds
-use Rattle.suite_text.specs.declared.suite_attributes.Attribute.TheVariants.{Tag, Spin}
+use Rattle.suite_text.specs.declared.suite_attributes.Attribute.TheVariants as found
+use Rattle.suite_text.specs.declared.suite_attributes.Attribute.TheVariants.{Tag, Spin, Lock, Isolated}
 use Rattle.suite_text.specs.declared.suite_attributes.Attributes.{Attributes}
 use Rattle.suite_text.specs.declared.suite_fault.SuiteFault.{SuiteFault}
 use Rattle.suite_text.specs.declared.suite_fault.SuiteFault.TheVariants.{BadLine, BadIndent}
@@ -26,8 +28,9 @@ use Rattle.suite_text.specs.SuiteVerdicts.{verdict_spelled, no_verdict, verdict_
 use Rattle.suite_text.specs.SuiteWords.{Declaration, word_of, placed, with_verdict, with_attributes, with_name, declared_by}
 use Rattle.suite_text.specs.SuiteProperties.{is_property}
 use Rattle.suite_text.specs.Words.{is_space, words_in}
-use Rattle.suite_text.specs.WrittenLines.{spaces, indentation, IsWord, word_text, Said, Tagged, Counts, said_text, said_also, MaySay, Attribute, attributes_text, all_said, MaySayAll, Ending, verdict_text, ending_text, MayExplain, IsEnding, MayEnd, NodeLine, node_text, verdict_said, text_said, declares, IsNodeLine}
+use Rattle.suite_text.specs.WrittenLines.{spaces, indentation, IsWord, word_text, Said, Tagged, Counts, Runs, Locks, Alone, LockSign, Plain, Reads, Writes, sign_text, said_text, said_also, MaySay, Attribute, attributes_text, all_said, MaySayAll, Ending, verdict_text, ending_text, MayExplain, IsEnding, MayEnd, NodeLine, node_text, verdict_said, text_said, declares, IsNodeLine}
 use Rattle.suite_text.proofs.Numbers.{number_parts}
+use Rattle.suite_text.proofs.WrittenLocks.{lock_back}
 use Rattle.suite_text.proofs.SuiteAttributes.{of_nothing, at_end, next_read}
 use Rattle.suite_text.proofs.WrittenWords.{Unspaced, Follows, first_is, after_is, first_none, after_none, text_is, follows_spaces, follows_text, front_is, prefix_spaces}
 
@@ -83,17 +86,41 @@ digits_unspaced : (ds : List ℕ) → list_all is_ascii_digit ds ≡ true → Un
 digits_unspaced [] h = tt
 digits_unspaced (d ∷ ds) h = let p = and_parts (is_ascii_digit d) (list_all is_ascii_digit ds) h in (digit_unspaced d p.0, digits_unspaced ds p.1)
 
+unspaced_sign : (key : List ℕ) (sign : LockSign) → Unspaced key → Unspaced (key ++ sign_text sign)
+unspaced_sign [] Plain h = tt
+unspaced_sign [] Reads h = search rules
+unspaced_sign [] Writes h = search rules
+unspaced_sign (b ∷ key) sign h = (h.0, unspaced_sign key sign h.1)
+
 said_word : (w : Word) (before : Attributes) (s : Said) → MaySay w before s → IsWord (said_text s)
 said_word w before (Tagged tag) h = (omega arith, (refl, h.0))
 said_word w before (Counts digits) h = (omega arith, (refl, (refl, (refl, (refl, (refl, digits_unspaced digits (number_parts digits h.2).1))))))
+said_word w before (Runs SameThread) h = (omega arith, search rules)
+said_word w before (Runs Concurrent) h = (omega arith, search rules)
+said_word w before (Locks key sign) h = (omega arith, (refl, (refl, (refl, (refl, (refl, unspaced_sign key sign h.1.1))))))
+said_word w before Alone h = (omega arith, search rules)
 
 abbrev kind_of : Said → kinds.Attribute
 kind_of (Tagged tag) = Tag
 kind_of (Counts digits) = Spin
+kind_of (Runs mode) = found.Runs mode
+kind_of (Locks key sign) = Lock
+kind_of Alone = Isolated
 
 said_kind : (w : Word) (before : Attributes) (s : Said) → MaySay w before s → attribute_of w (said_text s) ≡ Some (kind_of s)
 said_kind w before (Tagged tag) h = refl
 said_kind w before (Counts digits) h = ap (λ v. attribute_of v (codes "spin=" ++ digits)) h.0
+said_kind Engine before (Runs mode) h = absurd (let off : false ≡ true = h.0 in cc)
+said_kind Class before (Runs SameThread) h = refl
+said_kind Class before (Runs Concurrent) h = refl
+said_kind Test before (Runs SameThread) h = refl
+said_kind Test before (Runs Concurrent) h = refl
+said_kind Engine before (Locks key sign) h = absurd (let off : false ≡ true = h.0 in cc)
+said_kind Class before (Locks key sign) h = refl
+said_kind Test before (Locks key sign) h = refl
+said_kind Engine before Alone h = absurd (cc)
+said_kind Class before Alone h = refl
+said_kind Test before Alone h = refl
 
 spin_back : (number : ℕ) (digits : List ℕ) → is_number digits ≡ true → digits_value 10 digits ≤ 1000000 → spin_of number digits ≡ Ok (digits_value 10 digits)
 spin_back number digits h small =
@@ -102,8 +129,11 @@ spin_back number digits h small =
 said_read : (number : ℕ) (w : Word) (before : Attributes) (s : Said) → MaySay w before s → with_attribute number before (said_text s) (kind_of s) ≡ Ok (said_also before s)
 said_read number w before (Tagged tag) h = ap (λ r. if is_some r then Err (BadLine number) else Ok (said_also before (Tagged tag))) h.1
 said_read number w before (Counts digits) h =
-    ap (λ o. if is_some o then Err (BadLine number) else (spin_of number digits >>= (λ spin. Ok (record { tags = before.tags; spin = Some spin })))) h.1
-    ∙ ap (λ r. r >>= (λ spin. Ok (record { tags = before.tags; spin = Some spin }))) (spin_back number digits h.2 h.3)
+    ap (λ o. if is_some o then Err (BadLine number) else (spin_of number digits >>= (λ spin. Ok (record before { spin = Some spin })))) h.1
+    ∙ ap (λ r. r >>= (λ spin. Ok (record before { spin = Some spin }))) (spin_back number digits h.2 h.3)
+said_read number w before (Runs mode) h = ap (λ o. if is_some o then Err (BadLine number) else Ok (record before { mode = Some mode })) h.1
+said_read number w before (Locks key sign) h = ap (λ r. r >>= (λ locks. Ok (record before { locks = locks }))) (lock_back number before.locks key sign h.1.0 h.2)
+said_read number w before Alone h = refl
 
 follows_more : (attributes : List Attribute) (rest : List ℕ) → Follows rest → Follows (attributes_text attributes ++ rest)
 follows_more [] rest f = f

@@ -8,6 +8,7 @@ pub mod SuiteBytes
 pub mod SuiteFaults
 pub mod SuiteIds
 pub mod SuiteLines
+pub mod SuiteLocks
 pub mod SuiteNodes
 pub mod SuiteParts
 pub mod SuitePaths

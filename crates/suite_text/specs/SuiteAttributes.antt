@@ -1,46 +1,76 @@
--- The attributes of a line, which stand before its verdict: `#TAG`, and on a test `spin=N`.
-use Rattle.std.specs.Prelude.{ℕ, List, [], ◌∷◌, if◌then◌else◌, Option, Some, None, Result, Ok, Err}
+-- The attributes of a line, which stand before its verdict: `#TAG`; on a test `spin=N`; and, but for an engine, `@concurrent`, `@same_thread`, `lock=KEY` and `isolated`.
+use Rattle.std.specs.Prelude.{ℕ, Bool, true, false, codes, List, [], ◌∷◌, if◌then◌else◌, Option, Some, None, Result, Ok, Err}
 use Rattle.std.specs.List.{after_first}
 use Rattle.std.specs.Option.{is_some, option_map_or}
-use Rattle.std.specs.Str.{trim}
+use Rattle.std.specs.Str.{trim, bytes_eq}
+use Rattle.descriptor.specs.declared.mode.Mode.{Mode}
+use Rattle.descriptor.specs.declared.mode.Mode.TheVariants.{SameThread, Concurrent}
 use Rattle.tag_expr.specs.Tags.{tag_refusal}
 use Rattle.tag_expr.specs.TagSets.{with_tag}
 use Rattle.suite_text.specs.declared.suite_words.Word.{Word}
+use Rattle.suite_text.specs.declared.suite_words.Word.TheVariants.{Engine, Class, Test}
 use Rattle.suite_text.specs.declared.suite_attributes.Attribute.{Attribute}
-use Rattle.suite_text.specs.declared.suite_attributes.Attribute.TheVariants.{Tag, Spin}
+use Rattle.suite_text.specs.declared.suite_attributes.Attribute.TheVariants.{Tag, Spin, Runs, Lock, Isolated}
 use Rattle.suite_text.specs.declared.suite_attributes.Attributes.{Attributes}
 use Rattle.suite_text.specs.declared.suite_fault.SuiteFault.{SuiteFault}
 use Rattle.suite_text.specs.declared.suite_fault.SuiteFault.TheVariants.{BadLine}
 use Rattle.suite_text.specs.Words.{words_in}
 use Rattle.unique_id.specs.Answers.{◌>>=◌}
 use Rattle.suite_text.specs.SuiteLines.{is_number_sign, begins_with_sign, after_word}
+use Rattle.suite_text.specs.SuiteLocks.{with_lock_of}
 use Rattle.suite_text.specs.SuiteSpins.{key_of, value_of, is_spin, spin_of}
 
 -- what follows the first number sign of a word
 abbrev pub after_sign : List ℕ → List ℕ
 after_sign text = after_first is_number_sign text
 
+-- whether a node of this word may declare a mode, locks and isolation
+abbrev pub may_declare : Word → Bool
+may_declare Engine = false
+may_declare Class = true
+may_declare Test = true
+
+-- the attribute by which a word with this key declares how a node is executed, if it is one
+abbrev pub declaration_in : List ℕ → List ℕ → Option Attribute
+declaration_in text key =
+    if bytes_eq text (codes "@concurrent") then Some (Runs Concurrent)
+    else (if bytes_eq text (codes "@same_thread") then Some (Runs SameThread)
+    else (if bytes_eq text (codes "isolated") then Some Isolated else (if bytes_eq key (codes "lock") then Some Lock else None)))
+
 -- the attribute that a word of a line is, if it is one that a node of this word may have
 abbrev pub attribute_of : Word → List ℕ → Option Attribute
-attribute_of word text = if begins_with_sign text then Some Tag else (if is_spin word (key_of text) then Some Spin else None)
+attribute_of word text =
+    if begins_with_sign text then Some Tag
+    else (if is_spin word (key_of text) then Some Spin else (if may_declare word then declaration_in text (key_of text) else None))
 
 -- before the first attribute
 abbrev pub no_attributes : Attributes
-no_attributes = record { tags = []; spin = None }
+no_attributes = record { tags = []; spin = None; mode = None; locks = []; isolated = false }
 
 -- with the tag that a text is; a text that is none is a faulty line
 abbrev pub with_tag_of : ℕ → Attributes → List ℕ → Result Attributes SuiteFault
-with_tag_of number said text = if is_some (tag_refusal text) then Err (BadLine number) else Ok (record { tags = with_tag said.tags (trim text); spin = said.spin })
+with_tag_of number said text = if is_some (tag_refusal text) then Err (BadLine number) else Ok (record said { tags = with_tag said.tags (trim text) })
 
 -- with how far the body counts first, which a line may say once
 abbrev pub with_spin_of : ℕ → Attributes → List ℕ → Result Attributes SuiteFault
 with_spin_of number said value =
-    if is_some said.spin then Err (BadLine number) else (spin_of number value >>= (λ spin. Ok (record { tags = said.tags; spin = Some spin })))
+    if is_some said.spin then Err (BadLine number) else (spin_of number value >>= (λ spin. Ok (record said { spin = Some spin })))
+
+-- with the mode in which the node is executed, which a line may say once
+abbrev pub with_mode : ℕ → Attributes → Mode → Result Attributes SuiteFault
+with_mode number said mode = if is_some said.mode then Err (BadLine number) else Ok (record said { mode = Some mode })
+
+-- with the lock that a value names
+abbrev pub with_lock : ℕ → Attributes → List ℕ → Result Attributes SuiteFault
+with_lock number said value = with_lock_of number said.locks value >>= (λ locks. Ok (record said { locks = locks }))
 
 -- with what an attribute says, which is this word of the line
 abbrev pub with_attribute : ℕ → Attributes → List ℕ → Attribute → Result Attributes SuiteFault
 with_attribute number said text Tag = with_tag_of number said (after_sign text)
 with_attribute number said text Spin = with_spin_of number said (value_of text)
+with_attribute number said text (Runs mode) = with_mode number said mode
+with_attribute number said text Lock = with_lock number said (value_of text)
+with_attribute number said text Isolated = Ok (record said { isolated = true })
 
 -- the attributes at the front of these words, after those that were read, and what then follows in the text of the words
 abbrev pub attributes_from : ℕ → Word → Attributes → List (List ℕ) → List ℕ → Result (Attributes × List ℕ) SuiteFault

@@ -57,13 +57,20 @@ script_declared d n = option_map (λ status. ending n (spin_said d.attributes) s
 abbrev pub id_declared : Option Word → List Segment → Declaration → List Segment
 id_declared parent segments d = segments ++ record { kind = segment_kind parent d.word; value = d.name } ∷ []
 
--- the node of number n that is declared below one with this word and these segments
-abbrev pub node_declared : ℕ → Option Word → List Segment → Declaration → Node
-node_declared n parent segments d = record (plain (id_declared parent segments d) d.name (kind_declared d.word)) {
+-- the node of number n with these segments that is declared
+abbrev pub node_with : ℕ → List Segment → Declaration → Node
+node_with n segments d = record (plain segments d.name (kind_declared d.word)) {
+  mode = d.attributes.mode;
+  locks = d.attributes.locks;
+  isolated = d.attributes.isolated;
   body = body_declared d.verdict n;
   disabled = reason_declared d.verdict d.text;
   tags = d.attributes.tags;
 }
+
+-- the node of number n that is declared below one with this word and these segments
+abbrev pub node_declared : ℕ → Option Word → List Segment → Declaration → Node
+node_declared n parent segments d = node_with n (id_declared parent segments d) d
 
 -- whether the unique id of a node below these segments is over its limits; no word is empty, so nothing else refuses it
 abbrev pub is_over_limit : List Segment → Option Word → Declaration → Bool

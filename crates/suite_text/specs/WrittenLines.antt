@@ -1,16 +1,21 @@
 -- How a line of a suite may be written, piece by piece, and what it says.
-use Rattle.std.specs.Prelude.{◌≡◌, ◌<◌, ◌≤◌, ◌⊎◌, ℕ, zero, suc, true, false, List, [], ◌∷◌, ◌++◌, length, codes, Option, Some, None}
+use Rattle.std.specs.Prelude.{◌≡◌, ◌≢◌, ◌<◌, ◌≤◌, ◌⊎◌, ℕ, zero, suc, true, false, List, [], ◌∷◌, ◌++◌, length, codes, Option, Some, None}
 use Rattle.std.specs.List.{AllByRecursion, prefix_len, suffix_len}
 use Rattle.std.specs.Str.{trim}
 use Rattle.std.specs.Str.Parse.{digits_value}
 use Rattle.tag_expr.specs.Tags.{tag_refusal}
 use Rattle.tag_expr.specs.TagSets.{with_tag}
+use Rattle.descriptor.specs.declared.lock_mode.LockMode.{LockMode}
+use Rattle.descriptor.specs.declared.lock_mode.LockMode.TheVariants.{Read, ReadWrite}
+use Rattle.descriptor.specs.declared.mode.Mode.{Mode}
+use Rattle.descriptor.specs.declared.mode.Mode.TheVariants.{SameThread, Concurrent}
+use Rattle.resource_locks.specs.LockSets.{put}
 use Rattle.suite_text.specs.declared.suite_words.Word.{Word}
 use Rattle.suite_text.specs.declared.suite_words.Word.TheVariants.{Engine, Class, Test}
 use Rattle.suite_text.specs.declared.suite_verdicts.Verdict.{Verdict}
 use Rattle.suite_text.specs.declared.suite_verdicts.Verdict.TheVariants.{Pass, Fail, Abort, Disabled}
 use Rattle.suite_text.specs.declared.suite_attributes.Attributes.{Attributes}
-use Rattle.suite_text.specs.SuiteAttributes.{no_attributes}
+use Rattle.suite_text.specs.SuiteAttributes.{no_attributes, may_declare}
 use Rattle.suite_text.specs.Numbers.{is_number}
 use Rattle.suite_text.specs.SuiteWords.{Declaration, may_stand}
 use Rattle.suite_text.specs.Words.{is_space}
@@ -35,24 +40,61 @@ word_text Engine = codes "engine"
 word_text Class = codes "class"
 word_text Test = codes "test"
 
--- an attribute: a tag, or the digits of `spin`
+-- how a lock's mode is written: not at all, `:r` or `:rw`
+pub data LockSign : Type 0 where
+  Plain : LockSign
+  Reads : LockSign
+  Writes : LockSign
+
+abbrev pub sign_text : LockSign → List ℕ
+sign_text Plain = []
+sign_text Reads = codes ":r"
+sign_text Writes = codes ":rw"
+
+abbrev pub sign_mode : LockSign → LockMode
+sign_mode Plain = ReadWrite
+sign_mode Reads = Read
+sign_mode Writes = ReadWrite
+
+-- a key without a sign does not end as one with a sign
+abbrev pub MaySign : List ℕ → LockSign → Type 0
+MaySign key Plain = ((front : List ℕ) → key ≢ front ++ codes ":r") × ((front : List ℕ) → key ≢ front ++ codes ":rw")
+MaySign key sign = Unit {0}
+
+abbrev pub mode_text : Mode → List ℕ
+mode_text SameThread = codes "@same_thread"
+mode_text Concurrent = codes "@concurrent"
+
+-- an attribute: a tag, the digits of `spin`, a mode, a lock's key, or that the node is isolated
 pub data Said : Type 0 where
   Tagged : (tag : List ℕ) → Said
   Counts : (digits : List ℕ) → Said
+  Runs : (mode : Mode) → Said
+  Locks : (key : List ℕ) → (sign : LockSign) → Said
+  Alone : Said
 
 abbrev pub said_text : Said → List ℕ
 said_text (Tagged tag) = 35 ∷ tag
 said_text (Counts digits) = codes "spin=" ++ digits
+said_text (Runs mode) = mode_text mode
+said_text (Locks key sign) = codes "lock=" ++ (key ++ sign_text sign)
+said_text Alone = codes "isolated"
 
 -- what it adds to what was said before it
 abbrev pub said_also : Attributes → Said → Attributes
-said_also before (Tagged tag) = record { tags = with_tag before.tags (trim tag); spin = before.spin }
-said_also before (Counts digits) = record { tags = before.tags; spin = Some (digits_value 10 digits) }
+said_also before (Tagged tag) = record before { tags = with_tag before.tags (trim tag) }
+said_also before (Counts digits) = record before { spin = Some (digits_value 10 digits) }
+said_also before (Runs mode) = record before { mode = Some mode }
+said_also before (Locks key sign) = record before { locks = put (record { key = key; mode = sign_mode sign }) before.locks }
+said_also before Alone = record before { isolated = true }
 
--- whether a line of this word may say it after these: a tag, of any node; how far the body counts, of a test, once, and at most 1,000,000
+-- whether a line of this word may say it after these: a tag, of any node; how far the body counts, of a test, once, and at most 1,000,000; a mode, once, locks and isolation, of any node but an engine
 abbrev pub MaySay : Word → Attributes → Said → Type 0
 MaySay word before (Tagged tag) = AllByRecursion (λ byte. is_space byte ≡ false) tag × (tag_refusal tag ≡ None)
 MaySay word before (Counts digits) = (word ≡ Test) × (before.spin ≡ None) × (is_number digits ≡ true) × (digits_value 10 digits ≤ 1000000)
+MaySay word before (Runs mode) = (may_declare word ≡ true) × (before.mode ≡ None)
+MaySay word before (Locks key sign) = (may_declare word ≡ true) × IsWord key × MaySign key sign
+MaySay word before Alone = may_declare word ≡ true
 
 -- an attribute in a line, with one space and so many more before it
 pub record Attribute : Type 0 where

@@ -11,6 +11,7 @@ mod suite_attributes;
 mod suite_builder;
 mod suite_fault;
 mod suite_lines;
+mod suite_locks;
 mod suite_properties;
 mod suite_spins;
 mod suite_verdicts;

@@ -1,14 +1,17 @@
 //! The attributes of a line, which stand before its verdict.
 
 ghost use Rattle.std.specs.Prelude.{◌≡◌, OnOk, IfErr, Ok};
-ghost use Rattle.suite_text.specs.SuiteAttributes.{after_sign, attribute_of, no_attributes, with_tag_of, with_spin_of, with_attribute, attributes_of, spin_said};
+ghost use Rattle.suite_text.specs.SuiteAttributes.{after_sign, declaration_in, attribute_of, no_attributes, with_tag_of, with_spin_of, with_mode, with_attribute, attributes_of, spin_said};
 ghost use Rattle.suite_text.specs.SuiteFaults.{Fails, Gives};
 ghost use Rattle.suite_text.specs.SuiteLines.{first_word};
 
 use crate::suite_fault::SuiteFault;
 use crate::suite_lines::next_word;
+use crate::suite_locks::put_lock;
 use crate::suite_spins::{key_and_value, spin_in};
 use crate::suite_words::Word;
+use descriptor::Mode;
+use resource_locks::LockSet;
 use std::alloc::Global;
 use tag_expr::{TagFault, TagSet, tag_of};
 
@@ -19,6 +22,12 @@ pub(crate) enum Attribute {
     Tag,
     /// `spin=N`
     Spin,
+    /// `@concurrent`, `@same_thread`
+    Runs(Mode),
+    /// `lock=KEY`
+    Lock,
+    /// `isolated`
+    Isolated,
 }
 
 impl Attribute {
@@ -31,9 +40,30 @@ impl Attribute {
         }
         let (key, _) = key_and_value(text);
         if word.takes_spin(key) {
-            Some(Attribute::Spin)
+            return Some(Attribute::Spin);
+        }
+        if word.may_declare() {
+            Attribute::declaring(text, key)
         } else {
             None
+        }
+    }
+
+    /// The attribute that declares how a node is executed, of a word with this key.
+    fn declaring(text: &str, key: &str) -> Option<Attribute>
+        ensures { result ≡ declaration_in text.now key.now }
+    {
+        match text {
+            "@concurrent" => Some(Attribute::Runs(Mode::Concurrent)),
+            "@same_thread" => Some(Attribute::Runs(Mode::SameThread)),
+            "isolated" => Some(Attribute::Isolated),
+            _ => {
+                if key == "lock" {
+                    Some(Attribute::Lock)
+                } else {
+                    None
+                }
+            }
         }
     }
 }
@@ -45,6 +75,10 @@ pub(crate) struct Attributes {
     pub(crate) tags: TagSet,
     /// How far the node's body counts first.
     pub(crate) spin: Option<u32>,
+    pub(crate) mode: Option<Mode>,
+    /// Each key once, in byte order.
+    pub(crate) locks: LockSet,
+    pub(crate) isolated: bool,
 }
 
 impl Attributes {
@@ -55,6 +89,9 @@ impl Attributes {
         Attributes {
             tags: TagSet::new(alloc),
             spin: None,
+            mode: None,
+            locks: LockSet::new(alloc),
+            isolated: false,
         }
     }
 
@@ -92,6 +129,18 @@ impl Attributes {
         Ok(())
     }
 
+    /// Sets the mode, which a line may say once.
+    fn set_mode(&mut self, number: usize, mode: Mode) -> Result<(), SuiteFault>
+        ensures added { OnOk result (with_mode number self.old mode ≡ Ok self.new) }
+        ensures refused { IfErr result (λ fault. Fails fault (with_mode number self.old mode)) }
+    {
+        if self.mode.is_some() {
+            return Err(SuiteFault::BadLine(number));
+        }
+        self.mode = Some(mode);
+        Ok(())
+    }
+
     /// Adds what an attribute says, which is this word of the line.
     fn add(
         &mut self,
@@ -106,6 +155,12 @@ impl Attributes {
         match attribute {
             Attribute::Tag => self.add_tag(alloc, number, after_sign(text)),
             Attribute::Spin => self.set_spin(number, key_and_value(text).1),
+            Attribute::Runs(mode) => self.set_mode(number, mode),
+            Attribute::Lock => put_lock(&mut self.locks, number, key_and_value(text).1),
+            Attribute::Isolated => {
+                self.isolated = true;
+                Ok(())
+            }
         }
     }
 }

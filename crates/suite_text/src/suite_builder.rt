@@ -6,6 +6,7 @@ use crate::script::Script;
 use crate::suite::Suite;
 use crate::suite_fault::SuiteFault;
 use crate::suite_lines::{level_at, without_front};
+use crate::suite_locks::locks_of;
 use crate::suite_properties::{is_property, put_property};
 use crate::suite_words::{Declared, Word, declared_in};
 use config_params::Params;
@@ -49,7 +50,7 @@ ghost use Rattle.unique_id.specs.Spelling.{refusal};
 ghost use Rattle.descriptor.specs.Nodes.{size, IsTree, MayTake};
 ghost use Rattle.suite_text.specs.SuiteParts.{above, word_of_opened, node_of_opened};
 ghost use Rattle.suite_text.specs.SuiteWords.{declaration_of};
-ghost use Rattle.suite_text.specs.SuiteNodes.{id_at, node_declared, is_over_limit, refusal_on, grown};
+ghost use Rattle.suite_text.specs.SuiteNodes.{id_at, node_with, node_declared, is_over_limit, refusal_on, grown};
 
 /// The unique id of a node below this one, or at level 0.
 fn id_below(
@@ -68,6 +69,31 @@ fn id_below(
         None => UniqueId::of(alloc, kind, name),
         Some(opened) => tree.node(opened.node).id.append(alloc, kind, name),
     }
+}
+
+/// The node of this unique id and number that a line declares.
+fn node_with(
+    alloc: Global,
+    id: UniqueId,
+    number: u16,
+    declared: Declared<'_>,
+) -> Result<Node, AllocError>
+    ensures { IfOk result (λ node. node ≡ node_with number id (declaration_of declared.entry)) }
+{
+    let body = declared.body(number);
+    let disabled = declared.reason(alloc)?;
+    let name = Text::new(alloc, declared.name)?;
+    let kind = declared.word.kind();
+    let attributes = declared.attributes;
+    Ok(Node {
+        mode: attributes.mode,
+        locks: locks_of(alloc, &attributes.locks)?,
+        isolated: attributes.isolated,
+        body,
+        disabled,
+        tags: attributes.tags,
+        ..Node::plain(alloc, id, name, kind)
+    })
 }
 
 /// The node of this number that a line declares below this one, or at level 0.
@@ -89,13 +115,7 @@ fn node_below(
         Err(UidFault::NoMemory) => return Err(TreeFault::NoMemory),
         Err(_) => return Err(TreeFault::OverLimit),
     };
-    let name = Text::new(alloc, declared.name)?;
-    Ok(Node {
-        body: declared.body(number),
-        disabled: declared.reason(alloc)?,
-        tags: declared.attributes.tags,
-        ..Node::plain(alloc, id, name, declared.word.kind())
-    })
+    Ok(node_with(alloc, id, number, declared)?)
 }
 
 /// Makes a node the last of a path, on this level.

@@ -34,6 +34,7 @@ pub(crate) struct Declared<'a> {
 
 impl Word {
     ghost use Rattle.suite_text.specs.SuiteNodes.{segment_kind, kind_declared};
+    ghost use Rattle.suite_text.specs.SuiteAttributes.{may_declare};
     ghost use Rattle.suite_text.specs.SuiteSpins.{is_spin};
 
     /// The word with this spelling.
@@ -81,6 +82,16 @@ impl Word {
         match self {
             Word::Engine | Word::Class => Kind::Container,
             Word::Test => Kind::Test,
+        }
+    }
+
+    /// Whether a node of this word may declare a mode, locks and isolation.
+    pub(crate) fn may_declare(self) -> bool
+        ensures { result ≡ may_declare self }
+    {
+        match self {
+            Word::Engine => false,
+            Word::Class | Word::Test => true,
         }
     }
 

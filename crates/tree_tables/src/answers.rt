@@ -2,7 +2,7 @@
 
 use crate::adding::text_of;
 use crate::nodes::{nodes_text, tags_text};
-use crate::plans::{locks_answer, planned};
+use crate::plans::{declared_text, locks_answer, planned};
 use crate::selection::found;
 use descriptor::{NodeId, Tree};
 use std::alloc::{AllocError, Global};
@@ -79,6 +79,7 @@ pub(crate) fn answer(alloc: Global, tree: &Tree, asked: &str) -> Result<String, 
     match asked {
         "size" => format!(in alloc; " => {} nodes", tree.len()),
         "nodes" => nodes_text(alloc, tree),
+        "declared" => declared_text(alloc, tree),
         "tags" => tags_text(alloc, tree, words),
         "below" => below(alloc, tree, words),
         "keep" => kept(alloc, tree, words),

@@ -2,7 +2,7 @@
 
 use crate::runs::{fails_fast, run_text};
 use config_params::{Params, Settings, Source};
-use descriptor::{Lock, LockMode, Mode, NodeId, Tree};
+use descriptor::{Lock, LockMode, Mode, Node, NodeId, Tree};
 use exec_mode::modes;
 use resource_locks::{LockSet, Plan, hoist};
 use std::alloc::{AllocError, Global};
@@ -40,6 +40,40 @@ fn push_locks(text: &mut String, locks: &[Lock]) -> Result<(), AllocError> {
         write!(text, " {}:{}", lock.key.as_str(), lock_word(lock.mode))?;
     }
     Ok(())
+}
+
+/// Writes what a node declares of how it is executed.
+fn push_declared(text: &mut String, node: &Node) -> Result<(), AllocError> {
+    if let Some(mode) = node.mode {
+        write!(text, " {}", mode_word(mode))?;
+    }
+    push_locks(text, node.locks.as_slice())?;
+    if node.isolated {
+        text.push_str(" isolated")?;
+    }
+    Ok(())
+}
+
+/// Writes a node's number, and what it declares where it is not the plan.
+fn push_declaration(text: &mut String, tree: &Tree, number: usize) -> Result<(), AllocError> {
+    if number >= tree.len() {
+        return Ok(());
+    }
+    let id = NodeId::new(number as u16);
+    write!(text, "\n{number}")?;
+    match tree.parent(id) {
+        Some(_) => push_declared(text, tree.node(id)),
+        None => Ok(()),
+    }
+}
+
+/// A line for each node, with the mode, the locks and the isolation that it declares.
+pub(crate) fn declared_text(alloc: Global, tree: &Tree) -> Result<String, AllocError> {
+    let mut text = String::new(alloc);
+    for number in 0..tree.len() {
+        push_declaration(&mut text, tree, number)?;
+    }
+    Ok(text)
 }
 
 /// Writes a node's number, its mode and the locks that it holds.
