@@ -2,7 +2,7 @@
 use Rattle.std.proofs.Common.{◌≡◌, ℕ, List, [], Option, Some, None, Result, Ok, refl, ap, sym, ◌∙◌}
 use Rattle.std.specs.Option.{option_map_or}
 use Rattle.suite_text.specs.declared.suite_words.Word.{Word}
-use Rattle.suite_text.specs.declared.suite_words.Word.TheVariants.{Engine, Class, Test}
+use Rattle.suite_text.specs.declared.suite_words.Word.TheVariants.{Engine, Class, Test, Factory, Dyn}
 use Rattle.suite_text.specs.declared.suite_attributes.Attribute.{Attribute}
 use Rattle.suite_text.specs.declared.suite_attributes.Attributes.{Attributes}
 use Rattle.suite_text.specs.declared.suite_fault.SuiteFault.{SuiteFault}
@@ -19,6 +19,8 @@ pub of_nothing : (kind : Word) → attribute_of kind [] ≡ None
 of_nothing Engine = refl
 of_nothing Class = refl
 of_nothing Test = refl
+of_nothing Factory = refl
+of_nothing Dyn = refl
 
 module _ (number : ℕ) (kind : Word) (said : Attributes) (text : List ℕ) where
   abbrev all : Result (Attributes × List ℕ) SuiteFault

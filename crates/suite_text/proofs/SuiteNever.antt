@@ -1,29 +1,34 @@
 -- No text makes the definition answer want of memory.
 use Rattle.std.proofs.Common.{◌≢◌, ℕ, ◌+◌, List, ◌∷◌, [], Option, Some, None, Result, Ok, Err, Bool, true, false}
-use Rattle.std.specs.Prelude.{nat_lt, ◌||◌, not, ◌==◌, ◌%◌, ◌/◌, if◌then◌else◌, length}
-use Rattle.std.specs.Option.{is_some, option_map_or}
+use Rattle.std.specs.Prelude.{nat_lt, ◌||◌, ◌&&◌, not, ◌==◌, ◌%◌, ◌/◌, if◌then◌else◌, length}
+use Rattle.std.specs.Option.{is_some, is_none, option_map_or}
+use Rattle.descriptor.specs.Nodes.{Nodes, after_of}
+use Rattle.descriptor.specs.Refusals.{after_refusal}
+use Rattle.plan_events.specs.declared.status.Status.{Status}
+use Rattle.suite_text.specs.declared.suite_builder.Opened.{Opened}
 use Rattle.std.specs.Str.Lines.{lines}
 use Rattle.tag_expr.specs.Tags.{tag_refusal}
 use Rattle.suite_text.specs.Words.{words_in}
 use Rattle.descriptor.specs.declared.fault.TreeFault.{TreeFault}
 use Rattle.suite_text.specs.declared.suite_words.Word.{Word}
-use Rattle.suite_text.specs.declared.suite_words.Word.TheVariants.{Engine, Class, Test}
+use Rattle.suite_text.specs.declared.suite_words.Word.TheVariants.{Engine, Class, Test, Factory, Dyn}
 use Rattle.suite_text.specs.declared.suite_attributes.Attribute.{Attribute}
-use Rattle.suite_text.specs.declared.suite_attributes.Attribute.TheVariants.{Tag, Spin, Runs, Lock, Isolated}
+use Rattle.suite_text.specs.declared.suite_attributes.Attribute.TheVariants.{Tag, Spin, Pulls, Runs, Lock, Isolated}
 use Rattle.suite_text.specs.declared.suite_attributes.Attributes.{Attributes}
 use Rattle.suite_text.specs.declared.suite_verdicts.Verdict.{Verdict}
 use Rattle.suite_text.specs.declared.suite_verdicts.Verdict.TheVariants.{Pass, Fail, Abort, Disabled}
 use Rattle.suite_text.specs.declared.suite_fault.SuiteFault.{SuiteFault}
 use Rattle.suite_text.specs.declared.suite_fault.SuiteFault.TheVariants.{NoMemory}
-use Rattle.suite_text.specs.SuiteAttributes.{after_sign, attribute_of, no_attributes, with_tag_of, with_spin_of, with_attribute, attributes_from, attributes_of}
+use Rattle.suite_text.specs.SuiteAttributes.{after_sign, attribute_of, no_attributes, with_tag_of, with_spin_of, with_pulls_of, with_attribute, attributes_from, attributes_of}
 use Rattle.unique_id.specs.Answers.{◌>>=◌}
 use Rattle.suite_text.specs.SuiteLines.{says_nothing, first_word, after_word, text_after_word, level_of, indentation_of}
 use Rattle.suite_text.specs.SuiteNodes.{word_on, refusal_on, grown, unless_refused}
-use Rattle.suite_text.specs.SuiteParts.{LinesRead, no_lines}
+use Rattle.suite_text.specs.SuiteAfter.{is_after, is_class, class_of, ended, after_said, after_body, with_after_body, given_after_body, with_after_line}
+use Rattle.suite_text.specs.SuiteParts.{LinesRead, no_lines, above}
 use Rattle.suite_text.specs.Numbers.{number_up_to}
 use Rattle.suite_text.specs.SuiteLocks.{lock_of, with_lock_of}
-use Rattle.suite_text.specs.SuiteSpins.{value_of, or_bad_line, spin_of}
-use Rattle.suite_text.specs.SuiteVerdicts.{verdict_spelled, no_verdict, verdict_with, verdict_of}
+use Rattle.suite_text.specs.SuiteSpins.{value_of, or_bad_line, count_of}
+use Rattle.suite_text.specs.SuiteVerdicts.{verdict_spelled, no_verdict, verdict_with, verdict_of, status_declared}
 use Rattle.suite_text.specs.SuiteWords.{word_of, may_stand, placed, with_verdict, with_attributes, with_name, declared_by}
 use Rattle.std.specs.List.{list_any}
 use Rattle.config_params.specs.declared.fault.ParamsFault.TheVariants.{NoEquals, EmptyKey}
@@ -50,27 +55,39 @@ ok_never x = λ e. cc
 level_never : (number deepest : ℕ) (line : List ℕ) → Never (level_of number deepest line)
 level_never number deepest line = if_never (not (indentation_of line % 2 == 0) || nat_lt deepest (indentation_of line / 2)) _ _ (λ e. cc) (λ e. cc)
 
-spin_never : (number : ℕ) (n : Option ℕ) → Never (or_bad_line number n)
-spin_never number None = λ e. cc
-spin_never number (Some n) = λ e. cc
+count_never : (number : ℕ) (n : Option ℕ) → Never (or_bad_line number n)
+count_never number None = λ e. cc
+count_never number (Some n) = λ e. cc
 
 none_never : (number : ℕ) (word : Word) → Never (no_verdict number word)
 none_never number Engine = λ e. cc
 none_never number Class = λ e. cc
 none_never number Test = λ e. cc
+none_never number Factory = λ e. cc
+none_never number Dyn = λ e. cc
 
 some_never : (number : ℕ) (word : Word) (verdict : Option Verdict) (text : List ℕ) → Never (verdict_with number word verdict text)
 some_never number Engine verdict text = λ e. cc
 some_never number Class None text = λ e. cc
 some_never number Test None text = λ e. cc
+some_never number Factory None text = λ e. cc
+some_never number Dyn None text = λ e. cc
 some_never number Class (Some Pass) text = if_never (length text == 0) _ _ (λ e. cc) (λ e. cc)
 some_never number Test (Some Pass) text = if_never (length text == 0) _ _ (λ e. cc) (λ e. cc)
+some_never number Factory (Some Pass) text = if_never (length text == 0) _ _ (λ e. cc) (λ e. cc)
+some_never number Dyn (Some Pass) text = if_never (length text == 0) _ _ (λ e. cc) (λ e. cc)
 some_never number Class (Some Fail) text = λ e. cc
 some_never number Test (Some Fail) text = λ e. cc
+some_never number Factory (Some Fail) text = λ e. cc
+some_never number Dyn (Some Fail) text = λ e. cc
 some_never number Class (Some Abort) text = λ e. cc
 some_never number Test (Some Abort) text = λ e. cc
+some_never number Factory (Some Abort) text = λ e. cc
+some_never number Dyn (Some Abort) text = λ e. cc
 some_never number Class (Some Disabled) text = λ e. cc
 some_never number Test (Some Disabled) text = λ e. cc
+some_never number Factory (Some Disabled) text = λ e. cc
+some_never number Dyn (Some Disabled) text = λ e. cc
 
 verdict_never : (number : ℕ) (word : Word) (first text : List ℕ) → Never (verdict_of number word first text)
 verdict_never number word first text = if_never (length first == 0) _ _ (none_never number word) (some_never number word (verdict_spelled first) text)
@@ -84,11 +101,16 @@ tag_never number said text = if_never (is_some (tag_refusal text)) _ _ (λ e. cc
 
 spin_set_never : (number : ℕ) (said : Attributes) (value : List ℕ) → Never (with_spin_of number said value)
 spin_set_never number said value =
-    if_never (is_some said.spin) _ _ (λ e. cc) (then_never (spin_of number value) _ (spin_never number (number_up_to 1000000 value)) (λ spin. λ e. cc))
+    if_never (is_some said.spin) _ _ (λ e. cc) (then_never (count_of number 1000000 value) _ (count_never number (number_up_to 1000000 value)) (λ spin. λ e. cc))
+
+pulls_set_never : (number : ℕ) (said : Attributes) (value : List ℕ) → Never (with_pulls_of number said value)
+pulls_set_never number said value =
+    if_never (is_some said.pulls) _ _ (λ e. cc) (then_never (count_of number 4096 value) _ (count_never number (number_up_to 4096 value)) (λ pulls. λ e. cc))
 
 attribute_never : (number : ℕ) (said : Attributes) (text : List ℕ) (attribute : Attribute) → Never (with_attribute number said text attribute)
 attribute_never number said text Tag = tag_never number said (after_sign text)
 attribute_never number said text Spin = spin_set_never number said (value_of text)
+attribute_never number said text Pulls = pulls_set_never number said (value_of text)
 attribute_never number said text (Runs mode) = if_never (is_some said.mode) _ _ (λ e. cc) (λ e. cc)
 attribute_never number said text Lock = then_never (with_lock_of number said.locks (value_of text)) _ (if_never (length (lock_of (value_of text)).key == 0) _ _ (λ e. cc) (λ e. cc)) (λ locks. λ e. cc)
 attribute_never number said text Isolated = λ e. cc
@@ -122,28 +144,51 @@ by_never number above line =
     then_never (placed number above (word_of (first_word line))) (λ word. with_name number word (after_word line)) (placed_never number above (word_of (first_word line)))
     (λ word. with_name_never number word (after_word line))
 
+class_never : (number : ℕ) (t : Nodes) (o : Option Opened) → Never (class_of number t o)
+class_never number t None = λ e. cc
+class_never number t (Some o) = if_never (is_class o.word && is_none (after_of t o.node)) _ _ (λ e. cc) (λ e. cc)
+
+ended_never : (number : ℕ) (status : Option Status) (text : List ℕ) → Never (ended number status text)
+ended_never number None text = λ e. cc
+ended_never number (Some status) text = λ e. cc
+
+said_never : (number : ℕ) (rest : List ℕ) → Never (after_said number rest)
+said_never number rest =
+    then_never (verdict_of number Test (first_word rest) (text_after_word rest)) (λ verdict. ended number (status_declared verdict) (text_after_word rest)) (verdict_never number Test (first_word rest) (text_after_word rest))
+    (λ verdict. ended_never number (status_declared verdict) (text_after_word rest))
+
 refused_never : (number : ℕ) (why : Option TreeFault) (read : LinesRead) → Never (unless_refused number why read)
 refused_never number None read = λ e. cc
 refused_never number (Some why) read = λ e. cc
 
-said_never : (number : ℕ) (params : Parameters) (pair : Pair) (nothing none empty : Bool)
+property_never : (number : ℕ) (params : Parameters) (pair : Pair) (nothing none empty : Bool)
     → Never (with_said params (if nothing then Ok None else said (if none then Err (NoEquals number) else (if empty then Err (EmptyKey number) else Ok pair))))
-said_never number params pair true none empty = λ e. cc
-said_never number params pair false true empty = λ e. cc
-said_never number params pair false false true = λ e. cc
-said_never number params pair false false false = λ e. cc
+property_never number params pair true none empty = λ e. cc
+property_never number params pair false true empty = λ e. cc
+property_never number params pair false false true = λ e. cc
+property_never number params pair false false false = λ e. cc
 
 pair_never : (number : ℕ) (read : LinesRead) (line : List ℕ) → Never (with_pair number read line)
 pair_never number read line =
     let rest = after_word line in
     then_never (with_property number read.properties line) (λ properties. Ok (with_properties read properties))
-    (said_never number read.properties (pairs.key_of rest, pairs.value_of rest) (pairs.says_nothing rest) (not (list_any is_equals_sign rest)) (length (pairs.key_of rest) == 0)) (λ properties. λ e. cc)
+    (property_never number read.properties (pairs.key_of rest, pairs.value_of rest) (pairs.says_nothing rest) (not (list_any is_equals_sign rest)) (length (pairs.key_of rest) == 0)) (λ properties. λ e. cc)
+
+after_never : (number : ℕ) (read : LinesRead) (level : ℕ) (rest : List ℕ) → Never (with_after_line number read level rest)
+after_never number read level rest =
+    then_never (class_of number read.tree (above read.path level)) (λ n. after_said number rest >>= (λ said. given_after_body number read n said)) (class_never number read.tree (above read.path level))
+    (λ n. then_never (after_said number rest) (λ said. given_after_body number read n said) (said_never number rest)
+    (λ said. refused_never number (after_refusal read.tree n (after_body n)) (with_after_body read n said)))
+
+declaration_never : (number : ℕ) (read : LinesRead) (level : ℕ) (line : List ℕ) → Never (with_declaration number read level line)
+declaration_never number read level line = if_never (is_after line) _ _ (after_never number read level (after_word line))
+    (then_never (declared_by number (word_on read level) line) (λ d. with_declared number read level d) (by_never number (word_on read level) line)
+    (λ d. refused_never number (refusal_on read level d) (grown read level d)))
 
 line_never : (number : ℕ) (read : LinesRead) (line : List ℕ) → Never (with_line number read line)
 line_never number read line = if_never (says_nothing line) _ _ (λ e. cc)
     (then_never (level_of number (length read.path) line) (λ level. with_words_on number read level line) (level_never number (length read.path) line)
-    (λ level. if_never (is_property_in read line) _ _ (pair_never number read line) (then_never (declared_by number (word_on read level) line) (λ d. with_declared number read level d) (by_never number (word_on read level) line)
-    (λ d. refused_never number (refusal_on read level d) (grown read level d)))))
+    (λ level. if_never (is_property_in read line) _ _ (pair_never number read line) (declaration_never number read level line)))
 
 from_never : (number : ℕ) (read : LinesRead) (ls : List (List ℕ)) → Never (suite_from number read ls)
 from_never number read [] = λ e. cc

@@ -1,6 +1,6 @@
 -- One more line of a suite.
-use Rattle.std.proofs.Common.{rules, ◌≤◌, ◌≡◌, ℕ, ◌+◌, ◌<◌, List, [], ◌∷◌, map, drop, length, get_or, Result, Ok, sym, ap, ◌∙◌, refl, arith}
-use Rattle.std.specs.Prelude.{nat_lt, Bool, false}
+use Rattle.std.proofs.Common.{rules, ◌≤◌, ◌≡◌, ℕ, ◌+◌, ◌<◌, List, [], ◌∷◌, map, drop, length, get_or, arith, Result, Ok, sym, subst, ap, ◌∙◌, refl}
+use Rattle.std.specs.Prelude.{nat_lt, Bool, false, IfErr}
 use Rattle.std.proofs.lemmas.List.{drop-map, drop_more, drop_all, length-map}
 use borrow.Author.Tests.{tests}
 use Rattle.std.specs.Str.Lines.{lines}
@@ -10,7 +10,9 @@ use Rattle.suite_text.specs.SuiteFaults.{Fails}
 use Rattle.unique_id.specs.Answers.{◌>>=◌}
 use Rattle.unique_id.specs.Answers.{texts}
 use Rattle.suite_text.specs.SuiteParts.{SuiteParts, LinesRead, no_lines, parts_of}
-use Rattle.suite_text.specs.Suites.{with_line, suite_from, suite_of}
+use Rattle.suite_text.specs.Suites.{with_declared, with_node_line, with_line, suite_from, suite_of}
+use Rattle.suite_text.specs.SuiteNodes.{word_on}
+use Rattle.suite_text.specs.SuiteWords.{Declaration, declared_by}
 
 -- a fault of the first step is one of both
 pub fails_then : {A B : Type 0} (fault : SuiteFault) (r : Result A SuiteFault) (f : A → Result B SuiteFault) → Fails fault r → Fails fault (r >>= f)
@@ -43,19 +45,24 @@ small text b is e = rw (is ∙ e) refl
 pub suite_small : (text : List ℕ) → length text ≤ 1048576 → suite_of text ≡ (suite_from 1 no_lines (lines text) >>= (λ read. Ok (parts_of read)))
 suite_small text h = small text (nat_lt 1048576 (length text)) refl (search (rules, tests))
 
--- where no line is left
+-- where no line is left, what was made is the suite
 pub suite_done : (text : List ℕ) (xs : List (Bor (List ℕ))) (i : ℕ) (read : LinesRead) (parts : SuiteParts) → length text ≤ 1048576 → texts xs ≡ lines text → length xs ≤ i
     → suite_from (i + 1) read (drop i (texts xs)) ≡ suite_from 1 no_lines (texts xs) → parts ≡ parts_of read → suite_of text ≡ Ok parts
-suite_done text xs i read parts h e fits so_far is =
+suite_done text xs i read parts h e past so_far is =
     let now : Bor (List ℕ) → List ℕ = λ x. x.now in
-    let few = length-map xs now in
-    let none : drop i (texts xs) ≡ [] = drop_all i (texts xs) (omega (arith, few, fits)) in
+    let all : length (texts xs) ≡ length xs = length-map xs now in
     suite_small text h
     ∙ ap (λ l. suite_from 1 no_lines l >>= (λ r. Ok (parts_of r))) (sym e)
-    ∙ ap (λ r. r >>= (λ x. Ok (parts_of x))) (sym so_far ∙ ap (suite_from (i + 1) read) none)
+    ∙ ap (λ r. r >>= (λ x. Ok (parts_of x))) (sym so_far ∙ ap (suite_from (i + 1) read) (drop_all i (texts xs) (omega (arith, all, past))))
     ∙ ap Ok (sym is)
 
 pub suite_fails : (text : List ℕ) (ls : List (List ℕ)) (fault : SuiteFault) → length text ≤ 1048576 → ls ≡ lines text → Fails fault (suite_from 1 no_lines ls) → Fails fault (suite_of text)
 suite_fails text ls fault h e fails =
     fails_as fault _ (suite_of text) (ap (λ l. suite_from 1 no_lines l >>= (λ read. Ok (parts_of read))) e ∙ sym (suite_small text h))
     (fails_then fault (suite_from 1 no_lines ls) (λ read. Ok (parts_of read)) fails)
+
+-- a node's line that is read fails as its node does
+pub node_fails : (number level : ℕ) (read : LinesRead) (line : List ℕ) (d : Declaration) (result : Result (Unit {0}) SuiteFault) → declared_by number (word_on read level) line ≡ Ok d
+    → IfErr result (λ fault. Fails fault (with_declared number read level d)) → IfErr result (λ fault. Fails fault (with_node_line number read level line))
+node_fails number level read line d result says =
+    subst (λ (r : Result LinesRead SuiteFault). IfErr result (λ fault. Fails fault r)) (sym (ap (λ r. r >>= (λ x. with_declared number read level x)) says))

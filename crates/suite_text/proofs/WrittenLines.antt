@@ -1,6 +1,6 @@
 -- A line that declares a node is read as it is written.
 use borrow.Author.Tests.{tests}
-use Rattle.std.proofs.Common.{rules, ◌≡◌, ℕ, zero, suc, ◌+◌, ◌≤◌, ◌%◌, ◌/◌, ◌||◌, List, [], ◌∷◌, ◌++◌, length, drop, true, false, not, nat_lt, if◌then◌else◌, ◌==◌, Option, Some, None, Result, Ok, Err, codes, refl, ap, sym, ◌∙◌, arith}
+use Rattle.std.proofs.Common.{rules, ◌≡◌, ℕ, zero, suc, ◌+◌, ◌≤◌, ◌%◌, ◌/◌, ◌||◌, ◌&&◌, Bool, List, [], ◌∷◌, ◌++◌, length, drop, true, false, not, nat_lt, if◌then◌else◌, ◌==◌, Option, Some, None, Result, Ok, Err, codes, refl, ap, sym, ◌∙◌, arith}
 use Rattle.std.proofs.lemmas.Bool.{ne_eqb, and_parts, and_from, le-leb}
 use Rattle.std.proofs.lemmas.List.{append_assoc}
 use Rattle.std.specs.Char.{is_ascii_digit}
@@ -9,26 +9,28 @@ use Rattle.std.specs.Option.{is_some}
 use Rattle.std.specs.Str.{bytes_eq}
 use Rattle.std.specs.Str.Parse.{digits_value}
 use Rattle.suite_text.specs.declared.suite_words.Word.{Word}
-use Rattle.suite_text.specs.declared.suite_words.Word.TheVariants.{Engine, Class, Test}
+use Rattle.suite_text.specs.declared.suite_words.Word.TheVariants.{Engine, Class, Test, Factory, Dyn}
 use Rattle.suite_text.specs.declared.suite_verdicts.Verdict.{Verdict}
 use Rattle.suite_text.specs.declared.suite_verdicts.Verdict.TheVariants.{Pass, Fail, Abort, Disabled}
 use Rattle.descriptor.specs.declared.mode.Mode.TheVariants.{SameThread, Concurrent}
 use Rattle.suite_text.specs.declared.suite_attributes.Attribute as kinds
 use Rattle.suite_text.specs.declared.suite_attributes.Attribute.TheVariants as found
-use Rattle.suite_text.specs.declared.suite_attributes.Attribute.TheVariants.{Tag, Spin, Lock, Isolated}
+use Rattle.suite_text.specs.declared.suite_attributes.Attribute.TheVariants.{Tag, Spin, Pulls, Lock, Isolated}
 use Rattle.suite_text.specs.declared.suite_attributes.Attributes.{Attributes}
 use Rattle.suite_text.specs.declared.suite_fault.SuiteFault.{SuiteFault}
 use Rattle.suite_text.specs.declared.suite_fault.SuiteFault.TheVariants.{BadLine, BadIndent}
-use Rattle.suite_text.specs.SuiteAttributes.{attribute_of, no_attributes, with_attribute, attributes_from}
+use Rattle.suite_text.specs.SuiteAttributes.{takes_tags, attribute_of, no_attributes, with_attribute, attributes_from, may_declare, declaration_in}
 use Rattle.unique_id.specs.Answers.{◌>>=◌}
 use Rattle.suite_text.specs.SuiteLines.{without_front, without_end, first_word, after_word, text_after_word, indentation_of, level_of, says_nothing, begins_with_sign}
 use Rattle.suite_text.specs.Numbers.{is_number}
-use Rattle.suite_text.specs.SuiteSpins.{or_bad_line, spin_of}
+use Rattle.suite_text.specs.SuitePulls.{is_pulls}
+use Rattle.suite_text.specs.SuiteAfter.{is_after}
+use Rattle.suite_text.specs.SuiteSpins.{or_bad_line, key_of, is_spin, count_of}
 use Rattle.suite_text.specs.SuiteVerdicts.{verdict_spelled, no_verdict, verdict_with, verdict_of}
 use Rattle.suite_text.specs.SuiteWords.{Declaration, word_of, placed, with_verdict, with_attributes, with_name, declared_by}
 use Rattle.suite_text.specs.SuiteProperties.{is_property}
 use Rattle.suite_text.specs.Words.{is_space, words_in}
-use Rattle.suite_text.specs.WrittenLines.{spaces, indentation, IsWord, word_text, Said, Tagged, Counts, Runs, Locks, Alone, LockSign, Plain, Reads, Writes, sign_text, said_text, said_also, MaySay, Attribute, attributes_text, all_said, MaySayAll, Ending, verdict_text, ending_text, MayExplain, IsEnding, MayEnd, NodeLine, node_text, verdict_said, text_said, declares, IsNodeLine}
+use Rattle.suite_text.specs.WrittenLines.{spaces, indentation, IsWord, word_text, Said, Tagged, Counts, Registers, Runs, Locks, Alone, LockSign, Plain, Reads, Writes, sign_text, said_text, said_also, IsTestWord, MaySay, Attribute, attributes_text, all_said, MaySayAll, Ending, verdict_text, ending_text, MayExplain, IsEnding, MayEnd, NodeLine, node_text, verdict_said, text_said, declares, IsNodeLine}
 use Rattle.suite_text.proofs.Numbers.{number_parts}
 use Rattle.suite_text.proofs.WrittenLocks.{lock_back}
 use Rattle.suite_text.proofs.SuiteAttributes.{of_nothing, at_end, next_read}
@@ -39,6 +41,8 @@ is_word : (w : Word) → IsWord (word_text w)
 is_word Engine = (omega arith, search rules)
 is_word Class = (omega arith, search rules)
 is_word Test = (omega arith, search rules)
+is_word Factory = (omega arith, search rules)
+is_word Dyn = (omega arith, search rules)
 
 is_verdict : (v : Verdict) → IsWord (verdict_text v)
 is_verdict Pass = (omega arith, search rules)
@@ -50,6 +54,8 @@ word_back : (w : Word) → word_of (word_text w) ≡ Some w
 word_back Engine = refl
 word_back Class = refl
 word_back Test = refl
+word_back Factory = refl
+word_back Dyn = refl
 
 verdict_back : (v : Verdict) → verdict_spelled (verdict_text v) ≡ Some v
 verdict_back Pass = refl
@@ -62,6 +68,8 @@ no_property : (w : Word) → bytes_eq (word_text w) (codes "property") ≡ false
 no_property Engine = refl
 no_property Class = refl
 no_property Test = refl
+no_property Factory = refl
+no_property Dyn = refl
 
 -- no verdict is an attribute
 no_attribute : (w : Word) (v : Verdict) → attribute_of w (verdict_text v) ≡ None
@@ -77,6 +85,14 @@ no_attribute Test Pass = refl
 no_attribute Test Fail = refl
 no_attribute Test Abort = refl
 no_attribute Test Disabled = refl
+no_attribute Factory Pass = refl
+no_attribute Factory Fail = refl
+no_attribute Factory Abort = refl
+no_attribute Factory Disabled = refl
+no_attribute Dyn Pass = refl
+no_attribute Dyn Fail = refl
+no_attribute Dyn Abort = refl
+no_attribute Dyn Disabled = refl
 
 -- attributes
 digit_unspaced : (d : ℕ) → is_ascii_digit d ≡ true → is_space d ≡ false
@@ -95,6 +111,7 @@ unspaced_sign (b ∷ key) sign h = (h.0, unspaced_sign key sign h.1)
 said_word : (w : Word) (before : Attributes) (s : Said) → MaySay w before s → IsWord (said_text s)
 said_word w before (Tagged tag) h = (omega arith, (refl, h.0))
 said_word w before (Counts digits) h = (omega arith, (refl, (refl, (refl, (refl, (refl, digits_unspaced digits (number_parts digits h.2).1))))))
+said_word w before (Registers digits) h = (omega arith, (refl, (refl, (refl, (refl, (refl, (refl, digits_unspaced digits (number_parts digits h.2).1)))))))
 said_word w before (Runs SameThread) h = (omega arith, search rules)
 said_word w before (Runs Concurrent) h = (omega arith, search rules)
 said_word w before (Locks key sign) h = (omega arith, (refl, (refl, (refl, (refl, (refl, unspaced_sign key sign h.1.1))))))
@@ -103,34 +120,58 @@ said_word w before Alone h = (omega arith, search rules)
 abbrev kind_of : Said → kinds.Attribute
 kind_of (Tagged tag) = Tag
 kind_of (Counts digits) = Spin
+kind_of (Registers digits) = Pulls
 kind_of (Runs mode) = found.Runs mode
 kind_of (Locks key sign) = Lock
 kind_of Alone = Isolated
 
+spin_kind : (w : Word) (digits : List ℕ) → IsTestWord w → attribute_of w (codes "spin=" ++ digits) ≡ Some Spin
+spin_kind Engine digits h = absurd h
+spin_kind Class digits h = absurd h
+spin_kind Test digits h = refl
+spin_kind Factory digits h = absurd h
+spin_kind Dyn digits h = refl
+
+tag_kind : (w : Word) (text : List ℕ) (tags : Bool) → begins_with_sign text ≡ true → tags ≡ true
+    → (if tags && begins_with_sign text then Some Tag else (if is_spin w (key_of text) then Some Spin else (if is_pulls w (key_of text) then Some Pulls else (if may_declare w then declaration_in text (key_of text) else None)))) ≡ Some Tag
+tag_kind w text true sign h = ap (λ b. if b then Some Tag else (if is_spin w (key_of text) then Some Spin else (if is_pulls w (key_of text) then Some Pulls else (if may_declare w then declaration_in text (key_of text) else None)))) sign
+tag_kind w text false sign h = absurd (cc)
+
 said_kind : (w : Word) (before : Attributes) (s : Said) → MaySay w before s → attribute_of w (said_text s) ≡ Some (kind_of s)
-said_kind w before (Tagged tag) h = refl
-said_kind w before (Counts digits) h = ap (λ v. attribute_of v (codes "spin=" ++ digits)) h.0
+said_kind w before (Tagged tag) h = tag_kind w (35 ∷ tag) (takes_tags w) refl h.2
+said_kind w before (Counts digits) h = spin_kind w digits h.0
+said_kind w before (Registers digits) h = ap (λ v. attribute_of v (codes "pulls=" ++ digits)) h.0
 said_kind Engine before (Runs mode) h = absurd (let off : false ≡ true = h.0 in cc)
+said_kind Dyn before (Runs mode) h = absurd (let off : false ≡ true = h.0 in cc)
 said_kind Class before (Runs SameThread) h = refl
 said_kind Class before (Runs Concurrent) h = refl
 said_kind Test before (Runs SameThread) h = refl
 said_kind Test before (Runs Concurrent) h = refl
+said_kind Factory before (Runs SameThread) h = refl
+said_kind Factory before (Runs Concurrent) h = refl
 said_kind Engine before (Locks key sign) h = absurd (let off : false ≡ true = h.0 in cc)
+said_kind Dyn before (Locks key sign) h = absurd (let off : false ≡ true = h.0 in cc)
 said_kind Class before (Locks key sign) h = refl
 said_kind Test before (Locks key sign) h = refl
+said_kind Factory before (Locks key sign) h = refl
 said_kind Engine before Alone h = absurd (cc)
+said_kind Dyn before Alone h = absurd (cc)
 said_kind Class before Alone h = refl
 said_kind Test before Alone h = refl
+said_kind Factory before Alone h = refl
 
-spin_back : (number : ℕ) (digits : List ℕ) → is_number digits ≡ true → digits_value 10 digits ≤ 1000000 → spin_of number digits ≡ Ok (digits_value 10 digits)
-spin_back number digits h small =
-    ap (λ b. or_bad_line number (if b then Some (digits_value 10 digits) else None)) (and_from _ _ h (le-leb (digits_value 10 digits) 1000000 small))
+count_back : (number most : ℕ) (digits : List ℕ) → is_number digits ≡ true → digits_value 10 digits ≤ most → count_of number most digits ≡ Ok (digits_value 10 digits)
+count_back number most digits h small =
+    ap (λ b. or_bad_line number (if b then Some (digits_value 10 digits) else None)) (and_from _ _ h (le-leb (digits_value 10 digits) most small))
 
 said_read : (number : ℕ) (w : Word) (before : Attributes) (s : Said) → MaySay w before s → with_attribute number before (said_text s) (kind_of s) ≡ Ok (said_also before s)
 said_read number w before (Tagged tag) h = ap (λ r. if is_some r then Err (BadLine number) else Ok (said_also before (Tagged tag))) h.1
 said_read number w before (Counts digits) h =
-    ap (λ o. if is_some o then Err (BadLine number) else (spin_of number digits >>= (λ spin. Ok (record before { spin = Some spin })))) h.1
-    ∙ ap (λ r. r >>= (λ spin. Ok (record before { spin = Some spin }))) (spin_back number digits h.2 h.3)
+    ap (λ o. if is_some o then Err (BadLine number) else (count_of number 1000000 digits >>= (λ spin. Ok (record before { spin = Some spin })))) h.1
+    ∙ ap (λ r. r >>= (λ spin. Ok (record before { spin = Some spin }))) (count_back number 1000000 digits h.2 h.3)
+said_read number w before (Registers digits) h =
+    ap (λ o. if is_some o then Err (BadLine number) else (count_of number 4096 digits >>= (λ pulls. Ok (record before { pulls = Some pulls })))) h.1
+    ∙ ap (λ r. r >>= (λ pulls. Ok (record before { pulls = Some pulls }))) (count_back number 4096 digits h.2 h.3)
 said_read number w before (Runs mode) h = ap (λ o. if is_some o then Err (BadLine number) else Ok (record before { mode = Some mode })) h.1
 said_read number w before (Locks key sign) h = ap (λ r. r >>= (λ locks. Ok (record before { locks = locks }))) (lock_back number before.locks key sign h.1.0 h.2)
 said_read number w before Alone h = refl
@@ -167,8 +208,10 @@ ending_of : (w : Word) (end : Ending) → MayEnd w (Some end) → IsEnding end
 ending_of Engine end h = absurd h
 ending_of Class end h = h
 ending_of Test end h = h
+ending_of Factory end h = h
+ending_of Dyn end h = h
 
-follows_end : (end : Option Ending) (trailing : ℕ) → Follows (ending_text end trailing)
+pub follows_end : (end : Option Ending) (trailing : ℕ) → Follows (ending_text end trailing)
 follows_end None trailing = follows_spaces trailing
 follows_end (Some end) trailing = refl
 
@@ -190,17 +233,27 @@ explained number w end h = by_cases w end.verdict end.text h (ending_of w end h)
   by_cases Test Abort text may e = refl
   by_cases Class Disabled text may e = refl
   by_cases Test Disabled text may e = refl
+  by_cases Factory Pass text may e = ap (λ t. if length t == 0 then Ok (Some Pass) else Err (BadLine number)) e
+  by_cases Factory Fail text may e = refl
+  by_cases Factory Abort text may e = refl
+  by_cases Factory Disabled text may e = refl
+  by_cases Dyn Pass text may e = ap (λ t. if length t == 0 then Ok (Some Pass) else Err (BadLine number)) e
+  by_cases Dyn Fail text may e = refl
+  by_cases Dyn Abort text may e = refl
+  by_cases Dyn Disabled text may e = refl
 
 missing : (number : ℕ) (w : Word) → MayEnd w None → no_verdict number w ≡ Ok None
 missing number Engine h = refl
 missing number Class h = refl
 missing number Test h = absurd h
+missing number Factory h = absurd h
+missing number Dyn h = absurd h
 
 module _ (number : ℕ) (w : Word) (trailing : ℕ) where
   abbrev left : Option Ending → List ℕ
   left end = drop 1 (ending_text end trailing)
 
-  text_back : (end : Option Ending) → MayEnd w end → text_after_word (left end) ≡ text_said end
+  pub text_back : (end : Option Ending) → MayEnd w end → text_after_word (left end) ≡ text_said end
   text_back None h = ap (λ t. without_end (without_front t)) (after_none trailing)
   text_back (Some end) h =
       let is = ending_of w end h in
@@ -214,7 +267,7 @@ module _ (number : ℕ) (w : Word) (trailing : ℕ) where
   no_more None h = ap (attribute_of w) (first_none trailing) ∙ of_nothing w
   no_more (Some end) h = ap (attribute_of w) (first_back end h) ∙ no_attribute w end.verdict
 
-  verdict_read : (end : Option Ending) → MayEnd w end → verdict_of number w (first_word (left end)) (text_said end) ≡ Ok (verdict_said end)
+  pub verdict_read : (end : Option Ending) → MayEnd w end → verdict_of number w (first_word (left end)) (text_said end) ≡ Ok (verdict_said end)
   verdict_read None h = ap (λ t. verdict_of number w t []) (first_none trailing) ∙ missing number w h
   verdict_read (Some end) h = ap (λ t. verdict_of number w t end.text) (first_back end h) ∙ spelled_back number w end.verdict end.text ∙ explained number w end h
 
@@ -270,8 +323,10 @@ word_indents : (w : Word) (rest : List ℕ) → prefix_len is_space (word_text w
 word_indents Engine rest = refl
 word_indents Class rest = refl
 word_indents Test rest = refl
+word_indents Factory rest = refl
+word_indents Dyn rest = refl
 
-level_by : (number deepest level : ℕ) (n : ℕ) → n ≡ level + level → level ≤ deepest → (if not (n % 2 == 0) || nat_lt deepest (n / 2) then Err (BadIndent number) else Ok (n / 2)) ≡ Ok level
+pub level_by : (number deepest level : ℕ) (n : ℕ) → n ≡ level + level → level ≤ deepest → (if not (n % 2 == 0) || nat_lt deepest (n / 2) then Err (BadIndent number) else Ok (n / 2)) ≡ Ok level
 level_by number deepest level n e h =
     let even : n % 2 ≡ 0 = omega (arith, e) in
     let half : n / 2 ≡ level = omega (arith, e) in
@@ -280,7 +335,7 @@ level_by number deepest level n e h =
     ∙ ap (λ k. if nat_lt deepest k then Err (BadIndent number) else Ok k) half
     ∙ ap (λ b. if b then Err (BadIndent number) else Ok level) may
 
-indents : (level : ℕ) → indentation level ≡ spaces (level + level)
+pub indents : (level : ℕ) → indentation level ≡ spaces (level + level)
 indents zero = refl
 indents (suc level) = let more : suc level + suc level ≡ suc (suc (level + level)) = omega arith in ap (λ l. 32 ∷ 32 ∷ l) (indents level) ∙ ap spaces (sym more)
 
@@ -289,12 +344,24 @@ no_sign : (n : ℕ) (w : Word) (rest : List ℕ) → begins_with_sign (spaces n 
 no_sign zero Engine rest = refl
 no_sign zero Class rest = refl
 no_sign zero Test rest = refl
+no_sign zero Factory rest = refl
+no_sign zero Dyn rest = refl
 no_sign (suc n) w rest = refl
 
 some_word : (w : Word) (rest : List ℕ) → (length (word_text w ++ rest) == 0) ≡ false
 some_word Engine rest = ne_eqb (length (word_text Engine ++ rest)) 0 (λ e. omega (arith, e))
 some_word Class rest = ne_eqb (length (word_text Class ++ rest)) 0 (λ e. omega (arith, e))
 some_word Test rest = ne_eqb (length (word_text Test ++ rest)) 0 (λ e. omega (arith, e))
+some_word Factory rest = ne_eqb (length (word_text Factory ++ rest)) 0 (λ e. omega (arith, e))
+some_word Dyn rest = ne_eqb (length (word_text Dyn ++ rest)) 0 (λ e. omega (arith, e))
+
+-- no word of a node is that of an after-body
+no_after : (w : Word) → bytes_eq (word_text w) (codes "after") ≡ false
+no_after Engine = refl
+no_after Class = refl
+no_after Test = refl
+no_after Factory = refl
+no_after Dyn = refl
 
 module _ (number level : ℕ) (l : NodeLine) where
   shape : node_text level l ≡ spaces (level + level) ++ words number l
@@ -318,3 +385,9 @@ module _ (number level : ℕ) (l : NodeLine) where
 
   pub line_declares : (above : Option Word) → IsNodeLine above l → declared_by number above (node_text level l) ≡ Ok (declares l)
   line_declares above is = ap (declared_by number above) shape ∙ words_read number l (level + level) above is
+
+  pub line_is_node : is_after (node_text level l) ≡ false
+  line_is_node =
+      ap is_after shape
+      ∙ ap (λ t. bytes_eq t (codes "after")) (first_is (level + level) (word_text l.word) (behind_word number l) (is_word l.word) refl)
+      ∙ no_after l.word

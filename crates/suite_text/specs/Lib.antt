@@ -3,6 +3,7 @@ pub mod StepAnswers
 pub mod StepFaults
 pub mod StepSpelling
 pub mod StepTexts
+pub mod SuiteAfter
 pub mod SuiteAttributes
 pub mod SuiteBytes
 pub mod SuiteFaults
@@ -13,12 +14,14 @@ pub mod SuiteNodes
 pub mod SuiteParts
 pub mod SuitePaths
 pub mod SuiteProperties
+pub mod SuitePulls
 pub mod SuiteScripts
 pub mod SuiteSpins
 pub mod SuiteVerdicts
 pub mod SuiteWords
 pub mod Suites
 pub mod Words
+pub mod WrittenAfterLines
 pub mod WrittenLines
 pub mod WrittenProperties
 pub mod WrittenSuites

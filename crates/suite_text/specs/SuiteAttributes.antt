@@ -1,5 +1,6 @@
--- The attributes of a line, which stand before its verdict: `#TAG`; on a test `spin=N`; and, but for an engine, `@concurrent`, `@same_thread`, `lock=KEY` and `isolated`.
-use Rattle.std.specs.Prelude.{ℕ, Bool, true, false, codes, List, [], ◌∷◌, if◌then◌else◌, Option, Some, None, Result, Ok, Err}
+-- The attributes of a line, which stand before its verdict: `#TAG`; on a test and a dynamic one `spin=N`; on a factory `pulls=N`; and, but for an engine and a dynamic test, `@concurrent`, `@same_thread`, `lock=KEY`
+-- and `isolated`.
+use Rattle.std.specs.Prelude.{ℕ, ◌&&◌, Bool, true, false, codes, List, [], ◌∷◌, if◌then◌else◌, Option, Some, None, Result, Ok, Err}
 use Rattle.std.specs.List.{after_first}
 use Rattle.std.specs.Option.{is_some, option_map_or}
 use Rattle.std.specs.Str.{trim, bytes_eq}
@@ -8,9 +9,9 @@ use Rattle.descriptor.specs.declared.mode.Mode.TheVariants.{SameThread, Concurre
 use Rattle.tag_expr.specs.Tags.{tag_refusal}
 use Rattle.tag_expr.specs.TagSets.{with_tag}
 use Rattle.suite_text.specs.declared.suite_words.Word.{Word}
-use Rattle.suite_text.specs.declared.suite_words.Word.TheVariants.{Engine, Class, Test}
+use Rattle.suite_text.specs.declared.suite_words.Word.TheVariants.{Engine, Class, Test, Factory, Dyn}
 use Rattle.suite_text.specs.declared.suite_attributes.Attribute.{Attribute}
-use Rattle.suite_text.specs.declared.suite_attributes.Attribute.TheVariants.{Tag, Spin, Runs, Lock, Isolated}
+use Rattle.suite_text.specs.declared.suite_attributes.Attribute.TheVariants.{Tag, Spin, Pulls, Runs, Lock, Isolated}
 use Rattle.suite_text.specs.declared.suite_attributes.Attributes.{Attributes}
 use Rattle.suite_text.specs.declared.suite_fault.SuiteFault.{SuiteFault}
 use Rattle.suite_text.specs.declared.suite_fault.SuiteFault.TheVariants.{BadLine}
@@ -18,7 +19,8 @@ use Rattle.suite_text.specs.Words.{words_in}
 use Rattle.unique_id.specs.Answers.{◌>>=◌}
 use Rattle.suite_text.specs.SuiteLines.{is_number_sign, begins_with_sign, after_word}
 use Rattle.suite_text.specs.SuiteLocks.{with_lock_of}
-use Rattle.suite_text.specs.SuiteSpins.{key_of, value_of, is_spin, spin_of}
+use Rattle.suite_text.specs.SuitePulls.{is_pulls}
+use Rattle.suite_text.specs.SuiteSpins.{key_of, value_of, is_spin, count_of}
 
 -- what follows the first number sign of a word
 abbrev pub after_sign : List ℕ → List ℕ
@@ -29,6 +31,8 @@ abbrev pub may_declare : Word → Bool
 may_declare Engine = false
 may_declare Class = true
 may_declare Test = true
+may_declare Factory = true
+may_declare Dyn = false
 
 -- the attribute by which a word with this key declares how a node is executed, if it is one
 abbrev pub declaration_in : List ℕ → List ℕ → Option Attribute
@@ -37,24 +41,36 @@ declaration_in text key =
     else (if bytes_eq text (codes "@same_thread") then Some (Runs SameThread)
     else (if bytes_eq text (codes "isolated") then Some Isolated else (if bytes_eq key (codes "lock") then Some Lock else None)))
 
+-- whether a line of this word may have tags: one of a dynamic test has none
+abbrev pub takes_tags : Word → Bool
+takes_tags Dyn = false
+takes_tags word = true
+
 -- the attribute that a word of a line is, if it is one that a node of this word may have
 abbrev pub attribute_of : Word → List ℕ → Option Attribute
 attribute_of word text =
-    if begins_with_sign text then Some Tag
-    else (if is_spin word (key_of text) then Some Spin else (if may_declare word then declaration_in text (key_of text) else None))
+    if takes_tags word && begins_with_sign text then Some Tag else (
+    if is_spin word (key_of text) then Some Spin else (
+    if is_pulls word (key_of text) then Some Pulls else (
+    if may_declare word then declaration_in text (key_of text) else None)))
 
 -- before the first attribute
 abbrev pub no_attributes : Attributes
-no_attributes = record { tags = []; spin = None; mode = None; locks = []; isolated = false }
+no_attributes = record { tags = []; spin = None; pulls = None; mode = None; locks = []; isolated = false }
 
 -- with the tag that a text is; a text that is none is a faulty line
 abbrev pub with_tag_of : ℕ → Attributes → List ℕ → Result Attributes SuiteFault
 with_tag_of number said text = if is_some (tag_refusal text) then Err (BadLine number) else Ok (record said { tags = with_tag said.tags (trim text) })
 
--- with how far the body counts first, which a line may say once
+-- with how far the body counts first, at most to 1,000,000, which a line may say once
 abbrev pub with_spin_of : ℕ → Attributes → List ℕ → Result Attributes SuiteFault
 with_spin_of number said value =
-    if is_some said.spin then Err (BadLine number) else (spin_of number value >>= (λ spin. Ok (record said { spin = Some spin })))
+    if is_some said.spin then Err (BadLine number) else (count_of number 1000000 value >>= (λ spin. Ok (record said { spin = Some spin })))
+
+-- with how many tests the body registers, at most 4,096, which a line may say once
+abbrev pub with_pulls_of : ℕ → Attributes → List ℕ → Result Attributes SuiteFault
+with_pulls_of number said value =
+    if is_some said.pulls then Err (BadLine number) else (count_of number 4096 value >>= (λ pulls. Ok (record said { pulls = Some pulls })))
 
 -- with the mode in which the node is executed, which a line may say once
 abbrev pub with_mode : ℕ → Attributes → Mode → Result Attributes SuiteFault
@@ -68,6 +84,7 @@ with_lock number said value = with_lock_of number said.locks value >>= (λ locks
 abbrev pub with_attribute : ℕ → Attributes → List ℕ → Attribute → Result Attributes SuiteFault
 with_attribute number said text Tag = with_tag_of number said (after_sign text)
 with_attribute number said text Spin = with_spin_of number said (value_of text)
+with_attribute number said text Pulls = with_pulls_of number said (value_of text)
 with_attribute number said text (Runs mode) = with_mode number said mode
 with_attribute number said text Lock = with_lock number said (value_of text)
 with_attribute number said text Isolated = Ok (record said { isolated = true })
@@ -85,3 +102,7 @@ attributes_of number word text = attributes_from number word no_attributes (word
 -- how far the body counts first: where nothing is said, not at all
 abbrev pub spin_said : Attributes → ℕ
 spin_said said = option_map_or (λ spin. spin) said.spin 0
+
+-- how many tests the body registers: where nothing is said, none
+abbrev pub pulls_said : Attributes → ℕ
+pulls_said said = option_map_or (λ pulls. pulls) said.pulls 0

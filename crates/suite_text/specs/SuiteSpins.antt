@@ -1,10 +1,10 @@
--- The attribute `spin=N`: how far a body counts first.
+-- Attributes that say a number, and among them `spin=N`: how far a body counts first.
 use Rattle.std.specs.Prelude.{ℕ, ◌==◌, List, codes, Bool, false, Option, Some, None, Result, Ok, Err}
 use Rattle.std.specs.List.{before_first, after_first}
 use Rattle.std.specs.Str.{bytes_eq}
 use Rattle.suite_text.specs.Numbers.{number_up_to}
 use Rattle.suite_text.specs.declared.suite_words.Word.{Word}
-use Rattle.suite_text.specs.declared.suite_words.Word.TheVariants.{Engine, Class, Test}
+use Rattle.suite_text.specs.declared.suite_words.Word.TheVariants.{Engine, Class, Test, Factory, Dyn}
 use Rattle.suite_text.specs.declared.suite_fault.SuiteFault.{SuiteFault}
 use Rattle.suite_text.specs.declared.suite_fault.SuiteFault.TheVariants.{BadLine}
 
@@ -19,17 +19,19 @@ key_of word = before_first is_equals_sign word
 abbrev pub value_of : List ℕ → List ℕ
 value_of word = after_first is_equals_sign word
 
--- whether a word of a test has the key `spin`
+-- whether a word of a test, or of a dynamic one, has the key `spin`
 abbrev pub is_spin : Word → List ℕ → Bool
 is_spin Engine key = false
 is_spin Class key = false
 is_spin Test key = bytes_eq key (codes "spin")
+is_spin Factory key = false
+is_spin Dyn key = bytes_eq key (codes "spin")
 
 -- a number that is there, else a faulty line
 abbrev pub or_bad_line : ℕ → Option ℕ → Result ℕ SuiteFault
 or_bad_line number None = Err (BadLine number)
 or_bad_line number (Some n) = Ok n
 
--- how far the value of `spin` says, at most to 1,000,000
-abbrev pub spin_of : ℕ → List ℕ → Result ℕ SuiteFault
-spin_of number value = or_bad_line number (number_up_to 1000000 value)
+-- the number that a value says, up to the most
+abbrev pub count_of : ℕ → ℕ → List ℕ → Result ℕ SuiteFault
+count_of number most value = or_bad_line number (number_up_to most value)

@@ -4,7 +4,7 @@ use Rattle.std.specs.Str.{bytes_eq}
 use Rattle.plan_events.specs.declared.status.Status.{Status}
 use Rattle.plan_events.specs.declared.status.Status.TheVariants.{Successful, Failed, Aborted}
 use Rattle.suite_text.specs.declared.suite_words.Word.{Word}
-use Rattle.suite_text.specs.declared.suite_words.Word.TheVariants.{Engine, Class, Test}
+use Rattle.suite_text.specs.declared.suite_words.Word.TheVariants.{Engine, Class, Test, Factory, Dyn}
 use Rattle.suite_text.specs.declared.suite_verdicts.Verdict.{Verdict}
 use Rattle.suite_text.specs.declared.suite_verdicts.Verdict.TheVariants.{Pass, Fail, Abort, Disabled}
 use Rattle.suite_text.specs.declared.suite_fault.SuiteFault.{SuiteFault}
@@ -17,11 +17,13 @@ verdict_spelled text =
     else (if bytes_eq text (codes "fail") then Some Fail
     else (if bytes_eq text (codes "abort") then Some Abort else (if bytes_eq text (codes "disabled") then Some Disabled else None)))
 
--- where a line ends without one: a test needs a verdict
+-- where a line ends without one: tests, factories and dynamic tests need a verdict
 abbrev pub no_verdict : ℕ → Word → Result (Option Verdict) SuiteFault
 no_verdict number Engine = Ok None
 no_verdict number Class = Ok None
 no_verdict number Test = Err (MissingVerdict number)
+no_verdict number Factory = Err (MissingVerdict number)
+no_verdict number Dyn = Err (MissingVerdict number)
 
 -- a verdict that is followed by this text: not of an engine, and with nothing after `pass`
 abbrev pub verdict_with : ℕ → Word → Option Verdict → List ℕ → Result (Option Verdict) SuiteFault

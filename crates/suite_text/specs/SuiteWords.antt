@@ -2,7 +2,7 @@
 use Rattle.std.specs.Prelude.{ℕ, List, length, ◌==◌, codes, Bool, true, false, if◌then◌else◌, Option, Some, None, Result, Ok, Err}
 use Rattle.std.specs.Str.{bytes_eq}
 use Rattle.suite_text.specs.declared.suite_words.Word.{Word}
-use Rattle.suite_text.specs.declared.suite_words.Word.TheVariants.{Engine, Class, Test}
+use Rattle.suite_text.specs.declared.suite_words.Word.TheVariants.{Engine, Class, Test, Factory, Dyn}
 use Rattle.suite_text.specs.declared.suite_words.Declared.{Declared}
 use Rattle.suite_text.specs.declared.suite_attributes.Attributes.{Attributes}
 use Rattle.suite_text.specs.declared.suite_verdicts.Verdict.{Verdict}
@@ -29,7 +29,9 @@ declaration_of d = record { word = d.word; name = d.name.now; attributes = d.att
 abbrev pub word_of : List ℕ → Option Word
 word_of text =
     if bytes_eq text (codes "engine") then Some Engine
-    else (if bytes_eq text (codes "class") then Some Class else (if bytes_eq text (codes "test") then Some Test else None))
+    else (if bytes_eq text (codes "class") then Some Class
+    else (if bytes_eq text (codes "test") then Some Test
+    else (if bytes_eq text (codes "factory") then Some Factory else (if bytes_eq text (codes "dyn") then Some Dyn else None))))
 
 -- whether a word may stand right below a node of the first word, or at level 0 where there is none
 abbrev pub may_stand : Option Word → Word → Bool
@@ -37,6 +39,8 @@ may_stand None Engine = true
 may_stand (Some Engine) Class = true
 may_stand (Some Class) Class = true
 may_stand (Some Class) Test = true
+may_stand (Some Class) Factory = true
+may_stand (Some Factory) Dyn = true
 may_stand above word = false
 
 -- a word that may stand right below a node of the first word

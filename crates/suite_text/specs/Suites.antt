@@ -5,24 +5,29 @@ use Rattle.suite_text.specs.declared.suite_fault.SuiteFault.{SuiteFault}
 use Rattle.suite_text.specs.declared.suite_fault.SuiteFault.TheVariants.{TooLarge}
 use Rattle.suite_text.specs.declared.suite.Suite.{Suite}
 use Rattle.unique_id.specs.Answers.{◌>>=◌}
-use Rattle.suite_text.specs.SuiteLines.{says_nothing, level_of}
+use Rattle.suite_text.specs.SuiteLines.{says_nothing, after_word, level_of}
+use Rattle.suite_text.specs.SuiteAfter.{is_after, with_after_line}
 use Rattle.suite_text.specs.SuiteWords.{Declaration, declared_by}
 use Rattle.config_params.specs.Parameters.{Parameters}
 use Rattle.suite_text.specs.SuiteProperties.{is_property, with_property}
 use Rattle.suite_text.specs.SuiteParts.{SuiteParts, LinesRead, no_lines, parts_of}
 use Rattle.suite_text.specs.SuiteNodes.{word_on, refusal_on, grown, unless_refused}
 
--- with the node that a line declares on its level
+-- with the node that is declared on a level
 abbrev pub with_declared : ℕ → LinesRead → ℕ → Declaration → Result LinesRead SuiteFault
 with_declared number read level d = unless_refused number (refusal_on read level d) (grown read level d)
 
--- with what a line declares on its level
+-- with the node that a line declares on its level
+abbrev pub with_node_line : ℕ → LinesRead → ℕ → List ℕ → Result LinesRead SuiteFault
+with_node_line number read level line = declared_by number (word_on read level) line >>= (λ d. with_declared number read level d)
+
+-- with what a line declares on its level: an after-body, or a node
 abbrev pub with_declaration : ℕ → LinesRead → ℕ → List ℕ → Result LinesRead SuiteFault
-with_declaration number read level line = declared_by number (word_on read level) line >>= (λ d. with_declared number read level d)
+with_declaration number read level line = if is_after line then with_after_line number read level (after_word line) else with_node_line number read level line
 
 -- with other properties
 abbrev pub with_properties : LinesRead → Parameters → LinesRead
-with_properties read properties = record { tree = read.tree; path = read.path; scripts = read.scripts; properties = properties }
+with_properties read properties = record { tree = read.tree; path = read.path; scripts = read.scripts; afters = read.afters; properties = properties }
 
 -- whether a line is a property's: it stands before the first engine
 abbrev pub is_property_in : LinesRead → List ℕ → Bool

@@ -11,11 +11,11 @@ use Rattle.descriptor.specs.declared.mode.Mode.{Mode}
 use Rattle.descriptor.specs.declared.mode.Mode.TheVariants.{SameThread, Concurrent}
 use Rattle.resource_locks.specs.LockSets.{put}
 use Rattle.suite_text.specs.declared.suite_words.Word.{Word}
-use Rattle.suite_text.specs.declared.suite_words.Word.TheVariants.{Engine, Class, Test}
+use Rattle.suite_text.specs.declared.suite_words.Word.TheVariants.{Engine, Class, Test, Factory, Dyn}
 use Rattle.suite_text.specs.declared.suite_verdicts.Verdict.{Verdict}
 use Rattle.suite_text.specs.declared.suite_verdicts.Verdict.TheVariants.{Pass, Fail, Abort, Disabled}
 use Rattle.suite_text.specs.declared.suite_attributes.Attributes.{Attributes}
-use Rattle.suite_text.specs.SuiteAttributes.{no_attributes, may_declare}
+use Rattle.suite_text.specs.SuiteAttributes.{no_attributes, takes_tags, may_declare}
 use Rattle.suite_text.specs.Numbers.{is_number}
 use Rattle.suite_text.specs.SuiteWords.{Declaration, may_stand}
 use Rattle.suite_text.specs.Words.{is_space}
@@ -39,6 +39,8 @@ abbrev pub word_text : Word → List ℕ
 word_text Engine = codes "engine"
 word_text Class = codes "class"
 word_text Test = codes "test"
+word_text Factory = codes "factory"
+word_text Dyn = codes "dyn"
 
 -- how a lock's mode is written: not at all, `:r` or `:rw`
 pub data LockSign : Type 0 where
@@ -65,10 +67,11 @@ abbrev pub mode_text : Mode → List ℕ
 mode_text SameThread = codes "@same_thread"
 mode_text Concurrent = codes "@concurrent"
 
--- an attribute: a tag, the digits of `spin`, a mode, a lock's key, or that the node is isolated
+-- an attribute: a tag, the digits of `spin` or of `pulls`, a mode, a lock's key, or that the node is isolated
 pub data Said : Type 0 where
   Tagged : (tag : List ℕ) → Said
   Counts : (digits : List ℕ) → Said
+  Registers : (digits : List ℕ) → Said
   Runs : (mode : Mode) → Said
   Locks : (key : List ℕ) → (sign : LockSign) → Said
   Alone : Said
@@ -76,6 +79,7 @@ pub data Said : Type 0 where
 abbrev pub said_text : Said → List ℕ
 said_text (Tagged tag) = 35 ∷ tag
 said_text (Counts digits) = codes "spin=" ++ digits
+said_text (Registers digits) = codes "pulls=" ++ digits
 said_text (Runs mode) = mode_text mode
 said_text (Locks key sign) = codes "lock=" ++ (key ++ sign_text sign)
 said_text Alone = codes "isolated"
@@ -87,11 +91,20 @@ said_also before (Counts digits) = record before { spin = Some (digits_value 10 
 said_also before (Runs mode) = record before { mode = Some mode }
 said_also before (Locks key sign) = record before { locks = put (record { key = key; mode = sign_mode sign }) before.locks }
 said_also before Alone = record before { isolated = true }
+said_also before (Registers digits) = record before { pulls = Some (digits_value 10 digits) }
 
--- whether a line of this word may say it after these: a tag, of any node; how far the body counts, of a test, once, and at most 1,000,000; a mode, once, locks and isolation, of any node but an engine
+-- a test, or a dynamic one
+abbrev pub IsTestWord : Word → Type 0
+IsTestWord Test = Unit {0}
+IsTestWord Dyn = Unit {0}
+IsTestWord word = ⊥
+
+-- whether a line of this word may say it after these: a tag, but not of a dynamic test; how far the body counts, of a test, once, and at most 1,000,000; how many tests it registers, of a factory, once, and at most
+-- 4,096; a mode, once, locks and isolation, of any node but an engine and a dynamic test
 abbrev pub MaySay : Word → Attributes → Said → Type 0
-MaySay word before (Tagged tag) = AllByRecursion (λ byte. is_space byte ≡ false) tag × (tag_refusal tag ≡ None)
-MaySay word before (Counts digits) = (word ≡ Test) × (before.spin ≡ None) × (is_number digits ≡ true) × (digits_value 10 digits ≤ 1000000)
+MaySay word before (Tagged tag) = AllByRecursion (λ byte. is_space byte ≡ false) tag × (tag_refusal tag ≡ None) × (takes_tags word ≡ true)
+MaySay word before (Counts digits) = IsTestWord word × (before.spin ≡ None) × (is_number digits ≡ true) × (digits_value 10 digits ≤ 1000000)
+MaySay word before (Registers digits) = (word ≡ Factory) × (before.pulls ≡ None) × (is_number digits ≡ true) × (digits_value 10 digits ≤ 4096)
 MaySay word before (Runs mode) = (may_declare word ≡ true) × (before.mode ≡ None)
 MaySay word before (Locks key sign) = (may_declare word ≡ true) × IsWord key × MaySign key sign
 MaySay word before Alone = may_declare word ≡ true
@@ -145,10 +158,12 @@ pub record IsEnding (end : Ending) : Type 0 where
   pub back : suffix_len is_space end.text ≡ 0
   pub apart : (end.text ≡ []) ⊎ (0 < end.behind)
 
--- an engine has no verdict, a class may have one, a test has one
+-- an engine has no verdict, a class may have one, all others have one
 abbrev pub MayEnd : Word → Option Ending → Type 0
 MayEnd Engine (Some end) = ⊥
 MayEnd Test None = ⊥
+MayEnd Factory None = ⊥
+MayEnd Dyn None = ⊥
 MayEnd word None = Unit {0}
 MayEnd word (Some end) = IsEnding end
 

@@ -1,4 +1,4 @@
--- What may be written as a suite: nodes that stand in nodes, each with its line, the texts that spell it, and the suite that it means.
+-- What may be written as a suite: nodes that stand in nodes, each with its line, and after-bodies, the texts that spell it, and the suite that it means.
 use Rattle.std.specs.Prelude.{◌≡◌, ◌≢◌, ◌<◌, ◌≤◌, ℕ, suc, ◌-◌, ◌==◌, ◌⊎◌, true, false, List, [], ◌∷◌, ◌++◌, length, slice_index, Option, Some, None, option_to_list}
 use Rattle.std.specs.List.{AllByRecursion, flat_map}
 use Rattle.config_params.specs.Parameters.{Parameters, nothing_said}
@@ -6,11 +6,11 @@ use Rattle.descriptor.specs.declared.node.Node.{Node}
 use Rattle.descriptor.specs.Nodes.{IsTree, plan_alone, size, appended}
 use Rattle.unique_id.specs.declared.unique_id.Segment.{Segment}
 use Rattle.unique_id.specs.Spelling.{spelling}
-use Rattle.suite_text.specs.declared.suite_words.Word.{Word}
 use Rattle.suite_text.specs.declared.suite_builder.Opened.{Opened}
-use Rattle.suite_text.specs.SuiteNodes.{id_at, node_declared, script_declared}
-use Rattle.suite_text.specs.SuiteParts.{SuiteParts, word_of_opened, node_of_opened}
+use Rattle.suite_text.specs.SuiteNodes.{id_at, next_place, node_declared, script_declared}
+use Rattle.suite_text.specs.SuiteParts.{SuiteParts, Made, suite_made, above, word_of_opened, node_of_opened}
 use Rattle.suite_text.specs.Words.{is_space}
+use Rattle.suite_text.specs.WrittenAfterLines.{AfterLine, after_text, IsAfterLine, with_after_item, TakesAfter}
 use Rattle.suite_text.specs.WrittenLines.{NodeLine, node_text, declares, IsNodeLine}
 use Rattle.suite_text.specs.WrittenProperties.{Property, property_text, IsProperty, said_to}
 
@@ -49,16 +49,19 @@ AreLines (line ∷ more) = AllByRecursion (λ byte. (byte == 10) ≡ false) line
 abbrev pub SaysNothing : Line → Type 0
 SaysNothing line = ((rest : List ℕ) × (line.text ≡ 35 ∷ rest)) ⊎ AllByRecursion (λ byte. is_space byte ≡ true) line.text
 
--- nodes that stand in one node: none, or one behind lines that say nothing, with those in it, and those after it
+-- what stands in one node: nothing; or a node behind lines that say nothing, with what stands in it, and what follows it; or behind such lines the line of an after-body, which may be that of a class further out
+-- (it stands on the level of what stands in its class), and what follows it
 pub data Items : Type 0 where
   NoMore : Items
   Item : (before : List Line) → (line : NodeLine) → (end : LineEnd) → (inside after : Items) → Items
+  AfterItem : (before : List Line) → (level : ℕ) → (line : AfterLine) → (end : LineEnd) → (after : Items) → Items
 
 -- their lines, on a level; what stands in a node stands one level below it
 abbrev pub lines_of_items : ℕ → Items → List Line
 lines_of_items level NoMore = []
 lines_of_items level (Item before line end inside after) =
     before ++ (record { text = node_text level line; end = end } ∷ (lines_of_items (suc level) inside ++ lines_of_items level after))
+lines_of_items level (AfterItem before own line end after) = before ++ (record { text = after_text own line; end = end } ∷ lines_of_items level after)
 
 -- the line of a property, behind lines that say nothing
 pub record PropertyLine : Type 0 where
@@ -88,39 +91,55 @@ lines_of_written written = lines_of_properties written.properties ++ (lines_of_i
 abbrev pub text_of_written : Written → List ℕ
 text_of_written written = text_of_lines (lines_of_written written)
 
--- the node that a line declares in this one, or at level 0 where there is none: it has the next number
-abbrev pub node_in : SuiteParts → Option Opened → NodeLine → Node
-node_in parts place line = node_declared (size parts.tree) (word_of_opened place) (id_at parts.tree (node_of_opened place)) (declares line)
+-- of the nodes that something stands in, from level 0 on, that in which it stands right; at level 0 there is none
+abbrev pub innermost : List Opened → Option Opened
+innermost places = above places (length places)
+
+-- the node that a line declares right in this one, or at level 0 where there is none: it has the next number
+abbrev pub node_in : Made → Option Opened → NodeLine → Node
+node_in made place line =
+    node_declared (size made.tree) (word_of_opened place) (id_at made.tree (node_of_opened place)) (next_place made.tree (node_of_opened place)) (declares line)
 
 -- with that node as the last of the tree, and its script
-abbrev pub with_item : SuiteParts → Option Opened → NodeLine → SuiteParts
-with_item parts place line = record {
-  tree = appended parts.tree (node_of_opened place) (node_in parts place line);
-  scripts = parts.scripts ++ option_to_list (script_declared (declares line) (size parts.tree));
-  properties = parts.properties;
+abbrev pub with_item : Made → Option Opened → NodeLine → Made
+with_item made place line = record {
+  tree = appended made.tree (node_of_opened place) (node_in made place line);
+  scripts = made.scripts ++ option_to_list (script_declared (declares line) (size made.tree));
+  afters = made.afters;
+  properties = made.properties;
 }
 
--- that node, for those in it
-abbrev pub in_item : SuiteParts → NodeLine → Option Opened
-in_item parts line = Some (record { node = size parts.tree; word = line.word })
+-- the nodes that something in that node stands in
+abbrev pub in_item : Made → List Opened → NodeLine → List Opened
+in_item made places line = places ++ record { node = size made.tree; word = line.word } ∷ []
 
--- with all nodes of these items: a node, those in it, those after it
-abbrev pub with_items : SuiteParts → Option Opened → Items → SuiteParts
-with_items parts place NoMore = parts
-with_items parts place (Item before line end inside after) = with_items (with_items (with_item parts place line) (in_item parts line) inside) place after
+-- with all that stands in these nodes: a node, what stands in it, what follows it; or the after-body of that node which is open on the line's level, and what follows it
+abbrev pub with_items : Made → List Opened → Items → Made
+with_items made places NoMore = made
+with_items made places (Item before line end inside after) =
+    with_items (with_items (with_item made (innermost places) line) (in_item made places line) inside) places after
+with_items made places (AfterItem before level line end after) = with_items (with_after_item made (node_of_opened (above places level)) line) places after
 
 -- the plan alone, with these properties
-abbrev pub no_nodes : Parameters → SuiteParts
-no_nodes properties = record { tree = plan_alone; scripts = []; properties = properties }
+abbrev pub nothing_made : Parameters → Made
+nothing_made properties = record { tree = plan_alone; scripts = []; afters = []; properties = properties }
+
+-- the plan alone, with what is said of the configuration
+abbrev pub before_engines : Written → Made
+before_engines written = nothing_made (all_said_to nothing_said written.properties)
 
 -- the suite that is meant
 abbrev pub meant : Written → SuiteParts
-meant written = with_items (no_nodes (all_said_to nothing_said written.properties)) None written.engines
+meant written = suite_made (with_items (before_engines written) [] written.engines)
 
--- items may be written right in a node of this word, or at level 0 where there is none
-abbrev pub AreItems : Option Word → Items → Type 0
-AreItems above NoMore = Unit {0}
-AreItems above (Item before line end inside after) = AllByRecursion SaysNothing before × IsNodeLine above line × AreItems (Some line.word) inside × AreItems above after
+-- items may be written in these nodes, behind what was made before
+abbrev pub AreItems : Made → List Opened → Items → Type 0
+AreItems made places NoMore = Unit {0}
+AreItems made places (Item before line end inside after) =
+    AllByRecursion SaysNothing before × IsNodeLine (word_of_opened (innermost places)) line × AreItems (with_item made (innermost places) line) (in_item made places line) inside
+    × AreItems (with_items (with_item made (innermost places) line) (in_item made places line) inside) places after
+AreItems made places (AfterItem before level line end after) =
+    AllByRecursion SaysNothing before × (level ≤ length places) × TakesAfter made.tree (above places level) × IsAfterLine line × AreItems (with_after_item made (node_of_opened (above places level)) line) places after
 
 -- a unique id within its limits: 64 segments, and 1,024 bytes as it is spelled
 abbrev pub IsShortId : List Segment → Type 0
@@ -129,7 +148,7 @@ IsShortId id = (length id ≤ 64) × (length (spelling id) ≤ 1024)
 -- a suite may be written so: each line may stand where it stands, and what they mean is a tree, with no id twice and nothing too long
 pub record IsWritten (written : Written) : Type 0 where
   pub properties : AllByRecursion (λ line. AllByRecursion SaysNothing line.before × IsProperty line.property) written.properties
-  pub items : AreItems None written.engines
+  pub items : AreItems (before_engines written) [] written.engines
   pub after : AllByRecursion SaysNothing written.after
   pub lines : AreLines (lines_of_written written)
   pub tree : IsTree (meant written).tree

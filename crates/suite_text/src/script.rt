@@ -19,15 +19,17 @@ pub struct Script {
 impl Script {
     ghost use Rattle.suite_text.specs.SuiteScripts.{ending};
 
-    /// The script of a body that counts as far as `spin`, and ends with this status and text.
+    /// The script of a body that counts as far as `spin`, registers so many tests, and ends with
+    /// this status and text.
     pub(crate) fn ending(
         alloc: Global,
         body: BodyId,
         spin: u32,
+        pulls: u16,
         status: Status,
         text: &str,
     ) -> Result<Script, AllocError>
-        ensures { IfOk result (λ script. script ≡ ending body spin status text.now) }
+        ensures { IfOk result (λ script. script ≡ ending body spin pulls status text.now) }
     {
         let outcome = Outcome {
             status,
@@ -36,7 +38,7 @@ impl Script {
         Ok(Script {
             body,
             spin,
-            reply: Reply { pulls: 0, outcome },
+            reply: Reply { pulls, outcome },
         })
     }
 }

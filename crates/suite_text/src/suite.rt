@@ -5,7 +5,7 @@ ghost use Rattle.std.specs.Str.{IsUtf8};
 ghost use Rattle.suite_text.specs.SuiteBytes.{suite_read};
 ghost use Rattle.suite_text.specs.SuiteFaults.{Gives};
 ghost use Rattle.suite_text.specs.SuiteIds.{IdsFollow};
-ghost use Rattle.suite_text.specs.SuiteParts.{SuiteParts, bodies_of, bodies_answered};
+ghost use Rattle.suite_text.specs.SuiteParts.{SuiteParts, AreBodiesOf, bodies_answered};
 ghost use Rattle.suite_text.specs.Suites.{suite_of, suite_parts};
 ghost use Rattle.suite_text.specs.WrittenSuites.{IsSuite};
 
@@ -37,7 +37,7 @@ fn line_after(bytes: &[u8]) -> usize
 fn suite_in(alloc: Global, text: &str) -> Result<Suite, SuiteFault>
     ensures exact { Gives suite_parts result (suite_of text.now) }
     ensures ids { IfOk result (λ suite. IdsFollow suite.tree) }
-    ensures answered { IfOk result (λ suite. bodies_answered suite.scripts.items ≡ bodies_of suite.tree.nodes) }
+    ensures answered { IfOk result (λ suite. AreBodiesOf suite.tree.nodes (bodies_answered suite.scripts.items)) }
     ensures no_memory { IfErr result (λ fault. fault ≡ SuiteFault.NoMemory → length text.now ≤ 1048576) }
 {
     if text.len() > LONGEST_SUITE {
@@ -48,7 +48,7 @@ fn suite_in(alloc: Global, text: &str) -> Result<Suite, SuiteFault>
     for (index, line) in lines.iter().enumerate() {
         builder.read_line(alloc, index + 1, line)?;
     }
-    Ok(builder.finish())
+    Ok(builder.finish(alloc)?)
 }
 
 /// The suite of bytes, which are judged before their lines.
@@ -89,10 +89,12 @@ impl Suite {
         ensures reads_back { (suite : SuiteParts) → IsSuite text.now suite → Gives suite_parts result (Ok suite) }
         // Want of memory is no property of a text.
         ensures never { suite_of text.now ≢ Err SuiteFault.NoMemory }
-        // Each node's unique id is its parent's with one more segment, whose value is its name.
+        // Each node's unique id is its parent's with one more segment, whose value is its name; of a
+        // factory's k-th dynamic test `#k`.
         ensures ids { IfOk result (λ suite. IdsFollow suite.tree) }
-        // Each body of the tree has one script, in the order of the nodes.
-        ensures answered { IfOk result (λ suite. bodies_answered suite.scripts.items ≡ bodies_of suite.tree.nodes) }
+        // Each body of the tree has one script, in the order of the nodes; behind these each
+        // after-body has one, in the order of their lines.
+        ensures answered { IfOk result (λ suite. AreBodiesOf suite.tree.nodes (bodies_answered suite.scripts.items)) }
         // Memory is taken only for a text that is not too large.
         ensures no_memory { IfErr result (λ fault. fault ≡ SuiteFault.NoMemory → length text.now ≤ 1048576) }
     {

@@ -1,19 +1,25 @@
 //! The attributes of a line, which stand before its verdict.
 
 ghost use Rattle.std.specs.Prelude.{◌≡◌, OnOk, IfErr, Ok};
-ghost use Rattle.suite_text.specs.SuiteAttributes.{after_sign, declaration_in, attribute_of, no_attributes, with_tag_of, with_spin_of, with_mode, with_attribute, attributes_of, spin_said};
+ghost use Rattle.suite_text.specs.SuiteAttributes.{after_sign, declaration_in, attribute_of, no_attributes, with_tag_of, with_spin_of, with_pulls_of, with_mode, with_attribute, attributes_of, spin_said, pulls_said};
 ghost use Rattle.suite_text.specs.SuiteFaults.{Fails, Gives};
 ghost use Rattle.suite_text.specs.SuiteLines.{first_word};
 
 use crate::suite_fault::SuiteFault;
 use crate::suite_lines::next_word;
 use crate::suite_locks::put_lock;
-use crate::suite_spins::{key_and_value, spin_in};
+use crate::suite_spins::{count_in, key_and_value};
 use crate::suite_words::Word;
 use descriptor::Mode;
 use resource_locks::LockSet;
 use std::alloc::Global;
 use tag_expr::{TagFault, TagSet, tag_of};
+
+/// The farthest that a body counts.
+const LONGEST_SPIN: u32 = 1_000_000;
+
+/// The greatest number of tests that a body registers.
+const MOST_PULLS: u32 = 4_096;
 
 /// What an attribute is about.
 #[derive(Clone, Copy)]
@@ -22,6 +28,8 @@ pub(crate) enum Attribute {
     Tag,
     /// `spin=N`
     Spin,
+    /// `pulls=N`
+    Pulls,
     /// `@concurrent`, `@same_thread`
     Runs(Mode),
     /// `lock=KEY`
@@ -35,12 +43,15 @@ impl Attribute {
     fn of(word: Word, text: &str) -> Option<Attribute>
         ensures { result ≡ attribute_of word text.now }
     {
-        if text.starts_with('#') {
+        if !matches!(word, Word::Dyn) && text.starts_with('#') {
             return Some(Attribute::Tag);
         }
         let (key, _) = key_and_value(text);
         if word.takes_spin(key) {
             return Some(Attribute::Spin);
+        }
+        if word.takes_pulls(key) {
+            return Some(Attribute::Pulls);
         }
         if word.may_declare() {
             Attribute::declaring(text, key)
@@ -75,6 +86,8 @@ pub(crate) struct Attributes {
     pub(crate) tags: TagSet,
     /// How far the node's body counts first.
     pub(crate) spin: Option<u32>,
+    /// How many tests the node's body registers.
+    pub(crate) pulls: Option<u16>,
     pub(crate) mode: Option<Mode>,
     /// Each key once, in byte order.
     pub(crate) locks: LockSet,
@@ -89,6 +102,7 @@ impl Attributes {
         Attributes {
             tags: TagSet::new(alloc),
             spin: None,
+            pulls: None,
             mode: None,
             locks: LockSet::new(alloc),
             isolated: false,
@@ -101,6 +115,16 @@ impl Attributes {
     {
         match self.spin {
             Some(spin) => spin,
+            None => 0,
+        }
+    }
+
+    /// How many tests the node's body registers, 0 where the line does not say it.
+    pub(crate) fn pulls(&self) -> u16
+        ensures { result ≡ pulls_said self.now }
+    {
+        match self.pulls {
+            Some(pulls) => pulls,
             None => 0,
         }
     }
@@ -125,7 +149,19 @@ impl Attributes {
         if self.spin.is_some() {
             return Err(SuiteFault::BadLine(number));
         }
-        self.spin = Some(spin_in(number, value)?);
+        self.spin = Some(count_in(number, LONGEST_SPIN, value)?);
+        Ok(())
+    }
+
+    /// Sets how many tests the body registers, which a line may say once.
+    fn set_pulls(&mut self, number: usize, value: &str) -> Result<(), SuiteFault>
+        ensures added { OnOk result (with_pulls_of number self.old value.now ≡ Ok self.new) }
+        ensures refused { IfErr result (λ fault. Fails fault (with_pulls_of number self.old value.now)) }
+    {
+        if self.pulls.is_some() {
+            return Err(SuiteFault::BadLine(number));
+        }
+        self.pulls = Some(count_in(number, MOST_PULLS, value)? as u16);
         Ok(())
     }
 
@@ -155,6 +191,7 @@ impl Attributes {
         match attribute {
             Attribute::Tag => self.add_tag(alloc, number, after_sign(text)),
             Attribute::Spin => self.set_spin(number, key_and_value(text).1),
+            Attribute::Pulls => self.set_pulls(number, key_and_value(text).1),
             Attribute::Runs(mode) => self.set_mode(number, mode),
             Attribute::Lock => put_lock(&mut self.locks, number, key_and_value(text).1),
             Attribute::Isolated => {

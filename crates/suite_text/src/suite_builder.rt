@@ -4,19 +4,25 @@ ghost use Rattle.std.specs.Prelude.{◌≡◌, ◌≢◌, ◌≤◌, ◌<◌, �
 
 use crate::script::Script;
 use crate::suite::Suite;
+use crate::suite_after::after_in;
 use crate::suite_fault::SuiteFault;
-use crate::suite_lines::{level_at, without_front};
+use crate::suite_lines::{level_at, next_word, without_front};
 use crate::suite_locks::locks_of;
 use crate::suite_properties::{is_property, put_property};
+use crate::suite_pulls::{Pending, all_settled, lines_below};
 use crate::suite_words::{Declared, Word, declared_in};
 use config_params::Params;
-use descriptor::{Node, NodeId, Tree, TreeBuilder, TreeFault};
+use descriptor::{BodyId, Node, NodeId, Tree, TreeBuilder, TreeFault};
+use plan_events::Status;
 use std::alloc::{AllocError, Global};
 use std::marker::Model;
 use unique_id::{Text, UidFault, UniqueId};
 
 /// The greatest number of nodes for which room is made before the first line.
 const MOST_NODES: usize = 4_095;
+
+/// The number of a node's after-body, less the node's own: above all numbers of nodes.
+const FIRST_AFTER: u16 = 8_192;
 
 /// A node that the next line may hang below, and the word of its line.
 #[derive(Clone, Copy)]
@@ -31,7 +37,9 @@ pub(crate) struct Opened {
 pub(crate) struct SuiteBuilder {
     tree: TreeBuilder,
     path: Vec<Opened>,
-    scripts: Vec<Script>,
+    scripts: Vec<Pending>,
+    // those of after-bodies, in the order of their lines
+    afters: Vec<Script>,
     properties: Params,
 }
 
@@ -41,16 +49,16 @@ impl Model for SuiteBuilder {
 
     ghost Value = { LinesRead };
 
-    ghost view = { λ b. record { tree = b.tree; path = b.path.items; scripts = b.scripts.items; properties = b.properties } };
+    ghost view = { λ b. record { tree = b.tree; path = b.path.items; scripts = b.scripts.items; afters = b.afters.items; properties = b.properties } };
 
-    ghost invariant = { λ b. IsSound (record { tree = b.tree; path = b.path.items; scripts = b.scripts.items; properties = b.properties }) };
+    ghost invariant = { λ b. IsSound (record { tree = b.tree; path = b.path.items; scripts = b.scripts.items; afters = b.afters.items; properties = b.properties }) };
 }
 
 ghost use Rattle.unique_id.specs.Spelling.{refusal};
 ghost use Rattle.descriptor.specs.Nodes.{size, IsTree, MayTake};
 ghost use Rattle.suite_text.specs.SuiteParts.{above, word_of_opened, node_of_opened};
 ghost use Rattle.suite_text.specs.SuiteWords.{declaration_of};
-ghost use Rattle.suite_text.specs.SuiteNodes.{id_at, node_with, node_declared, is_over_limit, refusal_on, grown};
+ghost use Rattle.suite_text.specs.SuiteNodes.{id_at, value_declared, node_with, node_declared, is_over_limit, place_on, word_on, refusal_on, grown};
 
 /// The unique id of a node below this one, or at level 0.
 fn id_below(
@@ -84,8 +92,10 @@ fn node_with(
     let disabled = declared.reason(alloc)?;
     let name = Text::new(alloc, declared.name)?;
     let kind = declared.word.kind();
+    let role = declared.word.role();
     let attributes = declared.attributes;
     Ok(Node {
+        role,
         mode: attributes.mode,
         locks: locks_of(alloc, &attributes.locks)?,
         isolated: attributes.isolated,
@@ -96,21 +106,45 @@ fn node_with(
     })
 }
 
-/// The node of this number that a line declares below this one, or at level 0.
+/// The unique id of the node that a line declares as the child of this place, from 1, of this one,
+/// or at level 0.
+fn id_declared(
+    alloc: Global,
+    tree: &Tree,
+    parent: Option<Opened>,
+    kind: &str,
+    place: u16,
+    declared: &Declared<'_>,
+) -> Result<UniqueId, UidFault>
+    requires { IfSome parent (λ opened. (0 < opened.node) × (opened.node < size tree.now)) }
+    ensures ok { IfOk result (λ id. id ≡ id_at tree.now (node_of_opened parent) ++ record { kind = kind.now; value = value_declared (declaration_of declared.now) place } ∷ []) }
+    ensures accepted { IfOk result (λ _. refusal (id_at tree.now (node_of_opened parent)) kind.now (value_declared (declaration_of declared.now) place) ≡ None) }
+    ensures refused { IfErr result (λ fault. fault ≢ UidFault.NoMemory → refusal (id_at tree.now (node_of_opened parent)) kind.now (value_declared (declaration_of declared.now) place) ≡ Some fault) }
+{
+    if declared.word.role().is_spare() {
+        let value = format!(in alloc; "#{place}")?;
+        return id_below(alloc, tree, parent, kind, value.as_str());
+    }
+    id_below(alloc, tree, parent, kind, declared.name)
+}
+
+/// The node of this number that a line declares as the child of this place, from 1, of this one, or
+/// at level 0.
 fn node_below(
     alloc: Global,
     tree: &Tree,
     parent: Option<Opened>,
+    place: u16,
     number: u16,
     declared: Declared<'_>,
 ) -> Result<Node, TreeFault>
     requires { IfSome parent (λ opened. (0 < opened.node) × (opened.node < size tree.now)) }
-    ensures ok { IfOk result (λ node. node ≡ node_declared number (word_of_opened parent) (id_at tree.now (node_of_opened parent)) (declaration_of declared.entry)) }
-    ensures accepted { IfOk result (λ _. is_over_limit (id_at tree.now (node_of_opened parent)) (word_of_opened parent) (declaration_of declared.entry) ≡ false) }
-    ensures refused { IfErr result (λ fault. fault ≢ TreeFault.NoMemory → (fault ≡ TreeFault.OverLimit) × (is_over_limit (id_at tree.now (node_of_opened parent)) (word_of_opened parent) (declaration_of declared.entry) ≡ true)) }
+    ensures ok { IfOk result (λ node. node ≡ node_declared number (word_of_opened parent) (id_at tree.now (node_of_opened parent)) place (declaration_of declared.entry)) }
+    ensures accepted { IfOk result (λ _. is_over_limit (id_at tree.now (node_of_opened parent)) (word_of_opened parent) place (declaration_of declared.entry) ≡ false) }
+    ensures refused { IfErr result (λ fault. fault ≢ TreeFault.NoMemory → (fault ≡ TreeFault.OverLimit) × (is_over_limit (id_at tree.now (node_of_opened parent)) (word_of_opened parent) place (declaration_of declared.entry) ≡ true)) }
 {
     let kind = declared.word.segment_type(parent.map(|opened| opened.word));
-    let id = match id_below(alloc, tree, parent, kind, declared.name) {
+    let id = match id_declared(alloc, tree, parent, kind, place, &declared) {
         Ok(id) => id,
         Err(UidFault::NoMemory) => return Err(TreeFault::NoMemory),
         Err(_) => return Err(TreeFault::OverLimit),
@@ -140,10 +174,12 @@ fn node_or_plan(opened: Option<Opened>) -> NodeId
 impl SuiteBuilder {
     ghost use Rattle.suite_text.specs.SuiteParts.{no_lines};
     ghost use Rattle.suite_text.specs.SuiteIds.{IdsFollow};
-    ghost use Rattle.suite_text.specs.SuiteNodes.{word_on, node_on, is_over_limit_on};
-    ghost use Rattle.suite_text.specs.SuiteFaults.{Fails};
-    ghost use Rattle.suite_text.specs.Suites.{is_property_in, with_declared, with_declaration, with_words, with_line, suite_parts};
-    ghost use Rattle.suite_text.specs.SuiteParts.{parts_of, bodies_of, bodies_answered};
+    ghost use Rattle.suite_text.specs.SuiteNodes.{node_on, is_over_limit_on};
+    ghost use Rattle.suite_text.specs.SuiteFaults.{Fails, Gives};
+    ghost use Rattle.suite_text.specs.SuiteAfter.{class_of, after_body, with_after_body, with_after_line};
+    ghost use Rattle.descriptor.specs.Refusals.{after_refusal};
+    ghost use Rattle.suite_text.specs.Suites.{is_property_in, with_declared, with_node_line, with_declaration, with_words, with_line, suite_parts};
+    ghost use Rattle.suite_text.specs.SuiteParts.{parts_of, AreBodiesOf, bodies_answered};
 
     /// Before the first line, with room for the nodes of so many lines.
     pub(crate) fn new(alloc: Global, lines: usize) -> Result<SuiteBuilder, AllocError>
@@ -154,6 +190,7 @@ impl SuiteBuilder {
             tree: TreeBuilder::with_capacity(alloc, nodes)?,
             path: Vec::new(alloc),
             scripts: Vec::with_capacity(alloc, nodes)?,
+            afters: Vec::new(alloc),
             properties: Params::new(alloc),
         })
     }
@@ -172,23 +209,20 @@ impl SuiteBuilder {
         }
     }
 
-    /// The word of the node that a line of this level hangs below; none at level 0.
-    fn word_above(&self, level: usize) -> Option<Word>
-        requires { level ≤ length self.now.path }
-        ensures { result ≡ word_on self.now level }
-    {
-        match self.above(level) {
-            Some(opened) => Some(opened.word),
-            None => None,
-        }
-    }
-
     /// The number of the next node.
     fn next_number(&self) -> u16
         ensures number { result ≡ size self.now.tree }
         ensures tree { IsTree self.now.tree }
     {
         self.tree.tree().len() as u16
+    }
+
+    /// Which child, from 1, of the node that it hangs below a line of this level declares.
+    fn place_on(&self, level: usize) -> u16
+        requires { level ≤ length self.now.path }
+        ensures { result ≡ place_on self.now level }
+    {
+        lines_below(self.tree.tree(), node_or_plan(self.above(level))) + 1
     }
 
     /// The node that a line of this level declares.
@@ -205,7 +239,8 @@ impl SuiteBuilder {
     {
         let parent = self.above(level);
         let number = self.next_number();
-        node_below(alloc, self.tree.tree(), parent, number, declared)
+        let place = self.place_on(level);
+        node_below(alloc, self.tree.tree(), parent, place, number, declared)
     }
 
     /// Adds the node that a line of this level declares.
@@ -255,8 +290,90 @@ impl SuiteBuilder {
         self.levels() == 0 && is_property(line)
     }
 
-    /// Reads a line that declares a node on this level.
+    /// The class that an after-body's line of this level belongs to, which has none yet.
+    fn class_on(&self, number: usize, level: usize) -> Result<NodeId, SuiteFault>
+        requires { level ≤ length self.now.path }
+        ensures exact { Gives (λ node. node) result (class_of number self.now.tree (above self.now.path level)) }
+        ensures inside { IfOk result (λ node. (0 < node) × (node < size self.now.tree)) }
+        ensures few { IfOk result (λ node. node < 4096) }
+    {
+        let Some(opened) = self.above(level) else {
+            return Err(SuiteFault::BadLine(number));
+        };
+        if matches!(opened.word, Word::Class) && self.tree.tree().after(opened.node).is_none() {
+            return Ok(opened.node);
+        }
+        Err(SuiteFault::BadLine(number))
+    }
+
+    /// Gives a class its after-body, which ends with this status and text.
+    fn set_after(
+        &mut self,
+        alloc: Global,
+        class: NodeId,
+        status: Status,
+        text: &str,
+    ) -> Result<(), TreeFault>
+        requires inside { (0 < class) × (class < size self.old.tree) }
+        requires few { class < 4096 }
+        ensures accepted { OnOk result (after_refusal self.old.tree class (after_body class) ≡ None) }
+        ensures set { OnOk result (self.new ≡ with_after_body self.old class (status, text.now)) }
+        ensures refused { IfErr result (λ fault. fault ≢ TreeFault.NoMemory → after_refusal self.old.tree class (after_body class) ≡ Some fault) }
+    {
+        let body = BodyId::new(FIRST_AFTER + class.number());
+        let script = Script::ending(alloc, body, 0, 0, status, text)?;
+        self.afters.reserve(1)?;
+        self.tree.set_after(class, body)?;
+        self.afters.push(script).unwrap();
+        Ok(())
+    }
+
+    /// Reads what follows the word `after` on a line of this level.
+    fn read_after(
+        &mut self,
+        alloc: Global,
+        number: usize,
+        level: usize,
+        rest: &str,
+    ) -> Result<(), SuiteFault>
+        requires { level ≤ length self.old.path }
+        ensures added { OnOk result (with_after_line number self.old level rest.now ≡ Ok self.new) }
+        ensures refused { IfErr result (λ fault. Fails fault (with_after_line number self.old level rest.now)) }
+    {
+        let class = self.class_on(number, level)?;
+        let (status, text) = after_in(number, rest)?;
+        match self.set_after(alloc, class, status, text) {
+            Ok(()) => Ok(()),
+            Err(fault) => Err(SuiteFault::at_line(number, fault)),
+        }
+    }
+
+    /// The word of the node that a line of this level hangs below; none at level 0.
+    fn word_on(&self, level: usize) -> Option<Word>
+        requires { level ≤ length self.now.path }
+        ensures { result ≡ word_on self.now level }
+    {
+        self.above(level).map(|opened| opened.word)
+    }
+
+    /// Reads the line of a node on this level.
     fn read_node(
+        &mut self,
+        alloc: Global,
+        number: usize,
+        level: usize,
+        line: &str,
+    ) -> Result<(), SuiteFault>
+        requires { level ≤ length self.old.path }
+        ensures added { OnOk result (with_node_line number self.old level line.now ≡ Ok self.new) }
+        ensures refused { IfErr result (λ fault. Fails fault (with_node_line number self.old level line.now)) }
+    {
+        let declared = declared_in(alloc, number, self.word_on(level), line)?;
+        self.declare(alloc, number, level, declared)
+    }
+
+    /// Reads the line of an after-body or of a node on this level.
+    fn read_declaration(
         &mut self,
         alloc: Global,
         number: usize,
@@ -267,12 +384,15 @@ impl SuiteBuilder {
         ensures added { OnOk result (with_declaration number self.old level line.now ≡ Ok self.new) }
         ensures refused { IfErr result (λ fault. Fails fault (with_declaration number self.old level line.now)) }
     {
-        let above = self.word_above(level);
-        let declared = declared_in(alloc, number, above, line)?;
-        self.declare(alloc, number, level, declared)
+        let (first, rest) = next_word(line);
+        if first == "after" {
+            self.read_after(alloc, number, level, rest)
+        } else {
+            self.read_node(alloc, number, level, line)
+        }
     }
 
-    /// Reads a line of words: a property's or a node's.
+    /// Reads a line of words: a property's, an after-body's or a node's.
     fn read_words(&mut self, alloc: Global, number: usize, line: &str) -> Result<(), SuiteFault>
         ensures added { OnOk result (with_words number self.old line.now ≡ Ok self.new) }
         ensures refused { IfErr result (λ fault. Fails fault (with_words number self.old line.now)) }
@@ -281,7 +401,7 @@ impl SuiteBuilder {
         if self.is_property(line) {
             return put_property(alloc, &mut self.properties, number, line);
         }
-        self.read_node(alloc, number, level, line)
+        self.read_declaration(alloc, number, level, line)
     }
 
     /// The number of levels on which a line may stand next.
@@ -308,15 +428,17 @@ impl SuiteBuilder {
     }
 
     /// What the lines have made.
-    pub(crate) fn finish(self) -> Suite
-        ensures parts { suite_parts result ≡ parts_of self }
-        ensures ids { IdsFollow result.tree }
-        ensures answered { bodies_answered result.scripts.items ≡ bodies_of result.tree.nodes }
+    pub(crate) fn finish(self, alloc: Global) -> Result<Suite, AllocError>
+        ensures parts { IfOk result (λ suite. suite_parts suite ≡ parts_of self) }
+        ensures ids { IfOk result (λ suite. IdsFollow suite.tree) }
+        ensures answered { IfOk result (λ suite. AreBodiesOf suite.tree.nodes (bodies_answered suite.scripts.items)) }
     {
-        Suite {
-            tree: self.tree.finish(),
-            scripts: self.scripts,
+        let tree = self.tree.finish();
+        let scripts = all_settled(alloc, &tree, self.scripts, self.afters)?;
+        Ok(Suite {
+            tree,
+            scripts,
             properties: self.properties,
-        }
+        })
     }
 }

@@ -1,14 +1,11 @@
-//! The attribute `spin=N`: how far a body counts first.
+//! Attributes that say a number: `spin=N` and `pulls=N`.
 
-ghost use Rattle.std.specs.Prelude.{◌≡◌};
-ghost use Rattle.suite_text.specs.SuiteSpins.{key_of, value_of, spin_of};
+ghost use Rattle.std.specs.Prelude.{◌≡◌, ◌≤◌, IfOk};
+ghost use Rattle.suite_text.specs.SuiteSpins.{key_of, value_of, count_of};
 ghost use Rattle.suite_text.specs.SuiteFaults.{Gives};
 
 use crate::number::number_up_to;
 use crate::suite_fault::SuiteFault;
-
-/// The farthest that a body counts.
-const LONGEST_SPIN: u32 = 1_000_000;
 
 /// The key of a word, which is what stands before its first equals sign, and its value, which
 /// follows that sign.
@@ -22,12 +19,13 @@ pub(crate) fn key_and_value(word: &str) -> (&str, &str)
     }
 }
 
-/// How far the value of `spin` says.
-pub(crate) fn spin_in(number: usize, value: &str) -> Result<u32, SuiteFault>
-    ensures { Gives (λ spin. spin) result (spin_of number value.now) }
+/// The number that a value says, up to `most`.
+pub(crate) fn count_in(number: usize, most: u32, value: &str) -> Result<u32, SuiteFault>
+    ensures exact { Gives (λ count. count) result (count_of number most value.now) }
+    ensures within { IfOk result (λ count. count ≤ most) }
 {
-    match number_up_to(LONGEST_SPIN, value) {
-        Some(spin) => Ok(spin),
+    match number_up_to(most, value) {
+        Some(count) => Ok(count),
         None => Err(SuiteFault::BadLine(number)),
     }
 }

@@ -50,7 +50,7 @@ fn no_verdict(number: usize, word: Word) -> Result<Option<Verdict>, SuiteFault>
 {
     match word {
         Word::Engine | Word::Class => Ok(None),
-        Word::Test => Err(SuiteFault::MissingVerdict(number)),
+        Word::Test | Word::Factory | Word::Dyn => Err(SuiteFault::MissingVerdict(number)),
     }
 }
 

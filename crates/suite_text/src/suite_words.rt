@@ -8,8 +8,9 @@ use crate::script::Script;
 use crate::suite_attributes::{Attributes, attributes_in};
 use crate::suite_fault::SuiteFault;
 use crate::suite_lines::{next_word, word_and_text};
+use crate::suite_pulls::Pending;
 use crate::suite_verdicts::{Verdict, status_of, verdict_in};
-use descriptor::{BodyId, Kind};
+use descriptor::{BodyId, Kind, Role};
 use std::alloc::{AllocError, Global};
 use unique_id::Text;
 
@@ -19,6 +20,8 @@ pub(crate) enum Word {
     Engine,
     Class,
     Test,
+    Factory,
+    Dyn,
 }
 
 /// The node that a line declares.
@@ -33,9 +36,10 @@ pub(crate) struct Declared<'a> {
 }
 
 impl Word {
-    ghost use Rattle.suite_text.specs.SuiteNodes.{segment_kind, kind_declared};
+    ghost use Rattle.suite_text.specs.SuiteNodes.{segment_kind, kind_declared, role_declared};
     ghost use Rattle.suite_text.specs.SuiteAttributes.{may_declare};
     ghost use Rattle.suite_text.specs.SuiteSpins.{is_spin};
+    ghost use Rattle.suite_text.specs.SuitePulls.{is_pulls};
 
     /// The word with this spelling.
     fn spelled(text: &str) -> Option<Word>
@@ -45,6 +49,8 @@ impl Word {
             "engine" => Some(Word::Engine),
             "class" => Some(Word::Class),
             "test" => Some(Word::Test),
+            "factory" => Some(Word::Factory),
+            "dyn" => Some(Word::Dyn),
             _ => None,
         }
     }
@@ -59,6 +65,8 @@ impl Word {
             (Some(Word::Engine), Word::Class) => true,
             (Some(Word::Class), Word::Class) => true,
             (Some(Word::Class), Word::Test) => true,
+            (Some(Word::Class), Word::Factory) => true,
+            (Some(Word::Factory), Word::Dyn) => true,
             _ => false,
         }
     }
@@ -72,6 +80,8 @@ impl Word {
             (Some(Word::Engine), Word::Class) => "class",
             (_, Word::Class) => "nested-class",
             (_, Word::Test) => "method",
+            (_, Word::Factory) => "test-factory",
+            (_, Word::Dyn) => "dynamic-test",
         }
     }
 
@@ -80,8 +90,19 @@ impl Word {
         ensures { result ≡ kind_declared self }
     {
         match self {
-            Word::Engine | Word::Class => Kind::Container,
-            Word::Test => Kind::Test,
+            Word::Engine | Word::Class | Word::Factory => Kind::Container,
+            Word::Test | Word::Dyn => Kind::Test,
+        }
+    }
+
+    /// Whether the node makes tests while the plan runs, or is one of these.
+    pub(crate) fn role(self) -> Role
+        ensures { result ≡ role_declared self }
+    {
+        match self {
+            Word::Engine | Word::Class | Word::Test => Role::Plain,
+            Word::Factory => Role::Factory,
+            Word::Dyn => Role::Spare,
         }
     }
 
@@ -90,8 +111,8 @@ impl Word {
         ensures { result ≡ may_declare self }
     {
         match self {
-            Word::Engine => false,
-            Word::Class | Word::Test => true,
+            Word::Engine | Word::Dyn => false,
+            Word::Class | Word::Test | Word::Factory => true,
         }
     }
 
@@ -100,14 +121,24 @@ impl Word {
         ensures { result ≡ is_spin self key.now }
     {
         match self {
-            Word::Engine | Word::Class => false,
-            Word::Test => key == "spin",
+            Word::Engine | Word::Class | Word::Factory => false,
+            Word::Test | Word::Dyn => key == "spin",
+        }
+    }
+
+    /// Whether a word with this key is the attribute `pulls` of a node of this word.
+    pub(crate) fn takes_pulls(self, key: &str) -> bool
+        ensures { result ≡ is_pulls self key.now }
+    {
+        match self {
+            Word::Engine | Word::Class | Word::Test | Word::Dyn => false,
+            Word::Factory => key == "pulls",
         }
     }
 }
 
 impl<'a> Declared<'a> {
-    ghost use Rattle.suite_text.specs.SuiteNodes.{body_declared, script_declared};
+    ghost use Rattle.suite_text.specs.SuiteNodes.{body_declared, counts_lines, script_declared};
     ghost use Rattle.suite_text.specs.SuiteVerdicts.{reason_declared};
 
     /// What runs for the node of this number.
@@ -130,16 +161,26 @@ impl<'a> Declared<'a> {
         }
     }
 
+    /// Whether the body is pulled once for each line of its factory: the line does not say how
+    /// often.
+    fn counts_lines(&self) -> bool
+        ensures { result ≡ counts_lines (declaration_of self.now) }
+    {
+        self.word.role().is_factory() && self.attributes.pulls.is_none()
+    }
+
     /// What the body of the node of this number answers.
-    pub(crate) fn script(&self, alloc: Global, number: u16) -> Result<Option<Script>, AllocError>
+    pub(crate) fn script(&self, alloc: Global, number: u16) -> Result<Option<Pending>, AllocError>
         ensures { IfOk result (λ script. script ≡ script_declared (declaration_of self.now) number) }
     {
         match status_of(self.verdict) {
             Some(status) => {
                 let body = BodyId::new(number);
                 let spin = self.attributes.spin();
-                let script = Script::ending(alloc, body, spin, status, self.text)?;
-                Ok(Some(script))
+                let pulls = self.attributes.pulls();
+                let counts = self.counts_lines();
+                let script = Script::ending(alloc, body, spin, pulls, status, self.text)?;
+                Ok(Some(Pending { script, counts }))
             }
             None => Ok(None),
         }

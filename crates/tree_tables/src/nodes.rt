@@ -18,14 +18,18 @@ fn push_name(text: &mut String, parent: NodeId, node: &Node) -> Result<(), Alloc
     write!(text, " in {} {id} {name:?}", parent.number())
 }
 
-/// Writes what a node has of a body and a reason.
+/// Writes what a node has of a body, an after-body and a reason.
 fn push_declared(
     text: &mut String,
     body: Option<BodyId>,
+    after: Option<BodyId>,
     reason: Option<&str>,
 ) -> Result<(), AllocError> {
     if let Some(body) = body {
         write!(text, " body {}", body.number())?;
+    }
+    if let Some(after) = after {
+        write!(text, " after {}", after.number())?;
     }
     match reason {
         Some(reason) => write!(text, " disabled {reason:?}"),
@@ -33,7 +37,7 @@ fn push_declared(
     }
 }
 
-/// Writes a node's kind, parent, id and name, and what it has of a body, a reason and children.
+/// Writes a node's kind, parent, id and name, and what it has of bodies, a reason and children.
 fn push_node(text: &mut String, tree: &Tree, number: usize) -> Result<(), AllocError> {
     if number >= tree.len() {
         return Ok(());
@@ -43,7 +47,7 @@ fn push_node(text: &mut String, tree: &Tree, number: usize) -> Result<(), AllocE
     if let Some(parent) = tree.parent(id) {
         push_name(text, parent, tree.node(id))?;
     }
-    push_declared(text, tree.body(id), tree.reason(id))?;
+    push_declared(text, tree.body(id), tree.after(id), tree.reason(id))?;
     for child in tree.children(id) {
         write!(text, " >{}", child.number())?;
     }

@@ -30,6 +30,7 @@ returns-in_err-read_line-clause-no_memory c =
 pub returns-clause-exact : goal.returns-clause-exact
 returns-clause-exact c =
     let xs = c.deref-line-items.result.now in
+    let i = c.loop-index.index in
+    let past : length xs ≤ i = omega arith in
     let whole : texts xs ≡ lines c.args.text.now = ap texts c.deref-line-items.ensures.value ∙ c.in_ok-lines.ensures in
-    let none : length xs ≤ c.loop-index.index = omega arith in
-    suite_done c.args.text.now xs c.loop-index.index c.loop-index.builder _ c.if-text-gt-LONGEST_SUITE.false whole none c.loop-index.invariant c.finish.ensures.parts
+    suite_done c.args.text.now xs i c.loop-index.builder _ c.if-text-gt-LONGEST_SUITE.false whole past c.loop-index.invariant c.in_ok-finish.ensures.parts
