@@ -74,8 +74,8 @@ fn copies_of_nodes_say_the_same(rt: HostRuntime) -> Result<(), Fail> {
 }
 
 /// Whether the copy of an outcome has its status and its text.
-fn copies_outcome(alloc: Global, outcome: &Outcome) -> Result<bool, Fail> {
-    let copy = outcome.copy(alloc)?;
+fn copies_outcome(outcome: &Outcome) -> Result<bool, Fail> {
+    let copy = outcome.copy()?;
     Ok(copy.status == Status::Aborted && copy.text.as_str() == "no service")
 }
 
@@ -85,6 +85,6 @@ fn copies_of_outcomes_say_the_same(rt: HostRuntime) -> Result<(), Fail> {
         status: Status::Aborted,
         text: Text::new(rt.alloc(), "no service")?,
     };
-    assert!(rt; copies_outcome(rt.alloc(), &outcome)?);
+    assert!(rt; copies_outcome(&outcome)?);
     Ok(())
 }

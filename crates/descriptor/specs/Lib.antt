@@ -6,6 +6,7 @@ pub mod Declarations
 pub mod Fields
 pub mod Kinds
 pub mod Limits
+pub mod Locks
 pub mod Nodes
 pub mod PlainNodes
 pub mod Pruned

@@ -16,7 +16,7 @@ pub struct Lock {
 }
 
 impl Lock {
-    /// The lock of this key, in memory of its own.
+    /// The lock of this key.
     pub fn new(alloc: Global, key: &str, mode: LockMode) -> Result<Lock, AllocError>
         ensures { IfOk result (λ lock. lock ≡ record { key = key.now; mode = mode }) }
     {
@@ -26,10 +26,13 @@ impl Lock {
         })
     }
 
-    /// The same lock, in memory of its own.
-    pub fn copy(&self, alloc: Global) -> Result<Lock, AllocError>
+    /// The same lock, which takes no memory. An `Err` says that no more copies can be counted.
+    pub fn copy(&self) -> Result<Lock, AllocError>
         ensures { IfOk result (λ lock. lock ≡ self.now) }
     {
-        Lock::new(alloc, self.key.as_str(), self.mode)
+        Ok(Lock {
+            key: self.key.copy()?,
+            mode: self.mode,
+        })
     }
 }

@@ -5,20 +5,25 @@ ghost use Rattle.std.specs.Prelude.{◌≡◌, [], ◌∷◌, ◌++◌, OnOk, On
 use crate::lock::Lock;
 use std::alloc::{AllocError, Global};
 use std::marker::Model;
+use std::sync::Arc;
 
-/// The resource locks that a node declares, in the order of their declaration.
+/// The resource locks that a node declares, in the order of their declaration. All copies share them until one gets a
+/// further lock.
 #[derive(Debug, Drop)]
 pub struct Locks {
-    locks: Vec<Lock>,
+    alloc: Global,
+    // None: no locks
+    shared: Option<Arc<Vec<Lock>>>,
 }
 
 impl Model for Locks {
     ghost use Rattle.std.specs.Prelude.{List};
+    ghost use Rattle.descriptor.specs.Locks.{locks_in};
     ghost use Rattle.descriptor.specs.declared.lock.Lock.{Lock};
 
     ghost Value = { List Lock };
 
-    ghost view = { λ l. l.locks.items };
+    ghost view = { λ l. locks_in l.shared };
 }
 
 impl Locks {
@@ -27,16 +32,25 @@ impl Locks {
         ensures { result ≡ [] }
     {
         Locks {
-            locks: Vec::new(alloc),
+            alloc,
+            shared: None,
         }
     }
 
-    /// Adds a last lock.
+    /// Adds a last lock. An `Err` leaves the locks as they were.
     pub fn push(&mut self, lock: Lock) -> Result<(), AllocError>
         ensures ok { OnOk result (self.new ≡ self.old ++ lock ∷ []) }
         ensures err { OnErr result (self.new ≡ self.old) }
     {
-        self.locks.push(lock)?;
+        if let Some(shared) = &mut self.shared {
+            if let Some(locks) = Arc::get_mut(shared) {
+                locks.push(lock)?;
+                return Ok(());
+            }
+        }
+        let mut locks = copied(self.alloc, self.as_slice())?;
+        locks.push(lock)?;
+        self.shared = Some(Arc::new(self.alloc, locks)?);
         Ok(())
     }
 
@@ -44,19 +58,34 @@ impl Locks {
     pub fn as_slice(&self) -> &[Lock]
         ensures { result.now ≡ self.now }
     {
-        self.locks.as_slice()
+        match &self.shared {
+            Some(locks) => locks.as_slice(),
+            None => &[],
+        }
     }
 
-    /// The same locks, in memory of their own.
-    pub fn copy(&self, alloc: Global) -> Result<Locks, AllocError>
+    /// The same locks, which takes no memory. An `Err` says that no more copies can be counted.
+    pub fn copy(&self) -> Result<Locks, AllocError>
         ensures { IfOk result (λ locks. locks ≡ self.now) }
     {
-        let mut copy = Locks {
-            locks: Vec::with_capacity(alloc, self.locks.len())?,
+        let shared = match &self.shared {
+            Some(locks) => Some(Arc::try_clone(locks)?),
+            None => None,
         };
-        for lock in &self.locks {
-            copy.push(lock.copy(alloc)?)?;
-        }
-        Ok(copy)
+        Ok(Locks {
+            alloc: self.alloc,
+            shared,
+        })
     }
+}
+
+/// The same locks, in a list of their own.
+fn copied(alloc: Global, locks: &[Lock]) -> Result<Vec<Lock>, AllocError>
+    ensures { IfOk result (λ copies. copies.items ≡ locks.now) }
+{
+    let mut copies = Vec::new(alloc);
+    for lock in locks {
+        copies.push(lock.copy()?)?;
+    }
+    Ok(copies)
 }

@@ -72,21 +72,21 @@ impl Node {
         }
     }
 
-    /// The same node, in memory of its own.
+    /// The same node. Its locks and its long texts are shared, the rest is copied.
     pub fn copy(&self, alloc: Global) -> Result<Node, AllocError>
         ensures { IfOk result (λ node. node ≡ self.now) }
     {
         let disabled = match &self.disabled {
-            Some(reason) => Some(reason.copy(alloc)?),
+            Some(reason) => Some(reason.copy()?),
             None => None,
         };
         Ok(Node {
             id: self.id.copy(alloc)?,
-            name: self.name.copy(alloc)?,
+            name: self.name.copy()?,
             kind: self.kind,
             role: self.role,
             mode: self.mode,
-            locks: self.locks.copy(alloc)?,
+            locks: self.locks.copy()?,
             isolated: self.isolated,
             body: self.body,
             after: self.after,

@@ -272,7 +272,7 @@ impl Tree {
         are_all(keep)
     }
 
-    /// The same tree, in memory of its own.
+    /// The same tree, which shares the locks of nodes and their long texts with this one.
     pub fn copy(&self, alloc: Global) -> Result<Tree, AllocError>
         ensures { IfOk result (λ tree. tree ≡ self.now) }
     {

@@ -3,7 +3,7 @@
 ghost use Rattle.std.specs.Prelude.{◌≡◌, IfOk};
 
 use crate::status::Status;
-use std::alloc::{AllocError, Global};
+use std::alloc::AllocError;
 use unique_id::Text;
 
 /// How a body ended, and what it says of it.
@@ -14,13 +14,13 @@ pub struct Outcome {
 }
 
 impl Outcome {
-    /// The same outcome, with a text in memory of its own.
-    pub fn copy(&self, alloc: Global) -> Result<Outcome, AllocError>
+    /// The same outcome, which takes no memory. An `Err` says that no more copies can be counted.
+    pub fn copy(&self) -> Result<Outcome, AllocError>
         ensures { IfOk result (λ copy. copy ≡ self.now) }
     {
         Ok(Outcome {
             status: self.status,
-            text: self.text.copy(alloc)?,
+            text: self.text.copy()?,
         })
     }
 }

@@ -124,7 +124,7 @@ impl Keys {
         Ok(lists)
     }
 
-    /// The keys, in memory of their own.
+    /// The keys, as texts.
     pub(crate) fn texts(&self, alloc: Global) -> Result<Vec<Text>, AllocError>
         ensures same { IfOk result (λ texts. texts.items ≡ self.now) }
         ensures few { length self.now ≤ 256 }

@@ -59,7 +59,7 @@ impl LockSet {
         Ok(set)
     }
 
-    /// The same set, in memory of its own.
+    /// The same set.
     pub fn copy(&self, alloc: Global) -> Result<LockSet, AllocError>
         ensures same { IfOk result (λ set. set ≡ self.now) }
         ensures set { IsLockSet self.now }
@@ -107,12 +107,18 @@ impl LockSet {
         ensures ok { OnOk result (self.new ≡ put (record { key = key.now; mode = mode }) self.old) }
         ensures err { OnErr result (self.new ≡ self.old) }
     {
-        match self.place(key) {
-            Ok(place) => strengthen(&mut self.locks[place], mode),
-            Err(place) => {
-                let lock = Lock::new(*self.locks.allocator(), key, mode)?;
-                self.locks.insert(place, lock)?;
-            }
+        let lock = Lock::new(*self.locks.allocator(), key, mode)?;
+        self.put_copy(&lock)
+    }
+
+    /// The same of a lock that is there, which is copied only where its key is new.
+    pub fn put_copy(&mut self, lock: &Lock) -> Result<(), AllocError>
+        ensures ok { OnOk result (self.new ≡ put lock.now self.old) }
+        ensures err { OnErr result (self.new ≡ self.old) }
+    {
+        match self.place(lock.key.as_str()) {
+            Ok(place) => strengthen(&mut self.locks[place], lock.mode),
+            Err(place) => self.locks.insert(place, lock.copy()?)?,
         }
         Ok(())
     }
@@ -123,7 +129,7 @@ impl LockSet {
     {
         self.locks.reserve(locks.len())?;
         for lock in locks {
-            self.put(lock.key.as_str(), lock.mode)?;
+            self.put_copy(lock)?;
         }
         Ok(())
     }
@@ -165,13 +171,13 @@ fn strengthen(lock: &mut Lock, mode: LockMode)
     }
 }
 
-/// The same locks, in memory of their own.
+/// The same locks, in a list of their own.
 fn copied(alloc: Global, locks: &[Lock]) -> Result<Vec<Lock>, AllocError>
     ensures { IfOk result (λ copies. copies.items ≡ locks.now) }
 {
     let mut copies = Vec::new(alloc);
     for lock in locks {
-        copies.push(lock.copy(alloc)?)?;
+        copies.push(lock.copy()?)?;
     }
     Ok(copies)
 }

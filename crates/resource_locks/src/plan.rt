@@ -177,7 +177,7 @@ impl Plan {
         spares
     }
 
-    /// The same plan, in memory of its own.
+    /// The same plan, which shares long texts and the locks that nodes declare with this one.
     pub fn copy(&self, alloc: Global) -> Result<Plan, AllocError>
         ensures { IfOk result (λ plan. plan ≡ self.now) }
     {
@@ -194,7 +194,7 @@ impl Plan {
     }
 }
 
-/// The same sets, in memory of their own.
+/// The same sets, in a list of their own.
 fn copied_sets(alloc: Global, sets: &[LockSet]) -> Result<Vec<LockSet>, AllocError>
     ensures { IfOk result (λ copies. copies.items ≡ sets.now) }
 {
@@ -205,13 +205,13 @@ fn copied_sets(alloc: Global, sets: &[LockSet]) -> Result<Vec<LockSet>, AllocErr
     Ok(copies)
 }
 
-/// The same texts, in memory of their own.
+/// The same texts, in a list of their own.
 fn copied_texts(alloc: Global, texts: &[Text]) -> Result<Vec<Text>, AllocError>
     ensures { IfOk result (λ copies. copies.items ≡ texts.now) }
 {
     let mut copies = Vec::new(alloc);
     for text in texts {
-        copies.push(text.copy(alloc)?)?;
+        copies.push(text.copy()?)?;
     }
     Ok(copies)
 }

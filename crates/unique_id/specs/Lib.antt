@@ -10,3 +10,4 @@ pub mod Reading
 pub mod Reads
 pub mod Segments
 pub mod Spelling
+pub mod Texts

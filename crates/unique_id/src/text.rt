@@ -1,46 +1,69 @@
 //! A text that contracts see as its bytes.
 
-ghost use Rattle.std.specs.Prelude.{◌≡◌, IfOk, string_bytes};
+ghost use Rattle.std.specs.Prelude.{◌≡◌, IfOk};
 
+use arrayvec::ArrayString;
 use std::alloc::{AllocError, Global};
 use std::marker::Model;
+use std::sync::Arc;
 
-/// A text that contracts see as its bytes.
+/// The greatest length of a text that stands in the value itself, in bytes.
+const LONGEST_INLINE: usize = 24;
+
+/// Where the bytes of a text are.
+#[derive(Debug, Drop)]
+enum Bytes {
+    Inline(ArrayString<LONGEST_INLINE>),
+    // all copies share them
+    Shared(Arc<String>),
+}
+
+/// A text that contracts see as its bytes. It is cheap to copy: a text of at most 24 bytes takes no memory of its own, and
+/// all copies of a longer one share their bytes.
 #[derive(Debug, Drop)]
 pub struct Text {
-    text: String,
+    bytes: Bytes,
 }
 
 impl Model for Text {
     ghost use Rattle.std.specs.Prelude.{List, ℕ};
-    ghost use Rattle.std.specs.String.{string_bytes};
+    ghost use Rattle.unique_id.specs.Texts.{bytes_of};
 
     ghost Value = { List ℕ };
 
-    ghost view = { λ t. string_bytes t.text };
+    ghost view = { λ t. bytes_of t.bytes };
 }
 
 impl Text {
-    /// This text, in memory of its own.
+    /// This text.
     pub fn new(alloc: Global, text: &str) -> Result<Text, AllocError>
         ensures { IfOk result (λ t. t ≡ text.now) }
     {
-        Ok(Text {
-            text: String::from_str(alloc, text)?,
-        })
+        let bytes = match ArrayString::from(text) {
+            Ok(short) => Bytes::Inline(short),
+            Err(_) => Bytes::Shared(Arc::new(alloc, String::from_str(alloc, text)?)?),
+        };
+        Ok(Text { bytes })
     }
 
     /// The text as it is.
     pub fn as_str(&self) -> &str
         ensures { result.now ≡ self.now }
     {
-        self.text.as_str()
+        match &self.bytes {
+            Bytes::Inline(text) => text.as_str(),
+            Bytes::Shared(text) => text.as_str(),
+        }
     }
 
-    /// The same text, in memory of its own.
-    pub fn copy(&self, alloc: Global) -> Result<Text, AllocError>
+    /// The same text, which takes no memory. An `Err` says that no more copies can be counted.
+    pub fn copy(&self) -> Result<Text, AllocError>
         ensures { IfOk result (λ t. t ≡ self.now) }
     {
-        Text::new(alloc, self.as_str())
+        let bytes = match &self.bytes {
+            Bytes::Inline(text) => Bytes::Inline(*text),
+            Bytes::Shared(text) => Bytes::Shared(Arc::try_clone(text)?),
+        };
+        Ok(Text { bytes })
     }
 }
