@@ -7,5 +7,8 @@ pub mod Marks
 pub mod Lineage
 pub mod Outers
 pub mod Packages
+pub mod SparesTaken
+pub mod Staying
 pub mod Tags
 pub mod Truths
+pub mod Uids

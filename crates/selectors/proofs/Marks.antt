@@ -1,4 +1,4 @@
--- Marks that go up from the selected nodes, each node after its children.
+-- Marks that go up from the nodes that pass, each node after its children.
 use Rattle.std.proofs.Common.{◌≡◌, ◌≢◌, ℕ, suc, ◌<◌, ◌≤◌, Bool, true, false, cond, List, ◌++◌, length, take, drop, get_or, refl, sym, ap, ◌∙◌, arith, inl, inr, ◌⊎◌, subst, eqb}
 use Rattle.std.proofs.Math.ListN.{set, length-set}
 use Rattle.std.proofs.lemmas.Bool.Decides.{Decides-eqb}
@@ -6,17 +6,17 @@ use Rattle.std.proofs.lemmas.List.{get_or-set_other, ext_get_or}
 use Rattle.std.proofs.lemmas.Grind.{get_or-set_at, common_steps}
 use Rattle.std.specs.Prelude.{◌&&◌}
 use Rattle.descriptor.specs.Nodes.{Nodes, IsTree, IsChild, size, parent_of}
-use Rattle.selectors.specs.Covered.{any_below, truths}
-use Rattle.selectors.specs.Keeping.{stays, HasSelected}
+use Rattle.selectors.specs.Covered.{truths}
+use Rattle.selectors.specs.Keeping.{has_selected, is_above, HasSelected}
 use Rattle.selectors.specs.Lineages.{is_at_or_below}
 use Rattle.selectors.proofs.AtOrBelows.{child_at_or_above, first_step, told, tells}
 use Rattle.selectors.proofs.Truths.{or_left, or_right, or_cases, any_at, any_found, same_truth, length_truths, truth_at}
 
-and_both : (a b : Bool) → a ≡ true → b ≡ true → (a && b) ≡ true
+pub and_both : (a b : Bool) → a ≡ true → b ≡ true → (a && b) ≡ true
 and_both true b h g = g
 and_both false b h g = h
 
-and_parts : (a b : Bool) → (a && b) ≡ true → (a ≡ true) × (b ≡ true)
+pub and_parts : (a b : Bool) → (a && b) ≡ true → (a ≡ true) × (b ≡ true)
 and_parts true b h = (refl, h)
 and_parts false b h = (h, absurd (cc))
 
@@ -119,20 +119,25 @@ module _ (t : Nodes) (tree : IsTree t) (q : ℕ → Bool) where
     | inr off ↦ subst (λ (x : List Bool). AreMarks t q x i) (sym (is ∙ ap (λ b. cond b (set marks (parent_of t i) true) marks) off)) (pass_none marks i inside were off)
   ]
 
-  -- the test and what it tells
-  pub stays_told : (n : ℕ) → stays t q n ≡ true → (n ≡ 0) ⊎ HasSelected t q n
-  stays_told n h = elim (or_cases (eqb n 0) (any_below (λ m. q m && is_at_or_below t n m) (size t)) h) [
+  -- the tests and what they tell
+  pub selected_told : (n : ℕ) → has_selected t q n ≡ true → HasSelected t q n
+  selected_told n some =
+      let at = any_found (λ (m : ℕ). q m && is_at_or_below t n m) (size t) some in
+      let both = and_parts (q at.0) (is_at_or_below t n at.0) at.2 in
+      (at.0, at.1, both.0, told t tree n at.0 at.1 both.1)
+
+  pub selected_as : (n : ℕ) → HasSelected t q n → has_selected t q n ≡ true
+  selected_as n (m, inside, here, at) = any_at (λ (m : ℕ). q m && is_at_or_below t n m) (size t) m inside (and_both (q m) (is_at_or_below t n m) here (tells t tree n m inside at))
+
+  pub above_told : (n : ℕ) → is_above t q n ≡ true → (n ≡ 0) ⊎ HasSelected t q n
+  above_told n h = elim (or_cases (eqb n 0) (has_selected t q n) h) [
     | inl root ↦ inl ((Decides-eqb n 0).0 root)
-    | inr some ↦
-        let at = any_found (λ (m : ℕ). q m && is_at_or_below t n m) (size t) some in
-        let both = and_parts (q at.0) (is_at_or_below t n at.0) at.2 in
-        inr (at.0, at.1, both.0, told t tree n at.0 at.1 both.1)
+    | inr some ↦ inr (selected_told n some)
   ]
 
-  pub stays_as : (n : ℕ) → (n ≡ 0) ⊎ HasSelected t q n → stays t q n ≡ true
-  stays_as n (inl root) = or_left (eqb n 0) (any_below (λ m. q m && is_at_or_below t n m) (size t)) ((Decides-eqb n 0).1 root)
-  stays_as n (inr (m, inside, here, at)) =
-      or_right (eqb n 0) (any_below (λ m. q m && is_at_or_below t n m) (size t)) (any_at (λ (m : ℕ). q m && is_at_or_below t n m) (size t) m inside (and_both (q m) (is_at_or_below t n m) here (tells t tree n m inside at)))
+  pub above_as : (n : ℕ) → (n ≡ 0) ⊎ HasSelected t q n → is_above t q n ≡ true
+  above_as n (inl root) = or_left (eqb n 0) (has_selected t q n) ((Decides-eqb n 0).1 root)
+  above_as n (inr some) = or_right (eqb n 0) (has_selected t q n) (selected_as n some)
 
   from_first : (i m : ℕ) → i ≤ 1 → HasSelected t q m → Marked t q i m
   from_first i m first some = elim (parted m some) [
@@ -140,24 +145,24 @@ module _ (t : Nodes) (tree : IsTree t) (q : ℕ → Bool) where
     | inr (c, e, more) ↦ inr (c, e, (let above : 0 < c = e.above_zero in omega arith), more)
   ]
 
-  last : (marks : List Bool) (i m : ℕ) → i ≤ 1 → AreMarks t q marks i → m < size t → get_or (set marks 0 true) m false ≡ stays t q m
+  last : (marks : List Bool) (i m : ℕ) → i ≤ 1 → AreMarks t q marks i → m < size t → get_or (set marks 0 true) m false ≡ is_above t q m
   last marks i m first were inside = elim (same_or_not m 0) [
-    | inl root ↦ get_or-set_at marks 0 m true false root (omega (arith, were.len)) ∙ sym (stays_as m (inl root))
+    | inl root ↦ get_or-set_at marks 0 m true false root (omega (arith, were.len)) ∙ sym (above_as m (inl root))
     | inr other ↦
         get_or-set_other marks 0 m true false other
-        ∙ same_truth (get_or marks m false) (stays t q m)
-        (λ h. stays_as m (inr (has i m inside (were.sound m inside h))))
-        (λ h. elim (stays_told m h) [
+        ∙ same_truth (get_or marks m false) (is_above t q m)
+        (λ h. above_as m (inr (has i m inside (were.sound m inside h))))
+        (λ h. elim (above_told m h) [
           | inl root ↦ absurd (other root)
           | inr some ↦ were.whole m inside (from_first i m first some)
         ])
   ]
 
-  pub finished : (marks : List Bool) (i : ℕ) → i ≤ 1 → AreMarks t q marks i → set marks 0 true ≡ truths (stays t q) (size t)
+  pub finished : (marks : List Bool) (i : ℕ) → i ≤ 1 → AreMarks t q marks i → set marks 0 true ≡ truths (is_above t q) (size t)
   finished marks i first were =
       let len : length (set marks 0 true) ≡ size t = simp length-set were.len in
-      ext_get_or false (set marks 0 true) (truths (stays t q) (size t)) (len ∙ sym (length_truths (stays t q) (size t)))
-      (λ m h. let inside : m < size t = omega arith in last marks i m first were inside ∙ sym (truth_at (stays t q) (size t) m false inside))
+      ext_get_or false (set marks 0 true) (truths (is_above t q) (size t)) (len ∙ sym (length_truths (is_above t q) (size t)))
+      (λ m h. let inside : m < size t = omega arith in last marks i m first were inside ∙ sym (truth_at (is_above t q) (size t) m false inside))
 
 pub begun : (t : Nodes) (marks : List Bool) → length marks ≡ size t → AreMarks t (λ m. get_or marks m false) marks (size t)
 begun t marks len = record {
@@ -169,8 +174,8 @@ begun t marks len = record {
   ];
 }
 
-pub stays_up : (t : Nodes) (tree : IsTree t) (q : ℕ → Bool) (p n : ℕ) → IsChild t p n → stays t q n ≡ true → stays t q p ≡ true
-stays_up t tree q p n e h = elim (stays_told t tree q n h) [
+pub above_up : (t : Nodes) (tree : IsTree t) (q : ℕ → Bool) (p n : ℕ) → IsChild t p n → is_above t q n ≡ true → is_above t q p ≡ true
+above_up t tree q p n e h = elim (above_told t tree q n h) [
   | inl root ↦ absurd (let above : 0 < n = e.above_zero in omega arith)
-  | inr some ↦ stays_as t tree q p (inr (by_child t tree q p n e some))
+  | inr some ↦ above_as t tree q p (inr (by_child t tree q p n e some))
 ]

@@ -1,9 +1,12 @@
--- The tests that are selected, and the tree of those.
-use Rattle.std.specs.Prelude.{ℕ, ◌&&◌, Bool, Option}
+-- The tests and factories that are selected, and the tree of those.
+use Rattle.std.specs.Prelude.{ℕ, ◌&&◌, ◌||◌, not, Bool, Option}
 use Rattle.std.specs.Option.{option_map}
+use Rattle.descriptor.specs.declared.kind.Kind.{Kind}
+use Rattle.descriptor.specs.declared.role.Role.{Role}
 use Rattle.descriptor.specs.Kinds.{is_test}
-use Rattle.descriptor.specs.Nodes.{Nodes, size, kind_of}
+use Rattle.descriptor.specs.Nodes.{Nodes, size, kind_of, role_of}
 use Rattle.descriptor.specs.Pruned.{pruned}
+use Rattle.descriptor.specs.Roles.{is_factory, is_spare}
 use Rattle.selectors.specs.declared.request.Request.{Request}
 use Rattle.selectors.specs.declared.select_fault.SelectFault.{SelectFault}
 use Rattle.selectors.specs.declared.select_fault.SelectFault.TheVariants.{NothingMatches}
@@ -11,11 +14,17 @@ use Rattle.selectors.specs.Covered.{truths, is_covered, first_unmatched}
 use Rattle.selectors.specs.Filters.{keeps, tags_together}
 use Rattle.selectors.specs.Keeping.{stays}
 
--- whether node n is a selected test: one of the selectors covers it or there are none, and the tag filter keeps its tags together with all above it
-abbrev pub is_selected : Nodes → Request → ℕ → Bool
-is_selected t request n = is_test (kind_of t n) && (is_covered t request.selectors.items n && keeps request.include.items request.exclude.items (tags_together t n))
+-- whether a node of this kind and role may be selected: it is a factory, or a test that is no spare
+abbrev pub is_selectable : Kind → Role → Bool
+is_selectable kind role = is_factory role || (is_test kind && not (is_spare role))
 
--- what discovery finds: the tree of the nodes that stay, which are node 0 and each node that a selected test is at or below, in their order
+-- whether node n is selected: it is a factory or a test that is no spare, one of the selectors covers it or there are none, and the tag filter keeps
+-- its tags together with all above it
+abbrev pub is_selected : Nodes → Request → ℕ → Bool
+is_selected t request n = is_selectable (kind_of t n) (role_of t n) && (is_covered t request.selectors.items n && keeps request.include.items request.exclude.items (tags_together t n))
+
+-- what discovery finds: the tree of the nodes that stay, which are node 0, each node that a selected node is at or below, and the spares of a selected
+-- factory, in their order
 abbrev pub answer : Nodes → Request → Nodes
 answer t request = pruned t (truths (stays t (is_selected t request)) (size t))
 

@@ -1,27 +1,29 @@
 //! Discovery: the tree of what a request selects.
 
-ghost use Rattle.std.specs.Prelude.{◌≡◌, ◌≢◌, ◌<◌, ◌↔◌, ◌⊎◌, ℕ, List, true, Some, None, IfOk, IfErr};
+ghost use Rattle.std.specs.Prelude.{◌≡◌, ◌≢◌, ◌<◌, ◌↔◌, ℕ, List, true, Some, None, IfOk, IfErr};
 ghost use Rattle.descriptor.specs.Children.{ListsChildren};
 ghost use Rattle.descriptor.specs.Nodes.{size, parent_of, IsTree};
 ghost use Rattle.tag_expr.specs.TagSets.{has_tag};
 ghost use Rattle.selectors.specs.ClassNames.{class_name, last_segment, name_below};
 ghost use Rattle.selectors.specs.Filters.{tags_together, IsTagged};
-ghost use Rattle.selectors.specs.Keeping.{stays, HasSelected};
-ghost use Rattle.selectors.specs.Names.{covers, Covers};
+ghost use Rattle.selectors.specs.Keeping.{stays, Stays};
+ghost use Rattle.selectors.specs.Names.{covers, names, Covers, HasIdOrSpare};
 ghost use Rattle.selectors.specs.Selections.{answer, is_selected, refusal};
 ghost use Rattle.selectors.specs.declared.selector.Selector.{Selector};
+ghost use Rattle.selectors.specs.declared.selector.Selector.TheVariants.{Uid};
+ghost use Rattle.unique_id.specs.declared.unique_id.Segment.{Segment};
 
 use crate::kept::kept;
 use crate::refusal::first_unmatched;
 use crate::request::Request;
 use crate::select_fault::SelectFault;
-use crate::selected::selected;
+use crate::taken::taken;
 use descriptor::Tree;
 use std::alloc::Global;
 
-/// The tree of the tests that the request selects and of what they are below, its nodes numbered
-/// anew, in their order and with their bodies. Where all nodes are that, it is the same tree, and
-/// nothing is copied.
+/// The tree of the tests and factories that the request selects, of the spares of these factories
+/// and of what they are below, its nodes numbered anew, in their order and with their bodies. Where
+/// all nodes are that, it is the same tree, and nothing is copied.
 ///
 /// Errors: refusal 41 for the first selector that covers no node, and else want of memory.
 pub fn discover(alloc: Global, tree: Tree, request: &Request) -> Result<Tree, SelectFault>
@@ -31,11 +33,12 @@ pub fn discover(alloc: Global, tree: Tree, request: &Request) -> Result<Tree, Se
     ensures accepted { IfOk result (λ _. refusal tree request.now ≡ None) }
     ensures refused { IfErr result (λ fault. fault ≢ SelectFault.NoMemory → refusal tree request.now ≡ Some fault) }
     ensures no_memory { IfErr result (λ fault. fault ≡ SelectFault.NoMemory → refusal tree request.now ≡ None) }
-    // What covering, class names, tags and staying come to.
+    // What covering, ids, class names, tags and staying come to.
     ensures covered { (selector : Selector) (n : ℕ) → n < size tree → (covers tree selector n ≡ true) ↔ Covers tree selector n }
+    ensures ids { (id : List Segment) (n : ℕ) → n < size tree → (names tree (Uid id) n ≡ true) ↔ HasIdOrSpare tree id n }
     ensures class_names { (n : ℕ) → 0 < n → n < size tree → class_name tree n ≡ name_below (class_name tree (parent_of tree n)) (last_segment tree n) }
     ensures tags { (tag : List ℕ) (n : ℕ) → n < size tree → (has_tag (tags_together tree n) tag ≡ true) ↔ IsTagged tree tag n }
-    ensures stays { (n : ℕ) → n < size tree → (stays tree (is_selected tree request.now) n ≡ true) ↔ ((n ≡ 0) ⊎ HasSelected tree (is_selected tree request.now) n) }
+    ensures stays { (n : ℕ) → n < size tree → (stays tree (is_selected tree request.now) n ≡ true) ↔ Stays tree (is_selected tree request.now) n }
 {
     // the contract of `len` tells that it is a tree
     let _ = tree.len();
@@ -55,8 +58,8 @@ fn found(alloc: Global, tree: Tree, request: &Request) -> Result<Tree, SelectFau
     if let Some(number) = first_unmatched(&tree, request.selectors.as_slice()) {
         return Err(SelectFault::NothingMatches(number));
     }
-    let selected = selected(alloc, &tree, request)?;
-    let keep = kept(&tree, selected);
+    let taken = taken(alloc, &tree, request)?;
+    let keep = kept(&tree, taken);
     let found = tree.into_pruned(alloc, keep.as_slice())?;
     Ok(found)
 }

@@ -1,9 +1,9 @@
-//! The nodes that stay: node 0, and what a selected test is at or below.
+//! The nodes that stay: node 0, and what a node that is taken is at or below.
 
 ghost use Rattle.std.specs.Prelude.{◌≡◌, ◌<◌, true, false, length, slice_index_or, slice_set, if◌then◌else◌};
 ghost use Rattle.descriptor.specs.Nodes.{size, parent_of, IsTree};
 ghost use Rattle.selectors.specs.Covered.{truths};
-ghost use Rattle.selectors.specs.Keeping.{stays};
+ghost use Rattle.selectors.specs.Keeping.{is_above};
 
 use descriptor::{NodeId, Tree};
 
@@ -22,13 +22,13 @@ fn mark_parent(tree: &Tree, marks: &mut [bool], node: NodeId)
     }
 }
 
-/// For each node whether it stays, where it is known of each whether it is a selected test.
-pub(crate) fn kept(tree: &Tree, selected: Vec<bool>) -> Vec<bool>
+/// For each node whether it stays, where it is known of each whether it is taken.
+pub(crate) fn kept(tree: &Tree, taken: Vec<bool>) -> Vec<bool>
     requires tree { IsTree tree.now }
-    requires len { length selected.items ≡ size tree.now }
-    ensures { result.items ≡ truths (stays tree.now (λ node. slice_index_or selected.items node false)) (size tree.now) }
+    requires len { length taken.items ≡ size tree.now }
+    ensures { result.items ≡ truths (is_above tree.now (λ node. slice_index_or taken.items node false)) (size tree.now) }
 {
-    let mut marks = selected;
+    let mut marks = taken;
     let mut number = marks.len();
     // each node after its children, which have greater numbers
     while number > 1 {

@@ -11,9 +11,9 @@ mod names;
 mod refusal;
 mod request;
 mod select_fault;
-mod selected;
 mod selector;
 mod selector_fault;
+mod taken;
 
 pub use discovery::discover;
 pub use request::Request;

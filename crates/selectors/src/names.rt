@@ -2,7 +2,7 @@
 
 ghost use Rattle.std.specs.Prelude.{◌≡◌, ◌<◌, Some};
 ghost use Rattle.descriptor.specs.Nodes.{size, IsTree};
-ghost use Rattle.selectors.specs.Names.{names, is_method, is_class_in};
+ghost use Rattle.selectors.specs.Names.{names, has_spare, is_method, is_class_in};
 
 use crate::class_names::{has_class_name, last_segment};
 use crate::selector::Selector;
@@ -20,7 +20,7 @@ pub(crate) fn names(tree: &Tree, selector: &Selector, node: NodeId) -> bool
     };
     let subject = tree.node(node);
     match selector {
-        Selector::Uid(id) => subject.id.text() == id.text(),
+        Selector::Uid(id) => subject.id.text() == id.text() || has_spare(tree, node, id.text()),
         Selector::Class(class) => has_class_name(tree, node, class.as_str().as_bytes()),
         Selector::Method { class, method } => {
             is_method(last_segment(subject), method.as_str())
@@ -28,6 +28,23 @@ pub(crate) fn names(tree: &Tree, selector: &Selector, node: NodeId) -> bool
         }
         Selector::Package(name) => is_class_in(last_segment(subject), name.as_str()),
     }
+}
+
+/// Whether the node is a factory, and a spare of it has the unique id of this canonical text.
+fn has_spare(tree: &Tree, node: NodeId, id: &str) -> bool
+    requires tree { IsTree tree.now }
+    requires inside { node < size tree.now }
+    ensures { result ≡ has_spare tree.now id.now node }
+{
+    if !tree.role(node).is_factory() {
+        return false;
+    }
+    for child in tree.children(node) {
+        if tree.node(*child).id.text() == id {
+            return true;
+        }
+    }
+    false
 }
 
 /// Whether the segment is a method or a test factory with this value.

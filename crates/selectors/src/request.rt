@@ -3,8 +3,8 @@
 use crate::selector::Selector;
 use tag_expr::TagExpr;
 
-/// What a request asks for: tests that one of the selectors covers, or all where there is none,
-/// and that the tag filter keeps.
+/// What a request asks for: tests and factories that one of the selectors covers, or all where there
+/// is none, and that the tag filter keeps. The spares come with their factory.
 #[derive(Debug, Drop)]
 pub struct Request {
     /// What to cover.

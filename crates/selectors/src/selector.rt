@@ -23,7 +23,7 @@ pub enum SelectorKind {
 /// What names nodes of a tree; it covers them and all nodes below them.
 #[derive(Debug, Drop)]
 pub enum Selector {
-    /// The node with this unique id.
+    /// The node with this unique id; where this is a spare, its factory too.
     Uid(UniqueId),
     /// The nodes of this class name.
     Class(Text),

@@ -1,25 +1,29 @@
 -- The nodes that stay, and with them each parent.
-use Rattle.std.proofs.Common.{◌∙◌, ap}
-use Rattle.selectors.specs.Keeping.{stays}
+use Rattle.std.proofs.Common.{◌≡◌, ◌∙◌, ap}
+use Rattle.selectors.specs.Covered.{truths}
+use Rattle.selectors.specs.Keeping.{is_taken, is_above}
 use Rattle.selectors.specs.Selections.{is_selected}
+use Rattle.descriptor.specs.Nodes.{size}
 use Rattle.descriptor.specs.Pruned.{pruned}
-use Rattle.selectors.proofs.Answer.{closed, kept_of, len_is}
+use Rattle.selectors.proofs.Answer.{closed, above_of, kept_of, len_is}
 use Rattle.selectors.proofs.discovery.found.Goals as goal
 
 pub kept-keep-requires-clause-len : goal.kept-keep-requires-clause-len
-kept-keep-requires-clause-len c = len_is c.args.tree (is_selected c.args.tree c.args.request.now) c.in_ok-selected.selected.items c.in_ok-selected.ensures
+kept-keep-requires-clause-len c = len_is c.args.tree (is_taken c.args.tree (is_selected c.args.tree c.args.request.now)) c.in_ok-taken.taken.items c.in_ok-taken.ensures
 
 pub into_pruned-requires-clause-one_each : goal.into_pruned-requires-clause-one_each
 into_pruned-requires-clause-one_each c =
-    let q = is_selected c.args.tree c.args.request.now in
-    len_is c.args.tree (stays c.args.tree q) c.as_slice-2.result.now (c.as_slice-2.ensures.value ∙ kept_of c.args.tree q c.in_ok-selected.selected.items c.kept-keep.result.items c.in_ok-selected.ensures c.kept-keep.ensures)
+    let q = is_taken c.args.tree (is_selected c.args.tree c.args.request.now) in
+    len_is c.args.tree (is_above c.args.tree q) c.as_slice-2.result.now (c.as_slice-2.ensures.value ∙ above_of c.args.tree q c.in_ok-taken.taken.items c.kept-keep.result.items c.in_ok-taken.ensures c.kept-keep.ensures)
 
 pub into_pruned-requires-clause-closed : goal.into_pruned-requires-clause-closed
 into_pruned-requires-clause-closed c =
-    let q = is_selected c.args.tree c.args.request.now in
-    closed c.args.tree c.requires q c.as_slice-2.result.now (c.as_slice-2.ensures.value ∙ kept_of c.args.tree q c.in_ok-selected.selected.items c.kept-keep.result.items c.in_ok-selected.ensures c.kept-keep.ensures)
+    let q = is_taken c.args.tree (is_selected c.args.tree c.args.request.now) in
+    closed c.args.tree c.requires q c.as_slice-2.result.now (c.as_slice-2.ensures.value ∙ above_of c.args.tree q c.in_ok-taken.taken.items c.kept-keep.result.items c.in_ok-taken.ensures c.kept-keep.ensures)
 
 pub returns-clause-ok : goal.returns-clause-ok
 returns-clause-ok c =
     let q = is_selected c.args.tree c.args.request.now in
-    c.in_ok-found.ensures.same ∙ ap (pruned c.args.tree) (c.as_slice-2.ensures.value ∙ kept_of c.args.tree q c.in_ok-selected.selected.items c.kept-keep.result.items c.in_ok-selected.ensures c.kept-keep.ensures)
+    let above : c.as_slice-2.result.now ≡ truths (is_above c.args.tree (is_taken c.args.tree q)) (size c.args.tree) =
+    c.as_slice-2.ensures.value ∙ above_of c.args.tree (is_taken c.args.tree q) c.in_ok-taken.taken.items c.kept-keep.result.items c.in_ok-taken.ensures c.kept-keep.ensures in
+    c.in_ok-found.ensures.same ∙ ap (pruned c.args.tree) (kept_of c.args.tree c.requires q c.as_slice-2.result.now above)
