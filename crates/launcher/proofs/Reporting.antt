@@ -15,7 +15,7 @@ use Rattle.launcher.specs.ExitStatuses.{status_of_run}
 use Rattle.launcher.specs.Reports.{details_of, IsRunOutput}
 
 pub ran : {E : Type 0} (r : Result Report E) (asked : Asked) (p : PlanParts) (answers : List (ℕ × Reply)) (trace : Trace) (history : List Event) (texts : TextParts) → history ≡ trace.published.items → IsDriven p answers trace → AreTexts p answers history texts
-    → IfOk r (λ report. string_bytes report.text ≡ details_of asked.details asked.theme p texts history) → IfOk r (λ report. report.status ≡ status_of_run asked.fail_if_no_tests (tests_found p) (has_failed p history))
+    → IfOk r (λ report. string_bytes report.text ≡ details_of asked.details asked.theme p texts history) → IfOk r (λ report. report.status ≡ status_of_run asked.fail_if_no_tests (tests_found p history) (has_failed p history))
     → IfOk r (λ report. IsRunOutput asked p answers (string_bytes report.text) report.status)
 ran (Ok report) asked p answers trace history texts here driven are printed exits = record {
   history = history;

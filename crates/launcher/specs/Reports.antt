@@ -49,7 +49,7 @@ pub record IsRunOutput (asked : Asked) (p : PlanParts) (answers : List (ℕ × R
   pub history : List Event
   pub published : IsHistory p answers history
   pub printed : ArePrinted asked.details asked.theme p answers history text
-  pub exits : status ≡ status_of_run asked.fail_if_no_tests (tests_found p) (has_failed p history)
+  pub exits : status ≡ status_of_run asked.fail_if_no_tests (tests_found p history) (has_failed p history)
 
 -- the state in which a replay of these steps ends: there are 64 workers
 abbrev pub replayed : PlanParts → List (ℕ × Reply) → List Step → State

@@ -61,7 +61,7 @@ fn told_report(
 ) -> Result<Report, AllocError>
     requires { length history.now ≤ most_events plan.now }
     ensures text { IfOk result (λ report. string_bytes report.text ≡ details_of options.now.details options.now.theme plan.now texts.now history.now) }
-    ensures status { IfOk result (λ report. report.status ≡ status_of_run options.now.fail_if_no_tests (tests_found plan.now) (has_failed plan.now history.now)) }
+    ensures status { IfOk result (λ report. report.status ≡ status_of_run options.now.fail_if_no_tests (tests_found plan.now history.now) (has_failed plan.now history.now)) }
 {
     let recorder: Box<dyn Listener> = Box::new(alloc, Recorder::new(alloc))?;
     let mut listeners = Vec::new(alloc);

@@ -8,7 +8,7 @@ use Rattle.descriptor.proofs.Counts.{count_most}
 use Rattle.listeners.specs.declared.outline.Place.{Place}
 use Rattle.listeners.specs.declared.told.Told.{Told}
 use Rattle.listeners.specs.declared.counts.SortCounts.{SortCounts}
-use Rattle.listeners.specs.Counts.{place_in, FollowParents, is_lost_within, is_lost, is_counted, six, counts_in, counts_below, counts_with, AreAtMost}
+use Rattle.listeners.specs.Counts.{place_in, FollowParents, is_lost_within, is_lost, is_counted, is_found, counts_as_skipped, six, counts_in, counts_below, counts_with, AreAtMost}
 use Rattle.listeners.specs.Told.{told_at}
 
 module _ (outline : List Place) (told : List Told) (follow : FollowParents outline) where
@@ -56,11 +56,13 @@ module _ (sort : Kind → Bool) (outline : List Place) (told : List Told) where
   })
 
   -- the counts of one node more
-  pub counts_more : (k : ℕ) (c c' : SortCounts) (counted lost : Bool) → c ≡ counts_below sort outline told k → counted ≡ is_counted sort outline k → lost ≡ is_lost outline told k → c' ≡ counts_with c counted (told_at told k) lost → c' ≡ counts_below sort outline told (k + 1)
-  counts_more k c c' counted lost so of_sort up is =
+  pub counts_more : (k : ℕ) (c c' : SortCounts) (counted found lost : Bool) → c ≡ counts_below sort outline told k → counted ≡ is_counted sort outline k → found ≡ is_found outline told k → lost ≡ counts_as_skipped outline told k → c' ≡ counts_with c counted (told_at told k) found lost
+      → c' ≡ counts_below sort outline told (k + 1)
+  counts_more k c c' counted found lost so of_sort there up is =
       let next : suc k ≡ k + 1 = omega arith in
-      is ∙ ap (λ (x : SortCounts). counts_with x counted (told_at told k) lost) so ∙ ap (λ (x : Bool). counts_with (counts_below sort outline told k) x (told_at told k) lost) of_sort
-      ∙ ap (λ (x : Bool). counts_with (counts_below sort outline told k) (is_counted sort outline k) (told_at told k) x) up
+      is ∙ ap (λ (x : SortCounts). counts_with x counted (told_at told k) found lost) so ∙ ap (λ (x : Bool). counts_with (counts_below sort outline told k) x (told_at told k) found lost) of_sort
+      ∙ ap (λ (x : Bool). counts_with (counts_below sort outline told k) (is_counted sort outline k) (told_at told k) x lost) there
+      ∙ ap (λ (x : Bool). counts_with (counts_below sort outline told k) (is_counted sort outline k) (told_at told k) (is_found outline told k) x) up
       ∙ ap (counts_below sort outline told) next
 
 -- the twelve counts, where those of each sort are known

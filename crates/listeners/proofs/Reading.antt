@@ -1,11 +1,11 @@
 -- What is read from the tally of a plan's tree.
-use Rattle.std.proofs.Common.{◌≡◌, ℕ, zero, suc, ◌<◌, ◌&&◌, nat_lt, Bool, true, false, List, length, get_or, Option, Some, None, Result, Ok, Err, IfOk, refl, sym, ap, ◌∙◌, arith, zero-add}
+use Rattle.std.proofs.Common.{◌≡◌, ℕ, zero, suc, ◌<◌, ◌&&◌, ◌||◌, not, nat_lt, Bool, true, false, List, length, get_or, Option, Some, None, Result, Ok, Err, IfOk, refl, sym, ap, ◌∙◌, arith, zero-add}
 use Rattle.std.specs.List.{range_with_len}
 use Rattle.std.proofs.lemmas.List.Folds.{Any-from_list_any, list_any_at}
 use Rattle.std.proofs.lemmas.Bool.Decides.{nat_tests}
 use Rattle.std.proofs.lemmas.List.FromFn.{get_or-map-range_with_len, get_or-range_with_len, length-range_with_len}
 use Rattle.descriptor.specs.Kinds.{is_test}
-use Rattle.descriptor.specs.Nodes.{Nodes, IsTree, size, kind_of, count_below}
+use Rattle.descriptor.specs.Nodes.{Nodes, IsTree, size, kind_of, is_spare_at, count_below}
 use Rattle.plan_events.specs.declared.event.Event.{Event}
 use Rattle.plan_events.specs.declared.status.Status.{Status}
 use Rattle.plan_events.specs.declared.status.Status.TheVariants.{Successful, Aborted, Failed}
@@ -13,7 +13,7 @@ use Rattle.plan_events.specs.Statuses.{is_failed}
 use Rattle.resource_locks.specs.Plans.{PlanParts}
 use Rattle.listeners.specs.declared.outline.Place.{Place}
 use Rattle.listeners.specs.declared.told.Told.{Told}
-use Rattle.listeners.specs.Counts.{place_of, outline_of, place_in, is_counted}
+use Rattle.listeners.specs.Counts.{place_of, outline_of, place_in, is_counted, is_found, was_found}
 use Rattle.listeners.specs.Results.{is_failure, has_failed, HasFailed}
 use Rattle.listeners.specs.Tallies.{TellsFailure}
 use Rattle.listeners.specs.Told.{status_of, all_told, told_at, ended}
@@ -101,7 +101,19 @@ module _ (t : Nodes) (tree : IsTree t) where
       let above : nat_lt 0 (suc n) ≡ true = grind (arith, nat_tests) in
       ap (λ (b : Bool). b && is_test (place_in (outline_of t) (suc n)).kind) above ∙ ap is_test (kind_is (suc n) lt)
 
-  pub tests_are : (outline : List Place) → outline ≡ outline_of t → count_below (is_counted is_test outline) (length outline) ≡ count_below (λ n. is_test (kind_of t n)) (size t)
-  tests_are outline is =
-      ap (λ (o : List Place). count_below (is_counted is_test o) (length o)) is ∙ ap (count_below (is_counted is_test (outline_of t))) (places_len t tree)
-      ∙ count_same (is_counted is_test (outline_of t)) (λ n. is_test (kind_of t n)) (size t) counted_is
+  found_is : (events : List Event) (n : ℕ) → n < size t → is_found (outline_of t) (all_told (size t) events) n ≡ was_found t events n
+  found_is events n lt =
+      ap (λ (p : Place). not p.spare || (told_at (all_told (size t) events) n).registered) (get_or-map-range_with_len (place_of t) 0 (size t) n n _ lt (omega arith))
+      ∙ ap (λ (x : Told). not (is_spare_at t n) || x.registered) (told_get (size t) events n _ lt)
+
+  both_are : (events : List Event) (n : ℕ) → n < size t → (is_counted is_test (outline_of t) n && is_found (outline_of t) (all_told (size t) events) n) ≡ (is_test (kind_of t n) && was_found t events n)
+  both_are events n lt =
+      ap (λ (b : Bool). b && is_found (outline_of t) (all_told (size t) events) n) (counted_is n lt) ∙ ap (λ (b : Bool). is_test (kind_of t n) && b) (found_is events n lt)
+
+  pub tests_are : (events : List Event) (outline : List Place) (told : List Told) → outline ≡ outline_of t → told ≡ all_told (length outline) events
+      → count_below (λ n. is_counted is_test outline n && is_found outline told n) (length outline) ≡ count_below (λ n. is_test (kind_of t n) && was_found t events n) (size t)
+  tests_are events outline told is so =
+      ap (λ (ts : List Told). count_below (λ n. is_counted is_test outline n && is_found outline ts n) (length outline)) (told_tree t tree events outline told is so)
+      ∙ ap (λ (o : List Place). count_below (λ n. is_counted is_test o n && is_found o (all_told (size t) events) n) (length o)) is
+      ∙ ap (count_below (λ n. is_counted is_test (outline_of t) n && is_found (outline_of t) (all_told (size t) events) n)) (places_len t tree)
+      ∙ count_same (λ n. is_counted is_test (outline_of t) n && is_found (outline_of t) (all_told (size t) events) n) (λ n. is_test (kind_of t n) && was_found t events n) (size t) (both_are events)

@@ -12,7 +12,7 @@ use Rattle.plan_events.specs.declared.event.Event.{Event}
 use Rattle.plan_events.specs.declared.event.EventKind.{EventKind}
 use Rattle.plan_events.specs.declared.status.Status.{Status}
 use Rattle.listeners.specs.declared.told.Told.{Told}
-use Rattle.listeners.specs.Told.{is_start, is_skip, status_by, status_told, status_of, told_of, all_told, nothing}
+use Rattle.listeners.specs.Told.{is_start, is_skip, is_registration, status_by, status_told, status_of, told_of, all_told, nothing}
 
 or_no : (b : Bool) → (b || false) ≡ b
 or_no true = refl
@@ -26,8 +26,8 @@ or_assoc : (a b c : Option Status) → option_or a (option_or b c) ≡ option_or
 or_assoc None b c = refl
 or_assoc (Some s) b c = refl
 
-told_is : (x : Told) (a b : Bool) (s : Option Status) → x.started ≡ a → x.skipped ≡ b → x.status ≡ s → x ≡ record { started = a; skipped = b; status = s }
-told_is x a b s p q r = rw (← p, ← q, ← r) refl
+told_is : (x : Told) (a b c : Bool) (s : Option Status) → x.started ≡ a → x.skipped ≡ b → x.registered ≡ c → x.status ≡ s → x ≡ record { started = a; skipped = b; registered = c; status = s }
+told_is x a b c s p q r u = rw (← p, ← q, ← r, ← u) refl
 
 more_any : (p : Event → Bool) (es : List Event) (e : Event) → list_any p (es ++ e ∷ []) ≡ (list_any p es || p e)
 more_any p es e = list_any-append p es (e ∷ []) ∙ ap (λ b. list_any p es || b) (or_no (p e))
@@ -38,27 +38,29 @@ more_status n (x ∷ es) e = ap (λ s. option_or (status_told n x) s) (more_stat
 
 -- what is told with one more event, if it is of the node
 abbrev pub told_plus : Told → Bool → EventKind → Option Status → Told
-told_plus t b kind status = record { started = t.started || (b && is_start kind); skipped = t.skipped || (b && is_skip kind); status = option_or t.status (cond b (status_by kind status) None) }
+told_plus t b kind status = record { started = t.started || (b && is_start kind); skipped = t.skipped || (b && is_skip kind); registered = t.registered || (b && is_registration kind); status = option_or t.status (cond b (status_by kind status) None) }
 
 told_more : (n : ℕ) (es : List Event) (e : Event) → told_of (es ++ e ∷ []) n ≡ told_plus (told_of es n) (e.node == n) e.kind e.status
 told_more n es e =
-    told_is (told_of (es ++ e ∷ []) n) _ _ _
+    told_is (told_of (es ++ e ∷ []) n) _ _ _ _
     (more_any (λ e. (e.node == n) && is_start e.kind) es e)
     (more_any (λ e. (e.node == n) && is_skip e.kind) es e)
+    (more_any (λ e. (e.node == n) && is_registration e.kind) es e)
     (more_status n es e)
 
 plus_no : (t : Told) (kind : EventKind) (status : Option Status) → told_plus t false kind status ≡ t
-plus_no t kind status = sym (told_is t _ _ _ (sym (or_no t.started)) (sym (or_no t.skipped)) (sym (or_none t.status)))
+plus_no t kind status = sym (told_is t _ _ _ _ (sym (or_no t.started)) (sym (or_no t.skipped)) (sym (or_no t.registered)) (sym (or_none t.status)))
 
 -- what the event adds where it is of the node
 pub record IsAfter (old new : Told) (e : Event) : Type 0 where
   pub started : new.started ≡ (old.started || is_start e.kind)
   pub skipped : new.skipped ≡ (old.skipped || is_skip e.kind)
+  pub registered : new.registered ≡ (old.registered || is_registration e.kind)
   pub status : new.status ≡ option_or old.status (status_by e.kind e.status)
 
 told_here : (es : List Event) (e : Event) (old new : Told) → old ≡ told_of es e.node → IsAfter old new e → new ≡ told_of (es ++ e ∷ []) e.node
 told_here es e old new is after =
-    told_is new _ _ _ after.started after.skipped after.status
+    told_is new _ _ _ _ after.started after.skipped after.registered after.status
     ∙ ap (λ (b : Bool). told_plus old b e.kind e.status) (sym (eq-eqb e.node e.node refl))
     ∙ ap (λ (t : Told). told_plus t (e.node == e.node) e.kind e.status) is
     ∙ sym (told_more e.node es e)

@@ -1,21 +1,21 @@
 -- How many containers and tests a plan has, and what became of them.
-use Rattle.std.specs.Prelude.{◌≡◌, ◌↔◌, ◌⊎◌, ℕ, zero, suc, ◌+◌, ◌<◌, ◌≤◌, ◌==◌, ◌&&◌, ◌||◌, nat_lt, Bool, true, cond, List, [], ◌∷◌, ◌++◌, length, map, slice_index_or}
+use Rattle.std.specs.Prelude.{◌≡◌, ◌↔◌, ◌⊎◌, ℕ, zero, suc, ◌+◌, ◌<◌, ◌≤◌, ◌==◌, ◌&&◌, ◌||◌, nat_lt, not, Bool, true, false, cond, List, [], ◌∷◌, ◌++◌, length, map, slice_index_or}
 use Rattle.std.specs.List.{range_with_len}
 use Rattle.descriptor.specs.declared.kind.Kind.{Kind}
 use Rattle.descriptor.specs.declared.kind.Kind.TheVariants.{Container}
 use Rattle.descriptor.specs.Kinds.{is_container, is_test}
-use Rattle.descriptor.specs.Nodes.{Nodes, Below, size, parent_of, kind_of, bit, count_below}
+use Rattle.descriptor.specs.Nodes.{Nodes, Below, size, parent_of, kind_of, is_spare_at, bit, count_below}
 use Rattle.plan_events.specs.declared.event.Event.{Event}
 use Rattle.plan_events.specs.Statuses.{is_aborted, is_successful, is_failed}
 use Rattle.resource_locks.specs.Plans.{PlanParts}
-use Rattle.listeners.specs.Told.{is_skipped, all_told, told_at, ended}
+use Rattle.listeners.specs.Told.{is_skipped, is_registered, all_told, told_at, ended}
 use Rattle.listeners.specs.declared.outline.Place.{Place}
 use Rattle.listeners.specs.declared.told.Told.{Told}
 use Rattle.listeners.specs.declared.counts.SortCounts.{SortCounts}
 
--- what is kept of node n to count it: its parent, which for node 0 is node 0 itself, and its kind
+-- what is kept of node n to count it: its parent, which for node 0 is node 0 itself, its kind, and whether it is a spare
 abbrev pub place_of : Nodes → ℕ → Place
-place_of t n = record { parent = cond (n == 0) 0 (parent_of t n); kind = kind_of t n }
+place_of t n = record { parent = cond (n == 0) 0 (parent_of t n); kind = kind_of t n; spare = is_spare_at t n }
 
 -- what is kept of a tree: a place for each node, from node 0
 abbrev pub outline_of : Nodes → List Place
@@ -23,7 +23,7 @@ outline_of t = map (place_of t) (range_with_len 0 (size t))
 
 -- the place of node n; past the end, that of a container below node 0
 abbrev pub place_in : List Place → ℕ → Place
-place_in outline n = slice_index_or outline n (record { parent = 0; kind = Container })
+place_in outline n = slice_index_or outline n (record { parent = 0; kind = Container; spare = false })
 
 -- each node but node 0 stands after its parent
 abbrev pub FollowParents : List Place → Type 0
@@ -39,14 +39,30 @@ is_lost_within outline told (suc k) (suc n) = (told_at told (suc n)).skipped || 
 abbrev pub is_lost : List Place → List Told → ℕ → Bool
 is_lost outline told n = is_lost_within outline told n n
 
--- node n was skipped, or a node that it is below
-abbrev pub WasSkipped : Nodes → List Event → ℕ → Type 0
-WasSkipped t events n = (a : ℕ) × ((a ≡ n) ⊎ Below t a n) × (is_skipped events a ≡ true)
+-- whether node n counts as skipped: a spare where it was skipped itself, any other node where it is lost
+abbrev pub counts_as_skipped : List Place → List Told → ℕ → Bool
+counts_as_skipped outline told n = cond (place_in outline n).spare (told_at told n).skipped (is_lost outline told n)
 
--- the nodes of a tree that are lost are those that were skipped and all below them
+-- a node was skipped that node n is below
+abbrev pub IsBelowSkipped : Nodes → List Event → ℕ → Type 0
+IsBelowSkipped t events n = (a : ℕ) × Below t a n × (is_skipped events a ≡ true)
+
+-- node n was skipped, or it is no spare and a node was skipped that it is below
+abbrev pub WasSkipped : Nodes → List Event → ℕ → Type 0
+WasSkipped t events n = (is_skipped events n ≡ true) ⊎ ((is_spare_at t n ≡ false) × IsBelowSkipped t events n)
+
+-- the nodes of a tree that count as skipped are those that were skipped and all below them, spares below them excepted
 abbrev pub SkipsReachBelow : Nodes → List Event → Type 0
 SkipsReachBelow t events =
-    (n : ℕ) → n < size t → (is_lost (outline_of t) (all_told (length (outline_of t)) events) n ≡ true) ↔ WasSkipped t events n
+    (n : ℕ) → n < size t → (counts_as_skipped (outline_of t) (all_told (length (outline_of t)) events) n ≡ true) ↔ WasSkipped t events n
+
+-- whether node n of a tree was found by these events: it is no spare, or it was registered
+abbrev pub was_found : Nodes → List Event → ℕ → Bool
+was_found t events n = not (is_spare_at t n) || is_registered events n
+
+-- whether node n is found: it is no spare, or it was registered
+abbrev pub is_found : List Place → List Told → ℕ → Bool
+is_found outline told n = not (place_in outline n).spare || (told_at told n).registered
 
 -- whether node n counts as one of this sort; node 0 counts nowhere
 abbrev pub is_counted : (Kind → Bool) → List Place → ℕ → Bool
@@ -55,18 +71,18 @@ is_counted sort outline n = nat_lt 0 n && sort (place_in outline n).kind
 -- the counts of one sort among the nodes below k: a node counts once, whatever stands for it twice
 abbrev pub counts_below : (Kind → Bool) → List Place → List Told → ℕ → SortCounts
 counts_below sort outline told k = record {
-  found = count_below (is_counted sort outline) k;
-  skipped = count_below (λ n. is_counted sort outline n && is_lost outline told n) k;
+  found = count_below (λ n. is_counted sort outline n && is_found outline told n) k;
+  skipped = count_below (λ n. is_counted sort outline n && counts_as_skipped outline told n) k;
   started = count_below (λ n. is_counted sort outline n && (told_at told n).started) k;
   aborted = count_below (λ n. is_counted sort outline n && ended is_aborted (told_at told n).status) k;
   successful = count_below (λ n. is_counted sort outline n && ended is_successful (told_at told n).status) k;
   failed = count_below (λ n. is_counted sort outline n && ended is_failed (told_at told n).status) k;
 }
 
--- the counts of a sort with one more node, which is counted or not
-abbrev pub counts_with : SortCounts → Bool → Told → Bool → SortCounts
-counts_with c counted t lost = record {
-  found = bit counted + c.found;
+-- the counts of a sort with one more node, which is counted or not, was found or not, and counts as skipped or not
+abbrev pub counts_with : SortCounts → Bool → Told → Bool → Bool → SortCounts
+counts_with c counted t found lost = record {
+  found = bit (counted && found) + c.found;
   skipped = bit (counted && lost) + c.skipped;
   started = bit (counted && t.started) + c.started;
   aborted = bit (counted && ended is_aborted t.status) + c.aborted;

@@ -7,6 +7,7 @@ use Rattle.plan_events.specs.declared.event.Event.{Event}
 use Rattle.plan_events.specs.Statuses.{is_failed}
 use Rattle.plan_events.specs.declared.status.Status.TheVariants.{Failed}
 use Rattle.resource_locks.specs.Plans.{PlanParts}
+use Rattle.listeners.specs.Counts.{was_found}
 use Rattle.listeners.specs.Told.{status_of, ended}
 
 -- a plan, and the events of a run of it
@@ -14,9 +15,9 @@ pub record ResultParts : Type 0 where
   pub plan : PlanParts
   pub events : List Event
 
--- how many tests a plan has, one that may hold other nodes counted
-abbrev pub tests_found : PlanParts → ℕ
-tests_found p = count_below (λ n. is_test (kind_of p.tree n)) (size p.tree)
+-- how many tests of a plan were found, one that may hold other nodes counted: all that are no spares, and the spares that were registered
+abbrev pub tests_found : PlanParts → List Event → ℕ
+tests_found p events = count_below (λ n. is_test (kind_of p.tree n) && was_found p.tree events n) (size p.tree)
 
 -- whether node n failed, as a container or a test; node 0 is neither
 abbrev pub is_failure : List Event → ℕ → Bool

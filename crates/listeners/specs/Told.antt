@@ -1,4 +1,4 @@
--- What events tell of a node: whether it started, whether it was skipped, and how it ended.
+-- What events tell of a node: whether it was registered, started or skipped, and how it ended.
 use Rattle.std.specs.Prelude.{ℕ, ◌==◌, ◌&&◌, ◌||◌, Bool, true, false, cond, List, [], ◌∷◌, map, Option, None, Some, slice_index_or}
 use Rattle.std.specs.List.{list_any, range_with_len}
 use Rattle.std.specs.Option.{option_or}
@@ -22,6 +22,13 @@ is_skip Finished = false
 is_skip Skipped = true
 is_skip Registered = false
 
+-- whether the event says that its node was registered
+abbrev pub is_registration : EventKind → Bool
+is_registration Started = false
+is_registration Finished = false
+is_registration Skipped = false
+is_registration Registered = true
+
 -- the status that stands with an event of this kind, which counts at a finish alone
 abbrev pub status_by : EventKind → Option Status → Option Status
 status_by Started status = None
@@ -37,6 +44,10 @@ is_started events n = list_any (λ e. (e.node == n) && is_start e.kind) events
 abbrev pub is_skipped : List Event → ℕ → Bool
 is_skipped events n = list_any (λ e. (e.node == n) && is_skip e.kind) events
 
+-- whether an event says that node n was registered
+abbrev pub is_registered : List Event → ℕ → Bool
+is_registered events n = list_any (λ e. (e.node == n) && is_registration e.kind) events
+
 -- what one event says of how node n ended
 abbrev pub status_told : ℕ → Event → Option Status
 status_told n e = cond (e.node == n) (status_by e.kind e.status) None
@@ -48,7 +59,7 @@ status_of (e ∷ events) n = option_or (status_told n e) (status_of events n)
 
 -- all of it
 abbrev pub told_of : List Event → ℕ → Told
-told_of events n = record { started = is_started events n; skipped = is_skipped events n; status = status_of events n }
+told_of events n = record { started = is_started events n; skipped = is_skipped events n; registered = is_registered events n; status = status_of events n }
 
 -- what these events tell of each of so many nodes, from node 0
 abbrev pub all_told : ℕ → List Event → List Told
@@ -56,7 +67,7 @@ all_told nodes events = map (told_of events) (range_with_len 0 nodes)
 
 -- what no event tells
 abbrev pub nothing : Told
-nothing = record { started = false; skipped = false; status = None }
+nothing = record { started = false; skipped = false; registered = false; status = None }
 
 -- what is told of node n, and nothing past the end
 abbrev pub told_at : List Told → ℕ → Told

@@ -3,7 +3,7 @@
 ghost use Rattle.std.specs.Prelude.{◌≡◌, ◌<◌, ◌≤◌, ◌++◌, length};
 ghost use Rattle.descriptor.specs.Kinds.{is_container, is_test};
 ghost use Rattle.descriptor.specs.Nodes.{bit};
-ghost use Rattle.listeners.specs.Counts.{is_counted, is_lost, six, counts_below, FollowParents};
+ghost use Rattle.listeners.specs.Counts.{is_counted, is_found, is_lost, counts_as_skipped, six, counts_below, FollowParents};
 
 use crate::outline::Place;
 use crate::told::Told;
@@ -12,8 +12,9 @@ use plan_events::Status;
 /// The counts of containers, or those of tests.
 #[derive(Clone, Copy)]
 pub struct SortCounts {
+    /// Those that are no spares, and the spares that were registered.
     pub found: u32,
-    /// Those that were skipped, and all below them.
+    /// Those that were skipped, and all below them but spares.
     pub skipped: u32,
     pub started: u32,
     pub aborted: u32,
@@ -65,11 +66,11 @@ impl SortCounts {
     };
 
     /// Adds a node, if it is counted.
-    fn add(&mut self, counted: bool, told: Told, lost: bool)
+    fn add(&mut self, counted: bool, told: Told, found: bool, lost: bool)
         requires { AreAtMost self.old 4096 }
-        ensures { self.new ≡ counts_with self.old counted told lost }
+        ensures { self.new ≡ counts_with self.old counted told found lost }
     {
-        self.found += one_if(counted);
+        self.found += one_if(counted && found);
         self.skipped += one_if(counted && lost);
         self.started += one_if(counted && told.started);
         self.aborted += one_if(counted && matches!(told.status, Some(Status::Aborted)));
@@ -117,6 +118,29 @@ fn is_lost(outline: &[Place], told: &[Told], node: usize) -> bool
     true
 }
 
+/// Whether the node counts as skipped: a spare where it was itself, any other node also where one that it is below was.
+fn counts_as_skipped(outline: &[Place], told: &[Told], node: usize) -> bool
+    requires node { node < length outline.now }
+    requires told { length told.now ≡ length outline.now }
+    requires parents { FollowParents outline.now }
+    ensures { result ≡ counts_as_skipped outline.now told.now node }
+{
+    if outline[node].spare {
+        told[node].skipped
+    } else {
+        is_lost(outline, told, node)
+    }
+}
+
+/// Whether the node is found: it is no spare, or it was registered.
+fn is_found(outline: &[Place], told: &[Told], node: usize) -> bool
+    requires node { node < length outline.now }
+    requires told { length told.now ≡ length outline.now }
+    ensures { result ≡ is_found outline.now told.now node }
+{
+    !outline[node].spare || told[node].registered
+}
+
 /// What there is of each sort, and what became of it. It takes no memory.
 pub(crate) fn count(outline: &[Place], told: &[Told]) -> Counts
     requires few { length outline.now ≤ 4096 }
@@ -128,9 +152,15 @@ pub(crate) fn count(outline: &[Place], told: &[Told]) -> Counts
     let mut containers = SortCounts::NONE;
     let mut tests = SortCounts::NONE;
     for index in 0..outline.len() {
-        let lost = is_lost(outline, told, index);
-        containers.add(counts_as_container(outline, index), told[index], lost);
-        tests.add(counts_as_test(outline, index), told[index], lost);
+        let lost = counts_as_skipped(outline, told, index);
+        let found = is_found(outline, told, index);
+        containers.add(
+            counts_as_container(outline, index),
+            told[index],
+            found,
+            lost,
+        );
+        tests.add(counts_as_test(outline, index), told[index], found, lost);
     }
     Counts { containers, tests }
 }

@@ -14,6 +14,7 @@ pub struct Place {
     /// For node 0, node 0 itself.
     pub parent: NodeId,
     pub kind: Kind,
+    pub spare: bool,
 }
 
 /// What is kept of this node.
@@ -24,6 +25,7 @@ fn place_of(tree: &Tree, node: NodeId) -> Place
     Place {
         parent: tree.parent(node).unwrap_or(NodeId::ROOT),
         kind: tree.kind(node),
+        spare: tree.role(node).is_spare(),
     }
 }
 

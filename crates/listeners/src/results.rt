@@ -53,8 +53,8 @@ impl<'a> Results<'a> {
     }
 
     /// Twelve counts: of containers those that were found, skipped, started, aborted, successful and failed, then the
-    /// same of tests. A node that is both counts in both, node 0 in none; a node below a skipped one counts as skipped.
-    /// It takes no memory.
+    /// same of tests. A node that is both counts in both, node 0 in none. Spares are found where they were registered. A
+    /// node below a skipped one counts as skipped, unless it is a spare. It takes no memory.
     pub fn counts(&self) -> [u32; 12]
         ensures counts { result ≡ counts_of self.now.plan self.now.events }
         ensures skipped { SkipsReachBelow self.now.plan.tree self.now.events }
@@ -62,9 +62,9 @@ impl<'a> Results<'a> {
         self.tally.counts().twelve()
     }
 
-    /// How many tests were found. It takes no memory.
+    /// How many tests were found: those that are no spares, and the spares that were registered. It takes no memory.
     pub fn tests_found(&self) -> usize
-        ensures { result ≡ tests_found self.now.plan }
+        ensures { result ≡ tests_found self.now.plan self.now.events }
     {
         self.tally.counts().tests.found as usize
     }

@@ -4,7 +4,7 @@ ghost use Rattle.std.specs.Prelude.{◌≡◌, ◌||◌, ◌++◌, ◌∷◌, �
 ghost use Rattle.std.specs.Option.{option_or};
 ghost use Rattle.plan_events.specs.declared.event.Event.{Event};
 ghost use Rattle.plan_events.specs.Statuses.{is_failed};
-ghost use Rattle.listeners.specs.Told.{all_told, is_start, is_skip, status_by, has_line, ended};
+ghost use Rattle.listeners.specs.Told.{all_told, is_start, is_skip, is_registration, status_by, has_line, ended};
 ghost use Rattle.listeners.specs.Tallies.{TellsFailure};
 
 use plan_events::{Event, EventKind, Status};
@@ -15,6 +15,7 @@ use std::alloc::{AllocError, Global};
 pub(crate) struct Told {
     pub started: bool,
     pub skipped: bool,
+    pub registered: bool,
     /// How it ended, if it did.
     pub status: Option<Status>,
 }
@@ -23,6 +24,7 @@ pub(crate) struct Told {
 pub(crate) const NOTHING: Told = Told {
     started: false,
     skipped: false,
+    registered: false,
     status: None,
 };
 
@@ -41,11 +43,13 @@ impl Told {
     fn after(self, kind: EventKind, status: Option<Status>) -> Told
         ensures started { result.started ≡ (self.started || is_start kind) }
         ensures skipped { result.skipped ≡ (self.skipped || is_skip kind) }
+        ensures registered { result.registered ≡ (self.registered || is_registration kind) }
         ensures status { result.status ≡ option_or self.status (status_by kind status) }
     {
         Told {
             started: self.started || matches!(kind, EventKind::Started),
             skipped: self.skipped || matches!(kind, EventKind::Skipped),
+            registered: self.registered || matches!(kind, EventKind::Registered),
             status: self.status.or(status_by(kind, status)),
         }
     }

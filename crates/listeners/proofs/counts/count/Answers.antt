@@ -13,6 +13,6 @@ add-requires-in-loop-index c = counts_small is_test c.args.outline.now c.args.to
 
 pub loop-index-preserved : goal.loop-index-preserved
 loop-index-preserved c = (
-  counts_more is_container c.args.outline.now c.args.told.now c.loop-index.index c.loop-index.containers c.add.new.self c.counts_as_container.result c.is_lost-lost.result c.loop-index.invariant.0 c.counts_as_container.ensures c.is_lost-lost.ensures c.add.ensures,
-  counts_more is_test c.args.outline.now c.args.told.now c.loop-index.index c.loop-index.tests c.add-in-loop-index.new.self c.counts_as_test.result c.is_lost-lost.result c.loop-index.invariant.1 c.counts_as_test.ensures c.is_lost-lost.ensures c.add-in-loop-index.ensures,
+  counts_more is_container c.args.outline.now c.args.told.now c.loop-index.index c.loop-index.containers c.add.new.self c.counts_as_container.result c.is_found-found.result c.counts_as_skipped-lost.result c.loop-index.invariant.0 c.counts_as_container.ensures c.is_found-found.ensures c.counts_as_skipped-lost.ensures c.add.ensures,
+  counts_more is_test c.args.outline.now c.args.told.now c.loop-index.index c.loop-index.tests c.add-in-loop-index.new.self c.counts_as_test.result c.is_found-found.result c.counts_as_skipped-lost.result c.loop-index.invariant.1 c.counts_as_test.ensures c.is_found-found.ensures c.counts_as_skipped-lost.ensures c.add-in-loop-index.ensures,
 )

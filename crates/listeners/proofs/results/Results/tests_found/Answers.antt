@@ -7,5 +7,5 @@ use Rattle.listeners.proofs.results.Results.tests_found.Goals as goal
 
 pub returns : goal.returns
 returns c =
-    ap (λ (x : SortCounts). x.found) c.counts.ensures.tests ∙ tests_are c.self.inside.plan.now.tree c.self.invariant.tree c.self.inside.tally.outline c.self.invariant.outline
-    ∙ ap (λ (r : ResultParts). tests_found r.plan) c.self.view_is
+    ap (λ (x : SortCounts). x.found) c.counts.ensures.tests ∙ tests_are c.self.inside.plan.now.tree c.self.invariant.tree c.self.inside.events.now c.self.inside.tally.outline c.self.inside.tally.told c.self.invariant.outline c.self.invariant.told
+    ∙ ap (λ (r : ResultParts). tests_found r.plan r.events) c.self.view_is
