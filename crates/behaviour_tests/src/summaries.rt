@@ -1,9 +1,9 @@
-//! Summaries of what no suite's text gives: a node that is a container and a test, and a change of plans.
+//! Summaries of what no suite's text gives: a node that is a container and a test, a dynamic test, and a change of plans.
 
-use crate::plans::{finished, plan_of, plan_of_one, started};
+use crate::plans::{event, factory_plan, finished, plan_of, plan_of_one, started};
 use descriptor::Kind;
 use listeners::{Listener, Summary};
-use plan_events::{Event, Status};
+use plan_events::{Event, EventKind, Status};
 use resource_locks::Plan;
 use std::alloc::{AllocError, Global};
 use std::test::Fail;
@@ -43,6 +43,30 @@ fn counts_a_node_that_is_both_twice_and_a_double_event_once(rt: HostRuntime) -> 
     let events = [started(1), started(1), finished(1, Status::Aborted)];
     let wanted = [1, 0, 1, 1, 0, 0, 1, 0, 1, 1, 0, 0];
     assert!(rt; counts(rt.alloc(), &plan, events.as_slice(), &plan, wanted)?);
+    Ok(())
+}
+
+/// Whether the only spare of a factory is not found where the factory was skipped, and is found and counts as skipped where
+/// it was registered and skipped itself.
+fn counts_spare(alloc: Global, plan: &Plan) -> Result<bool, AllocError> {
+    let never = [event(EventKind::Skipped, 1, None)];
+    let without = [1, 1, 0, 0, 0, 0, 0, 0, 0, 0, 0, 0];
+    let itself = [
+        started(1),
+        event(EventKind::Registered, 2, None),
+        event(EventKind::Skipped, 2, None),
+    ];
+    let with = [1, 0, 1, 0, 0, 0, 1, 1, 0, 0, 0, 0];
+    Ok(
+        counts(alloc, plan, never.as_slice(), plan, without)?
+            && counts(alloc, plan, itself.as_slice(), plan, with)?,
+    )
+}
+
+#[test]
+fn counts_a_spare_where_it_was_registered_or_skipped_itself(rt: HostRuntime) -> Result<(), Fail> {
+    let plan = factory_plan(rt.alloc())?;
+    assert!(rt; counts_spare(rt.alloc(), &plan)?);
     Ok(())
 }
 
