@@ -1,19 +1,18 @@
 -- Whoever is guarded by locks runs apart: what the locks and the order say, in words of the tree alone.
 use Rattle.std.proofs.Common.{◌≡◌, ℕ, ◌<◌, true, List, ◌⊎◌, inl, inr, sym, ap, ◌∙◌, subst, arith}
 use Rattle.std.proofs.lemmas.Bool.{cases_eq}
-use Rattle.descriptor.specs.declared.lock_mode.LockMode.{LockMode}
-use Rattle.descriptor.specs.declared.lock_mode.LockMode.TheVariants.{ReadWrite}
 use Rattle.descriptor.specs.declared.mode.Mode.{Mode}
 use Rattle.descriptor.specs.declared.mode.Mode.TheVariants.{SameThread}
 use Rattle.descriptor.specs.Nodes.{IsTree, IsChild, child, size, parent_of, is_isolated_at}
 use Rattle.plan_events.specs.declared.event.Event.{Event}
 use Rattle.plan_events.specs.declared.outcome.Reply.{Reply}
-use Rattle.resource_locks.specs.Declarations.{declared_of, AtOrBelow, IsTop, IsDeep, IsToHold, isolated_all, global_read, first}
+use Rattle.resource_locks.specs.Declarations.{declared_of, AtOrBelow, IsTop, IsDeep}
 use Rattle.resource_locks.specs.Held.{top_of}
 use Rattle.resource_locks.specs.Hoisted.{IsHoisted, IsGuarded}
 use Rattle.resource_locks.specs.Plans.{PlanParts}
+use Rattle.resource_locks.proofs.Engines.{engines_keep}
 use Rattle.resource_locks.proofs.Guarded.{guarded}
-use Rattle.resource_locks.proofs.Lines.{at_through, last_step}
+use Rattle.resource_locks.proofs.Lines.{at_through}
 use Rattle.resource_locks.proofs.Tops.{has_top, high, deep}
 use Rattle.resource_locks.proofs.LockTrees.{lock_tree}
 use Rattle.event_history.specs.Plans.{is_same_thread}
@@ -90,20 +89,6 @@ pub hoisted_is_apart : (p : PlanParts) → IsTree p.tree → (given : ℕ → Mo
     → IsLegal p replies workers h → IsInOrder p h → IsExclusive p h → IsApart p h
 hoisted_is_apart p tree given hoisted replies workers h = apart p tree replies workers h (guarded (declared_of p.tree) (lock_tree p.tree tree) given p hoisted)
 
--- And in it engines run on the thread of the plan, where that is the mode that they are given: nothing holds locks above them.
-module _ (p : PlanParts) (given : ℕ → Mode) (hoisted : IsHoisted (declared_of p.tree) given p) where
-  plan_holds : (n : ℕ) (key : List ℕ) (mode : LockMode) → n ≡ 0 → IsToHold (declared_of p.tree) n key mode → ⊥
-  plan_holds n key mode z (isolated_all top has what) = (let pos = top.child.above_zero in omega (arith, pos, z))
-  plan_holds n key mode z (global_read top none k r) = (let pos = top.child.above_zero in omega (arith, pos, z))
-  plan_holds n key mode z (first c top none (inl e) f within) = (let pos = top.child.above_zero in omega (arith, pos, e, z))
-  plan_holds n key mode z (first c top none (inr b) f within) = (let pos = (last_step p.tree c n b).0.above_zero in omega (arith, pos, z))
-
-  pub engines_in_turn : ((e : ℕ) → IsChild p.tree 0 e → given e ≡ SameThread) → EnginesInTurn p
-  engines_in_turn same e c =
-      ap is_same_thread (
-      hoisted.free e (λ a key holds b. elim (last_step p.tree a e b).1 [
-        | inl up ↦ plan_holds a key ReadWrite (up ∙ c.parent) (hoisted.only a key ReadWrite holds)
-        | inr more ↦ (let pos = (last_step p.tree a (parent_of p.tree e) more).0.above_zero in let z : parent_of p.tree e ≡ 0 = c.parent in omega (arith, pos, z))
-      ])
-      ∙ same e c
-      )
+-- And in it engines run on the thread of the plan, where that is the mode that they are given.
+pub engines_in_turn : (p : PlanParts) (given : ℕ → Mode) → IsHoisted (declared_of p.tree) given p → ((e : ℕ) → IsChild p.tree 0 e → given e ≡ SameThread) → EnginesInTurn p
+engines_in_turn p given hoisted same e c = ap is_same_thread (engines_keep (declared_of p.tree) given p hoisted e c ∙ same e c)

@@ -153,6 +153,9 @@ module _ (t : Nodes) (s : Settings) where
           | inr past ↦ absurd (not_none m (ap mode_or past.1) e)
         ]
 
+    pub engines_same : (modes : List Mode) → modes ≡ given_modes t s → (e : ℕ) → IsChild t 0 e → slice_get modes e ≡ Some SameThread
+    engines_same modes is e of_plan = ap (λ (ms : List Mode). slice_get ms e) is ∙ given_at e of_plan.inside ∙ ap Some (given_is e SameThread of_plan.inside (engine of_plan refl))
+
   pub one_each : (modes : List Mode) → modes ≡ given_modes t s → length modes ≡ size t
   one_each modes is = ap length is ∙ length-map-range_with_len (given_mode t s) 0 (size t)
 

@@ -4,7 +4,7 @@ ghost use Rattle.std.specs.Prelude.{◌≡◌, ◌<◌, ℕ, Some, false, true, 
 ghost use Rattle.config_params.specs.declared.settings.Settings.{Settings};
 ghost use Rattle.descriptor.specs.declared.mode.Mode.{Mode};
 ghost use Rattle.descriptor.specs.declared.mode.Mode.TheVariants.{SameThread};
-ghost use Rattle.descriptor.specs.Nodes.{size, mode_of, IsTree};
+ghost use Rattle.descriptor.specs.Nodes.{size, mode_of, IsTree, IsChild};
 ghost use Rattle.exec_mode.specs.GivenModes.{given_mode, given_modes, AreGiven};
 ghost use Rattle.exec_mode.specs.Nearest.{nearest_mode};
 
@@ -49,6 +49,8 @@ pub fn modes(alloc: Global, tree: &Tree, settings: &Settings) -> Result<Vec<Mode
     ensures off { IfOk result (λ modes. settings.now.parallel ≡ false → modes.items ≡ replicate (size tree.now) SameThread) }
     // Else a node that declares a mode has that mode.
     ensures own { IfOk result (λ modes. settings.now.parallel ≡ true → (n : ℕ) (mode : Mode) → mode_of tree.now n ≡ Some mode → slice_get modes.items n ≡ Some mode) }
+    // Engines are executed in the thread of the plan.
+    ensures engines { IfOk result (λ modes. (e : ℕ) → IsChild tree.now 0 e → slice_get modes.items e ≡ Some SameThread) }
 {
     let mut nearest = Vec::new(alloc);
     let mut modes = Vec::new(alloc);

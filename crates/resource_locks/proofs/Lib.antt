@@ -14,6 +14,7 @@ pub mod Gathering
 pub mod Hoisted
 pub mod Turns
 pub mod Guarded
+pub mod Engines
 pub mod LockTrees
 pub mod Numbered
 pub mod Forced

@@ -1,13 +1,14 @@
 //! Plans.
 
 ghost use Rattle.std.specs.Prelude.{◌≡◌, ◌<◌, ◌≤◌, ℕ, IfOk, IfErr, OnOk, length, map, slice_index_or};
-ghost use Rattle.descriptor.specs.Nodes.{size};
+ghost use Rattle.descriptor.specs.Nodes.{size, IsChild};
 ghost use Rattle.descriptor.specs.declared.mode.Mode.{Mode as ModeValue};
 ghost use Rattle.descriptor.specs.declared.mode.Mode.TheVariants.{SameThread};
 ghost use Rattle.resource_locks.specs.Declarations.{declared_of};
 ghost use Rattle.resource_locks.specs.Held.{plan_of};
 ghost use Rattle.resource_locks.specs.Hoisted.{IsHoisted, IsGuarded};
 ghost use Rattle.resource_locks.specs.Keys.{keys_of};
+ghost use Rattle.resource_locks.specs.Plans.{mode_of};
 
 use crate::fault::PlanFault;
 use crate::hoisting::{held_sets, hoisted_modes};
@@ -57,6 +58,8 @@ pub fn hoist(alloc: Global, tree: &Tree, modes: Vec<Mode>) -> Result<Plan, PlanF
     ensures refused { IfErr result (λ fault. fault ≡ PlanFault.TooManyKeys → 256 < length (keys_of (declared_of tree.now))) }
     ensures hoisted { IfOk result (λ plan. IsHoisted (declared_of tree.now) (λ n. slice_index_or modes.items n SameThread) plan) }
     ensures guarded { IfOk result (λ plan. IsGuarded (declared_of tree.now) plan) }
+    // An engine keeps the mode that it was given: nothing is held above it.
+    ensures engines { IfOk result (λ plan. (e : ℕ) → IsChild tree.now 0 e → mode_of plan e ≡ slice_index_or modes.items e SameThread) }
 {
     let keys = Keys::of(alloc, tree)?;
     let held = held_sets(alloc, tree)?;

@@ -4,7 +4,7 @@ use Rattle.std.proofs.lemmas.Grind.{common_steps}
 use Rattle.exec_mode.specs.Nearest.{nearest_mode}
 use Rattle.exec_mode.specs.GivenModes.{given_mode}
 use Rattle.exec_mode.proofs.Lists.{one_more}
-use Rattle.exec_mode.proofs.GivenModes.{right, own_mode, one_each, all_same_thread}
+use Rattle.exec_mode.proofs.GivenModes.{right, own_mode, engines_same, one_each, all_same_thread}
 use Rattle.exec_mode.proofs.given.modes.Goals as goal
 
 pub loop-number-preserved : goal.loop-number-preserved
@@ -24,3 +24,6 @@ returns-clause-off c = all_same_thread c.args.tree.now c.args.settings.now c.loo
 
 pub returns-clause-own : goal.returns-clause-own
 returns-clause-own c = own_mode c.args.tree.now c.args.settings.now c.len-number-end.ensures.tree c.loop-number.modes.items (grind (arith, common_steps))
+
+pub returns-clause-engines : goal.returns-clause-engines
+returns-clause-engines c = engines_same c.args.tree.now c.args.settings.now c.len-number-end.ensures.tree c.loop-number.modes.items (grind (arith, common_steps))

@@ -8,6 +8,7 @@ use Rattle.resource_locks.specs.Hoisted.{IsHoisted, IsGuarded}
 use Rattle.resource_locks.specs.Keys.{keys_of}
 use Rattle.resource_locks.specs.Plans.{PlanParts, number_of, numbers_of}
 use Rattle.resource_locks.specs.PlanFields.{IsSound}
+use Rattle.resource_locks.proofs.Engines.{engines_keep}
 use Rattle.resource_locks.proofs.Hoists.{plan_is, plan_hoisted, plan_guarded, plan_numbered, plan_sound}
 use Rattle.resource_locks.proofs.plan.hoist.Goals as goal
 
@@ -38,3 +39,6 @@ pub returns-clause-guarded : goal.returns-clause-guarded
 returns-clause-guarded c =
     let made = plan_is c.args.tree.now c.in_ok-copy.field-0 c.args.modes.items c.in_ok-hoisted_modes.field-0.items c.in_ok-held.held.items c.in_ok-texts.field-0.items c.in_ok-copy.ensures c.in_ok-hoisted_modes.ensures.modes c.in_ok-held.ensures.held (c.in_ok-texts.ensures.same ∙ c.in_ok-keys.ensures.keys) in
     subst (IsGuarded (declared_of c.args.tree.now)) (sym made) (plan_guarded c.args.tree.now c.in_ok-keys.ensures.tree c.args.modes.items c.requires)
+
+pub returns-clause-engines : goal.returns-clause-engines
+returns-clause-engines c e of_plan = engines_keep (declared_of c.args.tree.now) (λ n. get_or c.args.modes.items n SameThread) _ (returns-clause-hoisted c) e of_plan
