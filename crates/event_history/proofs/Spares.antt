@@ -50,7 +50,7 @@ abbrev pub is_maker : Sort → Bool
 is_maker Maker = true
 is_maker _ = false
 
-maker_role : (kind : Kind) (role : Role) → is_maker (sort_by kind role) ≡ true → is_factory role ≡ true
+pub maker_role : (kind : Kind) (role : Role) → is_maker (sort_by kind role) ≡ true → is_factory role ≡ true
 maker_role Test role q = absurd (false≢true q)
 maker_role Container Plain q = absurd (false≢true q)
 maker_role Container Factory q = refl

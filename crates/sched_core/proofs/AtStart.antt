@@ -1,9 +1,9 @@
 -- The machine's fields at the start are those of the opening state, and it is sound.
-use Rattle.std.proofs.Common.{◌≡◌, ◌∙◌, ℕ, zero, suc, ◌+◌, ◌<◌, ◌≤◌, Bool, true, false, ◌&&◌, not, cond, List, [], set, get_or, length, replicate, take, None, refl, sym, ap, subst, arith, length-set, inl, inr}
+use Rattle.std.proofs.Common.{◌≡◌, ◌∙◌, ℕ, zero, suc, ◌+◌, ◌<◌, ◌≤◌, Bool, true, false, ◌&&◌, not, cond, List, [], set, length, replicate, take, None, refl, sym, ap, subst, arith, length-set, inl, inr}
 use Rattle.std.proofs.lemmas.List.{length-replicate, get_or-replicate, get_or-set_other}
 use Rattle.std.proofs.lemmas.Grind.{get_or-set_at}
 use Rattle.std.proofs.lemmas.Bool.{cases_Bool, cases_eq}
-use Rattle.descriptor.specs.Nodes.{Nodes, IsTree, size, children_of, is_child, is_spare_at, is_factory_at, count_below}
+use Rattle.descriptor.specs.Nodes.{IsTree, size, children_of, is_child, is_spare_at, is_factory_at}
 use Rattle.descriptor.proofs.Children.{children_counted}
 use Rattle.plan_events.specs.declared.event.Event.{Event}
 use Rattle.plan_events.specs.declared.outcome.Reply.{Reply}
@@ -22,7 +22,6 @@ use Rattle.scheduling.specs.Runs.{first_status, first_counter, opening}
 use Rattle.scheduling.specs.State.{State}
 use Rattle.scheduling.proofs.Basics.{count_same}
 use Rattle.scheduling.proofs.Spares.{count_zero}
-use Rattle.scheduling.proofs.Spots.{and_same}
 use Rattle.scheduling.proofs.FirstState.{each_length, each_at, opening_is}
 use Rattle.scheduling.proofs.Headline.{core_plan}
 use Rattle.scheduling.proofs.Placing.{opening_placed}
@@ -31,7 +30,7 @@ use Rattle.scheduling.specs.Shown.{IsPlaced}
 use Rattle.sched_core.specs.declared.machine.Machine.{Machine}
 use Rattle.sched_core.specs.Replies.{replies_of}
 use Rattle.sched_core.specs.Fields.{state_of, HasRoom, IsSound}
-use Rattle.sched_core.specs.Start.{guard_and_children, free_seat}
+use Rattle.scheduling.specs.Start.{guard_and_children, free_seat}
 
 statuses_are : (n : ℕ) → 0 < n → set (replicate n Hidden) 0 (Ready None) ≡ table first_status n
 statuses_are n above =

@@ -1,6 +1,5 @@
 -- What a worker's step finds in range, from what the machine keeps.
-use Rattle.std.proofs.Common.{◌≡◌, ◌∙◌, ◌≤◌, ◌<◌, ◌+◌, ◌-◌, ℕ, zero, suc, Bool, true, false, List, length, Option, Some, None, slice_get, refl, sym, ap, subst, arith}
-use Rattle.std.specs.Prelude.{vec_capacity}
+use Rattle.std.proofs.Common.{◌≡◌, ◌∙◌, ◌<◌, ◌+◌, ◌-◌, ℕ, true, false, List, Some, None, slice_get, refl, sym, ap, subst, arith}
 use Rattle.std.proofs.lemmas.Option.{same_Some, none-some, slice_get_within}
 use Rattle.std.proofs.lemmas.Bool.{false≢true}
 use Rattle.plan_events.specs.declared.event.Event.{Event}
@@ -13,7 +12,7 @@ use Rattle.scheduling.specs.declared.task.Opening.TheVariants.{Registering, Regi
 use Rattle.scheduling.specs.declared.task.Closing.{Closing}
 use Rattle.scheduling.specs.declared.task.Closing.TheVariants.{Ending, FinishedAt, SkippedAt, Giving}
 use Rattle.scheduling.specs.declared.task.Task.{Task}
-use Rattle.scheduling.specs.declared.task.Task.TheVariants.{Free, Opens, Closes}
+use Rattle.scheduling.specs.declared.task.Task.TheVariants.{Opens, Closes}
 use Rattle.scheduling.specs.declared.seat.Seat.{Seat}
 use Rattle.scheduling.specs.Choices.{event_of}
 use Rattle.scheduling.specs.Ranges.{InRange}

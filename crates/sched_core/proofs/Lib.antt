@@ -2,7 +2,6 @@
 pub mod Parts
 pub mod Searches
 pub mod Turning
-pub mod NodeJobs
 pub mod Notes
 pub mod Reading
 pub mod Sound

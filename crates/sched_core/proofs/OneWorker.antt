@@ -1,14 +1,13 @@
 -- The machine's steps as steps of the fixed schedule: each is possible, leads on, and leaves less to do.
-use Rattle.std.proofs.Common.{◌≡◌, ◌≢◌, ◌∙◌, ◌<◌, ◌≤◌, ◌+◌, ℕ, Bool, true, false, List, [], ◌∷◌, length, Option, Some, None, Result, Ok, Err, IsOk, IsErr, slice_get, get_or, refl, sym, ap, subst, arith}
+use Rattle.std.proofs.Common.{◌≡◌, ◌≢◌, ◌∙◌, ◌<◌, ℕ, true, false, List, length, Option, Some, None, Result, Ok, Err, IsOk, IsErr, slice_get, get_or, refl, sym, ap, subst, arith}
 use Rattle.std.specs.Result.{is_ok}
 use Rattle.std.proofs.lemmas.Bool.{false≢true}
 use Rattle.std.proofs.lemmas.Option.{slice_get-get_or}
 use Rattle.plan_events.specs.declared.outcome.Reply.{Reply}
 use Rattle.resource_locks.specs.Plans.{PlanParts}
-use Rattle.scheduling.specs.declared.lock_word.LockWord.{LockWord}
 use Rattle.scheduling.specs.declared.status.NodeStatus.TheVariants.{Settled}
 use Rattle.scheduling.specs.declared.step.Action.{Action}
-use Rattle.scheduling.specs.declared.step.Step.TheVariants.{Worker, Read}
+use Rattle.scheduling.specs.declared.step.Step.TheVariants.{Worker}
 use Rattle.scheduling.specs.declared.task.Opening.{Opening}
 use Rattle.scheduling.specs.declared.task.Opening.TheVariants.{Locking, Weighed, Backing}
 use Rattle.scheduling.specs.declared.task.Closing.{Closing}
@@ -20,16 +19,14 @@ use Rattle.scheduling.specs.Choices.{awaited, decided}
 use Rattle.scheduling.specs.Going.{IsGoing}
 use Rattle.scheduling.specs.Lowest.{NoneOpenBelow, lowest_after}
 use Rattle.scheduling.specs.Rows.{Works, after, row, goes_to, decided_seat, read_row}
-use Rattle.scheduling.specs.Runs.{opening}
-use Rattle.scheduling.specs.Schedule.{is_open, IsFirstOpen, IsNextBy, IsNext, taking}
+use Rattle.scheduling.specs.Schedule.{is_open, IsFirstOpen, IsNextBy, IsNext}
 use Rattle.scheduling.specs.Stages.{Stage}
 use Rattle.scheduling.specs.State.{State, status_at}
 use Rattle.scheduling.specs.Work.{work_left, IsClear}
 use Rattle.scheduling.proofs.Direct.{after_direct}
-use Rattle.scheduling.proofs.FallsNext.{read_falls}
-use Rattle.scheduling.proofs.Going.{going_open, going_locking, going_weighed, going_backing, going_next, going_read}
+use Rattle.scheduling.proofs.Going.{going_open, going_locking, going_weighed, going_backing, going_next}
 use Rattle.scheduling.proofs.Headline.{core_plan}
-use Rattle.scheduling.proofs.LowestOpen.{row_none_below, read_none_below, claims_first}
+use Rattle.scheduling.proofs.LowestOpen.{row_none_below, claims_first}
 use Rattle.scheduling.proofs.Steps.{decided_free}
 use Rattle.scheduling.proofs.Scheduled.{next_falls, first_open_one, leads_read, leads_work}
 use Rattle.sched_core.specs.declared.machine.Machine.{Machine}

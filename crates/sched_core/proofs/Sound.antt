@@ -1,18 +1,16 @@
 -- What the invariant gives the methods of the machine, and that a step leaves the machine sound.
-use Rattle.std.proofs.Common.{◌≡◌, ◌≢◌, ◌∙◌, ◌≤◌, ◌<◌, ◌+◌, ltb, ◌-◌, ◌==◌, ℕ, zero, suc, Bool, true, false, if◌then◌else◌, List, length, take, Option, Some, None, Result, Ok, Err, IsOk, IsErr, slice_get, slice_index_or, get_or, refl, sym, ap, subst, arith, inl, inr}
-use Rattle.std.specs.Prelude.{option_and_then, vec_capacity}
+use Rattle.std.proofs.Common.{◌≡◌, ◌≢◌, ◌∙◌, ◌<◌, ltb, ◌-◌, ℕ, Bool, true, if◌then◌else◌, List, length, Option, Some, None, Result, slice_get, get_or, refl, sym, ap, subst, arith, inl, inr}
+use Rattle.std.specs.Prelude.{option_and_then}
 use Rattle.std.proofs.lemmas.Option.{same_Some, none-some, slice_get_read}
 use Rattle.std.proofs.lemmas.Bool.{ltb-true, cases_eq, eq-eqb, ne_eqb}
-use Rattle.descriptor.specs.Nodes.{size}
-use Rattle.plan_events.specs.declared.event.Event.{Event}
 use Rattle.plan_events.specs.declared.outcome.Reply.{Reply}
-use Rattle.resource_locks.specs.Plans.{PlanParts, IsPlan, most_events}
+use Rattle.resource_locks.specs.Plans.{PlanParts}
 use Rattle.scheduling.specs.declared.step.Action.{Action}
 use Rattle.scheduling.specs.declared.step.Step.{Step}
 use Rattle.scheduling.specs.declared.step.Step.TheVariants.{Worker, Read}
 use Rattle.scheduling.specs.declared.seat.Seat.{Seat}
 use Rattle.scheduling.specs.Choices.{awaited}
-use Rattle.scheduling.specs.Rows.{Works, Dispatches, after, after_seat, decided_seat, read_row, row}
+use Rattle.scheduling.specs.Rows.{Works, Dispatches, after, after_seat}
 use Rattle.scheduling.specs.Rows.{Step as Move}
 use Rattle.scheduling.specs.Runs.{IsReplied}
 use Rattle.scheduling.specs.State.{State}
@@ -23,7 +21,7 @@ use Rattle.scheduling.proofs.Headline.{core_plan}
 use Rattle.scheduling.proofs.Placing.{step_placed}
 use Rattle.scheduling.proofs.Steps.{after_keeps}
 use Rattle.sched_core.specs.declared.machine.Machine.{Machine}
-use Rattle.sched_core.specs.Replies.{reply_of, replies_of, or_successful}
+use Rattle.sched_core.specs.Replies.{replies_of}
 use Rattle.sched_core.specs.Steps.{reply_awaited, reply_for, worker_step, after_step}
 use Rattle.sched_core.specs.Fields.{state_of, IsSound, IsAnswered, KeepsRoom, HasRoom}
 

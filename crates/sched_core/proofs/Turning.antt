@@ -1,7 +1,7 @@
 -- What the turns say of the next child, and that a counter has a place for one more.
 use Rattle.std.proofs.Common.{◌≡◌, ◌∙◌, ◌<◌, ◌+◌, ℕ, suc, List, length, get_or, None, slice_index_or, Fits, w64, ap, arith}
 use Rattle.std.proofs.lemmas.List.{get_or_default}
-use Rattle.descriptor.specs.Nodes.{size, parent_of, IsChild}
+use Rattle.descriptor.specs.Nodes.{size, IsChild}
 use Rattle.resource_locks.specs.Plans.{PlanParts}
 use Rattle.scheduling.specs.declared.turns.Turns.{Turns}
 use Rattle.scheduling.specs.Choices.{admit_next, admit_from, first_from, in_batch}

@@ -5,10 +5,8 @@ pub mod Runs
 pub mod Drives
 pub mod Snapshot
 pub mod Traces
-pub mod Jobs
 pub mod Texts
 pub mod Fields
 pub mod Bounds
-pub mod Start
 pub mod AnswerFields
 pub mod CoreFields

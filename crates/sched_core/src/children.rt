@@ -5,7 +5,7 @@ ghost use Rattle.descriptor.specs.Nodes.{size, parent_of, IsChild};
 ghost use Rattle.scheduling.specs.Answers.{reply_by};
 ghost use Rattle.scheduling.specs.LinkLists.{AreTurns};
 ghost use Rattle.scheduling.specs.Choices.{admit_from, offered_to as offered_to_of};
-ghost use Rattle.scheduling.specs.Rows.{offers, waits_for as waits_for_of, admit_row, add_child_row, ends_or_free as ends_or_free_of, guard_given, counted_off, done_hand, done_row, waits_no_more as waits_no_more_of, settle_row, look_found, look_row};
+ghost use Rattle.scheduling.specs.Rows.{offers, admit_row, add_child_row, guard_given, counted_off, done_hand, done_row, settle_row, look_found, look_row};
 ghost use Rattle.scheduling.specs.State.{status_at};
 ghost use Rattle.scheduling.specs.declared.seat.Hand.{Hand as HandValue};
 ghost use Rattle.scheduling.specs.declared.task.Opening.{Opening as OpeningValue};
@@ -22,56 +22,9 @@ use descriptor::NodeId;
 use plan_events::Status;
 use resource_locks::Plan;
 use scheduling::{
-    Answer, Closing, Hand, NodeStatus, Opening, Seat, Task, Turns, after_settle, ending, is_pulled,
-    is_same, next_spare, offered_to, pulled_result,
+    Answer, Closing, Hand, NodeStatus, Opening, Seat, Task, Turns, after_settle, ends_or_free,
+    is_pulled, next_spare, offered_to, pulled_result, waits_for, waits_no_more,
 };
-
-/// What a worker does next that has taken one from a node's counter: whoever takes the last one ends the node.
-fn ends_or_free(plan: &Plan, node: NodeId, status: Status, outstanding: usize) -> Task
-    requires { node < size plan.now.tree }
-    ensures { result ≡ ends_or_free_of plan.now node status outstanding }
-{
-    if outstanding == 1 {
-        Task::Closes(node, ending(plan, node, status))
-    } else {
-        Task::Free
-    }
-}
-
-/// The factory in hand, if there is one, after this dynamic test of it is offered: it waits for one that is executed in the
-/// same thread.
-fn waits_for(plan: &Plan, child: NodeId, hand: Option<Hand>) -> Option<Hand>
-    requires { child < size plan.now.tree }
-    ensures { result ≡ waits_for_of plan.now child hand }
-{
-    let hand = hand?;
-    let waiting = if is_same(plan, child) {
-        Some(child)
-    } else {
-        hand.waiting
-    };
-    Some(Hand {
-        factory: hand.factory,
-        registered: hand.registered,
-        waiting,
-    })
-}
-
-/// The factory in hand, if there is one, after this node is settled: it waits for it no longer.
-fn waits_no_more(node: NodeId, hand: Option<Hand>) -> Option<Hand>
-    ensures { result ≡ waits_no_more_of node hand }
-{
-    let hand = hand?;
-    let waiting = match hand.waiting {
-        Some(child) if child == node => None,
-        other => other,
-    };
-    Some(Hand {
-        factory: hand.factory,
-        registered: hand.registered,
-        waiting,
-    })
-}
 
 impl Machine {
     /// A node is offered, to any or to the worker at a place, and the worker goes on.

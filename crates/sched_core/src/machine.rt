@@ -14,11 +14,11 @@ ghost use Rattle.sched_core.specs.Steps.{after_step, worker_step};
 
 use crate::answers::Answers;
 use crate::fault::NotEnabled;
-use crate::opening::{counters_at_start, seats_at_start};
 use plan_events::{Event, Status};
 use resource_locks::Plan;
 use scheduling::{
-    Action, Answer, Hand, LockWord, NodeStatus, Seat, Step, Task, Turns, awaited, decided,
+    Action, Answer, Hand, LockWord, NodeStatus, Seat, Step, Task, Turns, awaited,
+    counters_at_start, decided, seats_at_start,
 };
 use std::alloc::{AllocError, Global};
 

@@ -2,8 +2,8 @@
 
 ghost use Rattle.std.specs.Prelude.{◌≡◌, ◌<◌, ◌-◌, ℕ, Some, length, slice_get};
 ghost use Rattle.descriptor.specs.Nodes.{size};
-ghost use Rattle.scheduling.specs.Choices.{key_at, keys_count, same_word as same_word_of};
-ghost use Rattle.scheduling.specs.Rows.{claimed, claim_row, own_row, is_of_hand as is_of_hand_of, notice_row, weighed as weighed_of, weigh_row, take_found, take_row, gives_key, give_row, give_up_row};
+ghost use Rattle.scheduling.specs.Choices.{key_at, keys_count};
+ghost use Rattle.scheduling.specs.Rows.{claimed, claim_row, own_row, notice_row, weigh_row, take_found, take_row, gives_key, give_row, give_up_row};
 ghost use Rattle.scheduling.specs.declared.lock_word.LockWord.{LockWord as Word};
 ghost use Rattle.scheduling.specs.declared.lock_word.LockWord.TheVariants.{Readers};
 ghost use Rattle.scheduling.specs.declared.task.Opening.{Opening as OpeningValue};
@@ -19,44 +19,9 @@ use crate::machine::Machine;
 use descriptor::NodeId;
 use resource_locks::Plan;
 use scheduling::{
-    Closing, Hand, LockWord, NodeStatus, Opening, Task, admits, back_to, begins, claims,
-    given_back, giving, key_at_place, lock_after, mode_at_place, taken,
+    Closing, Hand, LockWord, NodeStatus, Opening, Task, back_to, begins, claims, given_back,
+    giving, is_of_hand, is_same_word, key_at_place, lock_after, mode_at_place, taken, weighed,
 };
-
-/// Whether a node is one of the dynamic tests of the factory in hand, if there is one.
-fn is_of_hand(plan: &Plan, hand: &Option<Hand>, node: NodeId) -> bool
-    requires { node < size plan.now.tree }
-    ensures { result ≡ is_of_hand_of plan.now hand.now node }
-{
-    match hand {
-        None => true,
-        Some(hand) => plan.tree().parent(node) == Some(hand.factory),
-    }
-}
-
-/// How a node goes on whose next key has this word.
-fn weighed(plan: &Plan, node: NodeId, index: usize, word: LockWord) -> Opening
-    requires node { node < size plan.now.tree }
-    requires key { index < keys_count plan.now node }
-    ensures { result ≡ weighed_of plan.now node index word }
-{
-    if admits(mode_at_place(plan, node, index), word) {
-        Opening::Weighed(index, word)
-    } else {
-        Opening::Backing(index)
-    }
-}
-
-/// Whether a key's word is still the one that was seen.
-fn is_same_word(word: LockWord, seen: LockWord) -> bool
-    ensures { result ≡ same_word_of word seen }
-{
-    match (word, seen) {
-        (LockWord::Readers(a), LockWord::Readers(b)) => a == b,
-        (LockWord::Written, LockWord::Written) => true,
-        _ => false,
-    }
-}
 
 impl Machine {
     /// A node becomes the worker's at this place.

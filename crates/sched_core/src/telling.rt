@@ -3,7 +3,7 @@
 ghost use Rattle.std.specs.Prelude.{◌≡◌, ◌<◌, ℕ, Some, IsTrue, length};
 ghost use Rattle.descriptor.specs.Nodes.{size};
 ghost use Rattle.scheduling.specs.Choices.{event_of};
-ghost use Rattle.scheduling.specs.Rows.{drawn, draw_row, one_more as one_more_of, show_row, shows, raise_row};
+ghost use Rattle.scheduling.specs.Rows.{drawn, draw_row, show_row, shows, raise_row};
 ghost use Rattle.scheduling.specs.declared.task.Opening.{Opening as OpeningValue};
 ghost use Rattle.scheduling.specs.declared.task.Closing.{Closing as ClosingValue};
 ghost use Rattle.scheduling.specs.declared.task.Task.TheVariants.{Opens, Closes};
@@ -16,7 +16,7 @@ use crate::machine::Machine;
 use descriptor::NodeId;
 use plan_events::{Event, EventKind, Status};
 use resource_locks::Plan;
-use scheduling::{Closing, Hand, Opening, Seat, Task, after_finish, after_start, giving};
+use scheduling::{Closing, Hand, Opening, Seat, Task, after_finish, after_start, giving, one_more};
 
 /// An event by the worker at this place.
 fn event_by(place: u8, kind: EventKind, node: NodeId, status: Option<Status>) -> Event
@@ -29,19 +29,6 @@ fn event_by(place: u8, kind: EventKind, node: NodeId, status: Option<Status>) ->
         status,
         worker: place + 1,
     }
-}
-
-/// The factory in hand, if there is one, with one more dynamic test registered.
-fn one_more(hand: Option<Hand>) -> Option<Hand>
-    requires { (h : HandValue) → hand ≡ Some h → h.registered < 65535 }
-    ensures { result ≡ one_more_of hand }
-{
-    let hand = hand?;
-    Some(Hand {
-        factory: hand.factory,
-        registered: hand.registered + 1,
-        waiting: hand.waiting,
-    })
 }
 
 impl Machine {

@@ -8,15 +8,15 @@ ghost use Rattle.plan_events.specs.declared.note.Note.TheVariants.{Own};
 ghost use Rattle.plan_events.specs.Texts.{text_at};
 ghost use Rattle.event_history.specs.History.{IsLegal, IsTextOf};
 ghost use Rattle.event_history.specs.Results.{Around};
-ghost use Rattle.sched_core.specs.Jobs.{as_jobs};
+ghost use Rattle.scheduling.specs.Jobs.{as_jobs};
 ghost use Rattle.sched_core.specs.Replies.{reply_of, replies_of};
 ghost use Rattle.sched_core.specs.Texts.{jobs_note as jobs_note_of, skip_note as skip_note_of, note_of, AreTexts};
 
 use crate::answers::Answers;
-use crate::jobs::{Jobs, jobs_of};
 use descriptor::{BodyId, NodeId};
 use plan_events::{Event, EventKind, Note, Texts};
 use resource_locks::Plan;
+use scheduling::{Jobs, jobs_of};
 use std::alloc::{AllocError, Global};
 use unique_id::Text;
 

@@ -1,4 +1,5 @@
--- What a tree's lists of children say of a plan: the next spare of a factory, how many it has, and which after-body is run.
+-- What a tree's lists of children say of a plan: the next spare of a factory, how many it has, which after-body is run, and what
+-- is run for a node.
 use Rattle.std.proofs.Common.{◌≡◌, ℕ, zero, suc, ◌<◌, Bool, true, false, ◌&&◌, ◌==◌, not, ltb, cond, length, Option, Some, None, slice_get, refl, sym, ap, ◌∙◌, arith}
 use Rattle.std.proofs.lemmas.Bool.{false≢true, lt-ltb, eqb-true}
 use Rattle.std.proofs.lemmas.Option.{none-some}
@@ -11,7 +12,8 @@ use Rattle.descriptor.specs.Nodes.{IsTree, size, children_of, is_child, parent_o
 use Rattle.descriptor.specs.Roles.{is_factory}
 use Rattle.descriptor.proofs.Children.{children_counted}
 use Rattle.resource_locks.specs.Plans.{PlanParts}
-use Rattle.event_history.specs.Plans.{sort_by, is_spare_of, spare_count, rank, has_child}
+use Rattle.event_history.specs.Plans.{Sort, Leaf, Holder, Maker, sort_by, sort_of, is_spare_of, spare_count, rank, has_child}
+use Rattle.event_history.proofs.Spares.{is_maker, maker_role}
 use Rattle.event_history.proofs.Trees.{is_child_test}
 use Rattle.event_history.specs.Results.{jobs_by, jobs_of, after_run}
 use Rattle.scheduling.specs.Choices.{is_spare_ranked, next_spare, after_job}
@@ -66,7 +68,7 @@ run_own true own b e = e
 run_own false own b e = absurd (none-some b e)
 
 -- the after-body that is run is that of the plan
-after_is : (p : PlanParts) (n : ℕ) → IsTree p.tree → after_job (jobs_of p n) ≡ after_run p n
+pub after_is : (p : PlanParts) (n : ℕ) → IsTree p.tree → after_job (jobs_of p n) ≡ after_run p n
 after_is p n tree = after_by (kind_of p.tree n) (role_of p.tree n) (body_of p.tree n) (after_run p n) (spare_count p n) (λ b e. tree.after_placed n b (run_own (has_child p n) (after_of p.tree n) b e))
 
 pub after_none : (p : PlanParts) (n : ℕ) → IsTree p.tree → (length (children_of p.tree n) == 0) ≡ true → after_job (jobs_of p n) ≡ None
@@ -78,3 +80,14 @@ after_some p n tree e = after_is p n tree ∙ ap (λ b. cond b (after_of p.tree 
     some : (k : ℕ) → (k == 0) ≡ false → ltb 0 k ≡ true
     some zero h = absurd (false≢true (sym h))
     some (suc k) h = lt-ltb 0 (suc k) (omega arith)
+
+-- a node's jobs are those with as many spares as it has children
+pub jobs_with : (p : PlanParts) (n : ℕ) → IsTree p.tree → (k : ℕ) → k ≡ length (children_of p.tree n) → jobs_by (sort_of p.tree n) (body_of p.tree n) (after_run p n) k ≡ jobs_of p n
+jobs_with p n tree k is = go (sort_of p.tree n) (body_of p.tree n) (λ made. is ∙ spares_counted p n tree (maker_role (kind_of p.tree n) (role_of p.tree n) (ap is_maker made)))
+  where
+    go : (s : Sort) (body : Option ℕ) → (s ≡ Maker → k ≡ spare_count p n) → jobs_by s body (after_run p n) k ≡ jobs_by s body (after_run p n) (spare_count p n)
+    go Leaf None same = refl
+    go Leaf (Some b) same = refl
+    go Holder body same = refl
+    go Maker None same = refl
+    go Maker (Some b) same = ap (jobs_by Maker (Some b) (after_run p n)) (same refl)

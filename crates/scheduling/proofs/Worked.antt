@@ -1,5 +1,5 @@
 -- Runs that the prover computes, with one worker that takes whatever step its task allows.
-use Rattle.std.proofs.Common.{◌≡◌, ℕ, zero, suc, Bool, true, false, cond, ◌||◌, ltb, List, [], ◌∷◌, Option, Some, None, slice_get, refl}
+use Rattle.std.proofs.Common.{◌≡◌, ℕ, zero, suc, Bool, true, false, List, [], ◌∷◌, Option, Some, None, slice_get, refl}
 use Rattle.descriptor.specs.declared.node.Node.{Node}
 use Rattle.descriptor.specs.declared.kind.Kind.{Kind}
 use Rattle.descriptor.specs.declared.kind.Kind.TheVariants.{Test, Container}
@@ -16,66 +16,25 @@ use Rattle.plan_events.specs.declared.event.Event.{Event}
 use Rattle.plan_events.specs.declared.event.EventKind.{EventKind}
 use Rattle.plan_events.specs.declared.event.EventKind.TheVariants.{Started, Finished, Skipped, Registered}
 use Rattle.resource_locks.specs.Plans.{PlanParts}
-use Rattle.scheduling.specs.declared.task.Opening.{Opening}
-use Rattle.scheduling.specs.declared.task.Opening.TheVariants.{Registering, RegisteredAt, Offering, Noticing, Locking, Weighed, Backing, Beginning, StartedAt, Awaiting, Admitting, Guarding}
-use Rattle.scheduling.specs.declared.task.Closing.{Closing}
-use Rattle.scheduling.specs.declared.task.Closing.TheVariants.{AwaitingAfter, Ending, FinishedAt, SkippedAt, Raising, Giving, Settling, Looking, Passing, CountingOff}
 use Rattle.scheduling.specs.declared.task.Task.{Task}
 use Rattle.scheduling.specs.declared.task.Task.TheVariants.{Free, Opens, Closes}
 use Rattle.scheduling.specs.declared.seat.Hand.{Hand}
 use Rattle.scheduling.specs.declared.seat.Seat.{Seat}
 use Rattle.scheduling.specs.State.{State, status_at}
-use Rattle.scheduling.specs.Choices.{decided, first_from, next_spare, key_place}
+use Rattle.scheduling.specs.Choices.{decided, first_from, key_place}
 use Rattle.scheduling.specs.declared.step.Action.{Action}
-use Rattle.scheduling.specs.declared.step.Action.TheVariants.{Claim, Own, Notice, Weigh, Take, Give, GiveUp, Draw, Show, Admit, AddChild, Done, Settle, Look, Raise}
-use Rattle.scheduling.specs.Rows.{is_ready_for, Works, Dispatches}
+use Rattle.scheduling.specs.declared.step.Action.TheVariants.{Look}
+use Rattle.scheduling.specs.Rows.{Works, Dispatches}
 use Rattle.scheduling.specs.Runs.{opening, next}
-
-opening_action : Opening → Action
-opening_action Registering = Draw
-opening_action (RegisteredAt i) = Show
-opening_action Offering = Admit
-opening_action Noticing = Notice
-opening_action (Locking i) = Weigh
-opening_action (Weighed i word) = Take
-opening_action (Backing zero) = GiveUp
-opening_action (Backing (suc i)) = Give
-opening_action (Beginning skip) = Draw
-opening_action (StartedAt i) = Show
-opening_action Awaiting = Look
-opening_action (Admitting c) = Admit
-opening_action Guarding = Done
-
-closing_action : Closing → Action
-closing_action AwaitingAfter = Look
-closing_action (Ending status) = Draw
-closing_action (FinishedAt i status) = Show
-closing_action (SkippedAt i) = Show
-closing_action Raising = Raise
-closing_action (Giving i) = Give
-closing_action Settling = Settle
-closing_action (Looking m) = Look
-closing_action (Passing m o) = Admit
-closing_action CountingOff = Done
-
-ready : State → ℕ → Bool
-ready s n = is_ready_for None (status_at s n) || is_ready_for (Some 0) (status_at s n)
+use Rattle.scheduling.specs.Schedule.{is_open, taking, hand_action, opening_action, closing_action}
 
 take_up : State → Option ℕ → Action
 take_up s None = Look
-take_up s (Some n) = cond (is_ready_for None (status_at s n)) (Claim n) (Own n)
-
-with_spare : Option ℕ → Action
-with_spare None = Done
-with_spare (Some c) = AddChild
-
-with_hand : PlanParts → Reply → ℕ → ℕ → Option ℕ → Action
-with_hand p reply f k None = cond (ltb k reply.pulls) (with_spare (next_spare p f k)) Done
-with_hand p reply f k (Some c) = Own c
+take_up s (Some n) = taking (status_at s n) n
 
 free_action : PlanParts → State → Reply → Option Hand → Action
-free_action p s reply None = take_up s (first_from (ready s) 0 (size p.tree))
-free_action p s reply (Some hand) = with_hand p reply hand.factory hand.registered hand.waiting
+free_action p s reply None = take_up s (first_from (λ n. is_open (status_at s n)) 0 (size p.tree))
+free_action p s reply (Some hand) = hand_action p reply hand
 
 action_of : PlanParts → State → Reply → Option Hand → Task → Action
 action_of p s reply hand Free = free_action p s reply hand
@@ -128,15 +87,15 @@ told (e ∷ list) = (go e.kind, e.node) ∷ told list
     go Registered = 4
 
 class_run : told (drive (class false) (reply_of Successful) 40 (opening (class false) 1)).given ≡ (1, 0) ∷ (1, 1) ∷ (1, 2) ∷ (2, 2) ∷ (1, 3) ∷ (2, 3) ∷ (2, 1) ∷ (2, 0) ∷ []
-unfolding opening_action closing_action ready take_up with_spare with_hand free_action action_of choose drive node class reply_of told key_place
+unfolding take_up free_action action_of choose drive node class reply_of told key_place
 class_run = refl
 
 -- the first test fails, and the second is skipped
 fast_run : told (drive (class true) (reply_of Failed) 45 (opening (class true) 1)).given ≡ (1, 0) ∷ (1, 1) ∷ (1, 2) ∷ (2, 2) ∷ (3, 3) ∷ (2, 1) ∷ (2, 0) ∷ []
-unfolding opening_action closing_action ready take_up with_spare with_hand free_action action_of choose drive node class reply_of told key_place
+unfolding take_up free_action action_of choose drive node class reply_of told key_place
 fast_run = refl
 
 -- one spare is registered, and the other never
 factory_run : told (drive factory (reply_of Successful) 40 (opening factory 1)).given ≡ (1, 0) ∷ (1, 1) ∷ (4, 2) ∷ (1, 2) ∷ (2, 2) ∷ (2, 1) ∷ (2, 0) ∷ []
-unfolding opening_action closing_action ready take_up with_spare with_hand free_action action_of choose drive node factory reply_of told key_place
+unfolding take_up free_action action_of choose drive node factory reply_of told key_place
 factory_run = refl

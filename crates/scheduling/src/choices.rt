@@ -3,8 +3,8 @@
 ghost use Rattle.std.specs.Prelude.{◌≡◌, ◌<◌, ◌+◌, ◌==◌, ◌&&◌, ◌||◌, nat_lt, ℕ, Some, length, true};
 ghost use Rattle.descriptor.specs.Nodes.{size, is_factory_at};
 ghost use Rattle.scheduling.specs.Answers.{reply_by};
-ghost use Rattle.scheduling.specs.Choices.{lock_from as lock_from_of, begins as begins_of, claims as claims_of, keys_count, mode_at, key_at, admits as admits_of, taken as taken_of, given_back as given_back_of, giving as giving_of, after_finish as after_finish_of, offered_to as offered_to_of, ending as ending_of, is_pulled as is_pulled_of, pulled_result as pulled_result_of, next_spare as next_spare_of, awaited as awaited_of, after_job, hand_job};
-ghost use Rattle.scheduling.specs.Rows.{back_to as back_to_of, after_start as after_start_of};
+ghost use Rattle.scheduling.specs.Choices.{lock_from as lock_from_of, begins as begins_of, claims as claims_of, keys_count, mode_at, key_at, admits as admits_of, taken as taken_of, given_back as given_back_of, same_word as same_word_of, giving as giving_of, after_finish as after_finish_of, offered_to as offered_to_of, ending as ending_of, is_pulled as is_pulled_of, pulled_result as pulled_result_of, next_spare as next_spare_of, awaited as awaited_of, after_job, hand_job};
+ghost use Rattle.scheduling.specs.Rows.{back_to as back_to_of, after_start as after_start_of, weighed as weighed_of, ends_or_free as ends_or_free_of};
 ghost use Rattle.scheduling.specs.State.{subject};
 ghost use Rattle.event_history.specs.Plans.{is_same as is_same_of, pulls_job as pulls_job_of};
 ghost use Rattle.event_history.specs.Results.{jobs_of};
@@ -121,6 +121,30 @@ pub fn given_back(mode: LockMode, word: LockWord) -> LockWord
         )),
         (LockMode::Read, LockWord::Written) => LockWord::Written,
         (LockMode::ReadWrite, _) => LockWord::Readers(0),
+    }
+}
+
+/// How a node goes on whose next key has this word.
+pub fn weighed(plan: &Plan, node: NodeId, index: usize, word: LockWord) -> Opening
+    requires node { node < size plan.now.tree }
+    requires key { index < keys_count plan.now node }
+    ensures { result ≡ weighed_of plan.now node index word }
+{
+    if admits(mode_at_place(plan, node, index), word) {
+        Opening::Weighed(index, word)
+    } else {
+        Opening::Backing(index)
+    }
+}
+
+/// Whether a key's word is still the one that was seen.
+pub fn is_same_word(word: LockWord, seen: LockWord) -> bool
+    ensures { result ≡ same_word_of word seen }
+{
+    match (word, seen) {
+        (LockWord::Readers(a), LockWord::Readers(b)) => a == b,
+        (LockWord::Written, LockWord::Written) => true,
+        _ => false,
     }
 }
 
@@ -275,6 +299,18 @@ pub fn ending(plan: &Plan, node: NodeId, status: Status) -> Closing
         Closing::AwaitingAfter
     } else {
         Closing::Ending(status)
+    }
+}
+
+/// What a worker does next that has taken one from a node's counter: whoever takes the last one ends the node.
+pub fn ends_or_free(plan: &Plan, node: NodeId, status: Status, outstanding: usize) -> Task
+    requires { node < size plan.now.tree }
+    ensures { result ≡ ends_or_free_of plan.now node status outstanding }
+{
+    if outstanding == 1 {
+        Task::Closes(node, ending(plan, node, status))
+    } else {
+        Task::Free
     }
 }
 

@@ -4,8 +4,12 @@
 
 mod answer;
 mod choices;
+mod hands;
+mod jobs;
 mod links;
 mod lock_word;
+mod opening;
+mod schedule;
 mod seat;
 mod status;
 mod step;
@@ -15,10 +19,16 @@ mod turns;
 pub use answer::Answer;
 pub use choices::{
     admits, after_finish, after_run, after_start, awaited, back_to, begins, claims, ending,
-    given_back, giving, is_pulled, is_same, key_at_place, lock_after, mode_at_place, next_spare,
-    offered_to, pulled_result, taken,
+    ends_or_free, given_back, giving, is_pulled, is_same, is_same_word, key_at_place, lock_after,
+    mode_at_place, next_spare, offered_to, pulled_result, taken, weighed,
 };
+pub use hands::{is_of_hand, one_more, waits_for, waits_no_more};
+pub use jobs::{Jobs, jobs_of};
 pub use lock_word::LockWord;
+pub use opening::{counters_at_start, seats_at_start};
+pub use schedule::{
+    closing_action, hand_action, is_open, lowest_closing, lowest_opening, opening_action, taking,
+};
 pub use seat::{Hand, Seat};
 pub use status::NodeStatus;
 pub use step::{Action, Actor, Step};

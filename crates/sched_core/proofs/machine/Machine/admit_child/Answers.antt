@@ -1,9 +1,8 @@
 -- The child has a place in the turns, and the next one is as they say.
-use Rattle.std.proofs.Common.{◌≡◌, ◌<◌, ◌∙◌, suc, ap, sym, subst, arith, length}
-use Rattle.descriptor.specs.Nodes.{size}
+use Rattle.std.proofs.Common.{◌<◌, ◌∙◌, suc, ap, sym, subst}
 use Rattle.scheduling.specs.declared.task.Opening.{Opening}
 use Rattle.scheduling.specs.declared.task.Task.TheVariants.{Opens}
-use Rattle.scheduling.specs.Choices.{admit_from, offered_to}
+use Rattle.scheduling.specs.Choices.{admit_from}
 use Rattle.scheduling.specs.Rows.{offers}
 use Rattle.sched_core.specs.Fields.{state_of, seated}
 use Rattle.sched_core.proofs.Turning.{after_child}

@@ -1,6 +1,5 @@
 -- The worker's next step is the schedule's; no node below the new number is open then, and less is left to do.
-use Rattle.std.proofs.Common.{ℕ, ◌∙◌, sym, subst}
-use Rattle.scheduling.specs.declared.seat.Seat.{Seat}
+use Rattle.std.proofs.Common.{◌∙◌, sym, subst}
 use Rattle.scheduling.specs.declared.step.Action.TheVariants.{Look}
 use Rattle.scheduling.specs.declared.task.Task.{Task}
 use Rattle.sched_core.specs.Bounds.{InBounds}

@@ -1,5 +1,5 @@
 -- A read that was possible is a step of the schedule, and so is the worker's step where none was.
-use Rattle.std.proofs.Common.{◌≡◌, sym, subst}
+use Rattle.std.proofs.Common.{sym, subst}
 use Rattle.scheduling.proofs.FallsNext.{read_falls}
 use Rattle.sched_core.specs.declared.machine.Machine.{Machine}
 use Rattle.sched_core.specs.Drives.{LeadsTo}

@@ -1,12 +1,12 @@
 -- The machine at the start is the opening state, and sound.
-use Rattle.std.proofs.Common.{◌∙◌, ap, arith, set, replicate, refl, length, None}
+use Rattle.std.proofs.Common.{◌∙◌, ap, arith, set, replicate, refl, None}
 use Rattle.std.proofs.lemmas.Grind.{common_steps}
 use Rattle.descriptor.specs.Nodes.{Nodes, size}
 use Rattle.plan_events.specs.declared.status.Status.TheVariants.{Successful}
 use Rattle.resource_locks.specs.Held.{table}
 use Rattle.scheduling.specs.declared.lock_word.LockWord.TheVariants.{Readers}
 use Rattle.scheduling.specs.declared.status.NodeStatus.TheVariants.{Hidden, Ready}
-use Rattle.sched_core.specs.Start.{guard_and_children}
+use Rattle.scheduling.specs.Start.{guard_and_children}
 use Rattle.sched_core.proofs.AtStart.{starts, sound_start}
 use Rattle.sched_core.proofs.machine.Machine.new.Goals as goal
 

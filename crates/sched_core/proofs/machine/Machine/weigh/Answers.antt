@@ -1,5 +1,4 @@
 -- The key that is looked at is one of the node's.
-use Rattle.sched_core.specs.Bounds.{HasKey}
 use Rattle.sched_core.proofs.machine.Machine.weigh.Goals as goal
 
 pub key_at_place-requires-clause-node : goal.key_at_place-requires-clause-node

@@ -1,6 +1,5 @@
 -- The worker's task as the answers decide it, and what its step finds in range.
-use Rattle.std.proofs.Common.{ℕ, ◌≡◌, ◌≢◌, ◌∙◌, ◌-◌, ap, sym, subst, arith, slice_get, Some, Option}
-use Rattle.scheduling.specs.declared.seat.Seat.{Seat}
+use Rattle.std.proofs.Common.{◌≡◌, ◌≢◌, ◌∙◌, ◌-◌, sym, subst, arith, slice_get, Some, Option}
 use Rattle.scheduling.specs.declared.task.Task.{Task}
 use Rattle.scheduling.specs.State.{State}
 use Rattle.scheduling.proofs.Direct.{after_direct}

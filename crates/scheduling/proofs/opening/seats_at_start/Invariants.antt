@@ -1,7 +1,7 @@
 -- The seats so far are free.
 use Rattle.std.proofs.Common.{◌≡◌, replicate}
-use Rattle.sched_core.specs.Start.{free_seat}
-use Rattle.sched_core.proofs.opening.seats_at_start.Given as goal
+use Rattle.scheduling.specs.Start.{free_seat}
+use Rattle.scheduling.proofs.opening.seats_at_start.Given as goal
 
 abbrev pub invariant-loop-worker : goal.invariant-loop-worker
 invariant-loop-worker l = l.seats.items ≡ replicate l._worker free_seat

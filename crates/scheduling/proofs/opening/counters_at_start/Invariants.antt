@@ -1,8 +1,8 @@
 -- The counters so far are those of the nodes so far.
 use Rattle.std.proofs.Common.{◌≡◌}
 use Rattle.resource_locks.specs.Held.{table}
-use Rattle.sched_core.specs.Start.{guard_and_children}
-use Rattle.sched_core.proofs.opening.counters_at_start.Given as goal
+use Rattle.scheduling.specs.Start.{guard_and_children}
+use Rattle.scheduling.proofs.opening.counters_at_start.Given as goal
 
 abbrev pub invariant-loop-index : goal.invariant-loop-index
 invariant-loop-index l = l.counters.items ≡ table (guard_and_children l.tree) l.index

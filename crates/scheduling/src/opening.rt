@@ -3,10 +3,11 @@
 ghost use Rattle.std.specs.Prelude.{◌≡◌, ◌<◌, IfOk, replicate};
 ghost use Rattle.descriptor.specs.Nodes.{size};
 ghost use Rattle.resource_locks.specs.Held.{table};
-ghost use Rattle.sched_core.specs.Start.{guard_and_children, free_seat};
+ghost use Rattle.scheduling.specs.Start.{guard_and_children, free_seat};
 
+use crate::seat::Seat;
+use crate::task::Task;
 use descriptor::{NodeId, Tree};
-use scheduling::{Seat, Task};
 use std::alloc::{AllocError, Global};
 
 /// One for a node's own guard, and one for each of its children; a factory's are counted as they are registered.
@@ -22,7 +23,7 @@ fn counter_at_start(tree: &Tree, node: NodeId) -> usize
 }
 
 /// The counter of each node.
-pub(crate) fn counters_at_start(alloc: Global, tree: &Tree) -> Result<Vec<usize>, AllocError>
+pub fn counters_at_start(alloc: Global, tree: &Tree) -> Result<Vec<usize>, AllocError>
     ensures { IfOk result (λ v. v.items ≡ table (guard_and_children tree.now) (size tree.now)) }
 {
     let mut counters = Vec::new(alloc);
@@ -33,7 +34,7 @@ pub(crate) fn counters_at_start(alloc: Global, tree: &Tree) -> Result<Vec<usize>
 }
 
 /// A seat for each worker, all free.
-pub(crate) fn seats_at_start(alloc: Global, workers: u8) -> Result<Vec<Seat>, AllocError>
+pub fn seats_at_start(alloc: Global, workers: u8) -> Result<Vec<Seat>, AllocError>
     ensures { IfOk result (λ v. v.items ≡ replicate workers free_seat) }
 {
     let mut seats = Vec::new(alloc);

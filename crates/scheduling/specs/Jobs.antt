@@ -1,7 +1,7 @@
 -- What is run for a node, as the code says it.
 use Rattle.event_history.specs.Results.{Jobs, NoJob, Alone, Pulled, Around}
-use Rattle.sched_core.specs.declared.jobs.Jobs.{Jobs as RunJobs}
-use Rattle.sched_core.specs.declared.jobs.Jobs.TheVariants as code
+use Rattle.scheduling.specs.declared.jobs.Jobs.{Jobs as RunJobs}
+use Rattle.scheduling.specs.declared.jobs.Jobs.TheVariants as code
 
 abbrev pub as_jobs : RunJobs → Jobs
 as_jobs code.Nothing = NoJob

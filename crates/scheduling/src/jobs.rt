@@ -3,15 +3,16 @@
 ghost use Rattle.std.specs.Prelude.{◌≡◌, ◌<◌};
 ghost use Rattle.descriptor.specs.Nodes.{size};
 ghost use Rattle.event_history.specs.Plans.{sort_by};
-ghost use Rattle.event_history.specs.Results.{jobs_by as jobs_by_sort, jobs_of as jobs_of_node, after_run as after_run_of};
-ghost use Rattle.sched_core.specs.Jobs.{as_jobs};
+ghost use Rattle.event_history.specs.Results.{jobs_by as jobs_by_sort, jobs_of as jobs_of_node};
+ghost use Rattle.scheduling.specs.Jobs.{as_jobs};
 
+use crate::choices::after_run;
 use descriptor::{BodyId, Kind, NodeId, Role};
 use resource_locks::Plan;
 
 /// What is run for a node.
 #[derive(Clone, Copy, Debug, PartialEq, Eq)]
-pub(crate) enum Jobs {
+pub enum Jobs {
     /// Nothing.
     Nothing,
     /// A body alone.
@@ -41,20 +42,8 @@ fn jobs_by(
     }
 }
 
-/// The after-body that is run: that of a container with children.
-fn after_run(plan: &Plan, node: NodeId) -> Option<BodyId>
-    requires { node < size plan.now.tree }
-    ensures { result ≡ after_run_of plan.now node }
-{
-    if plan.tree().children(node).is_empty() {
-        None
-    } else {
-        plan.tree().after(node)
-    }
-}
-
 /// What is run for a node.
-pub(crate) fn jobs_of(plan: &Plan, node: NodeId) -> Jobs
+pub fn jobs_of(plan: &Plan, node: NodeId) -> Jobs
     requires { node < size plan.now.tree }
     ensures { as_jobs result ≡ jobs_of_node plan.now node }
 {
