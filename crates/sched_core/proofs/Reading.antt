@@ -1,12 +1,15 @@
 -- What the dispatcher reads, by the place that comes next.
-use Rattle.std.proofs.Common.{◌≡◌, ◌∙◌, ◌≤◌, ◌<◌, ◌+◌, ◌++◌, ◌∷◌, [], ℕ, Bool, true, false, List, length, take, get_or, Option, Some, None, Ok, slice_get, slice_index_or, inl, inr, refl, sym, ap, subst, arith}
+use Rattle.std.proofs.Common.{◌≡◌, ◌∙◌, ◌≤◌, ◌<◌, ◌+◌, ◌++◌, ◌∷◌, [], ℕ, Bool, true, false, List, length, take, Option, Some, None, Ok, slice_get, slice_index_or, inl, inr, refl, sym, ap, subst, arith}
 use Rattle.std.specs.Prelude.{vec_capacity}
 use Rattle.std.proofs.Math.Nat.{le_refl}
+use Rattle.std.proofs.lemmas.Bool.{cases_eq, false≢true}
 use Rattle.std.proofs.lemmas.List.{take_more, length-take-le}
-use Rattle.std.proofs.lemmas.Option.{get_or_from_slice_get, slice_get_within, slice_get_past, slice_get_cases}
+use Rattle.std.proofs.lemmas.Option.{get_or_from_slice_get, slice_get_within, slice_get_past, slice_get_cases, same_Some}
 use Rattle.plan_events.specs.declared.event.Event.{Event}
 use Rattle.scheduling.specs.State.{State}
 use Rattle.scheduling.specs.Rows.{read_event, read_row}
+use Rattle.scheduling.specs.Shown.{IsPlaced, IsShown}
+use Rattle.scheduling.proofs.Steps.{shown_at}
 use Rattle.sched_core.specs.declared.machine.Machine.{Machine}
 use Rattle.sched_core.specs.Fields.{state_of, IsAnswered}
 
@@ -58,3 +61,25 @@ pub read_answer : {T : Type 0} (E : Type 0) (m : Machine) (x : T) → m.given < 
 read_answer {T} E m x lt shown =
     subst (λ (o : Option State). IsAnswered {T = T} {E = E} m o (Ok x) (record m { given = m.given + 1 })) (sym (read_next m lt shown))
     (refl, refl, record { workers = refl; published = le_refl (vec_capacity m.published); shown = le_refl (vec_capacity m.shown); given = λ le. omega (arith, lt) })
+
+-- and it was shown, as all before it
+pub read_shown : (m : Machine) → IsPlaced (state_of m) → m.given < length m.published.items → slice_index_or m.shown.items m.given false ≡ true → IsShown (state_of m) (state_of m).given → IsShown (state_of (record m { given = m.given + 1 })) (take (m.given + 1) m.published.items)
+read_shown m placed lt shown before = record {
+  marked = λ i less. elim (cases_eq i m.given) [
+    | inl same ↦ ap (slice_get m.shown.items) same ∙ here
+    | inr other ↦ before.marked i (omega (arith, less, other, many, more))
+  ];
+  behind = λ w seat i e is names. elim (cases_eq i m.given) [
+    | inl same ↦ absurd (false≢true (same_Some false true (sym (placed.stands w seat i e is names).1 ∙ ap (slice_get m.shown.items) same ∙ here)))
+    | inr other ↦ (let past = before.behind w seat i e is names in omega (arith, past, other, many, more))
+  ];
+}
+  where
+    here : slice_get m.shown.items m.given ≡ Some true
+    here = shown_at m.shown.items m.given shown
+
+    many : length (take m.given m.published.items) ≡ m.given
+    many = given_length m (omega (arith, lt))
+
+    more : length (take (m.given + 1) m.published.items) ≡ m.given + 1
+    more = length-take-le (m.given + 1) m.published.items (omega (arith, lt))

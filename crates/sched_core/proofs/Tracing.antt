@@ -1,5 +1,5 @@
 -- What a trace of the machine tells: each worker's part, and the headline.
-use Rattle.std.proofs.Common.{◌≡◌, ◌∙◌, ◌<◌, ◌+◌, ℕ, List, [], length, take, get_or, Some, Result, Ok, Err, IfOk, slice_get, refl, sym, ap, subst, arith}
+use Rattle.std.proofs.Common.{◌≡◌, ◌∙◌, ◌<◌, ◌+◌, ℕ, List, [], length, Some, Result, Ok, Err, IfOk, slice_get, refl, sym, ap, subst, arith}
 use Rattle.std.proofs.lemmas.Option.{same_Some, slice_get-get_or, slice_get_within}
 use Rattle.plan_events.specs.declared.event.Event.{Event}
 use Rattle.plan_events.specs.declared.outcome.Reply.{Reply}
@@ -12,13 +12,14 @@ use Rattle.event_history.proofs.Front.{prefix_legal}
 use Rattle.event_history.proofs.PartsOf.{part_prefix, ends_in_plan}
 use Rattle.event_history.proofs.Spares.{plan_tree}
 use Rattle.event_history.proofs.Apart.{apart}
-use Rattle.descriptor.specs.Nodes.{size, IsTree}
+use Rattle.descriptor.specs.Nodes.{IsTree}
 use Rattle.scheduling.proofs.OnlyHistory.{only_history, as_expected}
 use Rattle.scheduling.specs.Runs.{opening}
 use Rattle.scheduling.proofs.Going.{going_end}
 use Rattle.scheduling.proofs.Scheduled.{drives_only, drives_end}
 use Rattle.scheduling.specs.State.{State}
 use Rattle.scheduling.specs.Runs.{IsRight as IsStateRight}
+use Rattle.scheduling.specs.Shown.{IsShown}
 use Rattle.scheduling.proofs.Headline.{core_plan, kept_right}
 use Rattle.sched_core.specs.declared.machine.Machine.{Machine}
 use Rattle.sched_core.specs.declared.trace.Trace.{Trace}
@@ -26,7 +27,7 @@ use Rattle.sched_core.specs.Replies.{reply_of, replies_of}
 use Rattle.sched_core.specs.Fields.{state_of, parts_upto, IsSound}
 use Rattle.sched_core.specs.Drives.{Drives, reply_given, IsOnSchedule}
 use Rattle.sched_core.specs.Runs.{IsRight}
-use Rattle.sched_core.specs.Traces.{lists_of, IsTraceOf, IsRightTrace, IsDriven, IsOnlyDriven, IsWhole, KeepsApart, HasExpected, IsOnlyHistory}
+use Rattle.sched_core.specs.Traces.{lists_of, IsTraceOf, IsRightTrace, IsDriven, IsOnlyDriven, IsShownAtEnd, IsWhole, KeepsApart, HasExpected, IsOnlyHistory}
 use Rattle.sched_core.proofs.Parts.{parts_len, parts_at}
 
 -- the lists of all workers are as many, and each is the worker's part
@@ -41,7 +42,7 @@ each_part lists workers seats h are same w lt =
 -- the headline, of a trace of a sound machine
 module _ (p : PlanParts) (answers : List (ℕ × Reply)) (m : Machine) (sound : IsSound p answers m) (workers passed : ℕ) (count : m.workers ≡ workers) (t : Trace) (is : IsTraceOf (state_of m) passed t) where
   right_state : IsStateRight p (replies_of answers) (length m.seats.items) (state_of m)
-  right_state = kept_right p (core_plan p sound.plan.tree) (replies_of answers) (state_of m) sound.kept
+  right_state = kept_right p (core_plan p sound.plan.tree) (replies_of answers) (state_of m) sound.kept sound.placed
 
   given_first : IsPrefix (state_of m).given m.published.items
   given_first = right_state.given
@@ -69,6 +70,10 @@ module _ (p : PlanParts) (answers : List (ℕ × Reply)) (m : Machine) (sound : 
       subst (λ (g : List Event). IsRight p answers workers t.published.items g (lists_of t.mine)) (sym is.given)
       (subst (λ (h : List Event). IsRight p answers workers h (state_of m).given (lists_of t.mine)) (sym is.published) here)
 
+  -- and what was given was shown
+  pub shown_trace : IsShown (state_of m) t.given.items
+  shown_trace = subst (IsShown (state_of m)) (sym is.given) right_state.shown
+
 -- a fact of what a call gives where it succeeds, from another
 pub if_ok : {T E : Type 0} {P Q : T → Type 0} (r : Result T E) → ((x : T) → P x → Q x) → IfOk r P → IfOk r Q
 if_ok (Ok x) f h = f x h
@@ -81,6 +86,9 @@ both_ok (Err e) f h k = tt
 -- the schedule ends in one state only, so what is driven is driven to each state in which it ends
 pub only_driven : (p : PlanParts) (answers : List (ℕ × Reply)) (t : Trace) → IsDriven p answers t → IsOnlyDriven p answers t
 only_driven p answers t driven final drives = subst (λ (s : State). IsTraceOf s 0 t) (drives_only p (reply_given p answers) (opening p 1) driven.final final driven.drives drives) driven.trace
+
+pub shown_at_end : (p : PlanParts) (answers : List (ℕ × Reply)) (t : Trace) (s : State) → Drives p answers (opening p 1) s → IsShown s t.given.items → IsShownAtEnd p answers t
+shown_at_end p answers t s drives shown final other = subst (λ (u : State). IsShown u t.given.items) (drives_only p (reply_given p answers) (opening p 1) s final drives other) shown
 
 -- the fixed schedule ends with the whole plan
 pub whole_trace : (p : PlanParts) (answers : List (ℕ × Reply)) (m : Machine) → IsSound p answers m → IsOnSchedule p answers (state_of m) → (passed : ℕ) (t : Trace) → IsTraceOf (state_of m) passed t → (first : State) → Drives p answers first (state_of m) → IsWhole p t

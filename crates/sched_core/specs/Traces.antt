@@ -16,6 +16,7 @@ use Rattle.event_history.specs.Plans.{is_same}
 use Rattle.event_history.specs.Parts.{part_of, EndsInPlan}
 use Rattle.scheduling.specs.State.{State}
 use Rattle.scheduling.specs.Runs.{opening}
+use Rattle.scheduling.specs.Shown.{IsShown}
 use Rattle.sched_core.specs.Replies.{reply_of, replies_of}
 use Rattle.sched_core.specs.Runs.{IsRight}
 use Rattle.sched_core.specs.Drives.{Drives}
@@ -46,6 +47,10 @@ pub record IsDriven (p : PlanParts) (answers : List (ℕ × Reply)) (t : Trace) 
 -- it is the trace of whatever state the fixed schedule ends in: the schedule is deterministic
 abbrev pub IsOnlyDriven : PlanParts → List (ℕ × Reply) → Trace → Type 0
 IsOnlyDriven p answers t = (final : State) → Drives p answers (opening p 1) final → IsTraceOf final 0 t
+
+-- What was given was shown, in each state in which the fixed schedule ends.
+abbrev pub IsShownAtEnd : PlanParts → List (ℕ × Reply) → Trace → Type 0
+IsShownAtEnd p answers t = (final : State) → Drives p answers (opening p 1) final → IsShown final t.given.items
 
 -- What locks and isolation keep apart never overlaps, where the plan holds for its nodes what they declare.
 abbrev pub KeepsApart : PlanParts → Trace → Type 0

@@ -1,6 +1,6 @@
 //! The core of a run, a step at a time.
 
-ghost use Rattle.std.specs.Prelude.{◌≡◌, ◌≢◌, ◌≤◌, Some, None, IfOk, IfErr};
+ghost use Rattle.std.specs.Prelude.{◌≡◌, ◌≢◌, ◌≤◌, Some, None, IfOk, IfErr, length};
 ghost use Rattle.sched_core.specs.Snapshot.{workers_refusal};
 
 use crate::answers::Answers;
@@ -53,7 +53,8 @@ impl Model for Core {
 impl Core {
     ghost use Rattle.scheduling.specs.Runs.{opening};
     ghost use Rattle.sched_core.specs.Snapshot.{stepped, IsStep};
-    ghost use Rattle.sched_core.specs.Traces.{IsTraceOf};
+    ghost use Rattle.scheduling.specs.Shown.{IsShown};
+    ghost use Rattle.sched_core.specs.Traces.{IsTraceOf, IsRightTrace, KeepsApart, HasExpected};
 
     /// The run of a plan by so many workers, before its first step. It makes room for every event, so that no step
     /// wants memory. No workers are refusal 60, more than 64 are refusal 61, want of memory is refusal 0.
@@ -84,7 +85,11 @@ impl Core {
 
     /// What the run has left so far. No step counts as passed over.
     pub fn trace(&self, alloc: Global) -> Result<Trace, AllocError>
-        ensures { IfOk result (λ trace. IsTraceOf self.now.state 0 trace) }
+        ensures exact { IfOk result (λ trace. IsTraceOf self.now.state 0 trace) }
+        ensures right { IfOk result (λ trace. IsRightTrace self.now.plan self.now.answers (length self.now.state.seats) trace) }
+        ensures shown { IfOk result (λ trace. IsShown self.now.state trace.given.items) }
+        ensures apart { IfOk result (λ trace. KeepsApart self.now.plan trace) }
+        ensures expected { IfOk result (λ trace. HasExpected self.now.plan self.now.answers trace) }
     {
         self.machine.trace(alloc, 0)
     }

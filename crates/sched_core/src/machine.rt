@@ -7,6 +7,7 @@ ghost use Rattle.scheduling.specs.Answers.{reply_by};
 ghost use Rattle.scheduling.specs.LinkLists.{AreTurns};
 ghost use Rattle.scheduling.specs.Rows.{row, goes, read_row};
 ghost use Rattle.scheduling.specs.Runs.{opening};
+ghost use Rattle.scheduling.specs.Shown.{IsPlaced, IsShown};
 ghost use Rattle.scheduling.specs.State.{lock_at};
 ghost use Rattle.sched_core.specs.Bounds.{InBounds};
 ghost use Rattle.sched_core.specs.Fields.{state_of, seated, IsSound, IsAnswered, KeepsRoom};
@@ -148,8 +149,10 @@ impl Machine {
 
     /// Gives the next event, where it is shown.
     fn read(&mut self) -> Result<(), NotEnabled>
-        requires { self.old.given ≤ length self.old.published.items }
-        ensures { IsAnswered self.old (read_row (state_of self.old)) result self.new }
+        requires given { self.old.given ≤ length self.old.published.items }
+        requires placed { IsPlaced (state_of self.old) }
+        ensures answered { IsAnswered self.old (read_row (state_of self.old)) result self.new }
+        ensures shown { IsShown (state_of self.old) (state_of self.old).given → IsShown (state_of self.new) (state_of self.new).given }
     {
         if self.given == self.published.len() || !self.is_next_shown() {
             return Err(NotEnabled);

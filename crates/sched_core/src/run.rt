@@ -3,9 +3,10 @@
 ghost use Rattle.std.specs.Prelude.{◌≡◌, ◌≢◌, Some, None, IfOk, IfErr};
 ghost use Rattle.scheduling.specs.LinkLists.{AreTurns};
 ghost use Rattle.scheduling.specs.Runs.{opening};
+ghost use Rattle.scheduling.specs.Shown.{IsShown};
 ghost use Rattle.sched_core.specs.Snapshot.{workers_refusal};
 ghost use Rattle.sched_core.specs.Runs.{run, passed_over};
-ghost use Rattle.sched_core.specs.Traces.{IsTraceOf, IsRightTrace, IsDriven, IsOnlyDriven, IsWhole, KeepsApart, HasExpected, IsOnlyHistory};
+ghost use Rattle.sched_core.specs.Traces.{IsTraceOf, IsRightTrace, IsDriven, IsOnlyDriven, IsShownAtEnd, IsWhole, KeepsApart, HasExpected, IsOnlyHistory};
 ghost use Rattle.sched_core.specs.Fields.{state_of, IsSound};
 
 use crate::answers::Answers;
@@ -48,6 +49,7 @@ pub fn run_steps(
 ) -> Result<Trace, CoreFault>
     ensures exact { IfOk result (λ trace. IsTraceOf (run plan.now answers.now (opening plan.now workers) steps.now) (passed_over plan.now answers.now (opening plan.now workers) steps.now) trace) }
     ensures right { IfOk result (λ trace. IsRightTrace plan.now answers.now workers trace) }
+    ensures shown { IfOk result (λ trace. IsShown (run plan.now answers.now (opening plan.now workers) steps.now) trace.given.items) }
     ensures apart { IfOk result (λ trace. KeepsApart plan.now trace) }
     ensures expected { IfOk result (λ trace. HasExpected plan.now answers.now trace) }
     ensures accepted { IfOk result (λ _. workers_refusal workers ≡ None) }
@@ -68,6 +70,7 @@ pub fn drive(alloc: Global, plan: &Plan, answers: &Answers) -> Result<Trace, All
     ensures driven { IfOk result (λ trace. IsDriven plan.now answers.now trace) }
     ensures only { IfOk result (λ trace. IsOnlyDriven plan.now answers.now trace) }
     ensures right { IfOk result (λ trace. IsRightTrace plan.now answers.now 1 trace) }
+    ensures shown { IfOk result (λ trace. IsShownAtEnd plan.now answers.now trace) }
     ensures whole { IfOk result (λ trace. IsWhole plan.now trace) }
     ensures apart { IfOk result (λ trace. KeepsApart plan.now trace) }
     ensures expected { IfOk result (λ trace. HasExpected plan.now answers.now trace) }

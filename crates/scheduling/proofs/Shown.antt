@@ -1,6 +1,6 @@
 -- Every step keeps what was drawn at the place that its worker's task names.
 use Rattle.std.proofs.Common.{◌≡◌, ◌≢◌, ℕ, ◌+◌, true, false, List, [], ◌∷◌, ◌++◌, length, Some, None, slice_get, inl, inr, ◌⊎◌, sym, ap, ◌∙◌, set, length-set, length-append, arith}
-use Rattle.std.proofs.lemmas.Bool.{cases_eq, false≢true}
+use Rattle.std.proofs.lemmas.Bool.{cases_eq, cases_lt, false≢true}
 use Rattle.std.proofs.lemmas.Option.{none-some, same_Some}
 use Rattle.plan_events.specs.declared.event.Event.{Event}
 use Rattle.event_history.proofs.Places.{get_next, get_front, get_snoc}
@@ -10,7 +10,8 @@ use Rattle.scheduling.specs.declared.task.Task.{Task}
 use Rattle.scheduling.specs.declared.task.Task.TheVariants.{Opens, Closes}
 use Rattle.scheduling.specs.declared.seat.Seat.{Seat}
 use Rattle.scheduling.specs.State.{State}
-use Rattle.scheduling.specs.Shown.{named, IsNamed, IsPlaced}
+use Rattle.scheduling.specs.Invariant.{IsGiven}
+use Rattle.scheduling.specs.Shown.{named, IsNamed, IsShown, IsPlaced}
 use Rattle.scheduling.proofs.Basics.{get_set, get_set_same, get_set_other}
 
 -- how a step changes the history: not at all; by one more event; by one that is shown
@@ -142,4 +143,14 @@ reseat_keeps s w seat other placed is same = record {
         | inr ne ↦ record { worker = n.worker; seat = n.seat; is = get_set_other s.seats w other n.worker ne ∙ n.is; event = n.event; names = n.names }
       ]);
   as_many = placed.as_many;
+}
+
+-- What is marked as shown no task names, so all that was given was shown.
+pub given_shown : (s : State) → IsGiven s → IsPlaced s → IsShown s s.given
+given_shown s given placed = record {
+  marked = given.shown;
+  behind = λ w seat i e is names. elim (cases_lt i (length s.given)) [
+    | inl less ↦ absurd (false≢true (same_Some false true (sym (placed.stands w seat i e is names).1 ∙ given.shown i less)))
+    | inr past ↦ past
+  ];
 }

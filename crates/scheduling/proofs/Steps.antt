@@ -93,7 +93,7 @@ given_more given (x ∷ rest) all e q r =
     let same = same_Some x e (sym (get_next given x rest) ∙ ap (λ l. slice_get l (length given)) q ∙ r) in
     (rest, append_assoc given (e ∷ []) rest ∙ ap (λ y. given ++ y ∷ rest) (sym same) ∙ q)
 
-shown_at : (l : List Bool) (i : ℕ) → get_or l i false ≡ true → slice_get l i ≡ Some true
+pub shown_at : (l : List Bool) (i : ℕ) → get_or l i false ≡ true → slice_get l i ≡ Some true
 shown_at [] i q = absurd (false≢true q)
 shown_at (b ∷ l) zero q = ap Some q
 shown_at (b ∷ l) (suc i) q = shown_at l i q

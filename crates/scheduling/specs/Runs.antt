@@ -1,5 +1,5 @@
 -- Runs: the opening state, a list of steps, the replies that steps may have, and what every state that is reached has.
-use Rattle.std.specs.Prelude.{◌≡◌, ℕ, zero, suc, ◌+◌, ◌<◌, true, false, ◌&&◌, not, List, [], ◌∷◌, length, replicate, Option, Some, None, slice_get}
+use Rattle.std.specs.Prelude.{◌≡◌, ℕ, zero, suc, ◌+◌, false, ◌&&◌, not, List, [], ◌∷◌, length, replicate, Option, Some, None, slice_get}
 use Rattle.unique_id.specs.Prefixes.{IsPrefix}
 use Rattle.descriptor.specs.Nodes.{size, is_child, is_spare_at, count_below}
 use Rattle.plan_events.specs.declared.outcome.Reply.{Reply}
@@ -18,6 +18,7 @@ use Rattle.scheduling.specs.declared.task.Task.TheVariants.{Free}
 use Rattle.scheduling.specs.declared.seat.Seat.{Seat}
 use Rattle.scheduling.specs.State.{State}
 use Rattle.scheduling.specs.Choices.{awaited}
+use Rattle.scheduling.specs.Shown.{IsShown}
 use Rattle.scheduling.specs.Rows.{Step, Works, Dispatches, after}
 
 -- node 0 is offered to any worker; each counter has the node's guard, and its children but for spares
@@ -68,9 +69,9 @@ pub record IsRight (p : PlanParts) (replies : ℕ → List Reply) (workers : ℕ
   pub legal : IsLegal p replies workers s.published
   pub order : IsInOrder p s.published
   pub exclusive : IsExclusive p s.published
-  -- what is given is a beginning of what is published, and each event of it was shown
+  -- what is given is a beginning of what is published, and was shown
   pub given : IsPrefix s.given s.published
-  pub shown : (i : ℕ) → i < length s.given → slice_get s.shown i ≡ Some true
+  pub shown : IsShown s s.given
   -- where the plan's finish stands, it stands last, and the history is complete
   pub last : (i : ℕ) → StandsAt s.published i Finished 0 → i + 1 ≡ length s.published
   pub complete : (i : ℕ) → StandsAt s.published i Finished 0 → IsComplete p s.published

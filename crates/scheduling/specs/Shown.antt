@@ -1,5 +1,5 @@
 -- What a worker has drawn stands at the place that its task names, not shown until the worker shows it.
-use Rattle.std.specs.Prelude.{◌≡◌, ℕ, false, List, length, Option, Some, None, slice_get}
+use Rattle.std.specs.Prelude.{◌≡◌, ℕ, ◌<◌, ◌≤◌, true, false, List, length, Option, Some, None, slice_get}
 use Rattle.plan_events.specs.declared.event.Event.{Event}
 use Rattle.plan_events.specs.declared.event.EventKind.TheVariants.{Started, Finished, Skipped, Registered}
 use Rattle.scheduling.specs.declared.task.Opening.TheVariants.{RegisteredAt, StartedAt}
@@ -25,6 +25,12 @@ pub record IsNamed (seats : List Seat) (i : ℕ) : Type 0 where
   pub is : slice_get seats worker ≡ Some seat
   pub event : Event
   pub names : named worker seat.task ≡ Some (i, event)
+
+-- What was given was shown: each place of it is marked as shown, and what a worker has drawn and has still to show stands behind
+-- all of it.
+pub record IsShown (s : State) (given : List Event) : Type 0 where
+  pub marked : (i : ℕ) → i < length given → slice_get s.shown i ≡ Some true
+  pub behind : (w : ℕ) (seat : Seat) (i : ℕ) (e : Event) → slice_get s.seats w ≡ Some seat → named w seat.task ≡ Some (i, e) → length given ≤ i
 
 pub record IsPlaced (s : State) : Type 0 where
   -- what a task names stands at its place, and is not shown

@@ -6,7 +6,7 @@ use Rattle.scheduling.specs.State.{State}
 use Rattle.sched_core.specs.Drives.{Drives, IsOnSchedule}
 use Rattle.sched_core.specs.Fields.{state_of}
 use Rattle.sched_core.specs.Replies.{replies_of}
-use Rattle.sched_core.proofs.Tracing.{only_driven, right_trace, whole_trace, right_apart, right_expected, right_only, if_ok, both_ok}
+use Rattle.sched_core.proofs.Tracing.{only_driven, right_trace, shown_trace, shown_at_end, whole_trace, right_apart, right_expected, right_only, if_ok, both_ok}
 use Rattle.sched_core.proofs.run.drive.Goals as goal
 
 pub drive-requires-clause-sound : goal.drive-requires-clause-sound
@@ -28,6 +28,11 @@ returns-clause-only c = if_ok c.trace.result (λ t is. only_driven c.args.plan.n
 pub returns-clause-right : goal.returns-clause-right
 returns-clause-right c =
     if_ok c.trace.result (λ t is. right_trace c.args.plan.now c.args.answers.now c.drive.new.self c.drive.ensures.sound 1 0 (c.drive.ensures.workers ∙ c.in_ok-machine.ensures.workers) t is) c.trace.ensures
+
+pub returns-clause-shown : goal.returns-clause-shown
+returns-clause-shown c =
+    let drives = subst (λ (s : State). Drives c.args.plan.now c.args.answers.now s (state_of c.drive.new.self)) c.in_ok-machine.ensures.opening c.drive.ensures.drives in
+    if_ok c.trace.result (λ t is. shown_at_end c.args.plan.now c.args.answers.now t (state_of c.drive.new.self) drives (shown_trace c.args.plan.now c.args.answers.now c.drive.new.self c.drive.ensures.sound 1 0 (c.drive.ensures.workers ∙ c.in_ok-machine.ensures.workers) t is)) c.trace.ensures
 
 pub returns-clause-whole : goal.returns-clause-whole
 returns-clause-whole c =

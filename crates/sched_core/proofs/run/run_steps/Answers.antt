@@ -1,6 +1,10 @@
 -- What the trace of a list of steps tells.
-use Rattle.std.proofs.Common.{◌∙◌, ap, sym, length}
-use Rattle.sched_core.proofs.Tracing.{right_trace, right_apart, right_expected}
+use Rattle.std.proofs.Common.{◌∙◌, ap, subst, ℕ}
+use Rattle.scheduling.specs.Runs.{opening}
+use Rattle.scheduling.specs.Shown.{IsShown}
+use Rattle.scheduling.specs.State.{State}
+use Rattle.sched_core.specs.Runs.{run}
+use Rattle.sched_core.proofs.Tracing.{right_trace, shown_trace, right_apart, right_expected}
 use Rattle.sched_core.proofs.run.run_steps.Goals as goal
 
 pub run-missed-requires-clause-sound : goal.run-missed-requires-clause-sound
@@ -10,6 +14,14 @@ pub returns-clause-right : goal.returns-clause-right
 returns-clause-right c =
     let count = c.run-missed.ensures.workers ∙ c.in_ok-machine.ensures.workers ∙ c.in_ok-count.ensures.count.0 in
     right_trace c.args.plan.now c.args.answers.now c.run-missed.new.self c.run-missed.ensures.sound c.args.workers c.run-missed.result count c.in_ok-trace.field-0 c.in_ok-trace.ensures
+
+pub returns-clause-shown : goal.returns-clause-shown
+returns-clause-shown c =
+    let count = c.run-missed.ensures.workers ∙ c.in_ok-machine.ensures.workers ∙ c.in_ok-count.ensures.count.0 in
+    let from = c.in_ok-machine.ensures.opening ∙ ap (λ (n : ℕ). opening c.args.plan.now n) c.in_ok-count.ensures.count.0 in
+    let ends = c.run-missed.ensures.state ∙ ap (λ (s : State). run c.args.plan.now c.args.answers.now s c.args.steps.now) from in
+    subst (λ (s : State). IsShown s c.in_ok-trace.field-0.given.items) ends
+    (shown_trace c.args.plan.now c.args.answers.now c.run-missed.new.self c.run-missed.ensures.sound c.args.workers c.run-missed.result count c.in_ok-trace.field-0 c.in_ok-trace.ensures)
 
 pub returns-clause-apart : goal.returns-clause-apart
 returns-clause-apart c = right_apart c.args.plan.now c.args.answers.now c.run-missed.ensures.sound.plan.tree c.args.workers c.in_ok-trace.field-0 (returns-clause-right c)

@@ -15,8 +15,8 @@ returns-in-Worker-clause-workers c =
 
 pub returns-in-Read-clause-sound : goal.returns-in-Read-clause-sound
 returns-in-Read-clause-sound c =
-    sound_answered c.args.plan.now c.args.answers.now c.args.self.now c.read.new.self Read c.read.result c.requires.sound c.read.ensures
+    sound_answered c.args.plan.now c.args.answers.now c.args.self.now c.read.new.self Read c.read.result c.requires.sound c.read.ensures.answered
 
 pub returns-in-Read-clause-workers : goal.returns-in-Read-clause-workers
 returns-in-Read-clause-workers c =
-    same_workers c.args.self.now c.read.new.self (after_step c.args.plan.now c.args.answers.now (state_of c.args.self.now) Read) c.read.result c.read.ensures
+    same_workers c.args.self.now c.read.new.self (after_step c.args.plan.now c.args.answers.now (state_of c.args.self.now) Read) c.read.result c.read.ensures.answered
