@@ -4,7 +4,7 @@ use Rattle.std.specs.Prelude.{OnOk}
 use Rattle.std.specs.Option.{option_or}
 use Rattle.config_params.specs.declared.source.Source.{Source}
 use Rattle.config_params.specs.declared.source.Source.TheVariants.{Request, System, File}
-use Rattle.config_params.specs.Parameters.{Parameters, with_value, answer, answer_before}
+use Rattle.config_params.specs.Parameters.{Parameters, with_value, answer, answer_before, answer_over}
 use Rattle.config_params.specs.Tables.{value_in}
 use Rattle.config_params.proofs.Tables.{has_new, has_other}
 
@@ -32,3 +32,21 @@ module _ {X E : Type 0} (old new : Parameters) (source : Source) (key value : Li
   pub others_if_ok : (r : Result X E) → OnOk r (new ≡ with_value old source (key, value)) → OnOk r ((other : List ℕ) → other ≢ key → answer new other ≡ answer old other)
   others_if_ok (Ok x) is = λ other h. ap (λ p. answer p other) is ∙ others_after old source key value other h
   others_if_ok (Err e) is = tt
+
+or_itself : {T : Type 0} (o : Option T) → option_or o o ≡ o
+or_itself None = refl
+or_itself (Some x) = refl
+
+-- parameters that stand over themselves answer what they answer
+pub over_itself : (params : Parameters) (key : List ℕ) → answer_over params params key ≡ answer params key
+unfolding answer_over
+over_itself params key = or_itself (answer params key)
+
+-- those above have the key, or those below are asked
+pub over_some : (over under : Parameters) (key : List ℕ) (value : List ℕ) → Some value ≡ answer over key → Some value ≡ answer_over over under key
+unfolding answer_over
+over_some over under key value is = ap (λ o. option_or o (answer under key)) is
+
+pub over_none : (over under : Parameters) (key : List ℕ) (value : Option (List ℕ)) → None ≡ answer over key → value ≡ answer under key → value ≡ answer_over over under key
+unfolding answer_over
+over_none over under key value none is = is ∙ ap (λ o. option_or o (answer under key)) none

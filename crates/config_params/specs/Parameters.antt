@@ -41,3 +41,7 @@ answer_before params File key = option_or (value_in params.request key) (value_i
 -- the value of a key: that of the first source that has the key
 abbrev pub answer : Parameters → List ℕ → Option (List ℕ)
 answer params key = option_or (answer_before params File key) (value_in params.file key)
+
+-- the value of a key where some parameters stand over others: theirs, or else that of the others
+unfoldable pub answer_over : Parameters → Parameters → List ℕ → Option (List ℕ)
+answer_over over under key = option_or (answer over key) (answer under key)

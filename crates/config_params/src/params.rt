@@ -3,7 +3,7 @@
 ghost use Rattle.std.specs.Prelude.{◌≡◌, ◌≢◌, List, ℕ, None, Some, IfErr, OnOk, OnErr};
 ghost use Rattle.std.specs.Option.{option_map, option_or};
 ghost use Rattle.std.specs.Str.Lines.{lines};
-ghost use Rattle.config_params.specs.Parameters.{nothing_said, with_value, with_table, answer, answer_before};
+ghost use Rattle.config_params.specs.Parameters.{nothing_said, with_value, with_table, answer, answer_before, answer_over};
 ghost use Rattle.config_params.specs.Properties.{refusal_of, pairs_of};
 ghost use Rattle.config_params.specs.Tables.{table_of, value_in, last_value};
 ghost use Rattle.config_params.specs.declared.source.Source.TheVariants.{File};
@@ -112,5 +112,15 @@ impl Params {
             return Some(value);
         }
         value_of(&self.file, key)
+    }
+}
+
+/// The value of a key where some parameters stand over others: theirs, or else that of the others.
+pub(crate) fn get_over<'a>(over: &'a Params, under: &'a Params, key: &str) -> Option<&'a str>
+    ensures { option_map (λ value. value.now) result ≡ answer_over over.now under.now key.now }
+{
+    match over.get(key) {
+        Some(value) => Some(value),
+        None => under.get(key),
     }
 }

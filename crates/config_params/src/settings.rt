@@ -1,11 +1,11 @@
 //! What a configuration asks of a run.
 
 ghost use Rattle.std.specs.Prelude.{◌≡◌, ◌≤◌, IfOk, false};
-ghost use Rattle.config_params.specs.Parameters.{answer};
+ghost use Rattle.config_params.specs.Parameters.{answer, answer_over};
 ghost use Rattle.config_params.specs.Settings.{settings_of, is_enabled, mode_spelled, mode_named, mode_or, is_no_mode, enabled_key};
 
 use crate::blanks::{Blanks, without_ends};
-use crate::params::Params;
+use crate::params::{Params, get_over};
 use crate::settings_fault::SettingsFault;
 use crate::strategy::workers_of;
 use crate::warnings::Warnings;
@@ -31,10 +31,10 @@ pub struct Settings {
     pub warnings: Warnings,
 }
 
-fn is_enabled(params: &Params) -> bool
-    ensures { result ≡ is_enabled (answer params.now enabled_key) }
+fn is_enabled(over: &Params, under: &Params) -> bool
+    ensures { result ≡ is_enabled (answer_over over.now under.now enabled_key) }
 {
-    match params.get(ENABLED) {
+    match get_over(over, under, ENABLED) {
         Some(value) => value.eq_ignore_ascii_case("true"),
         None => false,
     }
@@ -55,11 +55,11 @@ fn mode_named(value: &str) -> Option<Mode>
 }
 
 /// The mode that a key has, or else the default, and whether its value is no mode.
-fn mode_at(params: &Params, key: &str, default: Mode) -> (Mode, bool)
-    ensures mode { result.0 ≡ mode_or default (answer params.now key.now) }
-    ensures warning { result.1 ≡ is_no_mode (answer params.now key.now) }
+fn mode_at(over: &Params, under: &Params, key: &str, default: Mode) -> (Mode, bool)
+    ensures mode { result.0 ≡ mode_or default (answer_over over.now under.now key.now) }
+    ensures warning { result.1 ≡ is_no_mode (answer_over over.now under.now key.now) }
 {
-    let Some(value) = params.get(key) else {
+    let Some(value) = get_over(over, under, key) else {
         return (default, false);
     };
     match mode_named(value) {
@@ -78,13 +78,28 @@ impl Settings {
         ensures off { IfOk result (λ s. s.parallel ≡ false → (s.workers ≡ 1) × (s.default_mode ≡ Mode.SameThread) × (s.classes_mode ≡ Mode.SameThread)) }
         ensures some { IfOk result (λ s. 1 ≤ s.workers) }
     {
-        let (default_mode, bad_default) = mode_at(params, DEFAULT_MODE, Mode::SameThread);
-        let (classes_mode, bad_classes) = mode_at(params, CLASSES_MODE, default_mode);
+        Settings::read_over(params, params, processors)
+    }
+
+    /// What parameters ask for that stand over others: of each key their value counts, and where they
+    /// have none that of the others. Takes no memory; all else is as `read` says.
+    pub fn read_over(
+        over: &Params,
+        under: &Params,
+        processors: u32,
+    ) -> Result<Settings, SettingsFault>
+        ensures exact { result ≡ settings_of (answer_over over.now under.now) processors }
+        // Where parallel execution is not enabled, one worker takes every node in its turn.
+        ensures off { IfOk result (λ s. s.parallel ≡ false → (s.workers ≡ 1) × (s.default_mode ≡ Mode.SameThread) × (s.classes_mode ≡ Mode.SameThread)) }
+        ensures some { IfOk result (λ s. 1 ≤ s.workers) }
+    {
+        let (default_mode, bad_default) = mode_at(over, under, DEFAULT_MODE, Mode::SameThread);
+        let (classes_mode, bad_classes) = mode_at(over, under, CLASSES_MODE, default_mode);
         let warnings = Warnings {
             default_mode: bad_default,
             classes_mode: bad_classes,
         };
-        if !is_enabled(params) {
+        if !is_enabled(over, under) {
             return Ok(Settings {
                 parallel: false,
                 workers: 1,
@@ -95,7 +110,7 @@ impl Settings {
         }
         Ok(Settings {
             parallel: true,
-            workers: workers_of(params, processors)?,
+            workers: workers_of(over, under, processors)?,
             default_mode,
             classes_mode,
             warnings,

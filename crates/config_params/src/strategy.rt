@@ -1,12 +1,12 @@
 //! How many workers a parallel run has.
 
 ghost use Rattle.std.specs.Prelude.{◌≡◌, ◌≤◌, ◌<◌, IfOk};
-ghost use Rattle.config_params.specs.Parameters.{answer};
+ghost use Rattle.config_params.specs.Parameters.{answer_over};
 ghost use Rattle.config_params.specs.Settings.{strategy_of, fixed_workers, factor_of, scaled, workers_of, strategy_key, parallelism_key, factor_key};
 
 use crate::blanks::{Blanks, without_ends};
 use crate::numbers::{factor_in, parallelism_in};
-use crate::params::Params;
+use crate::params::{Params, get_over};
 use crate::settings_fault::SettingsFault;
 
 const STRATEGY: &str = "junit.jupiter.execution.parallel.config.strategy";
@@ -27,10 +27,10 @@ pub(crate) enum Strategy {
     Fixed,
 }
 
-fn strategy_of(params: &Params) -> Result<Strategy, SettingsFault>
-    ensures { result ≡ strategy_of (answer params.now strategy_key) }
+fn strategy_of(over: &Params, under: &Params) -> Result<Strategy, SettingsFault>
+    ensures { result ≡ strategy_of (answer_over over.now under.now strategy_key) }
 {
-    let Some(value) = params.get(STRATEGY) else {
+    let Some(value) = get_over(over, under, STRATEGY) else {
         return Ok(Strategy::Dynamic);
     };
     let name = without_ends(Blanks::Spaces, value);
@@ -43,20 +43,20 @@ fn strategy_of(params: &Params) -> Result<Strategy, SettingsFault>
     Err(SettingsFault::BadStrategy)
 }
 
-fn fixed_workers(params: &Params) -> Result<u32, SettingsFault>
-    ensures { result ≡ fixed_workers (answer params.now parallelism_key) }
+fn fixed_workers(over: &Params, under: &Params) -> Result<u32, SettingsFault>
+    ensures { result ≡ fixed_workers (answer_over over.now under.now parallelism_key) }
 {
-    let Some(value) = params.get(PARALLELISM) else {
+    let Some(value) = get_over(over, under, PARALLELISM) else {
         return Err(SettingsFault::BadParallelism);
     };
     parallelism_in(value).ok_or(SettingsFault::BadParallelism)
 }
 
 /// The factor of the dynamic strategy, in ten-thousandths.
-fn factor_of(params: &Params) -> Result<u64, SettingsFault>
-    ensures { result ≡ factor_of (answer params.now factor_key) }
+fn factor_of(over: &Params, under: &Params) -> Result<u64, SettingsFault>
+    ensures { result ≡ factor_of (answer_over over.now under.now factor_key) }
 {
-    let Some(value) = params.get(FACTOR) else {
+    let Some(value) = get_over(over, under, FACTOR) else {
         return Ok(10_000);
     };
     factor_in(value).ok_or(SettingsFault::BadFactor)
@@ -71,11 +71,15 @@ fn scaled(processors: u32, factor: u64) -> u32
 }
 
 /// The workers of a parallel run. Refusals: 34, then 32 or 33, which the strategy decides.
-pub(crate) fn workers_of(params: &Params, processors: u32) -> Result<u32, SettingsFault>
-    ensures { result ≡ workers_of (answer params.now) processors }
+pub(crate) fn workers_of(
+    over: &Params,
+    under: &Params,
+    processors: u32,
+) -> Result<u32, SettingsFault>
+    ensures { result ≡ workers_of (answer_over over.now under.now) processors }
 {
-    match strategy_of(params)? {
-        Strategy::Dynamic => Ok(scaled(processors, factor_of(params)?)),
-        Strategy::Fixed => fixed_workers(params),
+    match strategy_of(over, under)? {
+        Strategy::Dynamic => Ok(scaled(processors, factor_of(over, under)?)),
+        Strategy::Fixed => fixed_workers(over, under),
     }
 }

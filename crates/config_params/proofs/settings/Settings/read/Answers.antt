@@ -1,13 +1,8 @@
--- The search proves it. Written out, it spares a wrong body the printing of what is left to show.
-use Rattle.std.proofs.Common.{rules, arith}
-use Rattle.std.proofs.lemmas.Grind.{common_steps}
+-- Parameters that stand over themselves answer what they answer.
+use Rattle.std.proofs.Common.{◌∙◌, ap}
+use Rattle.config_params.specs.Settings.{settings_of}
+use Rattle.config_params.proofs.Laws.{over_itself}
 use Rattle.config_params.proofs.settings.Settings.read.Goals as goal
 
-pub returns-then-not-is_enabled-clause-exact : goal.returns-then-not-is_enabled-clause-exact
-returns-then-not-is_enabled-clause-exact c = search rules
-
-pub returns-then-not-is_enabled-clause-off : goal.returns-then-not-is_enabled-clause-off
-returns-then-not-is_enabled-clause-off c = search rules
-
 pub returns-clause-exact : goal.returns-clause-exact
-returns-clause-exact c = grind (arith, common_steps)
+returns-clause-exact c = c.read_over.ensures.exact ∙ ap (λ answers. settings_of answers c.args.processors) (λ i key. over_itself c.args.params.now key i)
