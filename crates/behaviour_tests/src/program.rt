@@ -1,6 +1,7 @@
 //! A run whose reader or writer fails.
 
 use crate::failing::Failing;
+use config_params::Params;
 use launcher::{Details, LaunchFault, Options, ReadFault, read_front, run_options};
 use listeners::Theme;
 use selectors::Request;
@@ -49,9 +50,12 @@ fn feed_options(alloc: Global) -> Options {
             include: Vec::new(alloc),
             exclude: Vec::new(alloc),
         },
+        params: Params::new(alloc),
+        processors: 1,
         details: Details::Testfeed,
         theme: Theme::Unicode,
         fail_if_no_tests: false,
+        fail_fast: false,
         replay: None,
     }
 }

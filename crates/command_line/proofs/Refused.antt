@@ -5,7 +5,7 @@ use Rattle.std.proofs.KnownBytes.{Consumes-nil}
 use Rattle.std.proofs.lemmas.Option.{none-some}
 use Rattle.clap.specs.Words.{Text}
 use Rattle.launcher.specs.declared.fault.LaunchFault.{LaunchFault}
-use Rattle.launcher.specs.declared.fault.LaunchFault.TheVariants.{NoMemory, Suite, BadWords, BadStep, BadSelector, BadTags, NothingMatches, Reading, Writing}
+use Rattle.launcher.specs.declared.fault.LaunchFault.TheVariants.{NoMemory, Suite, BadWords, BadStep, BadSelector, BadTags, BadPair, BadSettings, NothingMatches, TooManyKeys, TooManyWorkers, Reading, Writing}
 use Rattle.suite_text.specs.declared.suite_fault.SuiteFault.{SuiteFault}
 use Rattle.suite_text.specs.SuiteParts.{SuiteParts}
 use Rattle.suite_text.specs.SuiteBytes.{suite_read}
@@ -27,7 +27,11 @@ module _ (words : List Text) (read : Result SuiteParts SuiteFault) (old new : Op
   refused_by refusal (BadStep n) is = rw (is (λ same. cc)) (inr refl)
   refused_by refusal (BadSelector n) is = rw (is (λ same. cc)) (inr refl)
   refused_by refusal (BadTags f) is = rw (is (λ same. cc)) (inr refl)
+  refused_by refusal (BadPair f) is = rw (is (λ same. cc)) (inr refl)
+  refused_by refusal (BadSettings f) is = rw (is (λ same. cc)) (inr refl)
   refused_by refusal (NothingMatches n) is = rw (is (λ same. cc)) (inr refl)
+  refused_by refusal TooManyKeys is = rw (is (λ same. cc)) (inr refl)
+  refused_by refusal TooManyWorkers is = rw (is (λ same. cc)) (inr refl)
   refused_by refusal Reading is = rw (is (λ same. cc)) (inr refl)
   refused_by refusal (Writing f) is = rw (is (λ same. cc)) (inr refl)
 
@@ -43,7 +47,11 @@ module _ (words : List Text) (read : Result SuiteParts SuiteFault) (old new : Op
   as_asked asked (Err (BadStep n)) are run = record { asked = asked; are = are; run = run }
   as_asked asked (Err (BadSelector n)) are run = record { asked = asked; are = are; run = run }
   as_asked asked (Err (BadTags f)) are run = record { asked = asked; are = are; run = run }
+  as_asked asked (Err (BadPair f)) are run = record { asked = asked; are = are; run = run }
+  as_asked asked (Err (BadSettings f)) are run = record { asked = asked; are = are; run = run }
   as_asked asked (Err (NothingMatches n)) are run = record { asked = asked; are = are; run = run }
+  as_asked asked (Err TooManyKeys) are run = record { asked = asked; are = are; run = run }
+  as_asked asked (Err TooManyWorkers) are run = record { asked = asked; are = are; run = run }
   as_asked asked (Err Reading) are run = record { asked = asked; are = are; run = run }
   as_asked asked (Err (Writing f)) are run = record { asked = asked; are = are; run = run }
 
@@ -69,7 +77,11 @@ only_memory words BadWords is none = absurd (none-some _ (sym none ∙ is (λ sa
 only_memory words (BadStep n) is none = absurd (none-some _ (sym none ∙ is (λ same. cc)))
 only_memory words (BadSelector n) is none = absurd (none-some _ (sym none ∙ is (λ same. cc)))
 only_memory words (BadTags f) is none = absurd (none-some _ (sym none ∙ is (λ same. cc)))
+only_memory words (BadPair f) is none = absurd (none-some _ (sym none ∙ is (λ same. cc)))
+only_memory words (BadSettings f) is none = absurd (none-some _ (sym none ∙ is (λ same. cc)))
 only_memory words (NothingMatches n) is none = absurd (none-some _ (sym none ∙ is (λ same. cc)))
+only_memory words TooManyKeys is none = absurd (none-some _ (sym none ∙ is (λ same. cc)))
+only_memory words TooManyWorkers is none = absurd (none-some _ (sym none ∙ is (λ same. cc)))
 only_memory words Reading is none = absurd (none-some _ (sym none ∙ is (λ same. cc)))
 only_memory words (Writing f) is none = absurd (none-some _ (sym none ∙ is (λ same. cc)))
 

@@ -26,11 +26,20 @@ selecting = fold with_rule (new_app (codes "console")) (
     ∷ repeated (codes "exclude-tag")
     ∷ [])
 
+-- and those that say with which settings
+abbrev pub configuring : App
+configuring = fold with_rule selecting (
+    repeated (codes "config")
+    ∷ repeated (codes "system")
+    ∷ single (codes "processors")
+    ∷ [])
+
 -- the program and its options
 abbrev pub program : App
-program = fold with_rule selecting (
+program = fold with_rule configuring (
     single (codes "details")
     ∷ single (codes "details-theme")
     ∷ flag (codes "fail-if-no-tests")
+    ∷ flag (codes "fail-fast")
     ∷ single (codes "replay")
     ∷ [])

@@ -31,8 +31,12 @@ values_in rows = record {
   packages = all_found (codes "select-package") rows;
   include_tags = all_found (codes "include-tag") rows;
   exclude_tags = all_found (codes "exclude-tag") rows;
+  config = all_found (codes "config") rows;
+  system = all_found (codes "system") rows;
+  processors = first_of (codes "processors") rows;
   details = first_of (codes "details") rows;
   theme = first_of (codes "details-theme") rows;
   replay = first_of (codes "replay") rows;
   fail_if_no_tests = is_found (codes "fail-if-no-tests") rows;
+  fail_fast = is_found (codes "fail-fast") rows;
 }

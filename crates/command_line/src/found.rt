@@ -6,8 +6,8 @@ ghost use Rattle.launcher.specs.Given.{behind, values_of};
 ghost use Rattle.command_line.specs.Found.{all_found as all_in, is_found, values_in};
 
 use crate::option_names::{
-    DETAILS, DETAILS_THEME, EXCLUDE_TAG, FAIL_IF_NO_TESTS, INCLUDE_TAG, REPLAY, SELECT_CLASS,
-    SELECT_METHOD, SELECT_PACKAGE, SELECT_UNIQUE_ID,
+    CONFIG, DETAILS, DETAILS_THEME, EXCLUDE_TAG, FAIL_FAST, FAIL_IF_NO_TESTS, INCLUDE_TAG,
+    PROCESSORS, REPLAY, SELECT_CLASS, SELECT_METHOD, SELECT_PACKAGE, SELECT_UNIQUE_ID, SYSTEM,
 };
 use clap::ArgMatches;
 use launcher::Given;
@@ -63,9 +63,13 @@ pub(crate) fn given_in<'a>(alloc: Global, matches: &ArgMatches<'a>) -> Result<Gi
         packages: all_found(alloc, matches, SELECT_PACKAGE)?,
         include_tags: all_found(alloc, matches, INCLUDE_TAG)?,
         exclude_tags: all_found(alloc, matches, EXCLUDE_TAG)?,
+        config: all_found(alloc, matches, CONFIG)?,
+        system: all_found(alloc, matches, SYSTEM)?,
+        processors: found(matches, PROCESSORS),
         details: found(matches, DETAILS),
         theme: found(matches, DETAILS_THEME),
         replay: found(matches, REPLAY),
         fail_if_no_tests: is_found(matches, FAIL_IF_NO_TESTS),
+        fail_fast: is_found(matches, FAIL_FAST),
     })
 }

@@ -2,7 +2,7 @@
 
 ghost use Rattle.std.specs.Prelude.{◌≡◌, IfOk, false};
 ghost use Rattle.clap.specs.Words.{app_of, rule_of, with_rule};
-ghost use Rattle.command_line.specs.Commands.{program, selecting, single, repeated, flag};
+ghost use Rattle.command_line.specs.Commands.{program, configuring, selecting, single, repeated, flag};
 
 use clap::{Arg, ArgAction, Command};
 use std::alloc::{AllocError, Global};
@@ -19,11 +19,19 @@ pub(crate) const INCLUDE_TAG: &str = "include-tag";
 
 pub(crate) const EXCLUDE_TAG: &str = "exclude-tag";
 
+pub(crate) const CONFIG: &str = "config";
+
+pub(crate) const SYSTEM: &str = "system";
+
+pub(crate) const PROCESSORS: &str = "processors";
+
 pub(crate) const DETAILS: &str = "details";
 
 pub(crate) const DETAILS_THEME: &str = "details-theme";
 
 pub(crate) const FAIL_IF_NO_TESTS: &str = "fail-if-no-tests";
+
+pub(crate) const FAIL_FAST: &str = "fail-fast";
 
 pub(crate) const REPLAY: &str = "replay";
 
@@ -69,13 +77,24 @@ fn selecting<'a>(alloc: Global) -> Result<Command<'a>, AllocError>
     with(command, repeated(alloc, EXCLUDE_TAG))
 }
 
+/// The same, and the options that say with which settings.
+fn configuring<'a>(alloc: Global) -> Result<Command<'a>, AllocError>
+    ensures { IfOk result (λ command. app_of command ≡ configuring) }
+{
+    let command = selecting(alloc)?;
+    let command = with(command, repeated(alloc, CONFIG))?;
+    let command = with(command, repeated(alloc, SYSTEM))?;
+    with(command, single(alloc, PROCESSORS))
+}
+
 /// The program and its options.
 pub(crate) fn command<'a>(alloc: Global) -> Result<Command<'a>, AllocError>
     ensures { IfOk result (λ command. app_of command ≡ program) }
 {
-    let command = selecting(alloc)?;
+    let command = configuring(alloc)?;
     let command = with(command, single(alloc, DETAILS))?;
     let command = with(command, single(alloc, DETAILS_THEME))?;
     let command = with(command, flag(alloc, FAIL_IF_NO_TESTS))?;
+    let command = with(command, flag(alloc, FAIL_FAST))?;
     with(command, single(alloc, REPLAY))
 }

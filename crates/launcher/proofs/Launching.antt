@@ -18,7 +18,7 @@ use Rattle.launcher.specs.declared.bytes.ReadFault.{ReadFault}
 use Rattle.launcher.specs.declared.bytes.ReadFault.TheVariants as reads
 use Rattle.launcher.specs.declared.exit_status.ExitStatus.{ExitStatus}
 use Rattle.launcher.specs.declared.fault.LaunchFault.{LaunchFault}
-use Rattle.launcher.specs.declared.fault.LaunchFault.TheVariants.{NoMemory, Suite as OfSuite, BadWords, BadStep, BadSelector, BadTags, NothingMatches, Reading, Writing}
+use Rattle.launcher.specs.declared.fault.LaunchFault.TheVariants.{NoMemory, Suite as OfSuite, BadWords, BadStep, BadSelector, BadTags, BadPair, BadSettings, NothingMatches, TooManyKeys, TooManyWorkers, Reading, Writing}
 
 module _ (asked : Asked) (old new : Option (List ℕ)) where
   -- a suite was read, and this is the answer of its run
@@ -30,7 +30,11 @@ module _ (asked : Asked) (old new : Option (List ℕ)) where
   run_read suite read (Err (BadStep n)) is run = absurd run
   run_read suite read (Err (BadSelector n)) is run = absurd run
   run_read suite read (Err (BadTags f)) is run = absurd run
+  run_read suite read (Err (BadPair f)) is run = absurd run
+  run_read suite read (Err (BadSettings f)) is run = record { suite = suite; is_read = is; run = run }
   run_read suite read (Err (NothingMatches n)) is run = record { suite = suite; is_read = is; run = run }
+  run_read suite read (Err TooManyKeys) is run = record { suite = suite; is_read = is; run = run }
+  run_read suite read (Err TooManyWorkers) is run = record { suite = suite; is_read = is; run = run }
   run_read suite read (Err Reading) is run = absurd run
   run_read suite read (Err (Writing f)) is run = record { suite = suite; is_read = is; run = run }
 
@@ -41,7 +45,11 @@ module _ (asked : Asked) (old new : Option (List ℕ)) where
   unread read (BadStep n) fails = absurd fails
   unread read (BadSelector n) fails = absurd fails
   unread read (BadTags f) fails = absurd fails
+  unread read (BadPair f) fails = absurd fails
+  unread read (BadSettings f) fails = absurd fails
   unread read (NothingMatches n) fails = absurd fails
+  unread read TooManyKeys fails = absurd fails
+  unread read TooManyWorkers fails = absurd fails
   unread read Reading fails = tt
   unread read (Writing f) fails = absurd fails
 
@@ -59,7 +67,11 @@ ends_whole (Some BadWords) count new other few end = end
 ends_whole (Some (BadStep n)) count new other few end = end
 ends_whole (Some (BadSelector n)) count new other few end = end
 ends_whole (Some (BadTags f)) count new other few end = end
+ends_whole (Some (BadPair f)) count new other few end = end
+ends_whole (Some (BadSettings f)) count new other few end = end
 ends_whole (Some (NothingMatches n)) count new other few end = end
+ends_whole (Some TooManyKeys) count new other few end = end
+ends_whole (Some TooManyWorkers) count new other few end = end
 ends_whole (Some Reading) count new other few end = absurd (other refl)
 ends_whole (Some (Writing f)) count new other few end = end
 
@@ -129,7 +141,11 @@ module _ (old new : Option (List ℕ)) where
   ends_run asked suite was is (Err (BadStep n)) run same = cc
   ends_run asked suite was is (Err (BadSelector n)) run same = cc
   ends_run asked suite was is (Err (BadTags f)) run same = cc
+  ends_run asked suite was is (Err (BadPair f)) run same = cc
+  ends_run asked suite was is (Err (BadSettings f)) run same = cc
   ends_run asked suite was is (Err (NothingMatches n)) run same = cc
+  ends_run asked suite was is (Err TooManyKeys) run same = cc
+  ends_run asked suite was is (Err TooManyWorkers) run same = cc
   ends_run asked suite was is (Err Reading) run same = absurd run
   ends_run asked suite was is (Err (Writing f)) run same = cc
 

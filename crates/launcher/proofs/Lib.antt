@@ -1,4 +1,6 @@
 pub mod Launching
+pub mod Pairing
+pub mod Planning
 pub mod Reading
 pub mod Requesting
 pub mod Reporting

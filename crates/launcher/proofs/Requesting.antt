@@ -24,7 +24,7 @@ expressions_more [] (x ∷ xs) text e are is = absurd are
 expressions_more (t ∷ ts) [] text e are is = absurd are
 expressions_more (t ∷ ts) (x ∷ xs) text e are is = (are.0, expressions_more ts xs text e are.1 is)
 
-behind_take : (texts : List (Bor Text)) (i : ℕ) (d : Bor Text) → i < length texts → behind (take (i + 1) texts) ≡ behind (take i texts) ++ (get_or texts i d).now ∷ []
+pub behind_take : (texts : List (Bor Text)) (i : ℕ) (d : Bor Text) → i < length texts → behind (take (i + 1) texts) ≡ behind (take i texts) ++ (get_or texts i d).now ∷ []
 behind_take texts i d inside = ap behind (take_more texts i d inside) ∙ map-append (λ t. t.now) (take i texts) (get_or texts i d ∷ [])
 
 module _ (texts : List (Bor Text)) (i : ℕ) (d : Bor Text) (inside : i < length texts) where

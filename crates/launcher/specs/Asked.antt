@@ -3,6 +3,7 @@ use Rattle.std.specs.Prelude.{◌≡◌, ℕ, ◌+◌, Bool, List, [], ◌∷◌
 use Rattle.std.specs.List.{filter_map}
 use Rattle.std.specs.Option.{option_or}
 use Rattle.std.specs.Str.{bytes_eq}
+use Rattle.config_params.specs.Parameters.{Parameters}
 use Rattle.listeners.specs.declared.theme.Theme.{Theme}
 use Rattle.listeners.specs.declared.theme.Theme.TheVariants as themes
 use Rattle.scheduling.specs.declared.step.Step.{Step}
@@ -22,23 +23,30 @@ use Rattle.launcher.specs.declared.fault.LaunchFault.{LaunchFault}
 use Rattle.launcher.specs.declared.fault.LaunchFault.TheVariants.{BadWords, BadStep, BadSelector, BadTags}
 use Rattle.suite_text.specs.StepTexts.{steps_of}
 use Rattle.launcher.specs.Given.{Text, Values}
+use Rattle.launcher.specs.Parameters.{processors_named, params_said, params_refusal}
 
--- what is asked for: what is to run, what is printed and how, whether there have to be tests, and the steps that are to be
--- replayed, if any are
+-- what is asked for: what is to run, with which parameters and how many processors, what is printed and how, whether there
+-- have to be tests, whether nothing more is to start once a node has failed, and the steps that are to be replayed, if any are
 pub record Asked : Type 0 where
   pub request : Request
+  pub params : Parameters
+  pub processors : ℕ
   pub details : Details
   pub theme : Theme
   pub fail_if_no_tests : Bool
+  pub fail_fast : Bool
   pub replay : Option (List Step)
 
 -- options, without where they lie in memory
 abbrev pub asked_by : Options → Asked
 asked_by options = record {
   request = options.request;
+  params = options.params;
+  processors = options.processors;
   details = options.details;
   theme = options.theme;
   fail_if_no_tests = options.fail_if_no_tests;
+  fail_fast = options.fail_fast;
   replay = option_map (λ steps. steps.items) options.replay;
 }
 
@@ -116,23 +124,28 @@ AreExpressions [] [] = Unit {0}
 AreExpressions (text ∷ texts) (e ∷ expressions) = IsExpression text e × AreExpressions texts expressions
 AreExpressions texts expressions = ⊥
 
--- why the values are refused: other details, other themes, what names no step, what spells no selector, and what is the
--- matter with a tag expression
+-- why the values are refused: other details, other themes, what is no number of processors, what names no step, what spells
+-- no selector, what is the matter with a tag expression, and what says no pair
 abbrev pub refusal_of : Values → Option LaunchFault
 refusal_of given =
     option_or (unless_named (details_named given.details)) (
     option_or (unless_named (theme_named given.theme)) (
+    option_or (unless_named (processors_named given.processors)) (
     option_or (replay_refusal given.replay) (
     option_or (selectors_refusal 1 (selector_texts given)) (
     option_or (tags_refusal given.include_tags) (
-    tags_refusal given.exclude_tags)))))
+    option_or (tags_refusal given.exclude_tags) (
+    params_refusal given)))))))
 
 -- the values ask for this
 pub record AreAsked (given : Values) (asked : Asked) : Type 0 where
   pub details : details_named given.details ≡ Some asked.details
   pub theme : theme_named given.theme ≡ Some asked.theme
+  pub processors : processors_named given.processors ≡ Some asked.processors
   pub tests : asked.fail_if_no_tests ≡ given.fail_if_no_tests
+  pub fail_fast : asked.fail_fast ≡ given.fail_fast
   pub replay : IsReplay given.replay asked.replay
   pub selectors : asked.request.selectors.items ≡ filter_map spelled (selector_texts given)
   pub include : AreExpressions given.include_tags asked.request.include.items
   pub exclude : AreExpressions given.exclude_tags asked.request.exclude.items
+  pub params : asked.params ≡ params_said given

@@ -1,6 +1,12 @@
 -- The numbers and places of a launch's refusals.
 use Rattle.std.specs.Prelude.{◌≡◌, ℕ, List, [], ◌++◌, codes, Option, Some, None}
 use Rattle.std.specs.Fmt.{decimal}
+use Rattle.config_params.specs.Faults as params_faults
+use Rattle.config_params.specs.SettingsFaults as settings_faults
+use Rattle.config_params.specs.declared.fault.ParamsFault.{ParamsFault}
+use Rattle.config_params.specs.declared.fault.ParamsFault.TheVariants as params
+use Rattle.resource_locks.specs.declared.fault.PlanFault.{PlanFault}
+use Rattle.resource_locks.specs.declared.fault.PlanFault.TheVariants as plans
 use Rattle.selectors.specs.declared.select_fault.SelectFault.{SelectFault}
 use Rattle.selectors.specs.declared.select_fault.SelectFault.TheVariants as selections
 use Rattle.suite_text.specs.SuiteFaults as suite_faults
@@ -14,7 +20,7 @@ use Rattle.tag_expr.specs.Faults as tag_faults
 use Rattle.tag_expr.specs.declared.fault.TagFault.{TagFault}
 use Rattle.tag_expr.specs.declared.fault.TagFault.TheVariants as tags
 use Rattle.launcher.specs.declared.fault.LaunchFault.{LaunchFault}
-use Rattle.launcher.specs.declared.fault.LaunchFault.TheVariants.{NoMemory, Suite, BadWords, BadStep, BadSelector, BadTags, NothingMatches, Reading, Writing}
+use Rattle.launcher.specs.declared.fault.LaunchFault.TheVariants.{NoMemory, Suite, BadWords, BadStep, BadSelector, BadTags, BadPair, BadSettings, NothingMatches, TooManyKeys, TooManyWorkers, Reading, Writing}
 
 -- the number that is printed behind `error`
 abbrev pub number_of : LaunchFault → ℕ
@@ -24,7 +30,11 @@ number_of BadWords = 105
 number_of (BadStep number) = 104
 number_of (BadSelector number) = 40
 number_of (BadTags fault) = tag_faults.number fault
+number_of (BadPair fault) = params_faults.number fault
+number_of (BadSettings fault) = settings_faults.number fault
 number_of (NothingMatches number) = 41
+number_of TooManyKeys = 50
+number_of TooManyWorkers = 61
 number_of Reading = 106
 number_of (Writing fault) = 81
 
@@ -34,6 +44,7 @@ place_of (Suite fault) = suite_faults.place_of fault
 place_of (BadStep number) = Some number
 place_of (BadSelector number) = Some number
 place_of (BadTags fault) = tag_faults.place fault
+place_of (BadPair fault) = params_faults.place fault
 place_of (NothingMatches number) = Some number
 place_of (Writing fault) = Some fault.sent
 place_of _ = None
@@ -64,6 +75,16 @@ IsStepsFault (steps.BadStep number) fault = fault ≡ BadStep number
 abbrev pub IsTagFault : TagFault → LaunchFault → Type 0
 IsTagFault tags.NoMemory fault = fault ≡ NoMemory
 IsTagFault cause fault = fault ≡ BadTags cause
+
+-- want of memory is the launch's own, and any other fault is one of a pair
+abbrev pub IsPairFault : ParamsFault → LaunchFault → Type 0
+IsPairFault params.NoMemory fault = fault ≡ NoMemory
+IsPairFault cause fault = fault ≡ BadPair cause
+
+-- want of memory is the launch's own, and so are too many keys
+abbrev pub IsPlanFault : PlanFault → LaunchFault → Type 0
+IsPlanFault plans.NoMemory fault = fault ≡ NoMemory
+IsPlanFault plans.TooManyKeys fault = fault ≡ TooManyKeys
 
 -- want of memory is the launch's own, and a selector that covers nothing keeps its number
 abbrev pub IsSelectFault : SelectFault → LaunchFault → Type 0

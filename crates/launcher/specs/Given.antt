@@ -16,10 +16,14 @@ pub record Values : Type 0 where
   pub packages : List Text
   pub include_tags : List Text
   pub exclude_tags : List Text
+  pub config : List Text
+  pub system : List Text
+  pub processors : Option Text
   pub details : Option Text
   pub theme : Option Text
   pub replay : Option Text
   pub fail_if_no_tests : Bool
+  pub fail_fast : Bool
 
 -- the texts behind references
 abbrev pub behind : List (Bor Text) → List Text
@@ -42,8 +46,12 @@ values_of given = record {
   packages = behind given.packages.items;
   include_tags = behind given.include_tags.items;
   exclude_tags = behind given.exclude_tags.items;
+  config = behind given.config.items;
+  system = behind given.system.items;
+  processors = maybe_behind given.processors;
   details = maybe_behind given.details;
   theme = maybe_behind given.theme;
   replay = maybe_behind given.replay;
   fail_if_no_tests = given.fail_if_no_tests;
+  fail_fast = given.fail_fast;
 }

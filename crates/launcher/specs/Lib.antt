@@ -4,6 +4,8 @@ pub mod Closings
 pub mod ExitStatuses
 pub mod Faults
 pub mod Given
+pub mod Parameters
 pub mod ReplayTexts
 pub mod Reports
 pub mod Runs
+pub mod WarningTexts

@@ -1,12 +1,23 @@
 -- What a run reads and what it writes.
-use Rattle.std.specs.Prelude.{◌≡◌, ℕ, ◌<◌, ◌≤◌, List, length, take, map, Bool, true, false, Option, Some, None, Result, Ok, Err}
+use Rattle.std.specs.Prelude.{◌≡◌, ℕ, ◌<◌, ◌≤◌, nat_lt, List, length, take, map, Bool, true, false, if◌then◌else◌, Option, Some, None, option_map, Result, Ok, Err}
+use Rattle.std.specs.Option.{option_or}
 use Rattle.std.specs.Io.KnownBytes.{Appends, Consumes, IsAtEnd}
+use Rattle.config_params.specs.Parameters.{Parameters, nothing_said, answer_over}
+use Rattle.config_params.specs.Settings.{settings_of}
+use Rattle.config_params.specs.declared.settings.Settings.{Settings}
+use Rattle.config_params.specs.declared.settings_fault.SettingsFault.{SettingsFault}
 use Rattle.descriptor.specs.Nodes.{Nodes}
+use Rattle.exec_mode.specs.GivenModes.{given_modes}
 use Rattle.plan_events.specs.declared.outcome.Reply.{Reply}
-use Rattle.resource_locks.specs.Plans.{PlanParts, plain}
+use Rattle.resource_locks.specs.Declarations.{declared_of}
+use Rattle.resource_locks.specs.Held as hoisted
+use Rattle.resource_locks.specs.Keys.{keys_of}
+use Rattle.resource_locks.specs.Plans.{PlanParts}
 use Rattle.launcher.specs.declared.exit_status.ExitStatus.{ExitStatus}
 use Rattle.launcher.specs.declared.fault.LaunchFault.{LaunchFault}
-use Rattle.launcher.specs.declared.fault.LaunchFault.TheVariants.{NoMemory, Suite, BadWords, BadStep, BadSelector, BadTags, NothingMatches, Reading, Writing}
+use Rattle.launcher.specs.declared.fault.LaunchFault.TheVariants.{NoMemory, Suite, BadWords, BadStep, BadSelector, BadTags, BadPair, BadSettings, NothingMatches, TooManyKeys, TooManyWorkers, Reading, Writing}
+use Rattle.selectors.specs.declared.request.Request.{Request}
+use Rattle.selectors.specs.declared.select_fault.SelectFault.{SelectFault}
 use Rattle.selectors.specs.declared.select_fault.SelectFault.TheVariants as selections
 use Rattle.selectors.specs.Selections.{answer, refusal}
 use Rattle.suite_text.specs.declared.script.Script.{Script}
@@ -17,28 +28,81 @@ use Rattle.suite_text.specs.declared.suite.Suite as suites
 use Rattle.launcher.specs.Asked.{Asked}
 use Rattle.launcher.specs.Reports.{IsOutput}
 
--- the plan of a tree
-abbrev pub plan_of : Nodes → PlanParts
-plan_of tree = plain tree
+-- what the suite says of the configuration
+abbrev pub properties_of : SuiteParts → Parameters
+properties_of suite = nothing_said
+
+-- the settings of a run: what the options say of a key stands over what the suite says of it
+abbrev pub settings_in : Asked → SuiteParts → Result Settings SettingsFault
+settings_in asked suite = settings_of (answer_over asked.params (properties_of suite)) asked.processors
+
+-- the plan of a tree: each node has the mode that the settings give it, locks are held by the nodes that they are hoisted to,
+-- and it fails fast or does not
+abbrev pub plan_of : Bool → Settings → Nodes → PlanParts
+plan_of fail_fast settings tree = record (hoisted.plan_of tree (given_modes tree settings)) { fail_fast = fail_fast }
 
 -- what its bodies answer
 abbrev pub answers_of : List Script → List (ℕ × Reply)
 answers_of scripts = map (λ script. (script.body, script.reply)) scripts
 
--- each selector covers something of the suite, and what the request selects of it is run: the text is what is printed of
--- that, and the status is its
+-- why settings are refused
+abbrev pub settings_refusal : Result Settings SettingsFault → Option LaunchFault
+settings_refusal (Ok settings) = None
+settings_refusal (Err fault) = Some (BadSettings fault)
+
+-- the refusal of a selection
+abbrev pub selection_fault : SelectFault → LaunchFault
+selection_fault selections.NoMemory = NoMemory
+selection_fault (selections.NothingMatches number) = NothingMatches number
+
+-- why a request is refused: the first selector that covers nothing of the tree
+abbrev pub selection_refusal : Nodes → Request → Option LaunchFault
+selection_refusal tree request = option_map selection_fault (refusal tree request)
+
+-- why a tree has no plan: its nodes declare too many keys
+abbrev pub keys_refusal : Nodes → Option LaunchFault
+keys_refusal tree = if nat_lt 256 (length (keys_of (declared_of tree))) then Some TooManyKeys else None
+
+-- why there is no plan of what a request selects of a tree
+abbrev pub plan_refusal : Nodes → Request → Option LaunchFault
+plan_refusal tree request = option_or (selection_refusal tree request) (keys_refusal (answer tree request))
+
+-- why a number of workers is refused: there are too many
+abbrev pub workers_refusal : ℕ → Option LaunchFault
+workers_refusal workers = if nat_lt 64 workers then Some TooManyWorkers else None
+
+-- the same of settings
+abbrev pub crowd_refusal : Result Settings SettingsFault → Option LaunchFault
+crowd_refusal (Ok settings) = workers_refusal settings.workers
+crowd_refusal (Err fault) = None
+
+-- why a suite is not run: what its settings are refused for, a selector that covers nothing of it, too many keys of what is
+-- selected, and too many workers
+abbrev pub run_refusal : Asked → SuiteParts → Option LaunchFault
+run_refusal asked suite =
+    option_or (settings_refusal (settings_in asked suite)) (
+    option_or (plan_refusal suite.tree asked.request) (
+    crowd_refusal (settings_in asked suite)))
+
+-- nothing refuses the suite that is judged before memory is taken: neither its settings nor a selector
+pub record TakesMemory (asked : Asked) (suite : SuiteParts) : Type 0 where
+  pub settings : settings_refusal (settings_in asked suite) ≡ None
+  pub selection : selection_refusal suite.tree asked.request ≡ None
+
+-- what the request selects of the suite is run with its settings: the text is what is printed of that, and the status is its
 pub record IsSuiteOutput (asked : Asked) (suite : SuiteParts) (text : List ℕ) (status : ExitStatus) : Type 0 where
-  pub accepted : refusal suite.tree asked.request ≡ None
-  pub output : IsOutput asked (plan_of (answer suite.tree asked.request)) (answers_of suite.scripts) text status
+  pub accepted : run_refusal asked suite ≡ None
+  pub settings : Settings
+  pub are : settings_in asked suite ≡ Ok settings
+  pub output : IsOutput asked settings (plan_of asked.fail_fast settings (answer suite.tree asked.request)) (answers_of suite.scripts) text status
 
--- the selector of this number covers nothing of the suite
-abbrev pub LeavesNothing : Asked → SuiteParts → ℕ → Type 0
-LeavesNothing asked suite number = refusal suite.tree asked.request ≡ Some (selections.NothingMatches number)
-
--- the output of a suite is refused where a selector covers nothing, which is judged before memory is taken
+-- the output of a suite is refused by its first refusal, and want of memory stands in place of none that is judged before
 abbrev pub FailsSuite : Asked → SuiteParts → LaunchFault → Type 0
-FailsSuite asked suite NoMemory = refusal suite.tree asked.request ≡ None
-FailsSuite asked suite (NothingMatches number) = LeavesNothing asked suite number
+FailsSuite asked suite NoMemory = TakesMemory asked suite
+FailsSuite asked suite (BadSettings fault) = run_refusal asked suite ≡ Some (BadSettings fault)
+FailsSuite asked suite (NothingMatches number) = run_refusal asked suite ≡ Some (NothingMatches number)
+FailsSuite asked suite TooManyKeys = run_refusal asked suite ≡ Some TooManyKeys
+FailsSuite asked suite TooManyWorkers = run_refusal asked suite ≡ Some TooManyWorkers
 FailsSuite asked suite _ = ⊥
 
 -- the writer took all of a suite's output
@@ -75,7 +139,11 @@ FailsToRead read BadWords = ⊥
 FailsToRead read (BadStep number) = ⊥
 FailsToRead read (BadSelector number) = ⊥
 FailsToRead read (BadTags fault) = ⊥
+FailsToRead read (BadPair fault) = ⊥
+FailsToRead read (BadSettings fault) = ⊥
 FailsToRead read (NothingMatches number) = ⊥
+FailsToRead read TooManyKeys = ⊥
+FailsToRead read TooManyWorkers = ⊥
 FailsToRead read Reading = Unit {0}
 FailsToRead read (Writing fault) = ⊥
 
@@ -88,7 +156,10 @@ ReadsSuite read (Err fault) = FailsToRead read fault
 -- of a reader that failed nothing is known
 abbrev pub IsRun : Asked → Result SuiteParts SuiteFault → Option (List ℕ) → Option (List ℕ) → Result ExitStatus LaunchFault → Type 0
 IsRun asked read old new (Ok status) = IsReadAndRun asked read old new (Ok status)
+IsRun asked read old new (Err (BadSettings fault)) = IsReadAndRun asked read old new (Err (BadSettings fault))
 IsRun asked read old new (Err (NothingMatches number)) = IsReadAndRun asked read old new (Err (NothingMatches number))
+IsRun asked read old new (Err TooManyKeys) = IsReadAndRun asked read old new (Err TooManyKeys)
+IsRun asked read old new (Err TooManyWorkers) = IsReadAndRun asked read old new (Err TooManyWorkers)
 IsRun asked read old new (Err (Writing fault)) = IsReadAndRun asked read old new (Err (Writing fault))
 IsRun asked read old new (Err fault) = FailsToRead read fault
 

@@ -1,11 +1,13 @@
 //! The refusals of a launch, with their numbers and places.
 
 ghost use Rattle.std.specs.Prelude.{◌≡◌};
-ghost use Rattle.launcher.specs.Faults.{number_of, place_of, IsReadFault, IsSelectFault, IsStepsFault, IsSuiteFault, IsTagFault};
-ghost use Rattle.launcher.specs.declared.fault.LaunchFault.TheVariants.{NoMemory, Writing};
+ghost use Rattle.launcher.specs.Faults.{number_of, place_of, IsPairFault, IsPlanFault, IsReadFault, IsSelectFault, IsStepsFault, IsSuiteFault, IsTagFault};
+ghost use Rattle.launcher.specs.declared.fault.LaunchFault.TheVariants.{NoMemory, BadSettings, Writing};
 
 use crate::bytes::ReadFault;
+use config_params::{ParamsFault, SettingsFault};
 use listeners::WriteFault;
+use resource_locks::PlanFault;
 use selectors::SelectFault;
 use std::alloc::{AllocError, AllocFailed};
 use std::error::Error;
@@ -29,8 +31,17 @@ pub enum LaunchFault {
     BadSelector(usize),
     /// Refusals 20 to 26, at a place in the tag expression.
     BadTags(TagFault),
+    /// Refusals 30 and 31: the word of this number, from 1, among those of `--config` and then of
+    /// `--system`, says no pair.
+    BadPair(ParamsFault),
+    /// Refusals 32 to 34: what the configuration asks for is none.
+    BadSettings(SettingsFault),
     /// Refusal 41: the selector of this number, from 1, covers nothing of the suite.
     NothingMatches(usize),
+    /// Refusal 50: the nodes that are run declare more than 256 keys, the global one included.
+    TooManyKeys,
+    /// Refusal 61: the configuration asks for more than 64 workers.
+    TooManyWorkers,
     /// Refusal 106: the reader failed.
     Reading,
     /// Refusal 81, at the number of bytes that the writer took.
@@ -85,6 +96,36 @@ impl From<SelectFault> for LaunchFault {
         match fault {
             SelectFault::NoMemory => LaunchFault::NoMemory,
             SelectFault::NothingMatches(number) => LaunchFault::NothingMatches(number),
+        }
+    }
+}
+
+impl From<ParamsFault> for LaunchFault {
+    ghost from_gives = { IsPairFault };
+
+    fn from(fault: ParamsFault) -> LaunchFault {
+        match fault {
+            ParamsFault::NoMemory => LaunchFault::NoMemory,
+            _ => LaunchFault::BadPair(fault),
+        }
+    }
+}
+
+impl From<SettingsFault> for LaunchFault {
+    ghost from_gives = { λ cause fault. fault ≡ BadSettings cause };
+
+    fn from(cause: SettingsFault) -> LaunchFault {
+        LaunchFault::BadSettings(cause)
+    }
+}
+
+impl From<PlanFault> for LaunchFault {
+    ghost from_gives = { IsPlanFault };
+
+    fn from(fault: PlanFault) -> LaunchFault {
+        match fault {
+            PlanFault::NoMemory => LaunchFault::NoMemory,
+            PlanFault::TooManyKeys => LaunchFault::TooManyKeys,
         }
     }
 }
@@ -145,14 +186,18 @@ impl LaunchFault {
             LaunchFault::BadStep(_) => 104,
             LaunchFault::BadSelector(_) => 40,
             LaunchFault::BadTags(fault) => fault.number(),
+            LaunchFault::BadPair(fault) => fault.number(),
+            LaunchFault::BadSettings(fault) => fault.number(),
             LaunchFault::NothingMatches(_) => 41,
+            LaunchFault::TooManyKeys => 50,
+            LaunchFault::TooManyWorkers => 61,
             LaunchFault::Reading => 106,
             LaunchFault::Writing(_) => 81,
         }
     }
 
-    /// The line of the suite, or the number of the step or the selector, from 1, or the place in the
-    /// tag expression, or how many bytes went out.
+    /// The line of the suite, or the number of the step, the selector or the pair, from 1, or the
+    /// place in the tag expression, or how many bytes went out.
     pub fn place(&self) -> Option<u64>
         ensures { result ≡ place_of self.now }
     {
@@ -162,6 +207,7 @@ impl LaunchFault {
             | LaunchFault::BadSelector(number)
             | LaunchFault::NothingMatches(number) => Some(*number as u64),
             LaunchFault::BadTags(fault) => fault.place().map(|place| place as u64),
+            LaunchFault::BadPair(fault) => fault.place(),
             LaunchFault::Writing(fault) => Some(fault.sent as u64),
             _ => None,
         }

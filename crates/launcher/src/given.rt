@@ -15,6 +15,12 @@ pub struct Given<'a> {
     pub include_tags: Vec<&'a str>,
     /// `--exclude-tag`.
     pub exclude_tags: Vec<&'a str>,
+    /// `--config`.
+    pub config: Vec<&'a str>,
+    /// `--system`.
+    pub system: Vec<&'a str>,
+    /// `--processors`.
+    pub processors: Option<&'a str>,
     /// `--details`.
     pub details: Option<&'a str>,
     /// `--details-theme`.
@@ -23,4 +29,6 @@ pub struct Given<'a> {
     pub replay: Option<&'a str>,
     /// `--fail-if-no-tests`.
     pub fail_if_no_tests: bool,
+    /// `--fail-fast`.
+    pub fail_fast: bool,
 }

@@ -8,9 +8,11 @@ mod exit_status;
 mod fault;
 mod given;
 mod options;
+mod parameters;
 mod replay;
 mod report;
 mod run;
+mod warning_lines;
 
 pub use bytes::{ReadFault, read_front};
 pub use closing::Closing;

@@ -5,11 +5,14 @@ ghost use Rattle.std.specs.List.{filter_map};
 ghost use Rattle.std.specs.Option.{IsSome};
 ghost use Rattle.launcher.specs.declared.fault.LaunchFault.TheVariants.{NoMemory};
 ghost use Rattle.launcher.specs.Given.{behind, maybe_behind, texts_of, values_of};
+ghost use Rattle.launcher.specs.Parameters.{processors_named as processors_of_name};
 ghost use Rattle.launcher.specs.Asked.{asked_by, details_named as details_of_name, theme_named as theme_of_name, unless_named, replay_refusal, IsReplay, refusal_of, AreAsked, selector_texts as texts_given, spelled, selectors_refusal, tags_refusal, AreExpressions};
 
 use crate::details::Details;
 use crate::fault::LaunchFault;
 use crate::given::Given;
+use crate::parameters::{params_given, processors_named};
+use config_params::Params;
 use listeners::Theme;
 use scheduling::Step;
 use selectors::{Request, Selector, SelectorFault, SelectorKind};
@@ -18,15 +21,22 @@ use suite_text::parse_steps;
 use tag_expr::TagExpr;
 
 /// The options of a run.
-#[derive(Debug, Drop)]
+#[derive(Drop)]
 pub struct Options {
     /// What is to run: the options for selectors, which share one numbering, and those for tags.
     pub request: Request,
+    /// What the request and the system say of the configuration; what the suite says of a key counts
+    /// only where neither has it.
+    pub params: Params,
+    /// How many processors the machine is taken to have.
+    pub processors: u32,
     pub details: Details,
     /// The signs of the tree.
     pub theme: Theme,
     /// Whether a run without tests has a status of its own.
     pub fail_if_no_tests: bool,
+    /// Whether nothing more starts once a node has failed.
+    pub fail_fast: bool,
     /// The steps that are run in place of the fixed schedule. Then their text alone is printed,
     /// whatever the details are.
     pub replay: Option<Vec<Step>>,
@@ -160,33 +170,40 @@ fn expressions_of(alloc: Global, values: &[&str]) -> Result<Vec<TagExpr>, Launch
 
 impl Options {
     /// The options that these values ask for. Details and themes that are none of ours are refusal
-    /// 105; then a word in the text of `--replay` that names no step is refusal 104, at its number;
+    /// 105, and so is what is no number of processors from 1 to 1,024; then a word in the text of `--replay` that names no step is refusal 104, at its number;
     /// then a text that spells no selector is refusal 40, at the selector's number; then an
     /// expression of `--include-tag`, and then of `--exclude-tag`, is one of 20 to 26, at a place
-    /// in it. Selectors are numbered from 1 in the order of unique ids, classes, methods and
-    /// packages, those of one option in the order of the words. Details, the theme and the steps of a
-    /// replay are judged before any memory is taken, selectors and expressions in their turn.
+    /// in it; then a word of `--config` or `--system` that has no equals sign or an empty key is
+    /// refusal 30 or 31, at its number, those of `--config` counted first. Selectors are numbered from 1 in the order of unique ids, classes, methods and
+    /// packages, those of one option in the order of the words. Details, the theme, the
+    /// processors and the steps of a replay are judged before any memory is taken, the others in their
+    /// turn.
     pub fn of(alloc: Global, given: &Given<'_>) -> Result<Options, LaunchFault>
         ensures asked { IfOk result (λ options. AreAsked (values_of given.now) (asked_by options)) }
         ensures accepted { IfOk result (λ _. refusal_of (values_of given.now) ≡ None) }
         ensures refused { IfErr result (λ fault. fault ≢ NoMemory → refusal_of (values_of given.now) ≡ Some fault) }
-        ensures no_memory { IfErr result (λ fault. fault ≡ NoMemory → IsSome (details_of_name (maybe_behind given.now.details)) × IsSome (theme_of_name (maybe_behind given.now.theme)) × (replay_refusal (maybe_behind given.now.replay) ≡ None)) }
+        ensures no_memory { IfErr result (λ fault. fault ≡ NoMemory → IsSome (details_of_name (maybe_behind given.now.details)) × IsSome (theme_of_name (maybe_behind given.now.theme)) × IsSome (processors_of_name (maybe_behind given.now.processors)) × (replay_refusal (maybe_behind given.now.replay) ≡ None)) }
     {
         let details = details_named(given.details)?;
         let theme = theme_named(given.theme)?;
+        let processors = processors_named(given.processors)?;
         let replay = replay_named(alloc, given.replay)?;
         let selectors = selectors_given(alloc, given)?;
         let include = expressions_of(alloc, given.include_tags.as_slice())?;
         let exclude = expressions_of(alloc, given.exclude_tags.as_slice())?;
+        let params = params_given(alloc, given)?;
         Ok(Options {
             request: Request {
                 selectors,
                 include,
                 exclude,
             },
+            params,
+            processors,
             details,
             theme,
             fail_if_no_tests: given.fail_if_no_tests,
+            fail_fast: given.fail_fast,
             replay,
         })
     }

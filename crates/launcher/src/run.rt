@@ -1,11 +1,11 @@
 //! A run: from the bytes of a reader to the bytes of a writer.
 
-ghost use Rattle.std.specs.Prelude.{◌≡◌, None, IfOk, IfErr, IfSome, false, take, string_bytes};
+ghost use Rattle.std.specs.Prelude.{◌≡◌, ◌≢◌, None, Some, IfOk, IfErr, IfSome, false, take, string_bytes};
 ghost use Rattle.std.specs.Io.KnownBytes.{Keeps};
 ghost use Rattle.suite_text.specs.SuiteBytes.{suite_read};
 ghost use Rattle.suite_text.specs.Suites.{suite_parts};
-ghost use Rattle.launcher.specs.Runs.{IsRun, IsSuiteOutput, IsSuiteRun, FailsSuite, ReadsSuite, TakesFrom, answers_of as answers_in, fault_in, is_writing};
-ghost use Rattle.selectors.specs.Selections.{refusal};
+ghost use Rattle.launcher.specs.Runs.{IsRun, IsSuiteOutput, IsSuiteRun, FailsSuite, ReadsSuite, TakesFrom, TakesMemory, answers_of as answers_in, fault_in, is_writing, plan_of as plan_in, plan_refusal, selection_refusal, workers_refusal};
+ghost use Rattle.selectors.specs.Selections.{answer};
 ghost use Rattle.launcher.specs.Asked.{asked_by};
 
 use crate::bytes::{ReadFault, read_front};
@@ -13,8 +13,11 @@ use crate::exit_status::ExitStatus;
 use crate::fault::LaunchFault;
 use crate::options::Options;
 use crate::report::{Report, report_of};
+use config_params::{Params, Settings};
+use descriptor::Tree;
+use exec_mode::modes;
 use listeners::print_to;
-use resource_locks::Plan;
+use resource_locks::{Plan, hoist};
 use sched_core::Answers;
 use selectors::discover;
 use std::alloc::{AllocError, Global};
@@ -23,6 +26,9 @@ use suite_text::{Script, Suite};
 
 /// How many bytes are read at most: one more than a suite may have tells that there are too many.
 const MOST_READ: usize = 1_048_577;
+
+/// The greatest number of workers.
+const MOST_WORKERS: u32 = 64;
 
 /// The suite that a reader holds. Refused are a reader that fails (106) and what is no suite (10 to
 /// 17 and 100 to 103).
@@ -45,21 +51,55 @@ fn answers_of(alloc: Global, scripts: Vec<Script>) -> Result<Answers, AllocError
     Ok(Answers::of(replies))
 }
 
+/// The plan of what the request selects of a tree: modes by the settings, locks hoisted, failing fast
+/// where the options say so. Refused are a selector that covers nothing (41), which is judged before
+/// any memory is taken, and more than 256 keys (50).
+fn plan_of(
+    alloc: Global,
+    options: &Options,
+    settings: &Settings,
+    tree: Tree,
+) -> Result<Plan, LaunchFault>
+    ensures plan { IfOk result (λ plan. plan ≡ plan_in options.now.fail_fast settings.now (answer tree options.now.request)) }
+    ensures accepted { IfOk result (λ _. plan_refusal tree options.now.request ≡ None) }
+    ensures refused { IfErr result (λ fault. fault ≢ LaunchFault.NoMemory → plan_refusal tree options.now.request ≡ Some fault) }
+    ensures no_memory { IfErr result (λ fault. fault ≡ LaunchFault.NoMemory → selection_refusal tree options.now.request ≡ None) }
+{
+    let tree = discover(alloc, tree, &options.request)?;
+    let modes = modes(alloc, &tree, settings)?;
+    let plan = hoist(alloc, &tree, modes)?;
+    Ok(plan.with_fail_fast(options.fail_fast))
+}
+
+/// Refused are more than 64 workers (61), also where the fixed schedule runs one of them.
+fn judge_workers(workers: u32) -> Result<(), LaunchFault>
+    ensures accepted { IfOk result (λ _. workers_refusal workers ≡ None) }
+    ensures refused { IfErr result (λ fault. (fault ≡ LaunchFault.TooManyWorkers) × (workers_refusal workers ≡ Some fault)) }
+{
+    if workers > MOST_WORKERS {
+        return Err(LaunchFault::TooManyWorkers);
+    }
+    Ok(())
+}
+
 /// What the options print of a suite, and the program's status.
 fn suite_report(alloc: Global, options: &Options, suite: Suite) -> Result<Report, LaunchFault>
     ensures report { IfOk result (λ report. IsSuiteOutput (asked_by options.now) (suite_parts suite) (string_bytes report.text) report.status) }
     ensures refused { IfErr result (λ fault. FailsSuite (asked_by options.now) (suite_parts suite) fault) }
 {
-    let tree = discover(alloc, suite.tree, &options.request)?;
+    let properties = Params::new(alloc);
+    let settings = Settings::read_over(&options.params, &properties, options.processors)?;
+    let plan = plan_of(alloc, options, &settings, suite.tree)?;
+    judge_workers(settings.workers)?;
     let answers = answers_of(alloc, suite.scripts)?;
-    let plan = Plan::plain(alloc, tree)?;
-    Ok(report_of(alloc, options, &plan, &answers)?)
+    Ok(report_of(alloc, options, &settings, &plan, &answers)?)
 }
 
-/// Runs what the request selects of a suite by the fixed schedule, or by the steps of a replay, and
-/// writes what the options ask for. Refused are a selector that covers nothing (41), which is judged
-/// before any memory is taken, and a writer that fails (81, when the first bytes of the output are
-/// written); on any other refusal nothing is written.
+/// Runs what the request selects of a suite with its settings, by the fixed schedule or by the steps
+/// of a replay, and writes what the options ask for. Refused are, in this order, what gives no settings
+/// (34, 32, 33) and a selector that covers nothing (41), which are judged before any memory is taken;
+/// more than 256 keys (50), more than 64 workers (61), and a writer that fails (81, when the first
+/// bytes of the output are written). On any refusal but 81 nothing is written.
 pub fn run_suite<W: Write>(
     alloc: Global,
     options: &Options,
@@ -67,7 +107,7 @@ pub fn run_suite<W: Write>(
     writer: &mut W,
 ) -> Result<ExitStatus, LaunchFault>
     ensures exact { IsSuiteRun (asked_by options.now) (suite_parts suite) (W.contents writer.old) (W.contents writer.new) result }
-    ensures no_memory { IfErr result (λ fault. fault ≡ LaunchFault.NoMemory → refusal (suite_parts suite).tree (asked_by options.now).request ≡ None) }
+    ensures no_memory { IfErr result (λ fault. fault ≡ LaunchFault.NoMemory → TakesMemory (asked_by options.now) (suite_parts suite)) }
     ensures quiet { IfErr result (λ fault. is_writing fault ≡ false → Keeps (W.contents writer.old) (W.contents writer.new)) }
 {
     let report = suite_report(alloc, options, suite)?;
@@ -77,7 +117,7 @@ pub fn run_suite<W: Write>(
 
 /// Reads a suite and runs it, as `read_suite` and `run_suite` say. The reading takes memory before
 /// anything is judged, but want of memory never stands in place of a suite that is too large, nor,
-/// once the suite was read, of a selector that covers nothing. On any refusal but 81 nothing is
+/// once the suite was read, of settings that are none or of a selector that covers nothing. On any refusal but 81 nothing is
 /// written.
 pub fn run_options<R: Read, W: Write>(
     alloc: Global,

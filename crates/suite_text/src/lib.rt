@@ -19,6 +19,7 @@ mod suite_spins;
 mod suite_verdicts;
 mod suite_words;
 
+pub use number::number_up_to;
 pub use script::Script;
 pub use steps::{StepsFault, parse_steps};
 pub use suite::Suite;

@@ -20,8 +20,8 @@ pub(crate) fn is_number(text: &str) -> bool
     !digits.is_empty() && are_digits(digits)
 }
 
-/// The number that a text has in decimal, up to `most`.
-pub(crate) fn number_up_to(most: u32, text: &str) -> Option<u32>
+/// The number that a text of digits is in decimal, with zeros in front if there are any, up to `most`.
+pub fn number_up_to(most: u32, text: &str) -> Option<u32>
     ensures value { result ≡ number_up_to most text.now }
     ensures within { IfSome result (λ number. number ≤ most) }
 {

@@ -1,0 +1,164 @@
+-- From the refusals of each part of a run to the first one of all, and to the plan that is run.
+use Rattle.std.proofs.Common.{◌≡◌, ◌≢◌, ℕ, ◌<◌, ◌≤◌, List, length, Bool, true, false, Option, Some, None, option_map, Result, Ok, Err, IfErr, refl, sym, ap, subst, ◌∙◌, arith}
+use Rattle.std.specs.Prelude.{nat_lt, if◌then◌else◌, unwrap_or}
+use Rattle.std.specs.Option.{option_or}
+use Rattle.std.specs.Result.{IsErrAnd}
+use Rattle.std.proofs.lemmas.Bool.{lt-ltb}
+use Rattle.std.proofs.lemmas.Option.{none-some}
+use Rattle.config_params.specs.declared.settings.Settings.{Settings}
+use Rattle.config_params.specs.declared.settings_fault.SettingsFault.{SettingsFault}
+use Rattle.descriptor.specs.Nodes.{Nodes}
+use Rattle.descriptor.specs.declared.mode.Mode.{Mode}
+use Rattle.exec_mode.specs.GivenModes.{given_modes}
+use Rattle.plan_events.specs.declared.outcome.Reply.{Reply}
+use Rattle.resource_locks.specs.Declarations.{declared_of}
+use Rattle.resource_locks.specs.Held as hoisted
+use Rattle.resource_locks.specs.Keys.{keys_of}
+use Rattle.resource_locks.specs.Plans.{PlanParts}
+use Rattle.resource_locks.specs.declared.fault.PlanFault.{PlanFault}
+use Rattle.resource_locks.specs.declared.fault.PlanFault.TheVariants as plans
+use Rattle.selectors.specs.Selections.{answer, refusal}
+use Rattle.selectors.specs.declared.request.Request.{Request}
+use Rattle.selectors.specs.declared.select_fault.SelectFault.{SelectFault}
+use Rattle.selectors.specs.declared.select_fault.SelectFault.TheVariants as selections
+use Rattle.suite_text.specs.SuiteParts.{SuiteParts}
+use Rattle.launcher.specs.Asked.{Asked}
+use Rattle.launcher.specs.Faults.{IsPlanFault, IsSelectFault}
+use Rattle.launcher.specs.Reports.{IsOutput}
+use Rattle.launcher.specs.Runs.{FailsSuite, IsSuiteOutput, TakesMemory, answers_of, crowd_refusal, keys_refusal, plan_of, plan_refusal, run_refusal, selection_fault, selection_refusal, settings_in, settings_refusal, workers_refusal}
+use Rattle.launcher.specs.declared.exit_status.ExitStatus.{ExitStatus}
+use Rattle.launcher.specs.declared.fault.LaunchFault.{LaunchFault}
+use Rattle.launcher.specs.declared.fault.LaunchFault.TheVariants.{NoMemory, Suite as OfSuite, BadWords, BadStep, BadSelector, BadTags, BadPair, BadSettings, NothingMatches, TooManyKeys, TooManyWorkers, Reading, Writing}
+
+or_none : {A : Type 0} (a b : Option A) → option_or a b ≡ None → a ≡ None
+or_none None b is = refl
+or_none (Some x) b is = absurd (none-some _ (sym is))
+
+-- so many keys are not too many
+few_by : (n : ℕ) (b : Bool) → nat_lt 256 n ≡ b → n ≤ 256 → b ≡ false
+few_by n true is few = absurd (grind arith)
+few_by n false is few = refl
+
+-- the plan of what a request finds in a tree
+module _ (tree : Nodes) (request : Request) where
+  pub selection_refused : {X : Type 0} (cause : SelectFault) (result : Result X LaunchFault) → IsErrAnd result (IsSelectFault cause) → (cause ≢ selections.NoMemory → refusal tree request ≡ Some cause)
+      → IfErr result (λ fault. fault ≢ NoMemory → plan_refusal tree request ≡ Some fault)
+  selection_refused cause (Ok x) is refused = absurd is
+  selection_refused selections.NoMemory (Err fault) is refused = λ other. absurd (other is)
+  selection_refused (selections.NothingMatches n) (Err fault) is refused =
+      λ other. ap (λ (o : Option SelectFault). option_or (option_map selection_fault o) (keys_refusal (answer tree request))) (refused (λ same. cc)) ∙ ap Some (sym is)
+
+  pub selection_memory : {X : Type 0} (cause : SelectFault) (result : Result X LaunchFault) → IsErrAnd result (IsSelectFault cause) → (cause ≡ selections.NoMemory → refusal tree request ≡ None)
+      → IfErr result (λ fault. fault ≡ NoMemory → selection_refusal tree request ≡ None)
+  selection_memory cause (Ok x) is memory = absurd is
+  selection_memory selections.NoMemory (Err fault) is memory = λ same. ap (option_map selection_fault) (memory refl)
+  selection_memory (selections.NothingMatches n) (Err fault) is memory = λ same. cc
+
+  module _ (found : Nodes) (is_found : found ≡ answer tree request) (accepted : refusal tree request ≡ None) where
+    pub selection_none : selection_refusal tree request ≡ None
+    selection_none = ap (option_map selection_fault) accepted
+
+    plan_is : plan_refusal tree request ≡ keys_refusal found
+    plan_is = ap (λ o. option_or o (keys_refusal (answer tree request))) selection_none ∙ ap keys_refusal (sym is_found)
+
+    pub keys_refused : {X : Type 0} (cause : PlanFault) (result : Result X LaunchFault) → IsErrAnd result (IsPlanFault cause) → (cause ≡ plans.TooManyKeys → 256 < length (keys_of (declared_of found)))
+        → IfErr result (λ fault. fault ≢ NoMemory → plan_refusal tree request ≡ Some fault)
+    keys_refused cause (Ok x) is many = absurd is
+    keys_refused plans.NoMemory (Err fault) is many = λ other. absurd (other is)
+    keys_refused plans.TooManyKeys (Err fault) is many =
+        λ other. plan_is ∙ ap (λ b. if b then Some TooManyKeys else None) (lt-ltb 256 (length (keys_of (declared_of found))) (many refl)) ∙ ap Some (sym is)
+
+    pub plan_accepted : length (keys_of (declared_of found)) ≤ 256 → plan_refusal tree request ≡ None
+    plan_accepted few = plan_is ∙ ap (λ b. if b then Some TooManyKeys else None) (few_by (length (keys_of (declared_of found))) _ refl few)
+
+-- the plan that was made
+pub plan_made : (tree found : Nodes) (request : Request) (settings : Settings) (fail_fast : Bool) (modes : List Mode) (made plan : PlanParts) → found ≡ answer tree request → modes ≡ given_modes found settings → made ≡ hoisted.plan_of found modes
+    → plan ≡ record made { fail_fast = fail_fast } → plan ≡ plan_of fail_fast settings (answer tree request)
+plan_made tree found request settings fail_fast modes made plan is_found are_modes is_made is =
+    is ∙ ap (λ (p : PlanParts). record p { fail_fast = fail_fast }) (is_made ∙ ap (hoisted.plan_of found) are_modes) ∙ ap (plan_of fail_fast settings) is_found
+
+-- what a run of a suite is refused for is one of these
+abbrev IsRunRefusal : LaunchFault → Type 0
+IsRunRefusal NoMemory = Unit {0}
+IsRunRefusal (BadSettings fault) = Unit {0}
+IsRunRefusal (NothingMatches number) = Unit {0}
+IsRunRefusal TooManyKeys = Unit {0}
+IsRunRefusal TooManyWorkers = Unit {0}
+IsRunRefusal _ = ⊥
+
+by_some : (a b : LaunchFault) → Some a ≡ Some b → IsRunRefusal a → IsRunRefusal b
+by_some a b same is = subst IsRunRefusal (ap (λ o. unwrap_or o a) same) is
+
+by_crowd : (b : Bool) (fault : LaunchFault) → (if b then Some TooManyWorkers else None) ≡ Some fault → IsRunRefusal fault
+by_crowd true fault same = by_some TooManyWorkers fault same tt
+by_crowd false fault same = absurd (none-some _ same)
+
+by_parts : (settings : Result Settings SettingsFault) (selection : Option SelectFault) (keys : Bool) (fault : LaunchFault)
+    → option_or (settings_refusal settings) (option_or (option_or (option_map selection_fault selection) (if keys then Some TooManyKeys else None)) (crowd_refusal settings)) ≡ Some fault → IsRunRefusal fault
+by_parts (Err cause) selection keys fault same = by_some (BadSettings cause) fault same tt
+by_parts (Ok settings) (Some selections.NoMemory) keys fault same = by_some NoMemory fault same tt
+by_parts (Ok settings) (Some (selections.NothingMatches n)) keys fault same = by_some (NothingMatches n) fault same tt
+by_parts (Ok settings) None true fault same = by_some TooManyKeys fault same tt
+by_parts (Ok settings) None false fault same = by_crowd (nat_lt 64 settings.workers) fault same
+
+module _ (asked : Asked) (suite : SuiteParts) where
+  run_kind : (fault : LaunchFault) → run_refusal asked suite ≡ Some fault → IsRunRefusal fault
+  run_kind fault same = by_parts (settings_in asked suite) (refusal suite.tree asked.request) (nat_lt 256 (length (keys_of (declared_of (answer suite.tree asked.request))))) fault same
+
+  fails_by : (fault : LaunchFault) → (fault ≢ NoMemory → run_refusal asked suite ≡ Some fault) → (fault ≡ NoMemory → TakesMemory asked suite) → FailsSuite asked suite fault
+  fails_by NoMemory refused memory = memory refl
+  fails_by (OfSuite f) refused memory = absurd (run_kind (OfSuite f) (refused (λ same. cc)))
+  fails_by BadWords refused memory = absurd (run_kind BadWords (refused (λ same. cc)))
+  fails_by (BadStep n) refused memory = absurd (run_kind (BadStep n) (refused (λ same. cc)))
+  fails_by (BadSelector n) refused memory = absurd (run_kind (BadSelector n) (refused (λ same. cc)))
+  fails_by (BadTags f) refused memory = absurd (run_kind (BadTags f) (refused (λ same. cc)))
+  fails_by (BadPair f) refused memory = absurd (run_kind (BadPair f) (refused (λ same. cc)))
+  fails_by (BadSettings f) refused memory = refused (λ same. cc)
+  fails_by (NothingMatches n) refused memory = refused (λ same. cc)
+  fails_by TooManyKeys refused memory = refused (λ same. cc)
+  fails_by TooManyWorkers refused memory = refused (λ same. cc)
+  fails_by Reading refused memory = absurd (run_kind Reading (refused (λ same. cc)))
+  fails_by (Writing f) refused memory = absurd (run_kind (Writing f) (refused (λ same. cc)))
+
+  -- settings that are none
+  pub settings_fail : {X : Type 0} (cause : SettingsFault) (result : Result X LaunchFault) → IsErrAnd result (λ fault. fault ≡ BadSettings cause) → Err cause ≡ settings_in asked suite → IfErr result (FailsSuite asked suite)
+  settings_fail cause (Ok x) is same = absurd is
+  settings_fail cause (Err fault) is same = rw is (ap (λ r. option_or (settings_refusal r) (option_or (plan_refusal suite.tree asked.request) (crowd_refusal r))) (sym same))
+
+  module _ (settings : Settings) (are : Ok settings ≡ settings_in asked suite) where
+    run_is : run_refusal asked suite ≡ option_or (plan_refusal suite.tree asked.request) (workers_refusal settings.workers)
+    run_is = ap (λ r. option_or (settings_refusal r) (option_or (plan_refusal suite.tree asked.request) (crowd_refusal r))) (sym are)
+
+    takes : selection_refusal suite.tree asked.request ≡ None → TakesMemory asked suite
+    takes none = record { settings = ap settings_refusal (sym are); selection = none }
+
+    -- a plan that is none
+    pub plan_fails : {X : Type 0} (fault : LaunchFault) (result : Result X LaunchFault) → IsErrAnd result (λ e. e ≡ fault) → (fault ≢ NoMemory → plan_refusal suite.tree asked.request ≡ Some fault)
+        → (fault ≡ NoMemory → selection_refusal suite.tree asked.request ≡ None) → IfErr result (FailsSuite asked suite)
+    plan_fails fault (Ok x) same refused memory = absurd same
+    plan_fails fault (Err e) same refused memory =
+        rw same (fails_by fault (λ other. run_is ∙ ap (λ o. option_or o (workers_refusal settings.workers)) (refused other)) (λ is. takes (memory is)))
+
+    module _ (accepted : plan_refusal suite.tree asked.request ≡ None) where
+      run_left : run_refusal asked suite ≡ workers_refusal settings.workers
+      run_left = run_is ∙ ap (λ o. option_or o (workers_refusal settings.workers)) accepted
+
+      -- too many workers
+      pub workers_fail : {X : Type 0} (fault : LaunchFault) (result : Result X LaunchFault) → IsErrAnd result (λ e. e ≡ fault) → (fault ≡ TooManyWorkers) × (workers_refusal settings.workers ≡ Some fault) → IfErr result (FailsSuite asked suite)
+      workers_fail fault (Ok x) same is = absurd same
+      workers_fail fault (Err e) same is = rw (same ∙ is.0) (run_left ∙ is.1 ∙ ap Some is.0)
+
+      -- want of memory
+      pub memory_fails : {X : Type 0} (result : Result X LaunchFault) → IsErrAnd result (λ e. e ≡ NoMemory) → IfErr result (FailsSuite asked suite)
+      memory_fails (Ok x) same = absurd same
+      memory_fails (Err e) same = rw same (takes (or_none _ _ accepted))
+
+      -- the output of the plan is the suite's
+      pub is_output : (plan : PlanParts) (answers : List (ℕ × Reply)) (text : List ℕ) (status : ExitStatus) → workers_refusal settings.workers ≡ None → plan ≡ plan_of asked.fail_fast settings (answer suite.tree asked.request) → answers ≡ answers_of suite.scripts
+          → IsOutput asked settings plan answers text status → IsSuiteOutput asked suite text status
+      is_output plan answers text status few same replies output = record {
+        accepted = run_left ∙ few;
+        settings = settings;
+        are = sym are;
+        output = subst (λ (p : PlanParts). IsOutput asked settings p (answers_of suite.scripts) text status) same (subst (λ (a : List (ℕ × Reply)). IsOutput asked settings plan a text status) replies output);
+      }

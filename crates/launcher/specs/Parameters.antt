@@ -1,0 +1,49 @@
+-- What `--config`, `--system` and `--processors` ask for, and why they ask for nothing.
+use Rattle.std.specs.Prelude.{ℕ, ◌+◌, ◌==◌, List, [], ◌∷◌, length, map, if◌then◌else◌, Option, Some, None, Result, Ok, Err}
+use Rattle.std.specs.Option.{option_or}
+use Rattle.config_params.specs.Pairs.{Pair, key_of, value_of, pair_of}
+use Rattle.config_params.specs.Parameters.{Parameters}
+use Rattle.config_params.specs.Tables.{table_of}
+use Rattle.config_params.specs.declared.fault.ParamsFault.{ParamsFault}
+use Rattle.suite_text.specs.Numbers.{number_up_to}
+use Rattle.launcher.specs.declared.fault.LaunchFault.{LaunchFault}
+use Rattle.launcher.specs.declared.fault.LaunchFault.TheVariants.{BadPair}
+use Rattle.launcher.specs.Given.{Text, Values}
+
+-- a text without the plus that it may begin with
+abbrev pub without_plus : Text → Text
+without_plus [] = []
+without_plus (byte ∷ more) = if byte == 43 then more else byte ∷ more
+
+-- a number that is not zero
+abbrev pub unless_zero : Option ℕ → Option ℕ
+unless_zero None = None
+unless_zero (Some number) = if number == 0 then None else Some number
+
+-- what `--processors` asks for: 1 to 1,024, and 1 where it is not given
+abbrev pub processors_named : Option Text → Option ℕ
+processors_named None = Some 1
+processors_named (Some text) = unless_zero (number_up_to 1024 (without_plus text))
+
+-- the pairs of words that are cut at their first equals sign
+abbrev pub pairs_in : List Text → List Pair
+pairs_in words = map (λ word. (key_of word, value_of word)) words
+
+-- what the words say: those of `--config` for the request, those of `--system` for the system; of a key that one of the two
+-- has again the last value counts
+abbrev pub params_said : Values → Parameters
+params_said given = record { request = table_of (pairs_in given.config); system = table_of (pairs_in given.system); file = [] }
+
+-- refused where a word says no pair, and else where another does not
+abbrev pub unless_pair : Result Pair ParamsFault → Option LaunchFault → Option LaunchFault
+unless_pair (Ok pair) others = others
+unless_pair (Err fault) others = Some (BadPair fault)
+
+-- why words, of which the first has this number, are refused: the number of the first that says no pair
+abbrev pub pairs_refusal : ℕ → List Text → Option LaunchFault
+pairs_refusal number [] = None
+pairs_refusal number (word ∷ words) = unless_pair (pair_of number word) (pairs_refusal (number + 1) words)
+
+-- why the pairs are refused: each of `--config` is counted before each of `--system`
+abbrev pub params_refusal : Values → Option LaunchFault
+params_refusal given = option_or (pairs_refusal 1 given.config) (pairs_refusal (length given.config + 1) given.system)

@@ -1,0 +1,18 @@
+//! The lines that a run begins with where its configuration is taken with warnings.
+
+ghost use Rattle.std.specs.Prelude.{◌≡◌, ◌++◌, OnOk, string_bytes};
+ghost use Rattle.launcher.specs.WarningTexts.{warning_lines};
+
+use config_params::Warnings;
+use std::alloc::AllocError;
+
+/// Appends a line for each key that is warned of.
+pub(crate) fn push_warnings(text: &mut String, warnings: Warnings) -> Result<(), AllocError>
+    ensures { OnOk result (string_bytes text.new ≡ string_bytes text.old ++ warning_lines warnings) }
+{
+    let keys = warnings.keys();
+    for key in keys {
+        writeln!(text, "WARNING {key}")?;
+    }
+    Ok(())
+}
