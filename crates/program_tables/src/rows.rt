@@ -2,9 +2,20 @@
 
 use std::alloc::{AllocError, Global};
 
+/// What the keys of the configuration begin with.
+const KEYS: &str = "junit.jupiter.execution.parallel.";
+
+/// The text of a word, in which `\p` stands for what the keys of the configuration begin with.
+fn word_of(alloc: Global, word: &str) -> Result<String, AllocError> {
+    match word.split_once("\\p") {
+        Some((front, rest)) => format!(in alloc; "{front}{KEYS}{rest}"),
+        None => String::from_str(alloc, word),
+    }
+}
+
 /// Appends a word.
 fn push_word(alloc: Global, words: &mut Vec<String>, word: &str) -> Result<(), AllocError> {
-    words.push(String::from_str(alloc, word)?)?;
+    words.push(word_of(alloc, word)?)?;
     Ok(())
 }
 
