@@ -1,7 +1,8 @@
-//! What a run tells: events and their words, outcomes of bodies, and the texts of nodes.
+//! What a run tells: events and their words, what bodies do and how they end, and the texts of nodes.
 #![tactic(auto)]
 
 mod event;
+mod job;
 mod note;
 mod outcome;
 mod status;
@@ -9,6 +10,7 @@ mod texts;
 mod word;
 
 pub use event::{Event, EventKind};
+pub use job::{Job, Pull};
 pub use note::Note;
 pub use outcome::{Outcome, Reply};
 pub use status::Status;

@@ -1,0 +1,45 @@
+//! What a body has to do.
+
+ghost use Rattle.std.specs.Prelude.{◌≡◌, List, []};
+
+use crate::outcome::Outcome;
+
+/// What a factory's body says when it is asked for its next dynamic test.
+#[derive(Clone, Copy, PartialEq, Eq, Debug)]
+pub enum Pull {
+    /// There is one more.
+    More,
+    /// There are no more: it is to be run.
+    End,
+}
+
+/// A body, which is run once. A factory's body is asked for dynamic tests before that, until it
+/// says that there are no more.
+pub trait Job: Drop {
+    ghost use Rattle.plan_events.specs.declared.outcome.Reply.{Reply};
+    ghost use Rattle.plan_events.specs.Jobs.{IsPull, IsRun};
+
+    /// The replies that it may still give.
+    ghost answers: { Self → List Reply };
+
+    /// Whether there is a dynamic test more.
+    fn next(&mut self) -> Pull
+        ensures { IsPull (answers self.old) result (answers self.new) };
+
+    /// Runs it, and answers how it ended.
+    fn run(&mut self) -> Outcome
+        ensures outcome { IsRun (answers self.old) result }
+        ensures over { answers self.new ≡ [] };
+}
+
+impl Job for Box<dyn Job + Send> {
+    ghost answers = { λ b. (Job-box b).answers b.value };
+
+    fn next(&mut self) -> Pull {
+        (**self).next()
+    }
+
+    fn run(&mut self) -> Outcome {
+        (**self).run()
+    }
+}
