@@ -8,24 +8,8 @@ use Rattle.std.proofs.lemmas.Bool.{eq-eqb, ne_eqb, cases_eq}
 use Rattle.std.proofs.lemmas.Grind.{common_steps}
 use Rattle.plan_events.specs.declared.event.Event.{Event}
 use Rattle.event_history.specs.Parts.{part_of}
+use Rattle.scheduling.proofs.Frames.{part_mine, part_other}
 use Rattle.sched_core.specs.Fields.{parts_upto}
-
--- the part of a worker after one more event
-pub part_mine : (k : ℕ) (h : List Event) (e : Event) → e.worker ≡ k → part_of k (h ++ e ∷ []) ≡ part_of k h ++ e ∷ []
-part_mine k h e is =
-    let here : (e.worker == k) ≡ true = eq-eqb e.worker k is in
-    filter-append (λ (x : Event). x.worker == k) h (e ∷ []) ∙ ap (λ (l : List Event). part_of k h ++ l) (one (λ (x : Event). x.worker == k) e here)
-  where
-    one : (q : Event → Bool) (e : Event) → q e ≡ true → filter q (e ∷ []) ≡ e ∷ []
-    one q e here = grind (arith, common_steps, here)
-
-pub part_other : (k : ℕ) (h : List Event) (e : Event) → e.worker ≢ k → part_of k (h ++ e ∷ []) ≡ part_of k h
-part_other k h e not =
-    let here : (e.worker == k) ≡ false = ne_eqb e.worker k not in
-    filter-append (λ (x : Event). x.worker == k) h (e ∷ []) ∙ ap (λ (l : List Event). part_of k h ++ l) (none (λ (x : Event). x.worker == k) e here) ∙ append-nil (part_of k h)
-  where
-    none : (q : Event → Bool) (e : Event) → q e ≡ false → filter q (e ∷ []) ≡ []
-    none q e here = grind (arith, common_steps, here)
 
 pub parts_len : (n : ℕ) (h : List Event) → length (parts_upto n h) ≡ n
 parts_len zero h = refl

@@ -97,7 +97,7 @@ free_unnamed w (Opens n d) q = absurd (false≢true q)
 free_unnamed w (Closes n d) q = absurd (false≢true q)
 
 -- What each step changes.
-abbrev Moves : State → ℕ → Task → Option State → Type 0
+abbrev pub Moves : State → ℕ → Task → Option State → Type 0
 Moves s w old None = Unit {0}
 Moves s w old (Some t) = Changes s w old t
 
@@ -218,7 +218,7 @@ module _ (p : PlanParts) (s : State) (w : ℕ) (seat : Seat) (is : slice_get s.s
   look_moves Free same = quiet s s w Free seat (sym (set_get s.seats w seat is)) refl refl refl (ap (named w) same)
   look_moves _ same = tt
 
-  row_moves : (a : Action) → Moves s w seat.task (row p s w seat reply a)
+  pub row_moves : (a : Action) → Moves s w seat.task (row p s w seat reply a)
   row_moves (Claim n) = claim_moves (is_empty seat.hand && is_ready_for None (status_at s n)) n
   row_moves (Own n) = claim_moves (is_of_hand p seat.hand n && is_ready_for (Some w) (status_at s n)) n
   row_moves Notice = notice_moves seat.task

@@ -33,7 +33,7 @@ pub record Changes (s : State) (w : ℕ) (old : Task) (t : State) : Type 0 where
   pub does : Does s t w old new.task effect
 
 -- the event that a task names is its worker's
-named_worker : (w : ℕ) (t : Task) (i : ℕ) (e : Event) → named w t ≡ Some (i, e) → e.worker ≡ w + 1
+pub named_worker : (w : ℕ) (t : Task) (i : ℕ) (e : Event) → named w t ≡ Some (i, e) → e.worker ≡ w + 1
 named_worker w (Opens n (RegisteredAt j)) i e q = sym (ap (λ (z : ℕ × Event). z.1.worker) (same_Some _ _ q))
 named_worker w (Opens n (StartedAt j)) i e q = sym (ap (λ (z : ℕ × Event). z.1.worker) (same_Some _ _ q))
 named_worker w (Closes n (SkippedAt j)) i e q = sym (ap (λ (z : ℕ × Event). z.1.worker) (same_Some _ _ q))

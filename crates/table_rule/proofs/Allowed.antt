@@ -1,0 +1,88 @@
+-- What the table asks of each kind of step, of a seat whose view is known by its place.
+use Rattle.std.proofs.Common.{◌≡◌, ℕ, ◌+◌, ◌%◌, ◌^◌, ◌<◌, ◌==◌, true, List, [], ◌∷◌, ◌++◌, length, set, get_or, Some, None, sym, subst}
+use Rattle.std.specs.Prelude.{slice_index}
+use mathlib.Core.Option.{some, none}
+use lib.ListN.{get_elem?}
+use prog.Atomic.{either}
+use Rattle.atomic_table.specs.Table.{State as TableState, Me, Act, step, Allows, Splits, Joins, Valid, stepped, carried_after}
+use Rattle.descriptor.specs.Nodes.{size}
+use Rattle.plan_events.specs.declared.event.Event.{Event}
+use Rattle.plan_events.specs.declared.outcome.Reply.{Reply}
+use Rattle.plan_events.specs.Words.{word_of}
+use Rattle.scheduling.specs.declared.status.NodeStatus.TheVariants.{Ready, Claimed}
+use Rattle.scheduling.specs.declared.task.Closing.TheVariants.{Settling}
+use Rattle.scheduling.specs.declared.task.Task.TheVariants.{Free, Closes}
+use Rattle.scheduling.specs.Rows.{is_of_hand}
+use Rattle.scheduling.specs.Shown.{named}
+use Rattle.table_rule.specs.declared.view.About.{About}
+use Rattle.table_rule.specs.declared.view.View.{View}
+use Rattle.table_rule.specs.declared.view.Slot.{Slot}
+use Rattle.table_rule.specs.declared.view.Working.{Working}
+use Rattle.table_rule.specs.declared.view.Giving.{Giving}
+use Rattle.table_rule.specs.declared.view.Place.{Place}
+use Rattle.table_rule.specs.declared.view.Place.TheVariants.{Worker, Dispatcher}
+use Rattle.table_rule.specs.Words.{status_word, draw_place, event_place}
+use Rattle.table_rule.specs.Picture.{Names, Picture, worker_view, dispatcher_view}
+use Rattle.table_rule.specs.Plays.{Offer, event_due, offer_due, ready, deals_one, newcomer, spent_view, claim_tells, draw_tells, show_tells, admit_tells, settle_tells, look_at_tells, read_tells}
+use Rattle.table_rule.proofs.Frame.{Owed, allows_as}
+use Rattle.table_rule.proofs.Steps.{claim_step, own_step, show_step, settle_step, look_at_step}
+use Rattle.table_rule.proofs.Ready.{ready_core, ready_table, ready_picture, ready_at, from_ready}
+use Rattle.table_rule.proofs.Drawing.{draw_step, admit_step}
+use Rattle.table_rule.proofs.Desk.{read_step, split_holds, join_holds}
+
+module _ {B : Type 0} (replies : ℕ → List Reply) (key : About B) (slots id : ℕ) (m : Me (Slot B) (View B)) (w : Working) (is : m.0.place ≡ Worker w) (holds_none : m.1 ≡ []) where
+  -- a step that makes use of the job's answer
+  when_ready : (i : ℕ) (f : ℕ → ℕ) (told : Me (Slot B) (View B) → ℕ → Me (Slot B) (View B) → Type 0)
+      → ((s : TableState (Slot B) (View B)) (r : Picture replies key s) (at : get_elem? s.views id ≡ some (worker_view key w))
+      → Owed replies key (ready_core replies key r.core r.dealt s r.is id w at) r.dealt (ready_table replies key r.core r.dealt s r.is id w at) (ready_picture replies key r.core r.dealt s r.is id w at) id (ready key.plan w) (ready_at replies key r.core r.dealt s r.is id w at) i f (told (worker_view key w, [])) (get_or s.words i 0))
+      → Allows (Picture replies key) slots id m i f (told m)
+  when_ready i f told owes = allows_as replies key slots id m w is holds_none i f told (λ s r at long fits. from_ready replies key r.core r.dealt s r.is id w at i f (told (worker_view key w, [])) (get_or s.words i 0) (owes s r at))
+
+  pub claim_allows : (n : ℕ) → w.seat.task ≡ Free → w.seat.hand ≡ None → n < size key.plan.tree
+      → Allows (Picture replies key) slots id m n (λ x. either (x == status_word (Ready None)) (status_word (Claimed w.number)) x) (claim_tells (step slots n (status_word (Ready None)) (status_word (Claimed w.number)) none) m)
+  claim_allows n free empty low = allows_as replies key slots id m w is holds_none n (λ x. either (x == status_word (Ready None)) (status_word (Claimed w.number)) x) (claim_tells (step slots n (status_word (Ready None)) (status_word (Claimed w.number)) none)) (λ s r at long fits. claim_step replies key r.core r.dealt s r.is id w at slots n free empty low)
+
+  pub own_allows : (n : ℕ) → w.seat.task ≡ Free → is_of_hand key.plan w.seat.hand n ≡ true → n < size key.plan.tree
+      → Allows (Picture replies key) slots id m n (λ x. either (x == status_word (Ready (Some w.number))) (status_word (Claimed w.number)) x) (claim_tells (step slots n (status_word (Ready (Some w.number))) (status_word (Claimed w.number)) none) m)
+  own_allows n free its low = allows_as replies key slots id m w is holds_none n (λ x. either (x == status_word (Ready (Some w.number))) (status_word (Claimed w.number)) x) (claim_tells (step slots n (status_word (Ready (Some w.number))) (status_word (Claimed w.number)) none)) (λ s r at long fits. own_step replies key r.core r.dealt s r.is id w at slots n free its low)
+
+  pub draw_allows : (e : Event) → event_due w.number (ready key.plan w).seat.task ≡ Some e → Allows (Picture replies key) slots id m (draw_place key.plan) (λ x. (x + 1) % 2 ^ 64) (draw_tells (step slots (draw_place key.plan) 1 0 none) m)
+  draw_allows e due = when_ready (draw_place key.plan) (λ x. (x + 1) % 2 ^ 64) (draw_tells (step slots (draw_place key.plan) 1 0 none))
+      (λ s r at. draw_step replies key (ready_core replies key r.core r.dealt s r.is id w at) r.dealt (ready_table replies key r.core r.dealt s r.is id w at) (ready_picture replies key r.core r.dealt s r.is id w at) id (ready key.plan w) (ready_at replies key r.core r.dealt s r.is id w at) e due)
+
+  pub show_allows : (i : ℕ) (e : Event) → named w.number w.seat.task ≡ Some (i, e) → Allows (Picture replies key) slots id m (event_place key.plan i) (λ _. word_of e) (show_tells (step slots (event_place key.plan i) (word_of e) 0 none) m)
+  show_allows i e names = allows_as replies key slots id m w is holds_none (event_place key.plan i) (λ _. word_of e) (show_tells (step slots (event_place key.plan i) (word_of e) 0 none))
+      (λ s r at long fits. show_step replies key r.core r.dealt s r.is id w at slots i e names (get_or s.words (event_place key.plan i) 0))
+
+  pub admit_allows : (o : Offer) → offer_due key.plan w.number (ready key.plan w).seat.task ≡ Some o → Allows (Picture replies key) slots id m o.node (λ _. status_word (Ready o.to)) (admit_tells (step slots o.node (status_word (Ready o.to)) 0 none) m)
+  admit_allows o due = when_ready o.node (λ _. status_word (Ready o.to)) (admit_tells (step slots o.node (status_word (Ready o.to)) 0 none))
+      (λ s r at. admit_step replies key (ready_core replies key r.core r.dealt s r.is id w at) r.dealt (ready_table replies key r.core r.dealt s r.is id w at) (ready_picture replies key r.core r.dealt s r.is id w at) id (ready key.plan w) (ready_at replies key r.core r.dealt s r.is id w at) o due (get_or s.words o.node 0))
+
+  pub settle_allows : (n : ℕ) → w.seat.task ≡ Closes n Settling → Allows (Picture replies key) slots id m n (λ _. 1) (settle_tells (step slots n 1 0 none) m)
+  settle_allows n due = allows_as replies key slots id m w is holds_none n (λ _. 1) (settle_tells (step slots n 1 0 none)) (λ s r at long fits. settle_step replies key r.core r.dealt s r.is id w at slots n due (get_or s.words n 0))
+
+  pub look_at_allows : (n : ℕ) → Allows (Picture replies key) slots id m n (λ x. x) (look_at_tells (step slots n 0 0 none) m)
+  look_at_allows n = allows_as replies key slots id m w is holds_none n (λ x. x) (look_at_tells (step slots n 0 0 none)) (λ s r at long fits. look_at_step replies key r.core r.dealt s r.is id w at slots n)
+
+-- Of a seat that is the dispatcher's.
+module _ {B : Type 0} (replies : ℕ → List Reply) (key : About B) (slots id : ℕ) (m : Me (Slot B) (View B)) (d : Giving) (is : m.0.place ≡ Dispatcher d) (holds_none : m.1 ≡ []) where
+  whole : (s : TableState (Slot B) (View B)) → Picture replies key s → get_elem? s.views id ≡ some m.0 → ◌≡◌ {A = Me (Slot B) (View B)} (dispatcher_view key d, []) m
+  whole s r at = (let about = subst (λ (place : Place). Names key m.0.about place) is (r.is.views id m.0 at).names in λ k. (record { about = sym about k; place = sym is k }, sym holds_none k))
+
+  pub read_allows : Allows (Picture replies key) slots id m (event_place key.plan (length d.read)) (λ x. x) (read_tells (step slots (event_place key.plan (length d.read)) 0 0 none) m)
+  read_allows s r long at fits =
+      let e = whole s r at in
+      let i : ℕ = event_place key.plan (length d.read) in
+      subst (λ (u : Me (Slot B) (View B)). (v : View B) × (a : Act (Slot B)) × Valid s.homes u.1 a × Picture replies key (stepped s i (slice_index s.words i) id u.1 v a) × read_tells (step slots i 0 0 none) u (slice_index s.words i) (v, carried_after u.1 a))
+      e (read_step replies key r.core r.dealt s r.is id d (subst (λ (u : Me (Slot B) (View B)). get_elem? s.views id ≡ some u.0) (sym e) at) slots)
+
+pub split_allows : {B : Type 0} (replies : ℕ → List Reply) (key : About B) (id : ℕ) (v : View B) (d : Giving) → v.place ≡ Dispatcher d → d.dealt < v.about.workers
+    → Splits (Picture replies key) id v (dispatcher_view v.about (deals_one d)) (worker_view v.about (newcomer d.dealt))
+split_allows {B} replies key id v d is low s r at =
+    let about = subst (λ (place : Place). Names key v.about place) is (r.is.views id v at).names in
+    let e : dispatcher_view key d ≡ v = λ k. record { about = sym about k; place = sym is k } in
+    subst (λ (a : About B). Picture replies key (record { words = s.words; homes = s.homes; views = set s.views id (dispatcher_view a (deals_one d)) ++ worker_view a (newcomer d.dealt) ∷ [] })) (sym about)
+    (split_holds replies key r.core r.dealt s r.is id d (subst (λ (u : View B). get_elem? s.views id ≡ some u) (sym e) at) (subst (λ (a : About B). d.dealt < a.workers) about low))
+
+pub join_allows : {B : Type 0} (replies : ℕ → List Reply) (key : About B) (id : ℕ) (v : View B) (other : ℕ) (w : View B) → Joins (Picture replies key) id v other w v spent_view
+join_allows replies key id v other w s r at _ _ = join_holds replies key s r id other v w at

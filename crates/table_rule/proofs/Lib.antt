@@ -1,0 +1,9 @@
+-- Lemmas on the words, and that each step keeps the rule.
+pub mod Words
+pub mod Frame
+pub mod Steps
+pub mod Ready
+pub mod Drawing
+pub mod Desk
+pub mod Opening
+pub mod Allowed

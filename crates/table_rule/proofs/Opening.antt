@@ -1,0 +1,51 @@
+-- The rule holds at the start.
+use Rattle.std.proofs.Common.{◌≡◌, ℕ, zero, suc, ◌<◌, ◌≤◌, List, [], ◌∷◌, length, replicate, Some, slice_get, sym, refl, subst, arith}
+use Rattle.std.proofs.lemmas.List.{length-replicate}
+use mathlib.Core.Option.{some, some-injective, some-ne-none}
+use lib.ListN.{get_elem?}
+use Rattle.atomic_table.specs.Table.{opening as table_opening}
+use Rattle.plan_events.specs.declared.outcome.Reply.{Reply}
+use Rattle.resource_locks.specs.Plans.{IsPlan}
+use Rattle.scheduling.specs.declared.lock_word.LockWord.TheVariants.{Readers}
+use Rattle.scheduling.specs.State.{State}
+use Rattle.scheduling.specs.Runs.{opening}
+use Rattle.scheduling.proofs.FirstState.{opening_is}
+use Rattle.scheduling.proofs.Headline.{core_plan}
+use Rattle.scheduling.proofs.Placing.{opening_placed}
+use Rattle.table_rule.specs.declared.view.About.{About}
+use Rattle.table_rule.specs.declared.view.View.{View}
+use Rattle.table_rule.specs.declared.view.Slot.{Slot}
+use Rattle.table_rule.specs.Words.{words_of}
+use Rattle.table_rule.specs.Picture.{free_seat, Dealt, ViewFits, Picture, opener}
+
+in_replicate : {X : Type 0} (n : ℕ) (x : X) (i : ℕ) → i < n → slice_get (replicate n x) i ≡ Some x
+in_replicate zero x i low = absurd (omega (arith, low))
+in_replicate (suc n) x zero low = refl
+in_replicate (suc n) x (suc i) low = in_replicate n x i (omega (arith, low))
+
+-- The words of the core's opening state, with the dispatcher's seat alone.
+pub opening_holds : {B : Type 0} (replies : ℕ → List Reply) (key : About B) (words : List ℕ) (slots : List (Slot B)) → IsPlan key.plan → key.workers ≤ 64 → words ≡ words_of key.plan (opening key.plan key.workers) → Picture replies key (table_opening words slots (opener key))
+opening_holds {B} replies key words slots plan few is = record {
+  core = first;
+  dealt = none_dealt;
+  is = record {
+    plan = plan;
+    kept = opening_is key.plan (core_plan key.plan plan.tree) replies key.workers few;
+    placed = opening_placed key.plan key.workers;
+    keys = length-replicate (length key.plan.keys) (Readers 0);
+    workers = length-replicate key.workers free_seat;
+    words = is;
+    idle = λ w far low. record { seat = in_replicate key.workers free_seat w low; nothing = refl };
+    views = views;
+  };
+}
+  where
+    first : State
+    first = opening key.plan key.workers
+
+    none_dealt : Dealt
+    none_dealt = record { many = 0; seat = λ u. u }
+
+    views : (id : ℕ) (v : View B) → get_elem? (opener key ∷ []) id ≡ some v → ViewFits replies key first none_dealt id v
+    views zero v e = subst (ViewFits replies key first none_dealt 0) (some-injective (opener key) v e) (record { names = refl; fits = record { first = refl; many = refl; read = refl } })
+    views (suc id) v e = absurd (some-ne-none v (sym e))

@@ -1,0 +1,4 @@
+-- The definitions that the rule and the plays cite.
+pub mod Words
+pub mod Picture
+pub mod Plays

@@ -1,0 +1,167 @@
+-- What each kind of step tells the seat that makes it: the seat after it, by the seat before and the word that was found.
+use Rattle.std.specs.Prelude.{◌≡◌, ℕ, suc, ◌+◌, ◌<◌, ◌==◌, ◌||◌, ◌&&◌, Bool, true, false, List, [], ◌∷◌, ◌++◌, Option, Some, None, MatchBool}
+use Rattle.atomic_table.specs.Table.{Me, Step}
+use Rattle.plan_events.specs.declared.event.Event.{Event}
+use Rattle.plan_events.specs.declared.event.EventKind.TheVariants.{Started, Finished, Skipped, Registered}
+use Rattle.plan_events.specs.declared.outcome.Reply.{Reply}
+use Rattle.plan_events.specs.declared.status.Status.TheVariants.{Successful}
+use Rattle.plan_events.specs.Words.{is_lawful, word_of}
+use Rattle.resource_locks.specs.Plans.{PlanParts, most_events}
+use Rattle.scheduling.specs.declared.task.Opening.TheVariants.{Registering, RegisteredAt, Offering, Beginning, StartedAt, Admitting}
+use Rattle.scheduling.specs.declared.task.Closing.TheVariants.{Ending, FinishedAt, SkippedAt, Settling, Passing, CountingOff}
+use Rattle.scheduling.specs.declared.task.Task.{Task}
+use Rattle.scheduling.specs.declared.task.Task.TheVariants.{Opens, Closes, Free}
+use Rattle.scheduling.specs.declared.seat.Seat.{Seat}
+use Rattle.scheduling.specs.Choices.{claims, admit_from, after_settle, offered_to, after_finish, awaited, event_of}
+use Rattle.scheduling.specs.Rows.{with_task, after_start, one_more, waits_for, waits_no_more, decided_seat}
+use Rattle.table_rule.specs.declared.view.View.{View}
+use Rattle.table_rule.specs.declared.view.Slot.{Slot}
+use Rattle.table_rule.specs.declared.view.Working.{Working}
+use Rattle.table_rule.specs.declared.view.Giving.{Giving}
+use Rattle.table_rule.specs.declared.view.Place.{Place}
+use Rattle.table_rule.specs.declared.view.Place.TheVariants.{Spent, Worker, Dispatcher}
+use Rattle.table_rule.specs.Picture.{free_seat}
+
+-- Seats of the core.
+-- once the seat has claimed a node
+abbrev pub claimed_seat : PlanParts → Seat → ℕ → Seat
+claimed_seat p seat n = with_task seat (Opens n (claims p n))
+
+-- the event that the task of worker w draws, and the seat once it stands at a place
+abbrev pub event_due : ℕ → Task → Option Event
+event_due w (Opens n Registering) = Some (event_of Registered n None w)
+event_due w (Opens n (Beginning true)) = Some (event_of Skipped n None w)
+event_due w (Opens n (Beginning false)) = Some (event_of Started n None w)
+event_due w (Closes n (Ending status)) = Some (event_of Finished n (Some status) w)
+event_due w _ = None
+
+abbrev pub drawn_seat : ℕ → Seat → Task → Seat
+drawn_seat place seat (Opens n Registering) = record { task = Opens n (RegisteredAt place); hand = one_more seat.hand }
+drawn_seat place seat (Opens n (Beginning true)) = with_task seat (Closes n (SkippedAt place))
+drawn_seat place seat (Opens n (Beginning false)) = with_task seat (Opens n (StartedAt place))
+drawn_seat place seat (Closes n (Ending status)) = with_task seat (Closes n (FinishedAt place status))
+drawn_seat place seat _ = seat
+
+-- the seat once what it drew is shown
+abbrev pub shown_seat : PlanParts → Seat → Task → Seat
+shown_seat p seat (Opens n (RegisteredAt i)) = with_task seat (Opens n Offering)
+shown_seat p seat (Opens n (StartedAt i)) = after_start p seat n
+shown_seat p seat (Closes n (SkippedAt i)) = with_task seat (Closes n Settling)
+shown_seat p seat (Closes n (FinishedAt i status)) = with_task seat (Closes n (after_finish p n status))
+shown_seat p seat _ = seat
+
+-- the node that the task of worker w offers, and to whom; and the seat after that
+pub record Offer : Type 0 where
+  pub node : ℕ
+  pub to : Option ℕ
+
+abbrev pub offer_due : PlanParts → ℕ → Task → Option Offer
+offer_due p w (Opens n (Admitting c)) = Some (record { node = c; to = offered_to p w c })
+offer_due p w (Opens c Offering) = Some (record { node = c; to = offered_to p w c })
+offer_due p w (Closes n (Passing m o)) = Some (record { node = m; to = Some o })
+offer_due p w _ = None
+
+abbrev pub admitted_seat : PlanParts → Seat → Task → Seat
+admitted_seat p seat (Opens n (Admitting c)) = with_task seat (Opens n (admit_from p n (suc c)))
+admitted_seat p seat (Opens c Offering) = record { task = Free; hand = waits_for p c seat.hand }
+admitted_seat p seat (Closes n (Passing m o)) = with_task seat (Closes n CountingOff)
+admitted_seat p seat _ = seat
+
+-- the seat once its node is settled
+abbrev pub settled_seat : PlanParts → Seat → ℕ → Seat
+settled_seat p seat n = record { task = after_settle p n; hand = waits_no_more n seat.hand }
+
+-- The seat with the answer of its job made use of. Where no job is awaited, no reply is asked for.
+abbrev pub unasked : Reply
+unasked = record { pulls = 0; outcome = record { status = Successful; text = [] } }
+
+abbrev pub seat_by : PlanParts → Seat → (awaits : Option ℕ) → Option Reply → Seat
+seat_by p seat None answer = decided_seat p unasked seat
+seat_by p seat (Some job) None = seat
+seat_by p seat (Some job) (Some reply) = decided_seat p reply seat
+
+abbrev pub ready_seat : PlanParts → Working → Seat
+ready_seat p w = seat_by p w.seat (awaited p w.seat w.seat.task) w.answer
+
+-- Workers.
+abbrev pub sits : Seat → Option Reply → List Event → Working → Working
+sits seat answer mine w = record { number = w.number; seat = seat; answer = answer; mine = mine; over = w.over }
+
+abbrev pub ready : PlanParts → Working → Working
+ready p w = sits (ready_seat p w) w.answer w.mine w
+
+abbrev pub goes_on : Seat → Working → Working
+goes_on seat w = sits seat None w.mine w
+
+abbrev pub draws_on : Event → Seat → Working → Working
+draws_on e seat w = sits seat None (w.mine ++ e ∷ []) w
+
+abbrev pub finds_over : Bool → Working → Working
+finds_over over w = record { number = w.number; seat = w.seat; answer = w.answer; mine = w.mine; over = w.over || over }
+
+abbrev pub newcomer : ℕ → Working
+newcomer number = record { number = number; seat = free_seat; answer = None; mine = []; over = false }
+
+-- The dispatcher.
+abbrev pub reads_on : Event → Giving → Giving
+reads_on e d = record { dealt = d.dealt; read = d.read ++ e ∷ [] }
+
+abbrev pub deals_one : Giving → Giving
+deals_one d = record { dealt = d.dealt + 1; read = d.read }
+
+-- what a seat knows, as a worker or as the dispatcher
+abbrev pub worker_in : Place → Working
+worker_in Spent = newcomer 0
+worker_in (Worker w) = w
+worker_in (Dispatcher d) = newcomer 0
+
+abbrev pub dispatcher_in : Place → Giving
+dispatcher_in Spent = record { dealt = 0; read = [] }
+dispatcher_in (Worker w) = record { dealt = 0; read = [] }
+dispatcher_in (Dispatcher d) = d
+
+module _ {B : Type 0} where
+  abbrev pub seated : View B → Place → View B
+  seated v place = record { about = v.about; place = place }
+
+  abbrev pub worker : View B → Working
+  worker v = worker_in v.place
+
+  abbrev pub dispatcher : View B → Giving
+  dispatcher v = dispatcher_in v.place
+
+  abbrev pub at_work : View B → Working → View B
+  at_work v w = seated v (Worker w)
+
+  abbrev pub ready_in : View B → Working
+  ready_in v = ready v.about.plan (worker v)
+
+  abbrev pub spent_view : View B
+  spent_view = record { about = record { plan = record { tree = record { parents = []; nodes = [] }; modes = []; held = []; keys = []; fail_fast = false }; workers = 0; jobs = [] }; place = Spent }
+
+  -- The steps.
+  -- the node is claimed, if its word is the one that was asked for
+  abbrev pub claim_tells : Step (Slot B) → Me (Slot B) (View B) → ℕ → Me (Slot B) (View B) → Type 0
+  claim_tells st m r n = MatchBool (r == st.first) (n ≡ (at_work m.0 (goes_on (claimed_seat m.0.about.plan (worker m.0).seat st.word) (worker m.0)), m.1)) (n ≡ m)
+
+  -- the event that is due stands at the place that was found
+  abbrev pub draw_tells : Step (Slot B) → Me (Slot B) (View B) → ℕ → Me (Slot B) (View B) → Type 0
+  draw_tells st m r n = (e : Event) → event_due (worker m.0).number (ready_in m.0).seat.task ≡ Some e
+      → (n ≡ (at_work m.0 (draws_on e (drawn_seat r (ready_in m.0).seat (ready_in m.0).seat.task) (ready_in m.0)), m.1)) × (r < most_events m.0.about.plan)
+
+  abbrev pub show_tells : Step (Slot B) → Me (Slot B) (View B) → ℕ → Me (Slot B) (View B) → Type 0
+  show_tells st m r n = n ≡ (at_work m.0 (goes_on (shown_seat m.0.about.plan (worker m.0).seat (worker m.0).seat.task) (worker m.0)), m.1)
+
+  abbrev pub admit_tells : Step (Slot B) → Me (Slot B) (View B) → ℕ → Me (Slot B) (View B) → Type 0
+  admit_tells st m r n = n ≡ (at_work m.0 (goes_on (admitted_seat m.0.about.plan (ready_in m.0).seat (ready_in m.0).seat.task) (ready_in m.0)), m.1)
+
+  abbrev pub settle_tells : Step (Slot B) → Me (Slot B) (View B) → ℕ → Me (Slot B) (View B) → Type 0
+  settle_tells st m r n = n ≡ (at_work m.0 (goes_on (settled_seat m.0.about.plan (worker m.0).seat st.word) (worker m.0)), m.1)
+
+  -- whether node 0 was found settled is noted
+  abbrev pub look_at_tells : Step (Slot B) → Me (Slot B) (View B) → ℕ → Me (Slot B) (View B) → Type 0
+  look_at_tells st m r n = n ≡ (at_work m.0 (finds_over ((st.word == 0) && (r == 1)) (worker m.0)), m.1)
+
+  -- an empty place tells nothing; else its event is given
+  abbrev pub read_tells : Step (Slot B) → Me (Slot B) (View B) → ℕ → Me (Slot B) (View B) → Type 0
+  read_tells st m r n = MatchBool (r == 0) (n ≡ m) ((e : Event) × (is_lawful e ≡ true) × (word_of e ≡ r) × (n ≡ (seated m.0 (Dispatcher (reads_on e (dispatcher m.0))), m.1)))

@@ -1,0 +1,74 @@
+//! The kinds of step, each with what it tells its seat.
+
+ghost use Rattle.table_rule.specs.Picture.{dispatcher_view, worker_view};
+ghost use Rattle.table_rule.specs.Plays.{admit_tells, claim_tells, deals_one, dispatcher, draw_tells, look_at_tells, newcomer, read_tells, settle_tells, show_tells, spent_view};
+
+use crate::view::{Slot, View};
+use atomic_table::{Join, Play, Split};
+
+/// A worker claims a node: a compare-exchange of the node's status.
+pub struct Claims;
+
+impl<B> Play<Slot<B>, View<B>> for Claims {
+    ghost then = { claim_tells };
+}
+
+/// A worker draws the event that is due: one more on the number of events that are drawn.
+pub struct Draws;
+
+impl<B> Play<Slot<B>, View<B>> for Draws {
+    ghost then = { draw_tells };
+}
+
+/// A worker shows what it drew: a store at the event's place.
+pub struct Shows;
+
+impl<B> Play<Slot<B>, View<B>> for Shows {
+    ghost then = { show_tells };
+}
+
+/// A worker offers a node: a store of the node's status.
+pub struct Admits;
+
+impl<B> Play<Slot<B>, View<B>> for Admits {
+    ghost then = { admit_tells };
+}
+
+/// A worker settles its node: a store of the node's status.
+pub struct Settles;
+
+impl<B> Play<Slot<B>, View<B>> for Settles {
+    ghost then = { settle_tells };
+}
+
+/// A worker that is free looks at a node's status.
+pub struct LooksAt;
+
+impl<B> Play<Slot<B>, View<B>> for LooksAt {
+    ghost then = { look_at_tells };
+}
+
+/// The dispatcher reads the next place.
+pub struct Reads;
+
+impl<B> Play<Slot<B>, View<B>> for Reads {
+    ghost then = { read_tells };
+}
+
+/// The dispatcher deals a worker its seat.
+pub struct Deals;
+
+impl<B> Split<View<B>> for Deals {
+    ghost left = { λ v. dispatcher_view v.about (deals_one (dispatcher v)) };
+
+    ghost right = { λ v. worker_view v.about (newcomer (dispatcher v).dealt) };
+}
+
+/// A worker's seat comes back to the dispatcher.
+pub struct Gathers;
+
+impl<B> Join<View<B>> for Gathers {
+    ghost both = { λ v w. v };
+
+    ghost spent = { spent_view };
+}
