@@ -18,7 +18,7 @@ use Rattle.scheduling.proofs.Steps.{after_keeps}
 use Rattle.table_rule.specs.declared.view.About.{About}
 use Rattle.table_rule.specs.declared.view.View.{View}
 use Rattle.table_rule.specs.declared.view.Slot.{Slot}
-use Rattle.table_rule.specs.declared.view.Giving.{Giving}
+use Rattle.table_rule.specs.declared.view.Dispatching.{Dispatching}
 use Rattle.table_rule.specs.declared.view.Place.{Place}
 use Rattle.table_rule.specs.declared.view.Place.TheVariants.{Spent, Worker, Dispatcher}
 use Rattle.table_rule.specs.Words.{event_place}
@@ -39,7 +39,7 @@ at_end [] x y (suc j) e = absurd (some-ne-none y (sym e))
 at_end (z ∷ l) x y zero e = inl e
 at_end (z ∷ l) x y (suc j) e = elim (at_end l x y j e) [ inl a ↦ inl a | inr b ↦ inr (ap suc b.0, b.1) ]
 
-module _ {B : Type 0} (replies : ℕ → List Reply) (key : About B) (c : State) (dealt : Dealt) (s : TableState (Slot B) (View B)) (r : IsPictureOf replies key c dealt s) (id : ℕ) (d : Giving) (at : get_elem? s.views id ≡ some (dispatcher_view key d)) where
+module _ {B : Type 0} (replies : ℕ → List Reply) (key : About B) (c : State) (dealt : Dealt) (s : TableState (Slot B) (View B)) (r : IsPictureOf replies key c dealt s) (id : ℕ) (d : Dispatching) (at : get_elem? s.views id ≡ some (dispatcher_view key d)) where
   abbrev p : PlanParts
   p = key.plan
 

@@ -7,3 +7,6 @@ pub mod Drawing
 pub mod Desk
 pub mod Opening
 pub mod Allowed
+pub mod Keys
+pub mod Returning
+pub mod Turning

@@ -18,7 +18,7 @@ use Rattle.table_rule.specs.declared.view.Told.{Told}
 use Rattle.table_rule.specs.declared.view.View.{View}
 use Rattle.table_rule.specs.declared.view.Slot.{Slot}
 use Rattle.table_rule.specs.declared.view.Working.{Working}
-use Rattle.table_rule.specs.declared.view.Giving.{Giving}
+use Rattle.table_rule.specs.declared.view.Dispatching.{Dispatching}
 use Rattle.table_rule.specs.declared.view.Place.{Place}
 use Rattle.table_rule.specs.declared.view.Place.TheVariants.{Spent, Worker, Dispatcher}
 use Rattle.table_rule.specs.Words.{words_of}
@@ -47,7 +47,7 @@ pub record WorkerFits (p : PlanParts) (replies : ℕ → List Reply) (c : State)
   pub answer : IsAnswer p replies w.seat w.answer
 
 -- The dispatcher's: it is the first, and has read what is given.
-pub record DispatcherFits (c : State) (dealt : Dealt) (id : ℕ) (d : Giving) : Type 0 where
+pub record DispatcherFits (c : State) (dealt : Dealt) (id : ℕ) (d : Dispatching) : Type 0 where
   pub first : id ≡ 0
   pub many : d.dealt ≡ dealt.many
   pub read : d.read ≡ c.given
@@ -105,7 +105,7 @@ module _ {B : Type 0} where
   abbrev pub worker_view : About B → Working → View B
   worker_view key w = record { about = key; place = Worker w }
 
-  abbrev pub dispatcher_view : About B → Giving → View B
+  abbrev pub dispatcher_view : About B → Dispatching → View B
   dispatcher_view key d = record { about = key; place = Dispatcher d }
 
   -- the view of the first seat: the dispatcher's, who has dealt no seat and read nothing

@@ -1,5 +1,5 @@
 -- What each kind of step tells the seat that makes it: the seat after it, by the seat before and the word that was found.
-use Rattle.std.specs.Prelude.{◌≡◌, ℕ, suc, ◌+◌, ◌<◌, ◌==◌, ◌||◌, ◌&&◌, Bool, true, false, List, [], ◌∷◌, ◌++◌, Option, Some, None, MatchBool}
+use Rattle.std.specs.Prelude.{◌≡◌, ℕ, suc, ◌+◌, ◌<◌, ◌==◌, ◌||◌, ◌&&◌, Bool, true, false, cond, List, [], ◌∷◌, ◌++◌, Option, Some, None, MatchBool}
 use Rattle.atomic_table.specs.Table.{Me, Step}
 use Rattle.plan_events.specs.declared.event.Event.{Event}
 use Rattle.plan_events.specs.declared.event.EventKind.TheVariants.{Started, Finished, Skipped, Registered}
@@ -7,19 +7,24 @@ use Rattle.plan_events.specs.declared.outcome.Reply.{Reply}
 use Rattle.plan_events.specs.declared.status.Status.TheVariants.{Successful}
 use Rattle.plan_events.specs.Words.{is_lawful, word_of}
 use Rattle.resource_locks.specs.Plans.{PlanParts, most_events}
-use Rattle.scheduling.specs.declared.task.Opening.TheVariants.{Registering, RegisteredAt, Offering, Beginning, StartedAt, Admitting}
-use Rattle.scheduling.specs.declared.task.Closing.TheVariants.{Ending, FinishedAt, SkippedAt, Settling, Passing, CountingOff}
+use Rattle.scheduling.specs.declared.status.NodeStatus.TheVariants.{Claimed}
+use Rattle.scheduling.specs.declared.lock_word.LockWord.{LockWord}
+use Rattle.scheduling.specs.declared.lock_word.LockWord.TheVariants.{Readers, Written}
+use Rattle.scheduling.specs.declared.task.Opening.TheVariants.{Registering, RegisteredAt, Offering, Noticing, Locking, Weighed, Backing, Beginning, StartedAt, Admitting}
+use Rattle.scheduling.specs.declared.task.Closing.TheVariants.{Ending, FinishedAt, SkippedAt, Raising, Giving, Settling, Looking, Passing, CountingOff}
 use Rattle.scheduling.specs.declared.task.Task.{Task}
 use Rattle.scheduling.specs.declared.task.Task.TheVariants.{Opens, Closes, Free}
+use Rattle.scheduling.specs.declared.seat.Hand.{Hand}
 use Rattle.scheduling.specs.declared.seat.Seat.{Seat}
-use Rattle.scheduling.specs.Choices.{claims, admit_from, after_settle, offered_to, after_finish, awaited, event_of}
-use Rattle.scheduling.specs.Rows.{with_task, after_start, one_more, waits_for, waits_no_more, decided_seat}
+use Rattle.scheduling.specs.Choices.{keys_count, lock_from, claims, begins, giving, admit_from, after_settle, offered_to, after_finish, next_spare, awaited, event_of}
+use Rattle.scheduling.specs.Rows.{with_task, weighed, after_start, one_more, waits_for, waits_no_more, decided_seat}
 use Rattle.table_rule.specs.declared.view.View.{View}
 use Rattle.table_rule.specs.declared.view.Slot.{Slot}
 use Rattle.table_rule.specs.declared.view.Working.{Working}
-use Rattle.table_rule.specs.declared.view.Giving.{Giving}
+use Rattle.table_rule.specs.declared.view.Dispatching.{Dispatching}
 use Rattle.table_rule.specs.declared.view.Place.{Place}
 use Rattle.table_rule.specs.declared.view.Place.TheVariants.{Spent, Worker, Dispatcher}
+use Rattle.table_rule.specs.Words.{status_word}
 use Rattle.table_rule.specs.Picture.{free_seat}
 
 -- Seats of the core.
@@ -71,6 +76,29 @@ admitted_seat p seat _ = seat
 abbrev pub settled_seat : PlanParts → Seat → ℕ → Seat
 settled_seat p seat n = record { task = after_settle p n; hand = waits_no_more n seat.hand }
 
+-- the status of a key by its word
+abbrev pub lock_read : ℕ → LockWord
+lock_read word = cond (word == 65536) Written (Readers word)
+
+-- the seat once it has tried to take a key
+abbrev pub tried_task : PlanParts → ℕ → ℕ → Bool → Task
+tried_task p n i hit = Opens n (cond hit (lock_from p n (suc i)) (Locking i))
+
+-- the key that the task gives back: at this place of those of this node; and the seat after that
+pub record Back : Type 0 where
+  pub node : ℕ
+  pub place : ℕ
+
+abbrev pub back_due : Task → Option Back
+back_due (Opens n (Backing (suc i))) = Some (record { node = n; place = i })
+back_due (Closes n (Giving (suc i))) = Some (record { node = n; place = i })
+back_due _ = None
+
+abbrev pub given_seat : Seat → Task → Seat
+given_seat seat (Opens n (Backing (suc i))) = with_task seat (Opens n (Backing i))
+given_seat seat (Closes n (Giving (suc i))) = with_task seat (Closes n (giving i))
+given_seat seat _ = seat
+
 -- The seat with the answer of its job made use of. Where no job is awaited, no reply is asked for.
 abbrev pub unasked : Reply
 unasked = record { pulls = 0; outcome = record { status = Successful; text = [] } }
@@ -103,10 +131,10 @@ abbrev pub newcomer : ℕ → Working
 newcomer number = record { number = number; seat = free_seat; answer = None; mine = []; over = false }
 
 -- The dispatcher.
-abbrev pub reads_on : Event → Giving → Giving
+abbrev pub reads_on : Event → Dispatching → Dispatching
 reads_on e d = record { dealt = d.dealt; read = d.read ++ e ∷ [] }
 
-abbrev pub deals_one : Giving → Giving
+abbrev pub deals_one : Dispatching → Dispatching
 deals_one d = record { dealt = d.dealt + 1; read = d.read }
 
 -- what a seat knows, as a worker or as the dispatcher
@@ -115,7 +143,7 @@ worker_in Spent = newcomer 0
 worker_in (Worker w) = w
 worker_in (Dispatcher d) = newcomer 0
 
-abbrev pub dispatcher_in : Place → Giving
+abbrev pub dispatcher_in : Place → Dispatching
 dispatcher_in Spent = record { dealt = 0; read = [] }
 dispatcher_in (Worker w) = record { dealt = 0; read = [] }
 dispatcher_in (Dispatcher d) = d
@@ -127,7 +155,7 @@ module _ {B : Type 0} where
   abbrev pub worker : View B → Working
   worker v = worker_in v.place
 
-  abbrev pub dispatcher : View B → Giving
+  abbrev pub dispatcher : View B → Dispatching
   dispatcher v = dispatcher_in v.place
 
   abbrev pub at_work : View B → Working → View B
@@ -157,6 +185,36 @@ module _ {B : Type 0} where
 
   abbrev pub settle_tells : Step (Slot B) → Me (Slot B) (View B) → ℕ → Me (Slot B) (View B) → Type 0
   settle_tells st m r n = n ≡ (at_work m.0 (goes_on (settled_seat m.0.about.plan (worker m.0).seat st.word) (worker m.0)), m.1)
+
+  -- whether the plan is cancelled decides how the node goes on
+  abbrev pub notice_tells : Step (Slot B) → Me (Slot B) (View B) → ℕ → Me (Slot B) (View B) → Type 0
+  notice_tells st m r n = (k : ℕ) → (worker m.0).seat.task ≡ Opens k Noticing → n ≡ (at_work m.0 (goes_on (with_task (worker m.0).seat (Opens k (begins m.0.about.plan k (r == 1)))) (worker m.0)), m.1)
+
+  abbrev pub raise_tells : Step (Slot B) → Me (Slot B) (View B) → ℕ → Me (Slot B) (View B) → Type 0
+  raise_tells st m r n = (k : ℕ) → (worker m.0).seat.task ≡ Closes k Raising → n ≡ (at_work m.0 (goes_on (with_task (worker m.0).seat (Closes k (giving (keys_count m.0.about.plan k)))) (worker m.0)), m.1)
+
+  -- the key's word decides whether it is tried
+  abbrev pub weigh_tells : Step (Slot B) → Me (Slot B) (View B) → ℕ → Me (Slot B) (View B) → Type 0
+  weigh_tells st m r n = (k i : ℕ) → (worker m.0).seat.task ≡ Opens k (Locking i) → n ≡ (at_work m.0 (goes_on (with_task (worker m.0).seat (Opens k (weighed m.0.about.plan k i (lock_read r)))) (worker m.0)), m.1)
+
+  -- the key is taken, if its word is still the one that was seen
+  abbrev pub take_tells : Step (Slot B) → Me (Slot B) (View B) → ℕ → Me (Slot B) (View B) → Type 0
+  take_tells st m r n = (k i : ℕ) (v : LockWord) → (worker m.0).seat.task ≡ Opens k (Weighed i v) → n ≡ (at_work m.0 (goes_on (with_task (worker m.0).seat (tried_task m.0.about.plan k i (r == st.first))) (worker m.0)), m.1)
+
+  abbrev pub give_tells : Step (Slot B) → Me (Slot B) (View B) → ℕ → Me (Slot B) (View B) → Type 0
+  give_tells st m r n = n ≡ (at_work m.0 (goes_on (given_seat (worker m.0).seat (worker m.0).seat.task) (worker m.0)), m.1)
+
+  abbrev pub give_up_tells : Step (Slot B) → Me (Slot B) (View B) → ℕ → Me (Slot B) (View B) → Type 0
+  give_up_tells st m r n = n ≡ (at_work m.0 (goes_on (with_task (worker m.0).seat Free) (worker m.0)), m.1)
+
+  -- the parent is claimed, and who claimed it takes the sibling
+  abbrev pub look_tells : Step (Slot B) → Me (Slot B) (View B) → ℕ → Me (Slot B) (View B) → Type 0
+  look_tells st m r n = (k j : ℕ) → (worker m.0).seat.task ≡ Closes k (Looking j) → (o : ℕ) × (status_word (Claimed o) ≡ r) × (n ≡ (at_work m.0 (goes_on (with_task (worker m.0).seat (Closes k (Passing j o))) (worker m.0)), m.1))
+
+  -- the next spare of the factory in hand is to be registered
+  abbrev pub add_child_tells : Step (Slot B) → Me (Slot B) (View B) → ℕ → Me (Slot B) (View B) → Type 0
+  add_child_tells st m r n = (hand : Hand) (c : ℕ) → (worker m.0).seat.hand ≡ Some hand → next_spare m.0.about.plan hand.factory hand.registered ≡ Some c
+      → n ≡ (at_work m.0 (goes_on (with_task (worker m.0).seat (Opens c Registering)) (worker m.0)), m.1)
 
   -- whether node 0 was found settled is noted
   abbrev pub look_at_tells : Step (Slot B) → Me (Slot B) (View B) → ℕ → Me (Slot B) (View B) → Type 0

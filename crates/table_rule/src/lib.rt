@@ -5,6 +5,9 @@ mod plays;
 mod rule;
 mod view;
 
-pub use plays::{Admits, Claims, Deals, Draws, Gathers, LooksAt, Reads, Settles, Shows};
+pub use plays::{
+    AddsChild, Admits, Claims, Deals, Draws, Gathers, Gives, GivesUp, Looks, LooksAt, Notices,
+    Raises, Reads, Settles, Shows, Takes, Weighs,
+};
 pub use rule::Law;
-pub use view::{About, Giving, Place, Slot, Told, View, Working};
+pub use view::{About, Dispatching, Place, Slot, Told, View, Working};

@@ -1,7 +1,7 @@
 //! The kinds of step, each with what it tells its seat.
 
 ghost use Rattle.table_rule.specs.Picture.{dispatcher_view, worker_view};
-ghost use Rattle.table_rule.specs.Plays.{admit_tells, claim_tells, deals_one, dispatcher, draw_tells, look_at_tells, newcomer, read_tells, settle_tells, show_tells, spent_view};
+ghost use Rattle.table_rule.specs.Plays.{add_child_tells, admit_tells, claim_tells, deals_one, dispatcher, draw_tells, give_tells, give_up_tells, look_at_tells, look_tells, newcomer, notice_tells, raise_tells, read_tells, settle_tells, show_tells, spent_view, take_tells, weigh_tells};
 
 use crate::view::{Slot, View};
 use atomic_table::{Join, Play, Split};
@@ -39,6 +39,62 @@ pub struct Settles;
 
 impl<B> Play<Slot<B>, View<B>> for Settles {
     ghost then = { settle_tells };
+}
+
+/// A worker looks whether the plan is cancelled.
+pub struct Notices;
+
+impl<B> Play<Slot<B>, View<B>> for Notices {
+    ghost then = { notice_tells };
+}
+
+/// A worker cancels the plan: a store of the cancel word.
+pub struct Raises;
+
+impl<B> Play<Slot<B>, View<B>> for Raises {
+    ghost then = { raise_tells };
+}
+
+/// A worker looks at the word of a key.
+pub struct Weighs;
+
+impl<B> Play<Slot<B>, View<B>> for Weighs {
+    ghost then = { weigh_tells };
+}
+
+/// A worker tries to take a key: a compare-exchange of its word.
+pub struct Takes;
+
+impl<B> Play<Slot<B>, View<B>> for Takes {
+    ghost then = { take_tells };
+}
+
+/// A worker gives a key back: one less on its word in READ, a store in READ_WRITE.
+pub struct Gives;
+
+impl<B> Play<Slot<B>, View<B>> for Gives {
+    ghost then = { give_tells };
+}
+
+/// A worker offers its node again, a key of which was busy: a store of the node's status.
+pub struct GivesUp;
+
+impl<B> Play<Slot<B>, View<B>> for GivesUp {
+    ghost then = { give_up_tells };
+}
+
+/// A worker looks who claimed its node's parent.
+pub struct Looks;
+
+impl<B> Play<Slot<B>, View<B>> for Looks {
+    ghost then = { look_tells };
+}
+
+/// A worker goes on to the next dynamic test of the factory in its hand: one more on the factory's counter.
+pub struct AddsChild;
+
+impl<B> Play<Slot<B>, View<B>> for AddsChild {
+    ghost then = { add_child_tells };
 }
 
 /// A worker that is free looks at a node's status.

@@ -44,7 +44,7 @@ pub struct Working {
 }
 
 /// The dispatcher: how many workers have a seat, and what it has read.
-pub struct Giving {
+pub struct Dispatching {
     pub dealt: u64,
     pub read: LinkedList<Event>,
 }
@@ -54,7 +54,7 @@ pub enum Place {
     /// Nobody's any more: it was joined.
     Spent,
     Worker(Working),
-    Dispatcher(Giving),
+    Dispatcher(Dispatching),
 }
 
 /// What a seat knows.
