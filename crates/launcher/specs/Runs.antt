@@ -2,7 +2,7 @@
 use Rattle.std.specs.Prelude.{◌≡◌, ℕ, ◌<◌, ◌≤◌, nat_lt, List, length, take, map, Bool, true, false, if◌then◌else◌, Option, Some, None, option_map, Result, Ok, Err}
 use Rattle.std.specs.Option.{option_or}
 use Rattle.std.specs.Io.KnownBytes.{Appends, Consumes, IsAtEnd}
-use Rattle.config_params.specs.Parameters.{Parameters, nothing_said, answer_over}
+use Rattle.config_params.specs.Parameters.{answer_over}
 use Rattle.config_params.specs.Settings.{settings_of}
 use Rattle.config_params.specs.declared.settings.Settings.{Settings}
 use Rattle.config_params.specs.declared.settings_fault.SettingsFault.{SettingsFault}
@@ -28,13 +28,9 @@ use Rattle.suite_text.specs.declared.suite.Suite as suites
 use Rattle.launcher.specs.Asked.{Asked}
 use Rattle.launcher.specs.Reports.{IsOutput}
 
--- what the suite says of the configuration
-abbrev pub properties_of : SuiteParts → Parameters
-properties_of suite = nothing_said
-
 -- the settings of a run: what the options say of a key stands over what the suite says of it
 abbrev pub settings_in : Asked → SuiteParts → Result Settings SettingsFault
-settings_in asked suite = settings_of (answer_over asked.params (properties_of suite)) asked.processors
+settings_in asked suite = settings_of (answer_over asked.params suite.properties) asked.processors
 
 -- the plan of a tree: each node has the mode that the settings give it, locks are held by the nodes that they are hoisted to,
 -- and it fails fast or does not

@@ -13,7 +13,7 @@ use crate::exit_status::ExitStatus;
 use crate::fault::LaunchFault;
 use crate::options::Options;
 use crate::report::{Report, report_of};
-use config_params::{Params, Settings};
+use config_params::Settings;
 use descriptor::Tree;
 use exec_mode::modes;
 use listeners::print_to;
@@ -87,8 +87,7 @@ fn suite_report(alloc: Global, options: &Options, suite: Suite) -> Result<Report
     ensures report { IfOk result (λ report. IsSuiteOutput (asked_by options.now) (suite_parts suite) (string_bytes report.text) report.status) }
     ensures refused { IfErr result (λ fault. FailsSuite (asked_by options.now) (suite_parts suite) fault) }
 {
-    let properties = Params::new(alloc);
-    let settings = Settings::read_over(&options.params, &properties, options.processors)?;
+    let settings = Settings::read_over(&options.params, &suite.properties, options.processors)?;
     let plan = plan_of(alloc, options, &settings, suite.tree)?;
     judge_workers(settings.workers)?;
     let answers = answers_of(alloc, suite.scripts)?;
@@ -117,8 +116,8 @@ pub fn run_suite<W: Write>(
 
 /// Reads a suite and runs it, as `read_suite` and `run_suite` say. The reading takes memory before
 /// anything is judged, but want of memory never stands in place of a suite that is too large, nor,
-/// once the suite was read, of settings that are none or of a selector that covers nothing. On any refusal but 81 nothing is
-/// written.
+/// once the suite was read, of settings that are none or of a selector that covers nothing. On any
+/// refusal but 81 nothing is written.
 pub fn run_options<R: Read, W: Write>(
     alloc: Global,
     options: &Options,

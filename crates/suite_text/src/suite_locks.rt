@@ -40,7 +40,7 @@ pub(crate) fn locks_of(alloc: Global, set: &LockSet) -> Result<Locks, AllocError
 {
     let mut locks = Locks::new(alloc);
     for lock in set.locks() {
-        locks.push(lock.copy(alloc)?)?;
+        locks.push(lock.copy()?)?;
     }
     Ok(locks)
 }
