@@ -1,8 +1,10 @@
 -- The values that clap finds for the options.
-use Rattle.std.specs.Prelude.{ℕ, Bool, false, List, [], codes, Option, Some, None}
+use Rattle.std.specs.Prelude.{ℕ, Bool, false, List, [], ◌++◌, map, codes, Option, Some, None}
 use Rattle.std.specs.Str.{bytes_eq}
 use Rattle.clap.specs.Words.{Row, Text, all_of, first_of}
 use Rattle.launcher.specs.Given.{Values}
+use Rattle.selectors.specs.declared.selector.SelectorKind.{SelectorKind}
+use Rattle.selectors.specs.declared.selector.SelectorKind.TheVariants as kinds
 
 -- the values of an option that may be missing: none
 abbrev pub texts_or_none : Option (List Text) → List Text
@@ -22,13 +24,22 @@ says_true (Some text) = bytes_eq text (codes "true")
 abbrev pub is_found : List ℕ → List Row → Bool
 is_found name rows = says_true (first_of name rows)
 
+-- the values that clap found for an option that has selectors of this kind
+abbrev pub of_kind : SelectorKind → List ℕ → List Row → List (SelectorKind × Text)
+of_kind kind name rows = map (λ text. (kind, text)) (all_found name rows)
+
+-- the texts of the selectors, each with its kind, in the order of their numbers
+abbrev pub selectors_found : List Row → List (SelectorKind × Text)
+selectors_found rows =
+    of_kind kinds.UniqueId (codes "select-unique-id") rows
+    ++ of_kind kinds.Class (codes "select-class") rows
+    ++ of_kind kinds.Method (codes "select-method") rows
+    ++ of_kind kinds.Package (codes "select-package") rows
+
 -- what clap finds for the options
 abbrev pub values_in : List Row → Values
 values_in rows = record {
-  unique_ids = all_found (codes "select-unique-id") rows;
-  classes = all_found (codes "select-class") rows;
-  methods = all_found (codes "select-method") rows;
-  packages = all_found (codes "select-package") rows;
+  selectors = selectors_found rows;
   include_tags = all_found (codes "include-tag") rows;
   exclude_tags = all_found (codes "exclude-tag") rows;
   config = all_found (codes "config") rows;

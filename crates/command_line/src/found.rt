@@ -1,9 +1,9 @@
 //! What clap finds for each option.
 
-ghost use Rattle.std.specs.Prelude.{◌≡◌, IfOk, map, option_map};
+ghost use Rattle.std.specs.Prelude.{◌≡◌, ◌++◌, IfOk, OnOk, map, option_map};
 ghost use Rattle.clap.specs.Words.{all_of, found_of, first_of, rows_of};
-ghost use Rattle.launcher.specs.Given.{behind, values_of};
-ghost use Rattle.command_line.specs.Found.{all_found as all_in, is_found, values_in};
+ghost use Rattle.launcher.specs.Given.{behind, texts_of, values_of};
+ghost use Rattle.command_line.specs.Found.{all_found as all_in, is_found, of_kind, selectors_found, values_in};
 
 use crate::option_names::{
     CONFIG, DETAILS, DETAILS_THEME, EXCLUDE_TAG, FAIL_FAST, FAIL_IF_NO_TESTS, INCLUDE_TAG,
@@ -11,6 +11,7 @@ use crate::option_names::{
 };
 use clap::ArgMatches;
 use launcher::Given;
+use selectors::SelectorKind;
 use std::alloc::{AllocError, Global};
 
 /// The values of an option that may be given again, if it is given.
@@ -32,6 +33,44 @@ fn all_found<'a>(
     if let Some(values) = values(matches, name) {
         texts.extend_from_slice(values)?;
     }
+    Ok(texts)
+}
+
+/// Appends the values of an option that has selectors of this kind.
+fn push_found<'a>(
+    texts: &mut Vec<(SelectorKind, &'a str)>,
+    matches: &ArgMatches<'a>,
+    kind: SelectorKind,
+    name: &str,
+) -> Result<(), AllocError>
+    ensures { OnOk result (texts_of texts.new.items ≡ texts_of texts.old.items ++ of_kind kind name.now (rows_of (found_of matches.now))) }
+{
+    let Some(values) = values(matches, name) else {
+        return Ok(());
+    };
+    for value in values {
+        texts.push((kind, *value))?;
+    }
+    Ok(())
+}
+
+/// The texts of the selectors, each with its kind, in the order of their numbers.
+fn selectors_found<'a>(
+    alloc: Global,
+    matches: &ArgMatches<'a>,
+) -> Result<Vec<(SelectorKind, &'a str)>, AllocError>
+    ensures { IfOk result (λ texts. texts_of texts.items ≡ selectors_found (rows_of (found_of matches.now))) }
+{
+    let mut texts = Vec::new(alloc);
+    push_found(
+        &mut texts,
+        matches,
+        SelectorKind::UniqueId,
+        SELECT_UNIQUE_ID,
+    )?;
+    push_found(&mut texts, matches, SelectorKind::Class, SELECT_CLASS)?;
+    push_found(&mut texts, matches, SelectorKind::Method, SELECT_METHOD)?;
+    push_found(&mut texts, matches, SelectorKind::Package, SELECT_PACKAGE)?;
     Ok(texts)
 }
 
@@ -57,10 +96,7 @@ pub(crate) fn given_in<'a>(alloc: Global, matches: &ArgMatches<'a>) -> Result<Gi
     ensures { IfOk result (λ given. values_of given ≡ values_in (rows_of (found_of matches.now))) }
 {
     Ok(Given {
-        unique_ids: all_found(alloc, matches, SELECT_UNIQUE_ID)?,
-        classes: all_found(alloc, matches, SELECT_CLASS)?,
-        methods: all_found(alloc, matches, SELECT_METHOD)?,
-        packages: all_found(alloc, matches, SELECT_PACKAGE)?,
+        selectors: selectors_found(alloc, matches)?,
         include_tags: all_found(alloc, matches, INCLUDE_TAG)?,
         exclude_tags: all_found(alloc, matches, EXCLUDE_TAG)?,
         config: all_found(alloc, matches, CONFIG)?,

@@ -1,19 +1,16 @@
 -- Reading the texts of selectors and of tag expressions one after the other.
-use Rattle.std.proofs.Common.{◌≡◌, ◌≢◌, ℕ, ◌+◌, ◌<◌, List, [], ◌∷◌, ◌++◌, length, take, drop, get_or, Bor, Option, Some, None, option_map, Result, Ok, Err, IfErr, refl, sym, ap, ◌∙◌, subst}
+use Rattle.std.proofs.Common.{◌≡◌, ℕ, ◌+◌, ◌<◌, true, false, List, [], ◌∷◌, ◌++◌, length, take, drop, get_or, Bor, Option, Some, None, option_map, refl, sym, ap, ◌∙◌, subst}
 use Rattle.std.proofs.lemmas.List.{drop_more, take_more, map-append}
 use Rattle.std.proofs.lemmas.List.Elements.{filter_map-append}
 use Rattle.std.specs.List.{filter_map}
-use Rattle.std.specs.Option.{option_or}
-use Rattle.std.specs.Result.{IsErrAnd}
+use Rattle.std.specs.Option.{option_or, is_some}
 use Rattle.selectors.specs.declared.selector.Selector.{Selector}
 use Rattle.selectors.specs.declared.selector.SelectorKind.{SelectorKind}
 use Rattle.tag_expr.specs.declared.fault.TagFault.{TagFault}
-use Rattle.tag_expr.specs.declared.fault.TagFault.TheVariants as tags
 use Rattle.tag_expr.specs.Expressions.{Expression}
 use Rattle.tag_expr.specs.ExpressionFaults.{expression_refusal}
 use Rattle.launcher.specs.declared.fault.LaunchFault.{LaunchFault}
-use Rattle.launcher.specs.declared.fault.LaunchFault.TheVariants.{NoMemory, BadTags}
-use Rattle.launcher.specs.Faults.{IsTagFault}
+use Rattle.launcher.specs.declared.fault.LaunchFault.TheVariants.{BadSelector, BadTags}
 use Rattle.launcher.specs.Given.{Text, behind, texts_of}
 use Rattle.launcher.specs.Asked.{spelled, unless_spelled, selectors_refusal, tags_refusal, IsExpression, AreExpressions}
 
@@ -38,33 +35,30 @@ module _ (texts : List (Bor Text)) (i : ℕ) (d : Bor Text) (inside : i < length
   tags_next whole before none =
       ap (λ (o : Option TagFault). option_or (option_map BadTags o) (tags_refusal (behind (drop (i + 1) texts)))) (sym none) ∙ ap (λ ts. tags_refusal (behind ts)) (sym (drop_more texts i d inside)) ∙ before
 
-  tags_at : (whole : Option LaunchFault) (fault : TagFault) → tags_refusal (behind (drop i texts)) ≡ whole → expression_refusal (get_or texts i d).now ≡ Some fault → whole ≡ Some (BadTags fault)
-  tags_at whole fault before is =
-      sym before ∙ ap (λ ts. tags_refusal (behind ts)) (drop_more texts i d inside) ∙ ap (λ (o : Option TagFault). option_or (option_map BadTags o) (tags_refusal (behind (drop (i + 1) texts)))) is
-
-  by_cause : (whole : Option LaunchFault) (cause : TagFault) (fault : LaunchFault) → tags_refusal (behind (drop i texts)) ≡ whole → (cause ≢ tags.NoMemory → expression_refusal (get_or texts i d).now ≡ Some cause) → IsTagFault cause fault
-      → fault ≢ NoMemory → whole ≡ Some fault
-  by_cause whole tags.NoMemory fault before refused is other = absurd (other is)
-  by_cause whole tags.Empty fault before refused is other = rw is (tags_at whole tags.Empty before (refused (λ same. cc)))
-  by_cause whole (tags.BadTag n) fault before refused is other = rw is (tags_at whole (tags.BadTag n) before (refused (λ same. cc)))
-  by_cause whole (tags.OperandMissing n) fault before refused is other = rw is (tags_at whole (tags.OperandMissing n) before (refused (λ same. cc)))
-  by_cause whole (tags.OperatorMissing n) fault before refused is other = rw is (tags_at whole (tags.OperatorMissing n) before (refused (λ same. cc)))
-  by_cause whole (tags.ParenOpen n) fault before refused is other = rw is (tags_at whole (tags.ParenOpen n) before (refused (λ same. cc)))
-  by_cause whole (tags.ParenClose n) fault before refused is other = rw is (tags_at whole (tags.ParenClose n) before (refused (λ same. cc)))
-  by_cause whole tags.TooDeep fault before refused is other = rw is (tags_at whole tags.TooDeep before (refused (λ same. cc)))
-
   -- a text with a fault is what is refused
-  pub tags_refused : {X : Type 0} (whole : Option LaunchFault) (cause : TagFault) (result : Result X LaunchFault) → tags_refusal (behind (drop i texts)) ≡ whole → (cause ≢ tags.NoMemory → expression_refusal (get_or texts i d).now ≡ Some cause) → IsErrAnd result (IsTagFault cause)
-      → IfErr result (λ fault. fault ≢ NoMemory → whole ≡ Some fault)
-  tags_refused whole cause (Ok x) before refused is = absurd is
-  tags_refused whole cause (Err fault) before refused is = by_cause whole cause fault before refused is
+  pub tags_at : (whole : Option LaunchFault) (fault : LaunchFault) → tags_refusal (behind (drop i texts)) ≡ whole → option_map BadTags (expression_refusal (get_or texts i d).now) ≡ Some fault → whole ≡ Some fault
+  tags_at whole fault before is =
+      sym before ∙ ap (λ ts. tags_refusal (behind ts)) (drop_more texts i d inside) ∙ ap (λ (o : Option LaunchFault). option_or o (tags_refusal (behind (drop (i + 1) texts)))) is
+
+by_spelled : (n : ℕ) (o : Option Selector) (others : Option LaunchFault) → is_some o ≡ true → unless_spelled n o others ≡ others
+by_spelled n None others is = absurd (cc is)
+by_spelled n (Some selector) others is = refl
+
+by_none : (n : ℕ) (o : Option Selector) (others : Option LaunchFault) → is_some o ≡ false → unless_spelled n o others ≡ Some (BadSelector n)
+by_none n None others is = refl
+by_none n (Some selector) others is = absurd (cc is)
 
 module _ (texts : List (SelectorKind × Bor Text)) (i : ℕ) (d : SelectorKind × Bor Text) (inside : i < length texts) where
   -- a text that spells a selector leaves the refusal to the others
-  pub selectors_next : (whole : Option LaunchFault) (selector : Selector) → selectors_refusal (i + 1) (texts_of (drop i texts)) ≡ whole → spelled ((get_or texts i d).0, (get_or texts i d).1.now) ≡ Some selector
+  pub selectors_next : (whole : Option LaunchFault) → selectors_refusal (i + 1) (texts_of (drop i texts)) ≡ whole → is_some (spelled ((get_or texts i d).0, (get_or texts i d).1.now)) ≡ true
       → selectors_refusal (i + 1 + 1) (texts_of (drop (i + 1) texts)) ≡ whole
-  selectors_next whole selector before is =
-      ap (λ (o : Option Selector). unless_spelled (i + 1) o (selectors_refusal (i + 1 + 1) (texts_of (drop (i + 1) texts)))) (sym is) ∙ ap (λ ts. selectors_refusal (i + 1) (texts_of ts)) (sym (drop_more texts i d inside)) ∙ before
+  selectors_next whole before is =
+      sym (by_spelled (i + 1) (spelled ((get_or texts i d).0, (get_or texts i d).1.now)) (selectors_refusal (i + 1 + 1) (texts_of (drop (i + 1) texts))) is) ∙ ap (λ ts. selectors_refusal (i + 1) (texts_of ts)) (sym (drop_more texts i d inside)) ∙ before
+
+  -- a text that spells none is what is refused
+  pub selectors_at : (whole : Option LaunchFault) → selectors_refusal (i + 1) (texts_of (drop i texts)) ≡ whole → is_some (spelled ((get_or texts i d).0, (get_or texts i d).1.now)) ≡ false → whole ≡ Some (BadSelector (i + 1))
+  selectors_at whole before is =
+      sym before ∙ ap (λ ts. selectors_refusal (i + 1) (texts_of ts)) (drop_more texts i d inside) ∙ by_none (i + 1) (spelled ((get_or texts i d).0, (get_or texts i d).1.now)) (selectors_refusal (i + 1 + 1) (texts_of (drop (i + 1) texts))) is
 
   -- its selector comes last
   pub spelled_next : (selectors : List Selector) (selector : Selector) → selectors ≡ filter_map spelled (texts_of (take i texts)) → spelled ((get_or texts i d).0, (get_or texts i d).1.now) ≡ Some selector
@@ -76,9 +70,3 @@ module _ (texts : List (SelectorKind × Bor Text)) (i : ℕ) (d : SelectorKind �
       ∙ sym (filter_map-append spelled (texts_of (take i texts)) (((get_or texts i d).0, (get_or texts i d).1.now) ∷ []))
       ∙ ap (filter_map spelled) (sym (map-append {B = SelectorKind × Text} (λ t. (t.0, t.1.now)) (take i texts) (get_or texts i d ∷ [])))
       ∙ ap (λ ts. filter_map spelled (texts_of ts)) (sym (take_more texts i d inside))
-
--- four lists, one behind the other
-pub in_turn : {X : Type 0} (none one two three four a b c d : List X) → none ≡ [] → one ≡ none ++ a → two ≡ one ++ b → three ≡ two ++ c → four ≡ three ++ d → four ≡ ((a ++ b) ++ c) ++ d
-in_turn none one two three four a b c d is_none is_one is_two is_three is_four =
-    is_four
-    ∙ ap (λ xs. xs ++ d) (is_three ∙ ap (λ xs. xs ++ c) (is_two ∙ ap (λ xs. xs ++ b) (is_one ∙ ap (λ xs. xs ++ a) is_none)))

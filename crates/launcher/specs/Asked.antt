@@ -10,7 +10,6 @@ use Rattle.scheduling.specs.declared.step.Step.{Step}
 use Rattle.selectors.specs.declared.request.Request.{Request}
 use Rattle.selectors.specs.declared.selector.Selector.{Selector}
 use Rattle.selectors.specs.declared.selector.SelectorKind.{SelectorKind}
-use Rattle.selectors.specs.declared.selector.SelectorKind.TheVariants as selector_kinds
 use Rattle.selectors.specs.Selectors.{selector_of}
 use Rattle.tag_expr.specs.Expressions.{Expression}
 use Rattle.tag_expr.specs.Grammar.{or_phrase, Spells}
@@ -87,14 +86,6 @@ IsReplay None steps = steps ≡ None
 IsReplay (Some text) None = ⊥
 IsReplay (Some text) (Some steps) = steps_of text ≡ Ok steps
 
--- the texts of the selectors, each with its kind, in the order of their numbers
-abbrev pub selector_texts : Values → List (SelectorKind × Text)
-selector_texts given =
-    map (λ text. (selector_kinds.UniqueId, text)) given.unique_ids
-    ++ map (λ text. (selector_kinds.Class, text)) given.classes
-    ++ map (λ text. (selector_kinds.Method, text)) given.methods
-    ++ map (λ text. (selector_kinds.Package, text)) given.packages
-
 -- the selector that such a text spells, if it spells one
 abbrev pub spelled : SelectorKind × Text → Option Selector
 spelled text = selector_of text.0 text.1
@@ -124,18 +115,24 @@ AreExpressions [] [] = Unit {0}
 AreExpressions (text ∷ texts) (e ∷ expressions) = IsExpression text e × AreExpressions texts expressions
 AreExpressions texts expressions = ⊥
 
--- why the values are refused: other details, other themes, what is no number of processors, what names no step, what spells
--- no selector, what is the matter with a tag expression, and what says no pair
+-- why the texts that are read are refused: what names no step, what spells no selector, and what is the matter with a tag
+-- expression
+abbrev pub texts_refusal : Values → Option LaunchFault
+texts_refusal given =
+    option_or (replay_refusal given.replay) (
+    option_or (selectors_refusal 1 given.selectors) (
+    option_or (tags_refusal given.include_tags) (
+    tags_refusal given.exclude_tags)))
+
+-- why the values are refused: other details, other themes, what is no number of processors, then the texts that are read, and
+-- what says no pair
 abbrev pub refusal_of : Values → Option LaunchFault
 refusal_of given =
     option_or (unless_named (details_named given.details)) (
     option_or (unless_named (theme_named given.theme)) (
     option_or (unless_named (processors_named given.processors)) (
-    option_or (replay_refusal given.replay) (
-    option_or (selectors_refusal 1 (selector_texts given)) (
-    option_or (tags_refusal given.include_tags) (
-    option_or (tags_refusal given.exclude_tags) (
-    params_refusal given)))))))
+    option_or (texts_refusal given) (
+    params_refusal given))))
 
 -- the values ask for this
 pub record AreAsked (given : Values) (asked : Asked) : Type 0 where
@@ -145,7 +142,7 @@ pub record AreAsked (given : Values) (asked : Asked) : Type 0 where
   pub tests : asked.fail_if_no_tests ≡ given.fail_if_no_tests
   pub fail_fast : asked.fail_fast ≡ given.fail_fast
   pub replay : IsReplay given.replay asked.replay
-  pub selectors : asked.request.selectors.items ≡ filter_map spelled (selector_texts given)
+  pub selectors : asked.request.selectors.items ≡ filter_map spelled given.selectors
   pub include : AreExpressions given.include_tags asked.request.include.items
   pub exclude : AreExpressions given.exclude_tags asked.request.exclude.items
   pub params : asked.params ≡ params_said given

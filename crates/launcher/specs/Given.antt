@@ -7,13 +7,10 @@ use Rattle.launcher.specs.declared.given.Given.{Given}
 abbrev pub Text : Type 0
 Text = List ℕ
 
--- what is given to the options: all values of one that may be given again, in their order, and the value of another,
--- if it is given
+-- what is given to the options: the texts of selectors with their kinds, in the order of their numbers; all values of
+-- another option that may be given again, in their order; and the value of any other, if it is given
 pub record Values : Type 0 where
-  pub unique_ids : List Text
-  pub classes : List Text
-  pub methods : List Text
-  pub packages : List Text
+  pub selectors : List (SelectorKind × Text)
   pub include_tags : List Text
   pub exclude_tags : List Text
   pub config : List Text
@@ -40,10 +37,7 @@ texts_of texts = map (λ text. (text.0, text.1.now)) texts
 -- what is given, as it can be read
 abbrev pub values_of : Given → Values
 values_of given = record {
-  unique_ids = behind given.unique_ids.items;
-  classes = behind given.classes.items;
-  methods = behind given.methods.items;
-  packages = behind given.packages.items;
+  selectors = texts_of given.selectors.items;
   include_tags = behind given.include_tags.items;
   exclude_tags = behind given.exclude_tags.items;
   config = behind given.config.items;

@@ -1,17 +1,15 @@
 //! What the words of a command line give the options, each value as text.
 
-/// The values of the options, as texts that mean nothing yet: one field for each option.
+use selectors::SelectorKind;
+
+/// The values of the options, as texts that mean nothing yet: one field for each option, but for
+/// those that select, which share one numbering.
 #[derive(Debug, Drop)]
 pub struct Given<'a> {
-    /// `--select-unique-id`, in the order of the words, as with each that may be given again.
-    pub unique_ids: Vec<&'a str>,
-    /// `--select-class`.
-    pub classes: Vec<&'a str>,
-    /// `--select-method`.
-    pub methods: Vec<&'a str>,
-    /// `--select-package`.
-    pub packages: Vec<&'a str>,
-    /// `--include-tag`.
+    /// `--select-unique-id`, `--select-class`, `--select-method` and `--select-package`: all of the
+    /// first, then all of the next, each option's in the order of the words.
+    pub selectors: Vec<(SelectorKind, &'a str)>,
+    /// `--include-tag`, in the order of the words, as with each that may be given again.
     pub include_tags: Vec<&'a str>,
     /// `--exclude-tag`.
     pub exclude_tags: Vec<&'a str>,

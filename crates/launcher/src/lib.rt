@@ -7,6 +7,7 @@ mod details;
 mod exit_status;
 mod fault;
 mod given;
+mod judged;
 mod options;
 mod parameters;
 mod replay;

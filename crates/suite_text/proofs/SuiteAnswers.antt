@@ -44,6 +44,7 @@ answers_next nodes scripts node d n same body =
 -- properties are no part of it
 pub properties_sound : (read : LinesRead) (properties : Parameters) → IsSound read → IsSound (with_properties read properties)
 properties_sound read properties sound = record { has_path = sound.has_path; answered = sound.answered; afters = sound.afters; ids = sound.ids }
+
 -- a node without an after-body adds none
 afters_same : (nodes : List Node) (node : Node) → node.after ≡ None → afters_of nodes ≡ afters_of (nodes ++ node ∷ [])
 afters_same nodes node none =

@@ -36,7 +36,7 @@ use Rattle.config_params.specs.Pairs as pairs
 use Rattle.config_params.specs.Pairs.{Pair, is_equals_sign, said}
 use Rattle.config_params.specs.Parameters.{Parameters}
 use Rattle.suite_text.specs.SuiteProperties.{with_said, with_property}
-use Rattle.suite_text.specs.Suites.{with_declared, with_words_on, is_property_in, with_pair, with_properties, with_line, suite_from, suite_of}
+use Rattle.suite_text.specs.Suites.{with_declared, with_declaration, with_words_on, is_property_in, with_pair, with_properties, with_line, suite_from, suite_of}
 
 abbrev Never : {A : Type 0} → Result A SuiteFault → Type 0
 Never r = r ≢ Err NoMemory

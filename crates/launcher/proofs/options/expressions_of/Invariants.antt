@@ -1,11 +1,8 @@
--- The values so far spell the expressions, and the first fault of those that are left is that of all.
-use Rattle.std.proofs.Common.{◌≡◌, take, drop}
+-- The texts so far spell the expressions.
+use Rattle.std.proofs.Common.{take}
 use Rattle.launcher.specs.Given.{behind}
-use Rattle.launcher.specs.Asked.{tags_refusal, AreExpressions}
+use Rattle.launcher.specs.Asked.{AreExpressions}
 use Rattle.launcher.proofs.options.expressions_of.Given as goal
 
-abbrev pub invariant-loop-value : goal.invariant-loop-value
-invariant-loop-value l = record {
-  spelled : AreExpressions (behind (take l.value-index l.values)) l.expressions.items;
-  left : tags_refusal (behind (drop l.value-index l.values)) ≡ tags_refusal (behind l.values);
-}
+abbrev pub invariant-loop-text : goal.invariant-loop-text
+invariant-loop-text l = AreExpressions (behind (take l.text-index l.texts)) l.expressions.items

@@ -1,7 +1,7 @@
 -- The values so far.
 use Rattle.std.proofs.Common.{◌≡◌, ◌++◌, map, take}
 use Rattle.launcher.specs.Given.{behind, texts_of}
-use Rattle.launcher.proofs.options.push_texts.Given as goal
+use Rattle.command_line.proofs.found.push_found.Given as goal
 
 abbrev pub invariant-loop-value : goal.invariant-loop-value
 invariant-loop-value l = texts_of l.texts.items ≡ texts_of l.initial.texts.items ++ map (λ text. (l.kind, text)) (behind (take l.value-index l.values))
