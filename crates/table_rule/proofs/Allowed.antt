@@ -13,7 +13,7 @@ use Rattle.plan_events.specs.Words.{word_of}
 use Rattle.scheduling.specs.declared.status.NodeStatus.TheVariants.{Ready, Claimed}
 use Rattle.scheduling.specs.declared.lock_word.LockWord.{LockWord}
 use Rattle.scheduling.specs.declared.task.Opening.TheVariants.{Noticing, Locking, Weighed, Backing}
-use Rattle.scheduling.specs.declared.task.Closing.TheVariants.{Raising, Looking, Settling}
+use Rattle.scheduling.specs.declared.task.Closing.TheVariants.{Raising, Looking, Settling, CountingOff}
 use Rattle.scheduling.specs.declared.task.Task.TheVariants.{Free, Opens, Closes}
 use Rattle.scheduling.specs.declared.seat.Hand.{Hand}
 use Rattle.scheduling.specs.Choices.{key_at, mode_at, taken, next_spare}
@@ -28,7 +28,7 @@ use Rattle.table_rule.specs.declared.view.Place.{Place}
 use Rattle.table_rule.specs.declared.view.Place.TheVariants.{Worker, Dispatcher}
 use Rattle.table_rule.specs.Words.{status_word, lock_word, counter_place, lock_place, cancel_place, draw_place, event_place}
 use Rattle.table_rule.specs.Picture.{Names, Picture, worker_view, dispatcher_view}
-use Rattle.table_rule.specs.Plays.{Offer, Back, event_due, offer_due, back_due, ready, deals_one, newcomer, spent_view, claim_tells, draw_tells, show_tells, admit_tells, settle_tells, look_at_tells, read_tells, notice_tells, raise_tells, weigh_tells, take_tells, give_tells, give_up_tells, look_tells, add_child_tells}
+use Rattle.table_rule.specs.Plays.{Offer, Back, event_due, offer_due, back_due, ready, deals_one, newcomer, spent_view, claim_tells, draw_tells, show_tells, admit_tells, settle_tells, look_at_tells, read_tells, notice_tells, raise_tells, weigh_tells, take_tells, give_tells, give_up_tells, look_tells, add_child_tells, count_off_tells}
 use Rattle.table_rule.proofs.Frame.{Owed, allows_as}
 use Rattle.table_rule.proofs.Steps.{claim_step, own_step, show_step, settle_step, look_at_step}
 use Rattle.table_rule.proofs.Ready.{ready_core, ready_table, ready_picture, ready_at, from_ready}
@@ -36,6 +36,7 @@ use Rattle.table_rule.proofs.Drawing.{draw_step, admit_step}
 use Rattle.table_rule.proofs.Keys.{IsSmall, weigh_step, take_step}
 use Rattle.table_rule.proofs.Returning.{give_read_step, give_write_step, give_up_step}
 use Rattle.table_rule.proofs.Turning.{notice_step, raise_step, look_step, add_child_step}
+use Rattle.table_rule.proofs.Counting.{count_off_step}
 use Rattle.table_rule.proofs.Desk.{read_step, split_holds, join_holds}
 
 module _ {B : Type 0} (replies : ℕ → List Reply) (key : About B) (slots id : ℕ) (m : Me (Slot B) (View B)) (w : Working) (is : m.0.place ≡ Worker w) (holds_none : m.1 ≡ []) where
@@ -109,6 +110,11 @@ module _ {B : Type 0} (replies : ℕ → List Reply) (key : About B) (slots id :
       → Allows (Picture replies key) slots id m (counter_place key.plan hand.factory) (λ x. (x + 1) % 2 ^ 64) (add_child_tells (step slots (counter_place key.plan hand.factory) 1 0 none) m)
   add_child_allows hand n free in_hand waits next = allows_as replies key slots id m w is holds_none (counter_place key.plan hand.factory) (λ x. (x + 1) % 2 ^ 64) (add_child_tells (step slots (counter_place key.plan hand.factory) 1 0 none))
       (λ s r at long fits. add_child_step replies key r.core r.dealt s r.is id w at slots hand n free in_hand waits next)
+
+  pub count_off_allows : (n : ℕ) → w.seat.task ≡ Closes n CountingOff
+      → Allows (Picture replies key) slots id m (counter_place key.plan (parent_of key.plan.tree n)) (λ x. (x + (2 ^ 64 - 1)) % 2 ^ 64) (count_off_tells (step slots (counter_place key.plan (parent_of key.plan.tree n)) 1 0 none) m)
+  count_off_allows n e = allows_as replies key slots id m w is holds_none (counter_place key.plan (parent_of key.plan.tree n)) (λ x. (x + (2 ^ 64 - 1)) % 2 ^ 64) (count_off_tells (step slots (counter_place key.plan (parent_of key.plan.tree n)) 1 0 none))
+      (λ s r at long fits. count_off_step replies key r.core r.dealt s r.is id w at slots n e)
 
 -- Of a seat that is the dispatcher's.
 module _ {B : Type 0} (replies : ℕ → List Reply) (key : About B) (slots id : ℕ) (m : Me (Slot B) (View B)) (d : Dispatching) (is : m.0.place ≡ Dispatcher d) (holds_none : m.1 ≡ []) where

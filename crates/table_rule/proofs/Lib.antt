@@ -10,3 +10,4 @@ pub mod Allowed
 pub mod Keys
 pub mod Returning
 pub mod Turning
+pub mod Counting

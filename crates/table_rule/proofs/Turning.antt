@@ -41,7 +41,7 @@ cancel_read : (cancel : Bool) → (cancel_word cancel == 1) ≡ cancel
 cancel_read true = refl
 cancel_read false = refl
 
-few_results : (result : Status) → result_number result < 3
+pub few_results : (result : Status) → result_number result < 3
 few_results Successful = omega arith
 few_results Aborted = omega arith
 few_results Failed = omega arith

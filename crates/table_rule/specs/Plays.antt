@@ -1,10 +1,12 @@
 -- What each kind of step tells the seat that makes it: the seat after it, by the seat before and the word that was found.
-use Rattle.std.specs.Prelude.{◌≡◌, ℕ, suc, ◌+◌, ◌<◌, ◌==◌, ◌||◌, ◌&&◌, Bool, true, false, cond, List, [], ◌∷◌, ◌++◌, Option, Some, None, MatchBool}
+use Rattle.std.specs.Prelude.{◌≡◌, ℕ, suc, ◌+◌, ◌<◌, ◌==◌, ◌||◌, ◌&&◌, Bool, true, false, cond, List, [], ◌∷◌, ◌++◌, Option, Some, None, MatchBool, zero, ◌/◌, ◌%◌}
 use Rattle.atomic_table.specs.Table.{Me, Step}
+use Rattle.descriptor.specs.Nodes.{parent_of}
 use Rattle.plan_events.specs.declared.event.Event.{Event}
 use Rattle.plan_events.specs.declared.event.EventKind.TheVariants.{Started, Finished, Skipped, Registered}
 use Rattle.plan_events.specs.declared.outcome.Reply.{Reply}
-use Rattle.plan_events.specs.declared.status.Status.TheVariants.{Successful}
+use Rattle.plan_events.specs.declared.status.Status.{Status}
+use Rattle.plan_events.specs.declared.status.Status.TheVariants.{Successful, Aborted, Failed}
 use Rattle.plan_events.specs.Words.{is_lawful, word_of}
 use Rattle.resource_locks.specs.Plans.{PlanParts, most_events}
 use Rattle.scheduling.specs.declared.status.NodeStatus.TheVariants.{Claimed}
@@ -17,7 +19,7 @@ use Rattle.scheduling.specs.declared.task.Task.TheVariants.{Opens, Closes, Free}
 use Rattle.scheduling.specs.declared.seat.Hand.{Hand}
 use Rattle.scheduling.specs.declared.seat.Seat.{Seat}
 use Rattle.scheduling.specs.Choices.{keys_count, lock_from, claims, begins, giving, admit_from, after_settle, offered_to, after_finish, next_spare, awaited, event_of}
-use Rattle.scheduling.specs.Rows.{with_task, weighed, after_start, one_more, waits_for, waits_no_more, decided_seat}
+use Rattle.scheduling.specs.Rows.{with_task, ends_or_free, weighed, after_start, one_more, waits_for, waits_no_more, decided_seat}
 use Rattle.table_rule.specs.declared.view.View.{View}
 use Rattle.table_rule.specs.declared.view.Slot.{Slot}
 use Rattle.table_rule.specs.declared.view.Working.{Working}
@@ -79,6 +81,18 @@ settled_seat p seat n = record { task = after_settle p n; hand = waits_no_more n
 -- the status of a key by its word
 abbrev pub lock_read : ℕ → LockWord
 lock_read word = cond (word == 65536) Written (Readers word)
+
+-- what is outstanding by the word of a counter, and the result
+abbrev pub outstanding_in : ℕ → ℕ
+outstanding_in word = word % 65536
+
+abbrev pub result_by : ℕ → Status
+result_by zero = Successful
+result_by (suc zero) = Aborted
+result_by (suc (suc k)) = Failed
+
+abbrev pub result_in : ℕ → Status
+result_in word = result_by (word / 65536)
 
 -- the seat once it has tried to take a key
 abbrev pub tried_task : PlanParts → ℕ → ℕ → Bool → Task
@@ -215,6 +229,11 @@ module _ {B : Type 0} where
   abbrev pub add_child_tells : Step (Slot B) → Me (Slot B) (View B) → ℕ → Me (Slot B) (View B) → Type 0
   add_child_tells st m r n = (hand : Hand) (c : ℕ) → (worker m.0).seat.hand ≡ Some hand → next_spare m.0.about.plan hand.factory hand.registered ≡ Some c
       → n ≡ (at_work m.0 (goes_on (with_task (worker m.0).seat (Opens c Registering)) (worker m.0)), m.1)
+
+  -- a settled node is counted off at its parent: whoever takes the last one off ends that
+  abbrev pub count_off_tells : Step (Slot B) → Me (Slot B) (View B) → ℕ → Me (Slot B) (View B) → Type 0
+  count_off_tells st m r n = (k : ℕ) → (worker m.0).seat.task ≡ Closes k CountingOff
+      → n ≡ (at_work m.0 (goes_on (with_task (worker m.0).seat (ends_or_free m.0.about.plan (parent_of m.0.about.plan.tree k) (result_in r) (outstanding_in r))) (worker m.0)), m.1)
 
   -- whether node 0 was found settled is noted
   abbrev pub look_at_tells : Step (Slot B) → Me (Slot B) (View B) → ℕ → Me (Slot B) (View B) → Type 0

@@ -1,7 +1,7 @@
 //! The kinds of step, each with what it tells its seat.
 
 ghost use Rattle.table_rule.specs.Picture.{dispatcher_view, worker_view};
-ghost use Rattle.table_rule.specs.Plays.{add_child_tells, admit_tells, claim_tells, deals_one, dispatcher, draw_tells, give_tells, give_up_tells, look_at_tells, look_tells, newcomer, notice_tells, raise_tells, read_tells, settle_tells, show_tells, spent_view, take_tells, weigh_tells};
+ghost use Rattle.table_rule.specs.Plays.{add_child_tells, admit_tells, claim_tells, count_off_tells, deals_one, dispatcher, draw_tells, give_tells, give_up_tells, look_at_tells, look_tells, newcomer, notice_tells, raise_tells, read_tells, settle_tells, show_tells, spent_view, take_tells, weigh_tells};
 
 use crate::view::{Slot, View};
 use atomic_table::{Join, Play, Split};
@@ -95,6 +95,13 @@ pub struct AddsChild;
 
 impl<B> Play<Slot<B>, View<B>> for AddsChild {
     ghost then = { add_child_tells };
+}
+
+/// A worker counts its settled node off at the parent: one less on the parent's counter.
+pub struct CountsOff;
+
+impl<B> Play<Slot<B>, View<B>> for CountsOff {
+    ghost then = { count_off_tells };
 }
 
 /// A worker that is free looks at a node's status.
