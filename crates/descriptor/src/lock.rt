@@ -35,4 +35,15 @@ impl Lock {
             mode: self.mode,
         })
     }
+
+    /// The same locks, in a list of their own.
+    pub fn copy_all(alloc: Global, locks: &[Lock]) -> Result<Vec<Lock>, AllocError>
+        ensures { IfOk result (λ copies. copies.items ≡ locks.now) }
+    {
+        let mut copies = Vec::new(alloc);
+        for lock in locks {
+            copies.push(lock.copy()?)?;
+        }
+        Ok(copies)
+    }
 }

@@ -48,7 +48,7 @@ impl Locks {
                 return Ok(());
             }
         }
-        let mut locks = copied(self.alloc, self.as_slice())?;
+        let mut locks = Lock::copy_all(self.alloc, self.as_slice())?;
         locks.push(lock)?;
         self.shared = Some(Arc::new(self.alloc, locks)?);
         Ok(())
@@ -77,15 +77,4 @@ impl Locks {
             shared,
         })
     }
-}
-
-/// The same locks, in a list of their own.
-fn copied(alloc: Global, locks: &[Lock]) -> Result<Vec<Lock>, AllocError>
-    ensures { IfOk result (λ copies. copies.items ≡ locks.now) }
-{
-    let mut copies = Vec::new(alloc);
-    for lock in locks {
-        copies.push(lock.copy()?)?;
-    }
-    Ok(copies)
 }

@@ -65,7 +65,7 @@ impl LockSet {
         ensures set { IsLockSet self.now }
     {
         Ok(LockSet {
-            locks: copied(alloc, &self.locks)?,
+            locks: Lock::copy_all(alloc, &self.locks)?,
         })
     }
 
@@ -169,17 +169,6 @@ fn strengthen(lock: &mut Lock, mode: LockMode)
         LockMode::Read => {}
         LockMode::ReadWrite => lock.mode = mode,
     }
-}
-
-/// The same locks, in a list of their own.
-fn copied(alloc: Global, locks: &[Lock]) -> Result<Vec<Lock>, AllocError>
-    ensures { IfOk result (λ copies. copies.items ≡ locks.now) }
-{
-    let mut copies = Vec::new(alloc);
-    for lock in locks {
-        copies.push(lock.copy()?)?;
-    }
-    Ok(copies)
 }
 
 /// Whether some key stands in both sets, in one of them in READ_WRITE: in each turn the lesser of the first keys is
