@@ -17,7 +17,7 @@ use config_params::Settings;
 use descriptor::Tree;
 use exec_mode::modes;
 use listeners::print_to;
-use resource_locks::{Plan, hoist};
+use resource_locks::Plan;
 use sched_core::Answers;
 use selectors::discover;
 use std::alloc::{AllocError, Global};
@@ -67,7 +67,7 @@ fn plan_of(
 {
     let tree = discover(alloc, tree, &options.request)?;
     let modes = modes(alloc, &tree, settings)?;
-    let plan = hoist(alloc, &tree, modes)?;
+    let plan = Plan::of(alloc, tree, modes)?;
     Ok(plan.with_fail_fast(options.fail_fast))
 }
 

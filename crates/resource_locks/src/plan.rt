@@ -45,12 +45,8 @@ impl Model for Plan {
     ghost invariant = { λ p. IsSound (record { tree = p.tree; modes = p.modes.items; held = p.held.items; keys = p.keys.items; fail_fast = p.fail_fast }) (map (λ v. v.items) p.numbers.items) };
 }
 
-/// The plan of a tree whose nodes were given these modes. Locks are held by the nodes that they are
-/// hoisted to: where a node at or below the child of an engine is isolated, that child holds all
-/// that is declared at or below it, and the global lock in READ_WRITE; else it holds the global lock
-/// in READ, and the first node from it down that declares locks holds all that are declared at or
-/// below it. Below a node that holds a key in READ_WRITE every node is executed in the same thread
-/// as its parent. Refused where there are more than 256 keys (50).
+/// The plan of a tree whose nodes were given these modes, as `Plan::of` makes it of a copy of the tree.
+/// Refused where there are more than 256 keys (50).
 pub fn hoist(alloc: Global, tree: &Tree, modes: Vec<Mode>) -> Result<Plan, PlanFault>
     requires { length modes.items ≡ size tree.now }
     ensures same { IfOk result (λ plan. plan ≡ plan_of tree.now modes.items) }
@@ -61,22 +57,40 @@ pub fn hoist(alloc: Global, tree: &Tree, modes: Vec<Mode>) -> Result<Plan, PlanF
     // An engine keeps the mode that it was given: nothing is held above it.
     ensures engines { IfOk result (λ plan. (e : ℕ) → IsChild tree.now 0 e → mode_of plan e ≡ slice_index_or modes.items e SameThread) }
 {
-    let keys = Keys::of(alloc, tree)?;
-    let held = held_sets(alloc, tree)?;
-    let numbers = keys.all_numbers(alloc, &held)?;
-    Ok(Plan {
-        modes: hoisted_modes(alloc, tree, &held, modes)?,
-        tree: tree.copy(alloc)?,
-        held,
-        keys: keys.texts(alloc)?,
-        numbers,
-        fail_fast: false,
-    })
+    Plan::of(alloc, tree.copy(alloc)?, modes)
 }
 
 impl Plan {
     ghost use Rattle.descriptor.specs.Nodes.{IsTree, size, count_below, is_spare_at};
     ghost use Rattle.resource_locks.specs.Plans.{IsPlan, plain, mode_of, held_of, key_number, most_events};
+
+    /// The plan of a tree whose nodes were given these modes. Locks are held by the nodes that they are
+    /// hoisted to: where a node at or below the child of an engine is isolated, that child holds all
+    /// that is declared at or below it, and the global lock in READ_WRITE; else it holds the global lock
+    /// in READ, and the first node from it down that declares locks holds all that are declared at or
+    /// below it. Below a node that holds a key in READ_WRITE every node is executed in the same thread
+    /// as its parent. Refused where there are more than 256 keys (50); the tree is dropped then.
+    pub fn of(alloc: Global, tree: Tree, modes: Vec<Mode>) -> Result<Plan, PlanFault>
+        requires { length modes.items ≡ size tree }
+        ensures same { IfOk result (λ plan. plan ≡ plan_of tree modes.items) }
+        ensures few { OnOk result (length (keys_of (declared_of tree)) ≤ 256) }
+        ensures refused { IfErr result (λ fault. fault ≡ PlanFault.TooManyKeys → 256 < length (keys_of (declared_of tree))) }
+        ensures hoisted { IfOk result (λ plan. IsHoisted (declared_of tree) (λ n. slice_index_or modes.items n SameThread) plan) }
+        ensures guarded { IfOk result (λ plan. IsGuarded (declared_of tree) plan) }
+        ensures engines { IfOk result (λ plan. (e : ℕ) → IsChild tree 0 e → mode_of plan e ≡ slice_index_or modes.items e SameThread) }
+    {
+        let keys = Keys::of(alloc, &tree)?;
+        let held = held_sets(alloc, &tree)?;
+        let numbers = keys.all_numbers(alloc, &held)?;
+        Ok(Plan {
+            modes: hoisted_modes(alloc, &tree, &held, modes)?,
+            tree,
+            held,
+            keys: keys.texts(alloc)?,
+            numbers,
+            fail_fast: false,
+        })
+    }
 
     /// The plan of a tree whose nodes hold nothing and may all run side by side.
     pub fn plain(alloc: Global, tree: Tree) -> Result<Plan, AllocError>
