@@ -3,8 +3,6 @@ use Rattle.std.specs.Prelude.{◌≡◌, ℕ, List, [], ◌++◌, codes, Option,
 use Rattle.std.specs.Fmt.{decimal}
 use Rattle.config_params.specs.Faults as params_faults
 use Rattle.config_params.specs.SettingsFaults as settings_faults
-use Rattle.config_params.specs.declared.fault.ParamsFault.{ParamsFault}
-use Rattle.config_params.specs.declared.fault.ParamsFault.TheVariants as params
 use Rattle.resource_locks.specs.declared.fault.PlanFault.{PlanFault}
 use Rattle.resource_locks.specs.declared.fault.PlanFault.TheVariants as plans
 use Rattle.selectors.specs.declared.select_fault.SelectFault.{SelectFault}
@@ -75,11 +73,6 @@ IsStepsFault (steps.BadStep number) fault = fault ≡ BadStep number
 abbrev pub IsTagFault : TagFault → LaunchFault → Type 0
 IsTagFault tags.NoMemory fault = fault ≡ NoMemory
 IsTagFault cause fault = fault ≡ BadTags cause
-
--- want of memory is the launch's own, and any other fault is one of a pair
-abbrev pub IsPairFault : ParamsFault → LaunchFault → Type 0
-IsPairFault params.NoMemory fault = fault ≡ NoMemory
-IsPairFault cause fault = fault ≡ BadPair cause
 
 -- want of memory is the launch's own, and so are too many keys
 abbrev pub IsPlanFault : PlanFault → LaunchFault → Type 0

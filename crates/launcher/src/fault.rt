@@ -1,7 +1,7 @@
 //! The refusals of a launch, with their numbers and places.
 
 ghost use Rattle.std.specs.Prelude.{◌≡◌};
-ghost use Rattle.launcher.specs.Faults.{number_of, place_of, IsPairFault, IsPlanFault, IsReadFault, IsSelectFault, IsStepsFault, IsSuiteFault, IsTagFault};
+ghost use Rattle.launcher.specs.Faults.{number_of, place_of, IsPlanFault, IsReadFault, IsSelectFault, IsStepsFault, IsSuiteFault, IsTagFault};
 ghost use Rattle.launcher.specs.declared.fault.LaunchFault.TheVariants.{NoMemory, BadSettings, Writing};
 
 use crate::bytes::ReadFault;
@@ -96,17 +96,6 @@ impl From<SelectFault> for LaunchFault {
         match fault {
             SelectFault::NoMemory => LaunchFault::NoMemory,
             SelectFault::NothingMatches(number) => LaunchFault::NothingMatches(number),
-        }
-    }
-}
-
-impl From<ParamsFault> for LaunchFault {
-    ghost from_gives = { IsPairFault };
-
-    fn from(fault: ParamsFault) -> LaunchFault {
-        match fault {
-            ParamsFault::NoMemory => LaunchFault::NoMemory,
-            _ => LaunchFault::BadPair(fault),
         }
     }
 }

@@ -2,17 +2,15 @@
 
 ghost use Rattle.std.specs.Prelude.{◌≡◌, ◌≢◌, Some, None, option_map, IfOk, IfErr};
 ghost use Rattle.std.specs.List.{filter_map};
-ghost use Rattle.std.specs.Option.{IsSome};
 ghost use Rattle.launcher.specs.declared.fault.LaunchFault.TheVariants.{NoMemory};
 ghost use Rattle.launcher.specs.Given.{behind, maybe_behind, texts_of, values_of};
-ghost use Rattle.launcher.specs.Parameters.{processors_named as processors_of_name};
-ghost use Rattle.launcher.specs.Asked.{asked_by, details_named as details_of_name, theme_named as theme_of_name, unless_named, texts_refusal, IsReplay, refusal_of, AreAsked, spelled, IsExpression, AreExpressions};
+ghost use Rattle.launcher.specs.Asked.{asked_by, details_named as details_of_name, theme_named as theme_of_name, unless_named, IsReplay, refusal_of, AreAsked, spelled, IsExpression, AreExpressions};
 
 use crate::details::Details;
 use crate::fault::LaunchFault;
 use crate::given::Given;
 use crate::judged::judge_texts;
-use crate::parameters::{params_given, processors_named};
+use crate::parameters::{judge_params, params_given, processors_named};
 use config_params::Params;
 use listeners::Theme;
 use scheduling::Step;
@@ -144,22 +142,22 @@ impl Options {
     /// selector is refusal 40, at the selector's number; then an expression of `--include-tag`, and
     /// then of `--exclude-tag`, is one of 20 to 26, at a place in it; then a word of `--config` or `--system` that has no equals sign or an empty key is
     /// refusal 30 or 31, at its number, those of `--config` counted first. Selectors are numbered from
-    /// 1 in the order of `Given`. All of these but the last two are judged before any of them is kept,
-    /// so want of memory stands in their place nowhere.
+    /// 1 in the order of `Given`. All of these are judged before any of them is kept, so want of memory
+    /// stands in their place nowhere.
     pub fn of(alloc: Global, given: &Given<'_>) -> Result<Options, LaunchFault>
         ensures asked { IfOk result (λ options. AreAsked (values_of given.now) (asked_by options)) }
         ensures accepted { IfOk result (λ _. refusal_of (values_of given.now) ≡ None) }
         ensures refused { IfErr result (λ fault. fault ≢ NoMemory → refusal_of (values_of given.now) ≡ Some fault) }
-        ensures no_memory { IfErr result (λ fault. fault ≡ NoMemory → IsSome (details_of_name (maybe_behind given.now.details)) × IsSome (theme_of_name (maybe_behind given.now.theme)) × IsSome (processors_of_name (maybe_behind given.now.processors)) × (texts_refusal (values_of given.now) ≡ None)) }
+        ensures no_memory { IfErr result (λ fault. fault ≡ NoMemory → refusal_of (values_of given.now) ≡ None) }
     {
         let details = details_named(given.details)?;
         let theme = theme_named(given.theme)?;
         let processors = processors_named(given.processors)?;
         judge_texts(alloc, given)?;
-        let params = params_given(alloc, given)?;
+        judge_params(given)?;
         Ok(Options {
             request: request_of(alloc, given)?,
-            params,
+            params: params_given(alloc, given)?,
             processors,
             details,
             theme,

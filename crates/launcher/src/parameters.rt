@@ -1,6 +1,6 @@
 //! What `--config`, `--system` and `--processors` ask for.
 
-ghost use Rattle.std.specs.Prelude.{◌≡◌, ◌≢◌, ◌+◌, Some, None, fold, IfOk, IfErr, OnOk};
+ghost use Rattle.std.specs.Prelude.{◌≡◌, ◌≢◌, ◌+◌, ◌^◌, ◌<◌, Some, None, fold, length, IfOk, IfErr, OnOk};
 ghost use Rattle.config_params.specs.Parameters.{with_value};
 ghost use Rattle.launcher.specs.declared.fault.LaunchFault.TheVariants.{NoMemory};
 ghost use Rattle.launcher.specs.Asked.{unless_named};
@@ -40,47 +40,58 @@ pub(crate) fn processors_named(text: Option<&str>) -> Result<u32, LaunchFault>
     }
 }
 
-/// The number, from 1, of the word at this place behind so many others. More words than there are
-/// numbers would not fit into memory.
-fn number_of(before: usize, place: usize) -> Result<usize, AllocError>
-    ensures { IfOk result (λ number. number ≡ before + place + 1) }
+/// Judges words, which stand behind so many others: each says a pair.
+fn judge_pairs(before: usize, words: &[&str]) -> Result<(), LaunchFault>
+    requires few { before + length words.now < 2 ^ 64 }
+    ensures accepted { OnOk result (pairs_refusal (before + 1) (behind words.now) ≡ None) }
+    ensures refused { IfErr result (λ fault. pairs_refusal (before + 1) (behind words.now) ≡ Some fault) }
+    ensures real { IfErr result (λ fault. fault ≢ NoMemory) }
 {
-    match before.checked_add(place) {
-        Some(sum) => sum.checked_add(1).ok_or(AllocError),
-        None => Err(AllocError),
+    for (index, word) in words.iter().enumerate() {
+        if let Err(fault) = pair_of(before + index + 1, word) {
+            return Err(LaunchFault::BadPair(fault));
+        }
     }
+    Ok(())
 }
 
-/// Puts the pairs of words, which stand behind so many others, into a source. At the first word that
-/// says no pair it is refused.
+/// Judges the words of `--config` and `--system`.
+pub(crate) fn judge_params(given: &Given<'_>) -> Result<(), LaunchFault>
+    ensures accepted { OnOk result (params_refusal (values_of given.now) ≡ None) }
+    ensures refused { IfErr result (λ fault. params_refusal (values_of given.now) ≡ Some fault) }
+    ensures real { IfErr result (λ fault. fault ≢ NoMemory) }
+{
+    let config = given.config.as_slice();
+    let system = given.system.as_slice();
+    judge_pairs(0, config)?;
+    judge_pairs(config.len(), system)
+}
+
+/// Puts the pairs that words say into a source.
 fn add_pairs(
     alloc: Global,
     params: &mut Params,
     source: Source,
-    before: usize,
     words: &[&str],
-) -> Result<(), LaunchFault>
+) -> Result<(), AllocError>
     ensures said { OnOk result (params.new ≡ fold (λ all pair. with_value all source pair) params.old (pairs_in (behind words.now))) }
-    ensures accepted { IfOk result (λ _. pairs_refusal (before + 1) (behind words.now) ≡ None) }
-    ensures refused { IfErr result (λ fault. fault ≢ NoMemory → pairs_refusal (before + 1) (behind words.now) ≡ Some fault) }
 {
-    for (index, word) in words.iter().enumerate() {
-        let pair = pair_of(number_of(before, index)?, word)?;
+    for word in words {
+        // every word was judged
+        let Ok(pair) = pair_of(1, word) else {
+            return Err(AllocError);
+        };
         params.add(alloc, source, pair.key, pair.value)?;
     }
     Ok(())
 }
 
 /// What `--config` and `--system` say.
-pub(crate) fn params_given(alloc: Global, given: &Given<'_>) -> Result<Params, LaunchFault>
+pub(crate) fn params_given(alloc: Global, given: &Given<'_>) -> Result<Params, AllocError>
     ensures said { IfOk result (λ params. params ≡ params_said (values_of given.now)) }
-    ensures accepted { IfOk result (λ _. params_refusal (values_of given.now) ≡ None) }
-    ensures refused { IfErr result (λ fault. fault ≢ NoMemory → params_refusal (values_of given.now) ≡ Some fault) }
 {
     let mut params = Params::new(alloc);
-    let config = given.config.as_slice();
-    let system = given.system.as_slice();
-    add_pairs(alloc, &mut params, Source::Request, 0, config)?;
-    add_pairs(alloc, &mut params, Source::System, config.len(), system)?;
+    add_pairs(alloc, &mut params, Source::Request, given.config.as_slice())?;
+    add_pairs(alloc, &mut params, Source::System, given.system.as_slice())?;
     Ok(params)
 }
