@@ -1,5 +1,5 @@
 -- What the table asks of each kind of step, of a seat whose view is known by its place.
-use Rattle.std.proofs.Common.{◌≡◌, ℕ, ◌+◌, ◌-◌, ◌%◌, ◌^◌, ◌<◌, ◌==◌, true, List, [], ◌∷◌, ◌++◌, length, set, get_or, Some, None, sym, subst}
+use Rattle.std.proofs.Common.{◌≡◌, ℕ, ◌+◌, ◌-◌, ◌*◌, ◌%◌, ◌^◌, ◌<◌, ◌==◌, true, List, [], ◌∷◌, ◌++◌, length, set, get_or, Some, None, sym, subst}
 use Rattle.std.specs.Prelude.{slice_index}
 use mathlib.Core.Option.{some, none}
 use lib.ListN.{get_elem?}
@@ -9,6 +9,7 @@ use Rattle.descriptor.specs.Nodes.{size, parent_of}
 use Rattle.descriptor.specs.declared.lock_mode.LockMode.TheVariants.{Read, ReadWrite}
 use Rattle.plan_events.specs.declared.event.Event.{Event}
 use Rattle.plan_events.specs.declared.outcome.Reply.{Reply}
+use Rattle.plan_events.specs.declared.status.Status.TheVariants.{Successful}
 use Rattle.plan_events.specs.Words.{word_of}
 use Rattle.scheduling.specs.declared.status.NodeStatus.TheVariants.{Ready, Claimed}
 use Rattle.scheduling.specs.declared.lock_word.LockWord.{LockWord}
@@ -26,9 +27,9 @@ use Rattle.table_rule.specs.declared.view.Working.{Working}
 use Rattle.table_rule.specs.declared.view.Dispatching.{Dispatching}
 use Rattle.table_rule.specs.declared.view.Place.{Place}
 use Rattle.table_rule.specs.declared.view.Place.TheVariants.{Worker, Dispatcher}
-use Rattle.table_rule.specs.Words.{status_word, lock_word, counter_place, lock_place, cancel_place, draw_place, event_place}
+use Rattle.table_rule.specs.Words.{status_word, lock_word, result_number, counter_place, lock_place, cancel_place, draw_place, event_place}
 use Rattle.table_rule.specs.Picture.{Names, Picture, worker_view, dispatcher_view}
-use Rattle.table_rule.specs.Plays.{Offer, Back, event_due, offer_due, back_due, ready, deals_one, newcomer, spent_view, claim_tells, draw_tells, show_tells, admit_tells, settle_tells, look_at_tells, read_tells, notice_tells, raise_tells, weigh_tells, take_tells, give_tells, give_up_tells, look_tells, add_child_tells, count_off_tells}
+use Rattle.table_rule.specs.Plays.{Offer, Back, event_due, offer_due, back_due, ready, deals_one, newcomer, spent_view, claim_tells, draw_tells, show_tells, admit_tells, settle_tells, look_at_tells, read_tells, notice_tells, raise_tells, weigh_tells, take_tells, give_tells, give_up_tells, look_tells, add_child_tells, count_off_tells, Guard, guard_due, guard_tells}
 use Rattle.table_rule.proofs.Frame.{Owed, allows_as}
 use Rattle.table_rule.proofs.Steps.{claim_step, own_step, show_step, settle_step, look_at_step}
 use Rattle.table_rule.proofs.Ready.{ready_core, ready_table, ready_picture, ready_at, from_ready}
@@ -37,6 +38,7 @@ use Rattle.table_rule.proofs.Keys.{IsSmall, weigh_step, take_step}
 use Rattle.table_rule.proofs.Returning.{give_read_step, give_write_step, give_up_step}
 use Rattle.table_rule.proofs.Turning.{notice_step, raise_step, look_step, add_child_step}
 use Rattle.table_rule.proofs.Counting.{count_off_step}
+use Rattle.table_rule.proofs.GivingUp.{guard_less_step, guard_more_step}
 use Rattle.table_rule.proofs.Desk.{read_step, split_holds, join_holds}
 
 module _ {B : Type 0} (replies : ℕ → List Reply) (key : About B) (slots id : ℕ) (m : Me (Slot B) (View B)) (w : Working) (is : m.0.place ≡ Worker w) (holds_none : m.1 ≡ []) where
@@ -115,6 +117,18 @@ module _ {B : Type 0} (replies : ℕ → List Reply) (key : About B) (slots id :
       → Allows (Picture replies key) slots id m (counter_place key.plan (parent_of key.plan.tree n)) (λ x. (x + (2 ^ 64 - 1)) % 2 ^ 64) (count_off_tells (step slots (counter_place key.plan (parent_of key.plan.tree n)) 1 0 none) m)
   count_off_allows n e = allows_as replies key slots id m w is holds_none (counter_place key.plan (parent_of key.plan.tree n)) (λ x. (x + (2 ^ 64 - 1)) % 2 ^ 64) (count_off_tells (step slots (counter_place key.plan (parent_of key.plan.tree n)) 1 0 none))
       (λ s r at long fits. count_off_step replies key r.core r.dealt s r.is id w at slots n e)
+
+  -- a guard is given up with the result SUCCESSFUL, as a node's own always is
+  pub guard_allows : (g : Guard) → guard_due key.plan w.answer (ready key.plan w).seat (ready key.plan w).seat.task ≡ Some g → g.result ≡ Successful
+      → Allows (Picture replies key) slots id m (counter_place key.plan g.node) (λ x. (x + (2 ^ 64 - 1)) % 2 ^ 64) (guard_tells (step slots (counter_place key.plan g.node) 1 0 none) m)
+  guard_allows g due good = when_ready (counter_place key.plan g.node) (λ x. (x + (2 ^ 64 - 1)) % 2 ^ 64) (guard_tells (step slots (counter_place key.plan g.node) 1 0 none))
+      (λ s r at. guard_less_step replies key (ready_core replies key r.core r.dealt s r.is id w at) r.dealt (ready_table replies key r.core r.dealt s r.is id w at) (ready_picture replies key r.core r.dealt s r.is id w at) id (ready key.plan w) (ready_at replies key r.core r.dealt s r.is id w at) g due good)
+
+  -- and with another result, whose number comes into the word
+  pub guard_ends_allows : (g : Guard) (more : ℕ) → guard_due key.plan w.answer (ready key.plan w).seat (ready key.plan w).seat.task ≡ Some g → more + 1 ≡ 65536 * result_number g.result
+      → Allows (Picture replies key) slots id m (counter_place key.plan g.node) (λ x. (x + more) % 2 ^ 64) (guard_tells (step slots (counter_place key.plan g.node) more 0 none) m)
+  guard_ends_allows g more due adds = when_ready (counter_place key.plan g.node) (λ x. (x + more) % 2 ^ 64) (guard_tells (step slots (counter_place key.plan g.node) more 0 none))
+      (λ s r at. guard_more_step replies key (ready_core replies key r.core r.dealt s r.is id w at) r.dealt (ready_table replies key r.core r.dealt s r.is id w at) (ready_picture replies key r.core r.dealt s r.is id w at) id (ready key.plan w) (ready_at replies key r.core r.dealt s r.is id w at) g more due adds)
 
 -- Of a seat that is the dispatcher's.
 module _ {B : Type 0} (replies : ℕ → List Reply) (key : About B) (slots id : ℕ) (m : Me (Slot B) (View B)) (d : Dispatching) (is : m.0.place ≡ Dispatcher d) (holds_none : m.1 ≡ []) where

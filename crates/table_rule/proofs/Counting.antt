@@ -37,7 +37,7 @@ use Rattle.table_rule.proofs.Keys.{one_less}
 use Rattle.table_rule.proofs.Turning.{few_results}
 
 -- The parts of a counter's word, read back from it.
-outstanding_read : (n : ℕ) (result : Status) → n < 65536 → outstanding_in (counter_word (n, result)) ≡ n
+pub outstanding_read : (n : ℕ) (result : Status) → n < 65536 → outstanding_in (counter_word (n, result)) ≡ n
 outstanding_read n result low = read n (result_number result) low
   where
     read : (n k : ℕ) → n < 65536 → (n + 65536 * k) % 65536 ≡ n
@@ -96,6 +96,10 @@ module _ {B : Type 0} (replies : ℕ → List Reply) (key : About B) (c : State)
   abbrev g : ℕ → Stage
   g = r.kept.0
 
+  -- what is outstanding at a node fits into its part of the word
+  pub few_outstanding : (a : ℕ) → a < size p.tree → counter_at c a < 65536
+  few_outstanding a inside = (let value = r.kept.1.counters a inside in let guard = stage_few p a (g a) in let most = pending_few p g a in let size_few = r.plan.tree.few in omega (arith, value, guard, most, size_few))
+
   -- what the parent of a node that is to be counted off has outstanding
   record Outstanding (n : ℕ) : Type 0 where
     pub inside : parent_of p.tree n < size p.tree
@@ -111,11 +115,8 @@ module _ {B : Type 0} (replies : ℕ → List Reply) (key : About B) (c : State)
       let up : a < n = r.plan.tree.up n above low in
       let inside : a < size p.tree = omega (arith, up, low) in
       let value = r.kept.1.counters a inside in
-      let guard = stage_few p a (g a) in
-      let most = pending_few p g a in
       let one = pending_some p g a n (record { above_zero = above; inside = low; parent = refl }) (ap (is_pending (is_spare_at p.tree n)) task.1.2) in
-      let size_few = r.plan.tree.few in
-      record { inside = inside; some_one = omega (arith, value, one); few = omega (arith, value, guard, most, size_few) }
+      record { inside = inside; some_one = omega (arith, value, one); few = few_outstanding a inside }
 
   abbrev pub count_off_told : ℕ → ℕ → ℕ → Me (Slot B) (View B) → Type 0
   count_off_told slots i = count_off_tells (step slots i 1 0 none) (worker_view key w, [])

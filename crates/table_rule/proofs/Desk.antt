@@ -74,6 +74,7 @@ module _ {B : Type 0} (replies : ℕ → List Reply) (key : About B) (c : State)
         plan = r.plan;
         kept = after_keeps p (core replies key c dealt s r) replies c after Dispatches r.kept tt q;
         placed = step_placed p c after Dispatches r.placed q;
+        no_result = record { unstarted = r.no_result.unstarted; opens = r.no_result.opens; in_hand = r.no_result.in_hand };
         keys = r.keys;
         workers = r.workers;
         words = word_same s.words i x found ∙ r.words;
@@ -145,6 +146,7 @@ module _ {B : Type 0} (replies : ℕ → List Reply) (key : About B) (c : State)
       plan = r.plan;
       kept = r.kept;
       placed = r.placed;
+      no_result = r.no_result;
       keys = r.keys;
       workers = r.workers;
       words = r.words;
@@ -191,6 +193,7 @@ join_holds {B} replies key s r id other v w at = record {
     plan = r.is.plan;
     kept = r.is.kept;
     placed = r.is.placed;
+    no_result = r.is.no_result;
     keys = r.is.keys;
     workers = r.is.workers;
     words = r.is.words;

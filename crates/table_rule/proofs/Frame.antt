@@ -22,6 +22,7 @@ use Rattle.table_rule.specs.declared.view.Working.{Working}
 use Rattle.table_rule.specs.declared.view.Place.{Place}
 use Rattle.table_rule.specs.declared.view.Place.TheVariants.{Spent, Worker, Dispatcher}
 use Rattle.table_rule.specs.Words.{words_of}
+use Rattle.table_rule.specs.Guards.{NoResultYet}
 use Rattle.table_rule.specs.Picture.{Dealt, IsAnswer, WorkerFits, PlaceFits, Names, ViewFits, IsPictureOf, Picture, worker_view}
 use Rattle.table_rule.proofs.Words.{HasSizes}
 
@@ -64,6 +65,7 @@ module _ {B : Type 0} (replies : ℕ → List Reply) (key : About B) (c : State)
     pub record IsNext (d : State) (seat : Seat) (answer : Option Reply) (list : List Event) (over : Bool) : Type 0 where
       pub kept : IsKept key.plan replies d
       pub frame : IsFrame c d w.number
+      pub no_result : NoResultYet d
       pub given : d.given ≡ c.given
       pub keys : length d.locks ≡ length c.locks
       pub stays : status_at c 0 ≡ Settled → status_at d 0 ≡ Settled
@@ -102,6 +104,7 @@ module _ {B : Type 0} (replies : ℕ → List Reply) (key : About B) (c : State)
         plan = r.plan;
         kept = next.kept;
         placed = next.frame.placed;
+        no_result = next.no_result;
         keys = next.keys ∙ r.keys;
         workers = next.frame.count ∙ r.workers;
         words = is;

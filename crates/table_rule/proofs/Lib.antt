@@ -1,5 +1,7 @@
 -- Lemmas on the words, and that each step keeps the rule.
 pub mod Words
+pub mod GuardRows
+pub mod GuardKept
 pub mod Frame
 pub mod Steps
 pub mod Ready
@@ -11,3 +13,4 @@ pub mod Keys
 pub mod Returning
 pub mod Turning
 pub mod Counting
+pub mod GivingUp

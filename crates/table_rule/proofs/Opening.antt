@@ -17,6 +17,7 @@ use Rattle.table_rule.specs.declared.view.View.{View}
 use Rattle.table_rule.specs.declared.view.Slot.{Slot}
 use Rattle.table_rule.specs.Words.{words_of}
 use Rattle.table_rule.specs.Picture.{free_seat, Dealt, ViewFits, Picture, opener}
+use Rattle.table_rule.proofs.GuardKept.{opening_no_result}
 
 in_replicate : {X : Type 0} (n : ℕ) (x : X) (i : ℕ) → i < n → slice_get (replicate n x) i ≡ Some x
 in_replicate zero x i low = absurd (omega (arith, low))
@@ -32,6 +33,7 @@ opening_holds {B} replies key words slots plan few is = record {
     plan = plan;
     kept = opening_is key.plan (core_plan key.plan plan.tree) replies key.workers few;
     placed = opening_placed key.plan key.workers;
+    no_result = opening_no_result key.plan key.workers;
     keys = length-replicate (length key.plan.keys) (Readers 0);
     workers = length-replicate key.workers free_seat;
     words = is;

@@ -29,8 +29,10 @@ use Rattle.table_rule.specs.declared.view.About.{About}
 use Rattle.table_rule.specs.declared.view.View.{View}
 use Rattle.table_rule.specs.declared.view.Slot.{Slot}
 use Rattle.table_rule.specs.declared.view.Working.{Working}
+use Rattle.table_rule.specs.Guards.{NoResultYet}
 use Rattle.table_rule.specs.Picture.{Dealt, IsAnswer, WorkerFits, IsPictureOf, Picture, worker_view}
 use Rattle.table_rule.specs.Plays.{unasked, seat_by, ready_seat, ready}
+use Rattle.table_rule.proofs.GuardKept.{decided_no_result}
 use Rattle.table_rule.proofs.Frame.{core, mine, Owed, worker_step}
 
 pub here_after : {X : Type 0} (l : List X) (i : ℕ) (x y : X) → get_elem? l i ≡ some y → get_elem? (set l i x) i ≡ some x
@@ -62,6 +64,7 @@ module _ {B : Type 0} (replies : ℕ → List Reply) (key : About B) (c : State)
 
   record IsDecided (seat : Seat) (answer : Option Reply) : Type 0 where
     pub kept : IsKept p replies (with_seat seat)
+    pub no_result : NoResultYet (with_seat seat)
     pub names : named w.number seat.task ≡ named w.number w.seat.task
     pub answer_is : IsAnswer p replies seat answer
 
@@ -70,21 +73,28 @@ module _ {B : Type 0} (replies : ℕ → List Reply) (key : About B) (c : State)
   none_asked e (Some reply) = λ job q. absurd (none-some job (sym e ∙ awaited_decided p unasked w.seat w.seat.task job q))
 
   decides : (awaits : Option ℕ) (answer : Option Reply) → awaited p w.seat w.seat.task ≡ awaits → IsAnswer p replies w.seat answer → IsDecided (seat_by p w.seat awaits answer) answer
-  decides None answer e fits = record {
-    kept = decide_keeps p (core replies key c dealt s r) replies c r.kept.0 r.kept.1 w.number w.seat we.seat unasked (λ job q. absurd (none-some job (sym e ∙ q)));
-    names = decided_named p w.number unasked w.seat.task;
-    answer_is = none_asked e answer;
-  }
+  decides None answer e fits =
+      let kept = decide_keeps p (core replies key c dealt s r) replies c r.kept.0 r.kept.1 w.number w.seat we.seat unasked (λ job q. absurd (none-some job (sym e ∙ q))) in
+      record {
+        kept = kept;
+        no_result = decided_no_result p replies c r.kept w.number w.seat we.seat unasked kept r.no_result;
+        names = decided_named p w.number unasked w.seat.task;
+        answer_is = none_asked e answer;
+      }
   decides (Some job) None e fits = record {
     kept = subst (λ (l : List Seat). IsKept p replies (record c { seats = l })) (sym (set_get c.seats w.number w.seat we.seat)) r.kept;
+    no_result = subst (λ (l : List Seat). NoResultYet (record c { seats = l })) (sym (set_get c.seats w.number w.seat we.seat)) r.no_result;
     names = refl;
     answer_is = tt;
   }
-  decides (Some job) (Some reply) e fits = record {
-    kept = decide_keeps p (core replies key c dealt s r) replies c r.kept.0 r.kept.1 w.number w.seat we.seat reply fits;
-    names = decided_named p w.number reply w.seat.task;
-    answer_is = λ j q. fits j (awaited_decided p reply w.seat w.seat.task j q);
-  }
+  decides (Some job) (Some reply) e fits =
+      let kept = decide_keeps p (core replies key c dealt s r) replies c r.kept.0 r.kept.1 w.number w.seat we.seat reply fits in
+      record {
+        kept = kept;
+        no_result = decided_no_result p replies c r.kept w.number w.seat we.seat reply kept r.no_result;
+        names = decided_named p w.number reply w.seat.task;
+        answer_is = λ j q. fits j (awaited_decided p reply w.seat w.seat.task j q);
+      }
 
   decided_so : IsDecided (ready_seat p w) w.answer
   decided_so = decides (awaited p w.seat w.seat.task) w.answer refl we.answer
@@ -105,6 +115,7 @@ module _ {B : Type 0} (replies : ℕ → List Reply) (key : About B) (c : State)
           parts = λ _ _. refl;
           placed = reseat_keeps c w.number w.seat (ready_seat p w) r.placed we.seat decided_so.names;
         };
+        no_result = decided_so.no_result;
         given = refl;
         keys = refl;
         stays = λ z. z;

@@ -40,6 +40,7 @@ use Rattle.table_rule.specs.Words.{status_word, words_of, event_place}
 use Rattle.table_rule.specs.Picture.{Dealt, WorkerFits, IsPictureOf, worker_view}
 use Rattle.table_rule.specs.Plays.{unasked, claimed_seat, shown_seat, settled_seat, claim_tells, show_tells, settle_tells, look_at_tells}
 use Rattle.table_rule.proofs.Words.{status_found, status_set, place_set}
+use Rattle.table_rule.proofs.GuardKept.{row_no_result}
 use Rattle.table_rule.proofs.Frame.{sizes, core, found_as, words_as, mine, IsNext, Owed, owes, nothing_new, settled_stays, word_same}
 
 -- A word names one status.
@@ -90,6 +91,7 @@ module _ {B : Type 0} (replies : ℕ → List Reply) (key : About B) (c : State)
   by_row reply a d seat list q kept given keys stays seats part = record {
     kept = kept;
     frame = row_frame p c w.number w.seat r.placed we.seat reply a d q;
+    no_result = row_no_result p replies c d r.kept kept w.number w.seat we.seat reply a q r.no_result;
     given = given;
     keys = keys;
     stays = stays;
@@ -197,6 +199,7 @@ module _ {B : Type 0} (replies : ℕ → List Reply) (key : About B) (c : State)
       (record {
         kept = r.kept;
         frame = record { count = refl; others = λ _ _. refl; parts = λ _ _. refl; placed = r.placed };
+        no_result = r.no_result;
         given = refl;
         keys = refl;
         stays = λ z. z;

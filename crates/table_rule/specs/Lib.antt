@@ -1,4 +1,5 @@
 -- The definitions that the rule and the plays cite.
 pub mod Words
+pub mod Guards
 pub mod Picture
 pub mod Plays

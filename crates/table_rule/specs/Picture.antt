@@ -22,6 +22,7 @@ use Rattle.table_rule.specs.declared.view.Dispatching.{Dispatching}
 use Rattle.table_rule.specs.declared.view.Place.{Place}
 use Rattle.table_rule.specs.declared.view.Place.TheVariants.{Spent, Worker, Dispatcher}
 use Rattle.table_rule.specs.Words.{words_of}
+use Rattle.table_rule.specs.Guards.{NoResultYet}
 
 abbrev pub free_seat : Seat
 free_seat = record { task = Free; hand = None }
@@ -78,6 +79,7 @@ module _ {B : Type 0} where
     pub plan : IsPlan key.plan
     pub kept : IsKept key.plan replies c
     pub placed : IsPlaced c
+    pub no_result : NoResultYet c
     pub keys : length c.locks ≡ length key.plan.keys
     pub workers : length c.seats ≡ key.workers
     pub words : s.words ≡ words_of key.plan c

@@ -12,13 +12,13 @@ use Rattle.resource_locks.specs.Plans.{PlanParts, most_events}
 use Rattle.scheduling.specs.declared.status.NodeStatus.TheVariants.{Claimed}
 use Rattle.scheduling.specs.declared.lock_word.LockWord.{LockWord}
 use Rattle.scheduling.specs.declared.lock_word.LockWord.TheVariants.{Readers, Written}
-use Rattle.scheduling.specs.declared.task.Opening.TheVariants.{Registering, RegisteredAt, Offering, Noticing, Locking, Weighed, Backing, Beginning, StartedAt, Admitting}
+use Rattle.scheduling.specs.declared.task.Opening.TheVariants.{Registering, RegisteredAt, Offering, Noticing, Locking, Weighed, Backing, Beginning, StartedAt, Admitting, Guarding}
 use Rattle.scheduling.specs.declared.task.Closing.TheVariants.{Ending, FinishedAt, SkippedAt, Raising, Giving, Settling, Looking, Passing, CountingOff}
 use Rattle.scheduling.specs.declared.task.Task.{Task}
 use Rattle.scheduling.specs.declared.task.Task.TheVariants.{Opens, Closes, Free}
 use Rattle.scheduling.specs.declared.seat.Hand.{Hand}
 use Rattle.scheduling.specs.declared.seat.Seat.{Seat}
-use Rattle.scheduling.specs.Choices.{keys_count, lock_from, claims, begins, giving, admit_from, after_settle, offered_to, after_finish, next_spare, awaited, event_of}
+use Rattle.scheduling.specs.Choices.{keys_count, lock_from, claims, begins, giving, admit_from, after_settle, offered_to, after_finish, next_spare, is_pulled, pulled_result, awaited, event_of}
 use Rattle.scheduling.specs.Rows.{with_task, ends_or_free, weighed, after_start, one_more, waits_for, waits_no_more, decided_seat}
 use Rattle.table_rule.specs.declared.view.View.{View}
 use Rattle.table_rule.specs.declared.view.Slot.{Slot}
@@ -112,6 +112,31 @@ abbrev pub given_seat : Seat → Task → Seat
 given_seat seat (Opens n (Backing (suc i))) = with_task seat (Opens n (Backing i))
 given_seat seat (Closes n (Giving (suc i))) = with_task seat (Closes n (giving i))
 given_seat seat _ = seat
+
+-- The guard that the task gives up: of this node, which then has this result, and what is in hand after that. It is the node's
+-- own where its children are all offered; or that of the factory in hand, where it waits for no spare and is pulled.
+pub record Guard : Type 0 where
+  pub node : ℕ
+  pub result : Status
+  pub hand : Option Hand
+
+abbrev pub pulled_guard : PlanParts → ℕ → ℕ → Option ℕ → Reply → Option Guard
+pulled_guard p f k (Some c) reply = None
+pulled_guard p f k None reply = cond (is_pulled p f k reply) (Some (record { node = f; result = pulled_result k reply; hand = None })) None
+
+abbrev pub hand_guard : PlanParts → Option Hand → Option Reply → Option Guard
+hand_guard p None answer = None
+hand_guard p (Some hand) None = None
+hand_guard p (Some hand) (Some reply) = pulled_guard p hand.factory hand.registered hand.waiting reply
+
+abbrev pub guard_due : PlanParts → Option Reply → Seat → Task → Option Guard
+guard_due p answer seat (Opens n Guarding) = Some (record { node = n; result = Successful; hand = seat.hand })
+guard_due p answer seat Free = hand_guard p seat.hand answer
+guard_due p answer seat _ = None
+
+-- the seat after that, by what was outstanding: whoever takes the last one off ends the node
+abbrev pub ended_seat : PlanParts → Guard → ℕ → Seat
+ended_seat p g outstanding = record { task = ends_or_free p g.node g.result outstanding; hand = g.hand }
 
 -- The seat with the answer of its job made use of. Where no job is awaited, no reply is asked for.
 abbrev pub unasked : Reply
@@ -234,6 +259,11 @@ module _ {B : Type 0} where
   abbrev pub count_off_tells : Step (Slot B) → Me (Slot B) (View B) → ℕ → Me (Slot B) (View B) → Type 0
   count_off_tells st m r n = (k : ℕ) → (worker m.0).seat.task ≡ Closes k CountingOff
       → n ≡ (at_work m.0 (goes_on (with_task (worker m.0).seat (ends_or_free m.0.about.plan (parent_of m.0.about.plan.tree k) (result_in r) (outstanding_in r))) (worker m.0)), m.1)
+
+  -- a guard is given up: whoever takes the last one off ends its node
+  abbrev pub guard_tells : Step (Slot B) → Me (Slot B) (View B) → ℕ → Me (Slot B) (View B) → Type 0
+  guard_tells st m r n = (g : Guard) → guard_due m.0.about.plan (ready_in m.0).answer (ready_in m.0).seat (ready_in m.0).seat.task ≡ Some g
+      → n ≡ (at_work m.0 (goes_on (ended_seat m.0.about.plan g (outstanding_in r)) (ready_in m.0)), m.1)
 
   -- whether node 0 was found settled is noted
   abbrev pub look_at_tells : Step (Slot B) → Me (Slot B) (View B) → ℕ → Me (Slot B) (View B) → Type 0

@@ -6,8 +6,8 @@ mod rule;
 mod view;
 
 pub use plays::{
-    AddsChild, Admits, Claims, CountsOff, Deals, Draws, Gathers, Gives, GivesUp, Looks, LooksAt,
-    Notices, Raises, Reads, Settles, Shows, Takes, Weighs,
+    AddsChild, Admits, Claims, CountsOff, Deals, Draws, Gathers, Gives, GivesGuard, GivesUp, Looks,
+    LooksAt, Notices, Raises, Reads, Settles, Shows, Takes, Weighs,
 };
 pub use rule::Law;
 pub use view::{About, Dispatching, Place, Slot, Told, View, Working};

@@ -1,7 +1,7 @@
 //! The kinds of step, each with what it tells its seat.
 
 ghost use Rattle.table_rule.specs.Picture.{dispatcher_view, worker_view};
-ghost use Rattle.table_rule.specs.Plays.{add_child_tells, admit_tells, claim_tells, count_off_tells, deals_one, dispatcher, draw_tells, give_tells, give_up_tells, look_at_tells, look_tells, newcomer, notice_tells, raise_tells, read_tells, settle_tells, show_tells, spent_view, take_tells, weigh_tells};
+ghost use Rattle.table_rule.specs.Plays.{add_child_tells, admit_tells, claim_tells, count_off_tells, deals_one, dispatcher, draw_tells, give_tells, give_up_tells, guard_tells, look_at_tells, look_tells, newcomer, notice_tells, raise_tells, read_tells, settle_tells, show_tells, spent_view, take_tells, weigh_tells};
 
 use crate::view::{Slot, View};
 use atomic_table::{Join, Play, Split};
@@ -102,6 +102,14 @@ pub struct CountsOff;
 
 impl<B> Play<Slot<B>, View<B>> for CountsOff {
     ghost then = { count_off_tells };
+}
+
+/// A worker gives up the own guard of its node, or of the factory in its hand: one less on the node's counter, and the number of
+/// the result comes into it.
+pub struct GivesGuard;
+
+impl<B> Play<Slot<B>, View<B>> for GivesGuard {
+    ghost then = { guard_tells };
 }
 
 /// A worker that is free looks at a node's status.
