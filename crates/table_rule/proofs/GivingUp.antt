@@ -16,7 +16,7 @@ use Rattle.scheduling.specs.declared.seat.Hand.{Hand}
 use Rattle.scheduling.specs.declared.seat.Seat.{Seat}
 use Rattle.scheduling.specs.declared.step.Action.TheVariants.{Done}
 use Rattle.scheduling.specs.State.{State, counter_at, result_at}
-use Rattle.scheduling.specs.Choices.{hand_job, awaited, is_pulled, pulled_result}
+use Rattle.scheduling.specs.Choices.{hand_job, awaited, decided, is_pulled, pulled_result}
 use Rattle.scheduling.specs.Rows.{guard_given, done_by_hand, done_hand, done_row}
 use Rattle.scheduling.specs.Stages.{Stage, picture}
 use Rattle.scheduling.specs.Invariant.{TaskOk, HandOk, pending}
@@ -29,7 +29,7 @@ use Rattle.table_rule.specs.declared.view.Working.{Working}
 use Rattle.table_rule.specs.Words.{result_number, counter_word, words_of, counter_place}
 use Rattle.table_rule.specs.Guards.{opened, factory_of}
 use Rattle.table_rule.specs.Picture.{Dealt, IsAnswer, WorkerFits, IsPictureOf, worker_view}
-use Rattle.table_rule.specs.Plays.{unasked, outstanding_in, goes_on, Guard, pulled_guard, hand_guard, guard_due, ended_seat}
+use Rattle.table_rule.specs.Plays.{unasked, outstanding_in, goes_on, Guard, pulled_guard, hand_guard, guard_due, ended_seat, seat_by, ready}
 use Rattle.table_rule.proofs.Words.{counter_found, counter_set}
 use Rattle.table_rule.proofs.Frame.{sizes, core, found_as, words_as, mine, Owed, owes}
 use Rattle.table_rule.proofs.Steps.{by_row}
@@ -78,6 +78,21 @@ hand_node p x (Some hand) (Some reply) q = ap (λ (n : ℕ). Some n) (pulled_nod
 unanswered : (p : PlanParts) (x : Guard) (hand : Option Hand) → hand_guard p hand None ≡ Some x → ⊥
 unanswered p x None q = none-some x q
 unanswered p x (Some hand) q = none-some x q
+
+-- A worker that is free stays so, with the hand that it has, whatever is answered.
+free_stays : (p : PlanParts) (seat : Seat) (awaits : Option ℕ) (answer : Option Reply) → seat.task ≡ Free → ((seat_by p seat awaits answer).task ≡ Free) × ((seat_by p seat awaits answer).hand ≡ seat.hand)
+free_stays p seat None answer free = (ap (decided p unasked) free, refl)
+free_stays p seat (Some job) None free = (free, refl)
+free_stays p seat (Some job) (Some reply) free = (ap (decided p reply) free, refl)
+
+-- So the guard of the factory in hand is due where it waits for no spare, and its job's reply says that it is pulled.
+pub hand_due : (p : PlanParts) (w : Working) (hand : Hand) (reply : Reply) → w.seat.task ≡ Free → w.seat.hand ≡ Some hand → hand.waiting ≡ None → w.answer ≡ Some reply → is_pulled p hand.factory hand.registered reply ≡ true
+    → guard_due p w.answer (ready p w).seat (ready p w).seat.task ≡ Some (record { node = hand.factory; result = pulled_result hand.registered reply; hand = None })
+hand_due p w hand reply free in_hand waits answered pulled =
+    let same = free_stays p w.seat (awaited p w.seat w.seat.task) w.answer free in
+    ap (guard_due p w.answer (ready p w).seat) same.0 ∙ ap (λ (h : Option Hand). hand_guard p h w.answer) (same.1 ∙ in_hand)
+    ∙ ap (hand_guard p (Some hand)) answered ∙ ap (λ (o : Option ℕ). pulled_guard p hand.factory hand.registered o reply) waits
+    ∙ ap (λ (b : Bool). cond b (Some (record { node = hand.factory; result = pulled_result hand.registered reply; hand = None })) None) pulled
 
 module _ {B : Type 0} (replies : ℕ → List Reply) (key : About B) (c : State) (dealt : Dealt) (s : TableState (Slot B) (View B)) (r : IsPictureOf replies key c dealt s) (id : ℕ) (w : Working) (at : get_elem? s.views id ≡ some (worker_view key w)) where
   abbrev p : PlanParts
