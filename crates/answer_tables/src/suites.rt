@@ -3,7 +3,8 @@
 use scheduling::Step;
 use selectors::{Selector, SelectorKind};
 use std::alloc::{AllocError, Global};
-use suite_text::{Suite, SuiteFault, parse_steps};
+use step_text::parse_steps;
+use suite_text::{Suite, SuiteFault};
 
 fn refusal(alloc: Global, fault: SuiteFault) -> Result<String, AllocError> {
     let number = fault.number();

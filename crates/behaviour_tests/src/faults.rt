@@ -5,7 +5,8 @@ use sched_core::CoreFault;
 use selectors::{SelectFault, SelectorFault};
 use std::alloc::{AllocError, Global};
 use std::test::Fail;
-use suite_text::{StepsFault, SuiteFault};
+use step_text::StepsFault;
+use suite_text::SuiteFault;
 use tag_expr::TagFault;
 use unique_id::UidFault;
 

@@ -20,7 +20,7 @@ use Rattle.launcher.specs.declared.details.Details.TheVariants as details
 use Rattle.launcher.specs.declared.options.Options.{Options}
 use Rattle.launcher.specs.declared.fault.LaunchFault.{LaunchFault}
 use Rattle.launcher.specs.declared.fault.LaunchFault.TheVariants.{BadWords, BadStep, BadSelector, BadTags}
-use Rattle.suite_text.specs.StepTexts.{steps_of}
+use Rattle.step_text.specs.StepTexts.{steps_of}
 use Rattle.launcher.specs.Given.{Text, Values}
 use Rattle.launcher.specs.Parameters.{processors_named, params_said, params_refusal}
 

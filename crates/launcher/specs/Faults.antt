@@ -12,8 +12,8 @@ use Rattle.suite_text.specs.declared.suite_fault.SuiteFault.{SuiteFault}
 use Rattle.suite_text.specs.declared.suite_fault.SuiteFault.TheVariants as suites
 use Rattle.launcher.specs.declared.bytes.ReadFault.{ReadFault}
 use Rattle.launcher.specs.declared.bytes.ReadFault.TheVariants as reads
-use Rattle.suite_text.specs.declared.steps.StepsFault.{StepsFault}
-use Rattle.suite_text.specs.declared.steps.StepsFault.TheVariants as steps
+use Rattle.step_text.specs.declared.steps.StepsFault.{StepsFault}
+use Rattle.step_text.specs.declared.steps.StepsFault.TheVariants as steps
 use Rattle.tag_expr.specs.Faults as tag_faults
 use Rattle.tag_expr.specs.declared.fault.TagFault.{TagFault}
 use Rattle.tag_expr.specs.declared.fault.TagFault.TheVariants as tags

@@ -12,7 +12,8 @@ use selectors::SelectFault;
 use std::alloc::{AllocError, AllocFailed};
 use std::error::Error;
 use std::fmt;
-use suite_text::{StepsFault, SuiteFault};
+use step_text::StepsFault;
+use suite_text::SuiteFault;
 use tag_expr::TagFault;
 
 /// Why a launch was refused, or broke off. `{}` writes `error`, the number, and behind `at`

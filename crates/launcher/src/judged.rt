@@ -13,7 +13,7 @@ use crate::fault::LaunchFault;
 use crate::given::Given;
 use selectors::{Selector, SelectorFault, SelectorKind};
 use std::alloc::Global;
-use suite_text::{StepsFault, parse_steps};
+use step_text::{StepsFault, parse_steps};
 use tag_expr::{TagExpr, TagFault};
 
 /// Judges the text of a replay.

@@ -16,7 +16,7 @@ use listeners::Theme;
 use scheduling::Step;
 use selectors::{Request, Selector, SelectorKind};
 use std::alloc::{AllocError, Global};
-use suite_text::parse_steps;
+use step_text::parse_steps;
 use tag_expr::TagExpr;
 
 /// The options of a run.

@@ -6,7 +6,7 @@ use plan_events::Event;
 use sched_core::{Core, Trace, run_steps};
 use scheduling::Step;
 use std::alloc::{AllocError, Global};
-use suite_text::parse_steps;
+use step_text::parse_steps;
 
 /// The number of workers that a replay has.
 const WORKERS: u32 = 64;

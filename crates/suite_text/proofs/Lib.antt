@@ -1,8 +1,5 @@
 mod FirstWords
-mod Numbers
-mod ReadBack
-mod Spelled
-mod SpelledWords
+pub mod Numbers
 pub mod SuiteAfters
 pub mod SuiteAnswers
 pub mod SuiteAttributes

@@ -6,13 +6,9 @@ use Rattle.std.specs.List.{list_all}
 use Rattle.std.specs.Str.Parse.{ParsesUnsigned, digits_value}
 use Rattle.std.proofs.lemmas.Str.Parse.{IsNumeralModel, numerals_by_value, parse_digits}
 use Rattle.suite_text.specs.Numbers.{is_number, number_up_to}
-use Rattle.suite_text.specs.StepTexts.{is_decimal}
 
 pub own : IsNumeralModel (λ ds. list_all is_ascii_digit ds ≡ true) (digits_value 10)
 own = numerals_by_value _ (search rules)
-
-pub decimal_parts : (ds : List ℕ) → is_decimal ds ≡ true → (0 < length ds) × (list_all is_ascii_digit ds ≡ true)
-decimal_parts ds h = (grind arith, grind arith)
 
 pub number_parts : (ds : List ℕ) → is_number ds ≡ true → (0 < length ds) × (list_all is_ascii_digit ds ≡ true)
 number_parts ds h = (grind arith, grind arith)

@@ -1,8 +1,4 @@
 pub mod Numbers
-pub mod StepAnswers
-pub mod StepFaults
-pub mod StepSpelling
-pub mod StepTexts
 pub mod SuiteAfter
 pub mod SuiteAttributes
 pub mod SuiteBytes

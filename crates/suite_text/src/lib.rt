@@ -1,11 +1,9 @@
-//! What texts say: the suite that is run, and the steps of a replay.
+//! The suite that is run, as a text says it.
 
 #![tactic(auto)]
 
 mod number;
 mod script;
-mod step_words;
-mod steps;
 mod suite;
 mod suite_after;
 mod suite_attributes;
@@ -19,8 +17,7 @@ mod suite_spins;
 mod suite_verdicts;
 mod suite_words;
 
-pub use number::number_up_to;
+pub use number::{is_number, number_up_to};
 pub use script::Script;
-pub use steps::{StepsFault, parse_steps};
 pub use suite::Suite;
 pub use suite_fault::SuiteFault;

@@ -13,7 +13,7 @@ fn are_digits(bytes: &[u8]) -> bool
 }
 
 /// Whether a text is a number: one digit or more.
-pub(crate) fn is_number(text: &str) -> bool
+pub fn is_number(text: &str) -> bool
     ensures { result ≡ is_number text.now }
 {
     let digits = text.as_bytes();

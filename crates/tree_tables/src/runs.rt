@@ -6,7 +6,7 @@ use plan_events::{Event, EventKind, Outcome, Reply, Status, Texts};
 use resource_locks::Plan;
 use sched_core::{Answers, Trace, drive, run_steps, texts_of};
 use std::alloc::{AllocError, Global};
-use suite_text::parse_steps;
+use step_text::parse_steps;
 use unique_id::Text;
 
 fn status_of(word: &str) -> Status {

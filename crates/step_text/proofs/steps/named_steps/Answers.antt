@@ -4,8 +4,8 @@ use borrow.Author.Tests.{tests}
 use Rattle.std.proofs.lemmas.Iterator.{items_from_collect}
 use Rattle.std.proofs.lemmas.Iterator.Consumers.{YieldsList-at, YieldsList-from_filter, YieldsList-from_filter_map}
 use Rattle.std.proofs.lemmas.Iterator.Splits.{YieldsList-from_str_split}
-use Rattle.suite_text.specs.StepTexts.{step_of}
-use Rattle.suite_text.proofs.steps.named_steps.Goals as goal
+use Rattle.step_text.specs.StepTexts.{step_of}
+use Rattle.step_text.proofs.steps.named_steps.Goals as goal
 
 pub returns : goal.returns
 returns c = items_from_collect _ c.collect.ensures.ran

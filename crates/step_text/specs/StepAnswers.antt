@@ -2,8 +2,8 @@
 use Rattle.std.specs.Prelude.{◌≡◌, ℕ, List, Result, Ok, Err, IsOk}
 use Rattle.std.specs.Global.{Vec}
 use Rattle.scheduling.specs.declared.step.Step.{Step}
-use Rattle.suite_text.specs.declared.steps.StepsFault.{StepsFault}
-use Rattle.suite_text.specs.declared.steps.StepsFault.TheVariants.{NoMemory, BadStep}
+use Rattle.step_text.specs.declared.steps.StepsFault.{StepsFault}
+use Rattle.step_text.specs.declared.steps.StepsFault.TheVariants.{NoMemory, BadStep}
 
 -- The answer is what the definition gives; memory can run out only where it gives steps
 abbrev pub GivesSteps : Result (Vec Step) StepsFault → Result (List Step) ℕ → Type 0

@@ -1,11 +1,11 @@
 //! One word of a text of steps.
 
 ghost use Rattle.std.specs.Prelude.{◌≡◌};
-ghost use Rattle.suite_text.specs.StepTexts.{is_decimal, number_within, worker_of, node_of, node_action, plain_action, action_of, worker_step, step_of};
+ghost use Rattle.step_text.specs.StepTexts.{is_decimal, number_within, worker_of, node_of, node_action, plain_action, action_of, worker_step, step_of};
 
-use crate::number::{is_number, number_up_to};
 use descriptor::NodeId;
 use scheduling::{Action, Step};
+use suite_text::{is_number, number_up_to};
 
 /// Whether a text is a number, with no zero before other digits.
 fn is_decimal(text: &str) -> bool

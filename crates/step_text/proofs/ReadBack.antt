@@ -14,8 +14,8 @@ use Rattle.scheduling.specs.declared.step.Action.TheVariants.{Claim, Own, Draw, 
 use Rattle.scheduling.specs.declared.step.Step.{Step}
 use Rattle.scheduling.specs.declared.step.Step.TheVariants.{Worker, Read}
 use Rattle.suite_text.specs.Numbers.{is_number, number_up_to}
-use Rattle.suite_text.specs.StepTexts.{is_colon, is_decimal, number_within, worker_of, node_of, plain_action, has_colon, action_of, step_of, is_bad_word}
-use Rattle.suite_text.specs.StepSpelling.{spelled_action, spelled_step, NamesNode, IsNamable, AreNamable}
+use Rattle.step_text.specs.StepTexts.{is_colon, is_decimal, number_within, worker_of, node_of, plain_action, has_colon, action_of, step_of, is_bad_word}
+use Rattle.step_text.specs.StepSpelling.{spelled_action, spelled_step, NamesNode, IsNamable, AreNamable}
 use Rattle.suite_text.proofs.Numbers.{own}
 
 -- a number

@@ -2,9 +2,9 @@
 use Rattle.std.proofs.Common.{◌≡◌, None, false, ◌==◌, slice_index, lit<, arith}
 use Rattle.std.proofs.lemmas.Grind.{common_steps}
 use Rattle.std.proofs.lemmas.Str.Pattern.{strip_prefix_char}
-use Rattle.suite_text.specs.StepTexts.{step_of}
-use Rattle.suite_text.proofs.SpelledWords.{no_front}
-use Rattle.suite_text.proofs.step_words.step_of.Goals as goal
+use Rattle.step_text.specs.StepTexts.{step_of}
+use Rattle.step_text.proofs.SpelledWords.{no_front}
+use Rattle.step_text.proofs.step_words.step_of.Goals as goal
 
 pub returns-in-None : goal.returns-in-None
 unfolding step_of

@@ -6,7 +6,8 @@ use Rattle.std.proofs.lemmas.Fmt.{decimal-digits_value}
 use Rattle.std.proofs.lemmas.List.Sums.{passes_at_first, split_at_first}
 use Rattle.std.proofs.lemmas.Slice.Eq.{bytes_eq-Decides}
 use Rattle.std.specs.Fmt.{decimal}
-use Rattle.std.specs.List.{position, position_or_len, before_first, after_first, filter_map, cons_option}
+use Rattle.std.specs.Char.{is_ascii_digit}
+use Rattle.std.specs.List.{list_all, position, position_or_len, before_first, after_first, filter_map, cons_option}
 use Rattle.std.specs.Str.{bytes_eq}
 use Rattle.std.specs.Str.Parse.{digits_value}
 use Rattle.scheduling.specs.declared.step.Action.{Action}
@@ -14,9 +15,9 @@ use Rattle.scheduling.specs.declared.step.Action.TheVariants.{Claim, Own, Draw, 
 use Rattle.scheduling.specs.declared.step.Step.{Step}
 use Rattle.scheduling.specs.declared.step.Step.TheVariants.{Worker, Read}
 use Rattle.suite_text.specs.Numbers.{is_number, number_up_to}
-use Rattle.suite_text.specs.StepTexts.{is_colon, is_decimal, number_within, worker_of, node_of, node_action, plain_action, has_colon, action_of, worker_step, step_of, is_bad_word}
-use Rattle.suite_text.specs.StepSpelling.{spelled_action, spelled_step}
-use Rattle.suite_text.proofs.Numbers.{own, decimal_parts}
+use Rattle.step_text.specs.StepTexts.{is_colon, is_decimal, number_within, worker_of, node_of, node_action, plain_action, has_colon, action_of, worker_step, step_of, is_bad_word}
+use Rattle.step_text.specs.StepSpelling.{spelled_action, spelled_step}
+use Rattle.suite_text.proofs.Numbers.{own}
 
 -- one branch of a choice by words
 picked : {A : Type 0} (b : Bool) (a x : A) (rest : Option A) → (if b then Some a else rest) ≡ Some x → ((b ≡ true) × (a ≡ x)) ⊎ (rest ≡ Some x)
@@ -31,6 +32,9 @@ same_bytes : (xs ys : List ℕ) → bytes_eq xs ys ≡ true → xs ≡ ys
 same_bytes xs ys h = (bytes_eq-Decides xs ys).0 h
 
 -- a number
+decimal_parts : (ds : List ℕ) → is_decimal ds ≡ true → (0 < length ds) × (list_all is_ascii_digit ds ≡ true)
+decimal_parts ds h = (grind arith, grind arith)
+
 number_parts : (least most : ℕ) (ds : List ℕ) (n : ℕ) → number_within least most ds ≡ Some n → (is_decimal ds ≡ true) × (nat_le (digits_value 10 ds) most ≡ true) × (digits_value 10 ds ≡ n)
 number_parts least most ds n h =
     let outer = chosen (is_decimal ds && nat_le least (digits_value 10 ds)) (number_up_to most ds) n h in

@@ -4,8 +4,8 @@ use borrow.Author.Tests.{tests}
 use Rattle.std.proofs.lemmas.Iterator.Consumers.{YieldsList-from_filter}
 use Rattle.std.proofs.lemmas.Iterator.Search.{position_from_yields_List}
 use Rattle.std.proofs.lemmas.Iterator.Splits.{YieldsList-from_str_split}
-use Rattle.suite_text.specs.StepTexts.{is_bad_word}
-use Rattle.suite_text.proofs.steps.bad_word.Goals as goal
+use Rattle.step_text.specs.StepTexts.{is_bad_word}
+use Rattle.step_text.proofs.steps.bad_word.Goals as goal
 
 pub returns-clause-first : goal.returns-clause-first
 returns-clause-first c =

@@ -3,12 +3,12 @@
 ghost use Rattle.std.specs.Prelude.{◌≡◌, ◌≤◌, ◌≢◌, List, IfOk, IfErr, IfSome, length, map};
 ghost use Rattle.std.specs.List.{position, filter_map};
 ghost use Rattle.suite_text.specs.Words.{words_in};
-ghost use Rattle.suite_text.specs.StepTexts.{step_of, is_bad_word, steps_of};
-ghost use Rattle.suite_text.specs.StepSpelling.{spelled_step, AreNamable};
+ghost use Rattle.step_text.specs.StepTexts.{step_of, is_bad_word, steps_of};
+ghost use Rattle.step_text.specs.StepSpelling.{spelled_step, AreNamable};
 ghost use Rattle.scheduling.specs.declared.step.Step.{Step};
-ghost use Rattle.suite_text.specs.StepAnswers.{GivesSteps};
-ghost use Rattle.suite_text.specs.StepFaults.{number_of, place_of};
-ghost use Rattle.suite_text.specs.declared.steps.StepsFault.TheVariants.{NoMemory};
+ghost use Rattle.step_text.specs.StepAnswers.{GivesSteps};
+ghost use Rattle.step_text.specs.StepFaults.{number_of, place_of};
+ghost use Rattle.step_text.specs.declared.steps.StepsFault.TheVariants.{NoMemory};
 
 use crate::step_words::step_of;
 use scheduling::Step;

@@ -1,7 +1,7 @@
 -- The refusals of a text of steps: their numbers, and the step that they are about.
 use Rattle.std.specs.Prelude.{ℕ, Option, Some, None}
-use Rattle.suite_text.specs.declared.steps.StepsFault.{StepsFault}
-use Rattle.suite_text.specs.declared.steps.StepsFault.TheVariants.{NoMemory, BadStep}
+use Rattle.step_text.specs.declared.steps.StepsFault.{StepsFault}
+use Rattle.step_text.specs.declared.steps.StepsFault.TheVariants.{NoMemory, BadStep}
 
 -- the number of a refusal
 abbrev pub number_of : StepsFault → ℕ

@@ -1,0 +1,4 @@
+-- The lemmas, by subject.
+mod ReadBack
+mod Spelled
+mod SpelledWords

@@ -1,0 +1,5 @@
+-- The definitions that contracts cite.
+pub mod StepAnswers
+pub mod StepFaults
+pub mod StepSpelling
+pub mod StepTexts
