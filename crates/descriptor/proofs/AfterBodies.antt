@@ -43,7 +43,8 @@ set_given b (y ∷ xs) zero x h e = ap (λ z. given_after b z ∷ xs) e
 set_given b (y ∷ xs) (suc i) x h e = ap (λ zs. y ∷ zs) (set_given b xs i x (omega arith) e)
 
 module _ (b : ℕ) where
-  length_given : (i : ℕ) (xs : List Node) → length (given_after_at b i xs) ≡ length xs
+  -- it adds no node
+  pub length_given : (i : ℕ) (xs : List Node) → length (given_after_at b i xs) ≡ length xs
   length_given i [] = refl
   length_given zero (x ∷ xs) = refl
   length_given (suc i) (x ∷ xs) = ap suc (length_given i xs)

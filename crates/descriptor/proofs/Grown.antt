@@ -21,14 +21,15 @@ module _ {X : Type 0} where
 abbrev is_child : List ℕ → ℕ → ℕ → Bool
 is_child parents a c = ltb 0 c && eqb (get_or parents c 0) a
 
-numbers_same : (q r : ℕ → Bool) (n : ℕ) → ((c : ℕ) → c < n → q c ≡ r c) → numbers_where q n ≡ numbers_where r n
+-- numbers that pass one test pass another
+pub numbers_same : (q r : ℕ → Bool) (n : ℕ) → ((c : ℕ) → c < n → q c ≡ r c) → numbers_where q n ≡ numbers_where r n
 numbers_same q r zero same = refl
 numbers_same q r (suc n) same =
     let before : numbers_where q n ≡ numbers_where r n = numbers_same q r n (λ c h. same c (omega arith)) in
     let here : q n ≡ r n = same n (omega arith) in
     cc
 
-numbers_none : (q : ℕ → Bool) (n : ℕ) → ((c : ℕ) → c < n → q c ≡ false) → numbers_where q n ≡ []
+pub numbers_none : (q : ℕ → Bool) (n : ℕ) → ((c : ℕ) → c < n → q c ≡ false) → numbers_where q n ≡ []
 numbers_none q zero none = refl
 numbers_none q (suc n) none =
     let before : numbers_where q n ≡ [] = numbers_none q n (λ c h. none c (omega arith)) in

@@ -5,10 +5,10 @@ use Rattle.std.proofs.lemmas.Bool.{cases_order}
 use Rattle.descriptor.specs.declared.node.Node.{Node}
 use Rattle.descriptor.specs.Nodes.{Nodes, IsTree, size, node_at, parent_of, is_child, numbers_where, appended}
 use Rattle.descriptor.specs.Roles.{is_spare}
+use Rattle.descriptor.proofs.Grown.{numbers_same}
 use Rattle.suite_text.specs.SuiteIds.{IsNamed, IdsFollow, place_among, value_at}
 use Rattle.suite_text.specs.SuiteNodes.{id_at, id_or_none, next_place, value_of_dyn}
 use Rattle.suite_text.proofs.SuitePaths.{get_before, get_last}
-use Rattle.suite_text.proofs.SuitePulls.{numbers_as}
 
 early : (xs : List Node) (x : Node) (n : ℕ) → n < length xs → slice_get (xs ++ x ∷ []) n ≡ slice_get xs n
 early [] x n h = absurd (omega arith)
@@ -56,13 +56,13 @@ module _ (t : Nodes) (a : ℕ) (new : Node) (tree : IsTree t) where
   place_before : (n : ℕ) → n < size t → place_among (appended t a new) n ≡ place_among t n
   place_before n h =
       ap (λ p. length (numbers_where (is_child (appended t a new) p) n) + 1) (parent_before n h)
-      ∙ ap (λ l. length l + 1) (numbers_as (is_child (appended t a new) (parent_of t n)) (is_child t (parent_of t n)) n (λ c k. child_before (parent_of t n) c (omega (arith, k, h))))
+      ∙ ap (λ l. length l + 1) (numbers_same (is_child (appended t a new) (parent_of t n)) (is_child t (parent_of t n)) n (λ c k. child_before (parent_of t n) c (omega (arith, k, h))))
 
   place_new : (n : ℕ) → n ≡ size t → parent_of (appended t a new) n ≡ a → place_among (appended t a new) n ≡ next_place t a
   place_new n h e =
       ap (λ p. length (numbers_where (is_child (appended t a new) p) n) + 1) e
       ∙ ap (λ m. length (numbers_where (is_child (appended t a new) a) m) + 1) h
-      ∙ ap (λ l. length l + 1) (numbers_as (is_child (appended t a new) a) (is_child t a) (size t) (λ c k. child_before a c k))
+      ∙ ap (λ l. length l + 1) (numbers_same (is_child (appended t a new) a) (is_child t a) (size t) (λ c k. child_before a c k))
 
   abbrev value_with : ℕ → Node → List ℕ
   value_with k node = if is_spare node.role then value_of_dyn k else node.name

@@ -1,8 +1,9 @@
 -- How many lines hang below a node, and the scripts whose pulls follow from them.
-use Rattle.std.proofs.Common.{◌≡◌, ℕ, zero, suc, ◌+◌, ◌<◌, ◌≤◌, ◌&&◌, ◌==◌, nat_lt, Bool, true, false, cond, if◌then◌else◌, List, [], ◌∷◌, ◌++◌, length, map, refl, ap, sym, ◌∙◌, arith, length-append}
+use Rattle.std.proofs.Common.{◌≡◌, ℕ, zero, suc, ◌<◌, ◌≤◌, ◌&&◌, nat_lt, Bool, true, false, cond, if◌then◌else◌, List, [], ◌∷◌, ◌++◌, length, map, refl, ap, sym, ◌∙◌, arith, length-append}
 use Rattle.std.proofs.lemmas.Bool.{ne_eqb}
 use Rattle.std.proofs.lemmas.List.{map-append}
 use Rattle.descriptor.specs.Nodes.{Nodes, IsTree, size, parent_of, is_child, numbers_where, children_of}
+use Rattle.descriptor.proofs.Grown.{numbers_none}
 use Rattle.suite_text.specs.declared.script.Script.{Script}
 use Rattle.suite_text.specs.declared.suite_pulls.Pending.{Pending}
 use Rattle.suite_text.specs.SuiteParts.{LinesRead, AreBodiesOf, bodies_answered, parts_of}
@@ -21,17 +22,6 @@ shorter q (suc n) =
     let before = shorter q n in
     omega (arith, all, one, before)
 
--- numbers that pass one test pass another
-pub numbers_as : (q r : ℕ → Bool) (n : ℕ) → ((c : ℕ) → c < n → q c ≡ r c) → numbers_where q n ≡ numbers_where r n
-numbers_as q r zero same = refl
-numbers_as q r (suc n) same =
-    ap (λ l. l ++ cond (q n) (n ∷ []) []) (numbers_as q r n (λ c h. same c (omega (arith, h))))
-    ∙ ap (λ b. numbers_where r n ++ cond b (n ∷ []) []) (same n (omega arith))
-
-no_number : (n : ℕ) → numbers_where (λ c. false) n ≡ []
-no_number zero = refl
-no_number (suc n) = ap (λ l. l ++ []) (no_number n)
-
 pub few_children : (t : Nodes) (n : ℕ) → IsTree t → length (children_of t n) ≤ 4096
 few_children t n tree = let less = shorter (is_child t n) (size t) in omega (arith, less, tree.few)
 
@@ -45,7 +35,7 @@ no_child t n (suc c) tree past inside = let less = tree.up (suc c) (omega arith)
 
 -- a node that the tree lacks has no children
 pub no_children : (t : Nodes) (n : ℕ) → IsTree t → size t ≤ n → 0 ≡ length (children_of t n)
-no_children t n tree past = ap length (sym (numbers_as (is_child t n) (λ c. false) (size t) (λ c h. no_child t n c tree past h) ∙ no_number (size t)))
+no_children t n tree past = ap length (sym (numbers_none (is_child t n) (size t) (λ c h. no_child t n c tree past h)))
 
 -- the body of a script stays where its pulls are counted
 same_body : (t : Nodes) (script : Script) (counts : Bool) (pulls : ℕ) → (if counts then with_pulls pulls script else script).body ≡ script.body

@@ -22,6 +22,7 @@ use Rattle.descriptor.specs.Refusals.{refusal, has_id, has_body, uses_body, afte
 use Rattle.descriptor.specs.declared.fault.TreeFault.TheVariants.{AfterMisplaced}
 use Rattle.descriptor.specs.Limits.{is_over_limit}
 use Rattle.descriptor.proofs.Accepted.{IsPlaced, pass_by, not_misplaced, nothing_declared, after_is_placed}
+use Rattle.descriptor.proofs.AfterBodies.{length_given}
 use Rattle.suite_text.specs.WrittenSuites.{IsShortId}
 
 -- a node without its after-body
@@ -362,11 +363,6 @@ taken_given t u zero b may more tree = absurd (cc)
 taken_given t u (suc i) b may more tree = takes_after_body t u i b may more tree
 
 -- it adds no node
-length_given : (b i : ℕ) (xs : List Node) → length (given_after_at b i xs) ≡ length xs
-length_given b i [] = refl
-length_given b zero (x ∷ xs) = refl
-length_given b (suc i) (x ∷ xs) = ap suc (length_given b i xs)
-
 pub counted_given : (t : Nodes) (n b : ℕ) → length t.nodes + 1 ≡ size t → length (with_after t n b).nodes + 1 ≡ size (with_after t n b)
 counted_given t zero b h = h
 counted_given t (suc i) b h = ap (λ k. k + 1) (length_given b i t.nodes) ∙ h

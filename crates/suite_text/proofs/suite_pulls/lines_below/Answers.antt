@@ -1,6 +1,6 @@
 -- A tree has few nodes, and a node that it lacks has no children.
-use Rattle.std.proofs.Common.{◌≡◌, ◌≤◌, length, subst, sym, ap, ℕ, arith}
-use Rattle.descriptor.specs.Nodes.{children_of, size}
+use Rattle.std.proofs.Common.{◌≤◌, length, subst, sym, arith}
+use Rattle.descriptor.specs.Nodes.{size}
 use Rattle.suite_text.proofs.SuitePulls.{few_children, no_children}
 use Rattle.suite_text.proofs.suite_pulls.lines_below.Goals as goal
 
