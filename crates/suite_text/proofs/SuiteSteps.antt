@@ -1,5 +1,5 @@
 -- One more line of a suite.
-use Rattle.std.proofs.Common.{rules, ◌≤◌, ◌≡◌, ℕ, ◌+◌, ◌<◌, List, [], ◌∷◌, map, drop, length, get_or, arith, Result, Ok, sym, subst, ap, ◌∙◌, refl}
+use Rattle.std.proofs.Common.{rules, ◌≤◌, ◌≡◌, ℕ, ◌+◌, ◌<◌, List, ◌∷◌, map, drop, length, get_or, arith, Result, Ok, sym, subst, ap, ◌∙◌, refl}
 use Rattle.std.specs.Prelude.{nat_lt, Bool, false, IfErr}
 use Rattle.std.proofs.lemmas.List.{drop-map, drop_more, drop_all, length-map}
 use borrow.Author.Tests.{tests}

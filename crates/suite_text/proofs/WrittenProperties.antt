@@ -1,9 +1,9 @@
 -- The line of a property is read as it is written.
-use Rattle.std.proofs.Common.{◌≡◌, ℕ, suc, ◌+◌, ◌<◌, ◌-◌, ◌||◌, ◌⊎◌, List, [], ◌∷◌, ◌++◌, length, take, drop, Bool, true, false, not, cond, if◌then◌else◌, ◌==◌, Option, Some, None, Result, Ok, Err, codes, inl, inr, refl, ap, sym, ◌∙◌, arith, rules, append-nil}
-use Rattle.std.proofs.lemmas.Bool.{ne_eqb, eqb-true}
+use Rattle.std.proofs.Common.{◌≡◌, ℕ, ◌+◌, ◌<◌, ◌||◌, ◌⊎◌, List, [], ◌∷◌, ◌++◌, length, take, drop, true, false, not, cond, if◌then◌else◌, ◌==◌, None, Ok, Err, codes, inl, inr, refl, ap, sym, ◌∙◌, arith, rules}
+use Rattle.std.proofs.lemmas.Bool.{ne_eqb}
 use Rattle.std.proofs.lemmas.List.{append_assoc, take_at, drop_at, drop-drop}
 use Rattle.std.specs.Str.{bytes_eq}
-use Rattle.std.specs.List.{AllByRecursion, list_any, position_or_len, before_first, after_first, prefix_len, suffix_len}
+use Rattle.std.specs.List.{AllByRecursion, list_any, position_or_len, before_first, after_first, prefix_len}
 use Rattle.config_params.specs.declared.fault.ParamsFault.TheVariants.{NoEquals, EmptyKey}
 use Rattle.config_params.specs.Pairs as pairs
 use Rattle.config_params.specs.Pairs.{is_equals_sign, begins_with_sign, key_of, value_of, pair_of, property_of}

@@ -1,5 +1,5 @@
 -- What may be written as a suite: nodes that stand in nodes, each with its line, and after-bodies, the texts that spell it, and the suite that it means.
-use Rattle.std.specs.Prelude.{◌≡◌, ◌≢◌, ◌<◌, ◌≤◌, ℕ, suc, ◌-◌, ◌==◌, ◌⊎◌, true, false, List, [], ◌∷◌, ◌++◌, length, slice_index, Option, Some, None, option_to_list}
+use Rattle.std.specs.Prelude.{◌≡◌, ◌≢◌, ◌<◌, ◌≤◌, ℕ, suc, ◌-◌, ◌==◌, ◌⊎◌, true, false, List, [], ◌∷◌, ◌++◌, length, slice_index, Option, option_to_list}
 use Rattle.std.specs.List.{AllByRecursion, flat_map}
 use Rattle.config_params.specs.Parameters.{Parameters, nothing_said}
 use Rattle.descriptor.specs.declared.node.Node.{Node}
