@@ -27,10 +27,13 @@ use Rattle.table_rule.specs.declared.view.About.{About}
 use Rattle.table_rule.specs.declared.view.View.{View}
 use Rattle.table_rule.specs.declared.view.Slot.{Slot}
 use Rattle.table_rule.specs.declared.view.Working.{Working}
+use Rattle.table_rule.specs.declared.view.Shelf.TheVariants.{Unmoved}
+use Rattle.table_rule.specs.Slots.{after_slot, made_of}
 use Rattle.table_rule.specs.Words.{result_number, counter_word, words_of, counter_place}
 use Rattle.table_rule.specs.Picture.{Dealt, WorkerFits, IsPictureOf, worker_view}
 use Rattle.table_rule.specs.Plays.{unasked, outstanding_in, result_by, result_in, goes_on, count_off_tells}
 use Rattle.table_rule.proofs.Words.{counter_found, counter_set}
+use Rattle.table_rule.proofs.Shelves.{after_unmoved}
 use Rattle.table_rule.proofs.Frame.{sizes, core, found_as, words_as, mine, Owed, owes}
 use Rattle.table_rule.proofs.Steps.{by_row}
 use Rattle.table_rule.proofs.Keys.{one_less}
@@ -148,7 +151,8 @@ module _ {B : Type 0} (replies : ℕ → List Reply) (key : About B) (c : State)
       ((λ j. set s.words i ((one_less x low small ∙ less) j))
       ∙ (words_as replies key c dealt s r i (counter_word (k - 1, result)) (words_of p (record d { results = set c.results a result })) (counter_set p c (sizes replies key c dealt s r) a (k - 1) result has.inside)
       ∙ ap (λ (l : List Status). words_of p (record d { results = l })) (set-get_or c.results a Successful)))
-      (λ m e2. (let en : n ≡ m = node_same n m (sym e ∙ e2) in λ y. (worker_view key (goes_on (with_task w.seat (ends_or_free p (parent_of p.tree (en y)) (res y) (out y))) w), [])))
+      (λ m e2. (let en : n ≡ m = node_same n m (sym e ∙ e2) in
+      (λ y. (worker_view key (goes_on (with_task w.seat (ends_or_free p (parent_of p.tree (en y)) (res y) (out y))) w), []), λ _. subst (λ (j : ℕ). made_of w.slots (after_slot p (parent_of p.tree j)) ≡ Unmoved) en (after_unmoved replies key c dealt s r id w at a one))))
     where
       node_same : (n m : ℕ) → Closes n CountingOff ≡ Closes m CountingOff → n ≡ m
       node_same n m q = cc

@@ -9,10 +9,15 @@ use lib.ListN.{get_elem?}
 use Rattle.atomic_table.proofs.Lists.{at_set, set_again}
 use Rattle.atomic_table.specs.Table.{State as TableState, Me, Act, step, keeps, Valid, stepped, carried_after}
 use Rattle.plan_events.specs.declared.event.Event.{Event}
+use Rattle.plan_events.specs.declared.event.EventKind.TheVariants.{Finished}
 use Rattle.plan_events.specs.declared.outcome.Reply.{Reply}
+use Rattle.event_history.specs.Places.{StandsAt, has, is_of}
+use Rattle.event_history.proofs.Places.{has_stands, stands_within, stands_later}
+use Rattle.descriptor.proofs.Counts.{cases_bool}
 use Rattle.resource_locks.specs.Plans.{PlanParts}
 use Rattle.scheduling.specs.State.{State}
 use Rattle.scheduling.specs.Rows.{read_event, read_row, Dispatches}
+use Rattle.scheduling.proofs.Basics.{event_snoc}
 use Rattle.scheduling.proofs.Placing.{step_placed}
 use Rattle.scheduling.proofs.Steps.{after_keeps}
 use Rattle.table_rule.specs.declared.view.About.{About}
@@ -22,9 +27,13 @@ use Rattle.table_rule.specs.declared.view.Dispatching.{Dispatching}
 use Rattle.table_rule.specs.declared.view.Place.{Place}
 use Rattle.table_rule.specs.declared.view.Place.TheVariants.{Spent, Worker, Dispatcher}
 use Rattle.table_rule.specs.Words.{event_place}
-use Rattle.table_rule.specs.Picture.{Dealt, DispatcherFits, PlaceFits, IsIdle, ViewFits, IsPictureOf, Picture, worker_view, dispatcher_view}
+use Rattle.table_rule.specs.Picture.{free_seat, Dealt, DispatcherFits, PlaceFits, IsIdle, ViewFits, IsPictureOf, Picture, worker_view, dispatcher_view}
 use Rattle.table_rule.specs.Plays.{reads_on, deals_one, newcomer, spent_view, read_tells}
 use Rattle.table_rule.proofs.Words.{IsShownAt, place_found}
+use Rattle.table_rule.specs.declared.view.Shelf.TheVariants.{Unmoved}
+use Rattle.table_rule.specs.Slots.{after_slot, made_of, HasSlot, DispatcherKnows, AreSlots}
+use Rattle.table_rule.proofs.Hands.{either_false}
+use Rattle.table_rule.proofs.Shelves.{same_slots, more_slots}
 use Rattle.table_rule.proofs.Frame.{sizes, core, word_same}
 
 at_index : {X : Type 0} (l : List X) (i : ℕ) (x d : X) → slice_get l i ≡ Some x → get_or l i d ≡ x
@@ -45,6 +54,9 @@ module _ {B : Type 0} (replies : ℕ → List Reply) (key : About B) (c : State)
 
   ours : DispatcherFits c dealt id d
   ours = (r.views id (dispatcher_view key d) at).fits
+
+  knew : DispatcherKnows p r.slots.shelf d
+  knew = r.slots.knows id (dispatcher_view key d) at
 
   -- Read.
   abbrev pub read_told : ℕ → ℕ → ℕ → Me (Slot B) (View B) → Type 0
@@ -83,13 +95,29 @@ module _ {B : Type 0} (replies : ℕ → List Reply) (key : About B) (c : State)
             (λ (y : (j ≡ id) × (dispatcher_view key (reads_on is.event d) ≡ v)). subst (λ (z : ℕ × View B). ViewFits replies key after dealt z.0 z.1) (λ k. (sym y.0 k, y.1 k)) here)
             (λ (y : (j ≢ id) × (get_elem? s.views j ≡ some v)). (let was = r.views j v y.1 in record { names = was.names; fits = others j v.place y.0 was.fits }))
             (at_set s.views id j (dispatcher_view key (reads_on is.event d)) v e);
+        slots = same_slots replies key c after s (set s.words i x) id (dispatcher_view key (reads_on is.event d)) r.slots refl refl (record { taken = knew.taken; unread = λ n low q. knew.unread n low (before n q); undealt = knew.undealt });
       };
     },
-    rw (ne_eqb x 0 some_word) (is.event, r.kept.1.published.legal.lawful (length d.read) is.event is.stands, is.word, refl),
+    rw (ne_eqb x 0 some_word) (is.event, r.kept.1.published.legal.lawful (length d.read) is.event is.stands, is.word, refl, λ finishes. unread finishes),
   )
     where
       after : State
       after = record c { given = c.given ++ is.event ∷ [] }
+
+      before : (n : ℕ) → has Finished n (d.read ++ is.event ∷ []) ≡ false → has Finished n d.read ≡ false
+      before n q = either_false (has Finished n d.read) (is_of Finished n is.event) (sym (event_snoc (is_of Finished n) d.read is.event) ∙ q)
+
+      -- the finish of its node does not stand twice
+      unread : is.event.kind ≡ Finished → (made_of d.slots is.event.node ≡ Unmoved) × (made_of d.slots (after_slot p is.event.node) ≡ Unmoved)
+      unread finishes = knew.unread is.event.node (r.kept.1.published.legal.nodes (length d.read) is.event is.stands) (elim (cases_bool (has Finished is.event.node d.read)) [
+        | inl stands ↦ (let first = has_stands Finished is.event.node d.read stands in
+            let within = stands_within first.1 in
+            let h = r.kept.1 in
+            let later : StandsAt c.published first.0 Finished is.event.node = subst (λ (l : List Event). StandsAt l first.0 Finished is.event.node) (ap (λ (l : List Event). l ++ h.given.rest) ours.read ∙ h.given.front) (stands_later h.given.rest first.1) in
+            let same : first.0 ≡ length d.read = h.published.legal.once first.0 (length d.read) is.event.node Finished later (record { event = is.event; here = is.stands; kind = finishes; node = refl }) in
+            absurd (omega (arith, same, within)))
+        | inr unseen ↦ unseen
+      ])
 
       place : length c.given ≡ length d.read
       place = ap length (sym ours.read)
@@ -158,6 +186,9 @@ module _ {B : Type 0} (replies : ℕ → List Reply) (key : About B) (c : State)
             (at_set s.views id j (dispatcher_view key (deals_one d)) v old)
         | inr new ↦ subst (λ (z : ℕ × View B). ViewFits replies key c after_deal z.0 z.1) (λ k. (sym new.0 k, new.1 k)) comes
       ];
+      slots = more_slots replies key c (record { words = s.words; homes = s.homes; views = set s.views id (dispatcher_view key (deals_one d)) }) (worker_view key (newcomer d.dealt))
+          (same_slots replies key c c s s.words id (dispatcher_view key (deals_one d)) r.slots refl refl (record { taken = knew.taken; unread = knew.unread; undealt = λ z. absurd (omega (arith, z)) }))
+          (λ shelf. record { has = λ k h. absurd (nothing k h); unmoved = λ k _. refl });
     };
   }
     where
@@ -169,6 +200,9 @@ module _ {B : Type 0} (replies : ℕ → List Reply) (key : About B) (c : State)
 
       free : IsIdle c d.dealt
       free = r.idle d.dealt (omega (arith, many)) low
+
+      nothing : (k : ℕ) → HasSlot p free_seat k → ⊥
+      nothing k h = elim h [ inl q ↦ none-some k q | inr q ↦ none-some k q ]
 
       comes : ViewFits replies key c after_deal (length (set s.views id (dispatcher_view key (deals_one d)))) (worker_view key (newcomer d.dealt))
       comes = record {
@@ -198,6 +232,7 @@ join_holds {B} replies key s r id other v w at = record {
     workers = r.is.workers;
     words = r.is.words;
     idle = r.is.idle;
+    slots = same_slots replies key r.core r.core (record { words = s.words; homes = s.homes; views = set s.views id v }) s.words other spent_view (subst (λ (l : List (View B)). AreSlots replies key r.core (record { words = s.words; homes = s.homes; views = l })) (sym (set_again s.views id v at)) r.is.slots) refl refl tt;
     views = λ j u h. ⊎_elim
         (λ (y : (j ≡ other) × (spent_view ≡ u)). subst (λ (z : View B). ViewFits replies key r.core r.dealt j z) y.1 (record { names = tt; fits = tt }))
         (λ (y : (j ≢ other) × (get_elem? (set s.views id v) j ≡ some u)). r.is.views j u (subst (λ (l : List (View B)). get_elem? l j ≡ some u) (set_again s.views id v at) y.1))

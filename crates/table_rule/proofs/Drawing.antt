@@ -7,6 +7,7 @@ use Rattle.atomic_table.specs.Table.{State as TableState, Me}
 use Rattle.descriptor.specs.Nodes.{size, is_spare_at}
 use Rattle.descriptor.proofs.Counts.{count_most}
 use Rattle.plan_events.specs.declared.event.Event.{Event}
+use Rattle.plan_events.specs.declared.event.EventKind.TheVariants.{Started, Finished, Skipped, Registered}
 use Rattle.plan_events.specs.declared.outcome.Reply.{Reply}
 use Rattle.resource_locks.specs.Plans.{PlanParts, IsPlan, most_events}
 use Rattle.event_history.proofs.Few.{legal_few}
@@ -28,10 +29,13 @@ use Rattle.table_rule.specs.declared.view.About.{About}
 use Rattle.table_rule.specs.declared.view.View.{View}
 use Rattle.table_rule.specs.declared.view.Slot.{Slot}
 use Rattle.table_rule.specs.declared.view.Working.{Working}
+use Rattle.table_rule.specs.declared.view.Shelf.TheVariants.{Unmoved}
+use Rattle.table_rule.specs.Slots.{made_of, WorkerKnows}
 use Rattle.table_rule.specs.Words.{status_word, words_of, draw_place}
 use Rattle.table_rule.specs.Picture.{Dealt, WorkerFits, IsPictureOf, worker_view}
 use Rattle.table_rule.specs.Plays.{unasked, Offer, event_due, drawn_seat, offer_due, admitted_seat, goes_on, draws_on}
 use Rattle.table_rule.proofs.Words.{status_set, drawn_found, drawn_set}
+use Rattle.table_rule.proofs.Hands.{not_started}
 use Rattle.table_rule.proofs.Frame.{sizes, core, found_as, words_as, mine, Owed, owes, settled_above}
 use Rattle.table_rule.proofs.Steps.{by_row}
 
@@ -68,9 +72,29 @@ module _ {B : Type 0} (replies : ℕ → List Reply) (key : About B) (c : State)
   we : WorkerFits p replies c dealt id w
   we = mine replies key c dealt s r id w at
 
+  -- the slot of a node that starts was moved by nobody
+  fresh_start : (e : Event) (t : Task) → w.seat.task ≡ t → event_due w.number t ≡ Some e → e.kind ≡ Started → made_of w.slots e.node ≡ Unmoved
+  fresh_start e (Opens n (Beginning false)) is q starts =
+      let new = not_started p replies c r.kept w.number w.seat we.seat n is in
+      let knew : WorkerKnows p r.slots.shelf w = r.slots.knows id (worker_view key w) at in
+      subst (λ (x : Event). made_of w.slots x.node ≡ Unmoved) (same_Some _ _ q) (knew.unmoved n (r.slots.bodies n new.0 new.1))
+  fresh_start e (Opens n Registering) is q starts = absurd (not_registered (ap (λ (x : Event). x.kind) (same_Some _ _ q) ∙ starts))
+    where
+      not_registered : Registered ≡ Started → ⊥
+      not_registered q = cc
+  fresh_start e (Opens n (Beginning true)) is q starts = absurd (not_skipped (ap (λ (x : Event). x.kind) (same_Some _ _ q) ∙ starts))
+    where
+      not_skipped : Skipped ≡ Started → ⊥
+      not_skipped q = cc
+  fresh_start e (Closes n (Ending status)) is q starts = absurd (not_finished (ap (λ (x : Event). x.kind) (same_Some _ _ q) ∙ starts))
+    where
+      not_finished : Finished ≡ Started → ⊥
+      not_finished q = cc
+  fresh_start e _ is q starts = absurd (none-some e q)
+
   -- Draw.
   abbrev pub draw_told : ℕ → Me (Slot B) (View B) → Type 0
-  draw_told x n = (e : Event) → event_due w.number w.seat.task ≡ Some e → (n ≡ (worker_view key (draws_on e (drawn_seat x w.seat w.seat.task) w), [])) × (x < most_events p)
+  draw_told x n = (e : Event) → event_due w.number w.seat.task ≡ Some e → (n ≡ (worker_view key (draws_on e (drawn_seat x w.seat w.seat.task) w), [])) × (x < most_events p) × (e.kind ≡ Started → made_of w.slots e.node ≡ Unmoved)
 
   abbrev pub one_more_word : ℕ → ℕ
   one_more_word x = (x + 1) % 2 ^ 64
@@ -92,7 +116,7 @@ module _ {B : Type 0} (replies : ℕ → List Reply) (key : About B) (c : State)
       (owes replies key c dealt s r id w at (draw_place p) one_more_word draw_told place d seat None (w.mine ++ e ∷ []) w.over
       (by_row replies key c dealt s r id w at unasked Draw d seat (w.mine ++ e ∷ []) q kept refl refl (λ z. z) refl (ap (λ (l : List Event). l ++ e ∷ []) we.mine ∙ sym (part_mine (w.number + 1) c.published e (due_worker w.number e w.seat.task due))))
       ((λ i. set s.words (draw_place p) (mod-eq_of_lt small i)) ∙ words_as replies key c dealt s r (draw_place p) (place + 1) (words_of p d) (drawn_set p c (sizes replies key c dealt s r) e low))
-      (λ x due2. ((λ i. (worker_view key (draws_on (same_Some e x (sym due ∙ due2) i) seat w), [])), low)))
+      (λ x due2. ((λ i. (worker_view key (draws_on (same_Some e x (sym due ∙ due2) i) seat w), [])), low, fresh_start x w.seat.task refl due2)))
 
   -- Admit: the node that is offered is one of the plan, and is not the plan.
   offered_node : (o : Offer) (t : Task) → w.seat.task ≡ t → offer_due p w.number t ≡ Some o → (0 < o.node) × (o.node < size p.tree)

@@ -25,6 +25,8 @@ use Rattle.table_rule.specs.Words.{words_of}
 use Rattle.table_rule.specs.Guards.{NoResultYet}
 use Rattle.table_rule.specs.Picture.{Dealt, IsAnswer, WorkerFits, PlaceFits, Names, ViewFits, IsPictureOf, Picture, worker_view}
 use Rattle.table_rule.proofs.Words.{HasSizes}
+use Rattle.table_rule.proofs.Hands.{IsHanded}
+use Rattle.table_rule.proofs.Shelves.{slots_stay}
 
 -- the same word put where it stands
 pub word_same : (l : List ℕ) (i x : ℕ) → get_or l i 0 ≡ x → set l i x ≡ l
@@ -73,9 +75,10 @@ module _ {B : Type 0} (replies : ℕ → List Reply) (key : About B) (c : State)
       pub mine_is : list ≡ part_of (w.number + 1) d.published
       pub over_is : over ≡ true → status_at d 0 ≡ Settled
       pub answer_is : IsAnswer key.plan replies seat answer
+      pub handed : IsHanded key.plan c d w.seat seat
 
     abbrev pub knows : Seat → Option Reply → List Event → Bool → Working
-    knows seat answer list over = record { number = w.number; seat = seat; answer = answer; mine = list; over = over }
+    knows seat answer list over = record { number = w.number; seat = seat; answer = answer; mine = list; over = over; slots = w.slots }
 
     module _ (d : State) (seat : Seat) (answer : Option Reply) (list : List Event) (over : Bool) (next : IsNext d seat answer list over) where
       others : (j : ℕ) (place : Place) → j ≢ id → PlaceFits key.plan replies c dealt j place → PlaceFits key.plan replies d dealt j place
@@ -115,6 +118,7 @@ module _ {B : Type 0} (replies : ℕ → List Reply) (key : About B) (c : State)
             (λ (x : (j ≡ id) × (worker_view key (knows seat answer list over) ≡ v)). subst (λ (y : ℕ × View B). ViewFits replies key d dealt y.0 y.1) (λ i. (sym x.0 i, x.1 i)) here)
             (λ (x : (j ≢ id) × (get_elem? s.views j ≡ some v)). (let was = r.views j v x.1 in record { names = was.names; fits = others j v.place x.0 was.fits }))
             (at_set s.views id j (worker_view key (knows seat answer list over)) v e);
+        slots = slots_stay replies key c d s words id w (knows seat answer list over) r.slots at refl next.handed;
       }
 
     -- What a step owes that found x in the word i, and made it f x.

@@ -26,6 +26,9 @@ use Rattle.table_rule.specs.declared.view.About.{About}
 use Rattle.table_rule.specs.declared.view.View.{View}
 use Rattle.table_rule.specs.declared.view.Slot.{Slot}
 use Rattle.table_rule.specs.declared.view.Working.{Working}
+use Rattle.table_rule.specs.declared.view.Shelf.TheVariants.{Unmoved}
+use Rattle.table_rule.specs.Slots.{after_slot, made_of}
+use Rattle.table_rule.proofs.Shelves.{after_unmoved}
 use Rattle.table_rule.specs.Words.{result_number, counter_word, words_of, counter_place}
 use Rattle.table_rule.specs.Guards.{opened, factory_of}
 use Rattle.table_rule.specs.Picture.{Dealt, IsAnswer, WorkerFits, IsPictureOf, worker_view}
@@ -131,7 +134,7 @@ module _ {B : Type 0} (replies : ℕ → List Reply) (key : About B) (c : State)
   replied x due (Some reply) e fits hand job free in_hand body = fits job (ap (awaited p w.seat) free ∙ (ap (hand_job p) in_hand ∙ body))
 
   abbrev pub guard_told : ℕ → Me (Slot B) (View B) → Type 0
-  guard_told y n = (x : Guard) → guard_due p w.answer w.seat w.seat.task ≡ Some x → n ≡ (worker_view key (goes_on (ended_seat p x (outstanding_in y)) w), [])
+  guard_told y n = (x : Guard) → guard_due p w.answer w.seat w.seat.task ≡ Some x → (n ≡ (worker_view key (goes_on (ended_seat p x (outstanding_in y)) w), [])) × (outstanding_in y ≡ 1 → made_of w.slots (after_slot p x.node) ≡ Unmoved)
 
   -- what stands in the counter's word, and what comes there
   record Word (n : ℕ) : Type 0 where
@@ -169,7 +172,8 @@ module _ {B : Type 0} (replies : ℕ → List Reply) (key : About B) (c : State)
       owes replies key c dealt s r id w at i f guard_told y d seat None w.mine w.over
       (by_row replies key c dealt s r id w at reply Done d seat w.mine q kept refl refl (λ z. z) refl we.mine)
       (ap (set s.words i) became ∙ words_as replies key c dealt s r i (counter_word (counter_at c n - 1, x.result)) (words_of p d) (counter_set p c (sizes replies key c dealt s r) n (counter_at c n - 1) x.result word.inside))
-      (λ x2 due2. (let same : x ≡ x2 = same_Some x x2 (sym due ∙ due2) in λ j. (worker_view key (goes_on (ended_seat p (same j) (out j)) w), [])))
+      (λ x2 due2. (let same : x ≡ x2 = same_Some x x2 (sym due ∙ due2) in
+      (λ j. (worker_view key (goes_on (ended_seat p (same j) (out j)) w), []), λ _. subst (λ (z : Guard). made_of w.slots (after_slot p z.node) ≡ Unmoved) same (after_unmoved replies key c dealt s r id w at n word.some_one))))
 
   -- The result is SUCCESSFUL: one less.
   pub guard_less_step : (x : Guard) → guard_due p w.answer w.seat w.seat.task ≡ Some x → x.result ≡ Successful

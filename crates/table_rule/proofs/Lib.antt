@@ -1,8 +1,14 @@
 -- Lemmas on the words, and that each step keeps the rule.
 pub mod Words
+pub mod Hands
+pub mod Shelves
+pub mod Holders
+pub mod Widening
 pub mod GuardRows
 pub mod GuardKept
 pub mod Frame
+pub mod Jobs
+pub mod Moving
 pub mod Steps
 pub mod Ready
 pub mod Drawing
@@ -13,4 +19,8 @@ pub mod Keys
 pub mod Returning
 pub mod Turning
 pub mod Counting
+pub mod Verdicts
+pub mod Noting
+pub mod Ruled
+pub mod Slotting
 pub mod GivingUp

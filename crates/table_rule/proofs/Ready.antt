@@ -1,6 +1,6 @@
 -- The answer of a job is made use of: a step of the core at which no word changes. So what a step owes of a decided task, it
 -- owes of the one that waited for the answer.
-use Rattle.std.proofs.Common.{◌≡◌, ℕ, zero, suc, ◌||◌, not, List, [], ◌∷◌, set, Option, Some, None, sym, refl, ◌∙◌, subst, length-set}
+use Rattle.std.proofs.Common.{◌≡◌, ◌⊎◌, inl, ℕ, zero, suc, ◌||◌, not, List, [], ◌∷◌, set, Option, Some, None, sym, refl, ◌∙◌, subst, length-set}
 use Rattle.std.proofs.lemmas.Option.{none-some}
 use mathlib.Core.Option.{some, some-ne-none}
 use lib.ListN.{get_elem?}
@@ -32,6 +32,8 @@ use Rattle.table_rule.specs.declared.view.Working.{Working}
 use Rattle.table_rule.specs.Guards.{NoResultYet}
 use Rattle.table_rule.specs.Picture.{Dealt, IsAnswer, WorkerFits, IsPictureOf, Picture, worker_view}
 use Rattle.table_rule.specs.Plays.{unasked, seat_by, ready_seat, ready}
+use Rattle.table_rule.specs.Slots.{HasSlot}
+use Rattle.table_rule.proofs.Hands.{IsUntouched, had_before}
 use Rattle.table_rule.proofs.GuardKept.{decided_no_result}
 use Rattle.table_rule.proofs.Frame.{core, mine, Owed, worker_step}
 
@@ -67,6 +69,7 @@ module _ {B : Type 0} (replies : ℕ → List Reply) (key : About B) (c : State)
     pub no_result : NoResultYet (with_seat seat)
     pub names : named w.number seat.task ≡ named w.number w.seat.task
     pub answer_is : IsAnswer p replies seat answer
+    pub slots : (k : ℕ) → HasSlot p seat k → HasSlot p w.seat k ⊎ IsUntouched p c k
 
   none_asked : awaited p w.seat w.seat.task ≡ None → (answer : Option Reply) → IsAnswer p replies (decided_seat p unasked w.seat) answer
   none_asked e None = tt
@@ -80,12 +83,14 @@ module _ {B : Type 0} (replies : ℕ → List Reply) (key : About B) (c : State)
         no_result = decided_no_result p replies c r.kept w.number w.seat we.seat unasked kept r.no_result;
         names = decided_named p w.number unasked w.seat.task;
         answer_is = none_asked e answer;
+        slots = λ k h. inl (had_before p unasked w.seat k h);
       }
   decides (Some job) None e fits = record {
     kept = subst (λ (l : List Seat). IsKept p replies (record c { seats = l })) (sym (set_get c.seats w.number w.seat we.seat)) r.kept;
     no_result = subst (λ (l : List Seat). NoResultYet (record c { seats = l })) (sym (set_get c.seats w.number w.seat we.seat)) r.no_result;
     names = refl;
     answer_is = tt;
+    slots = λ k h. inl h;
   }
   decides (Some job) (Some reply) e fits =
       let kept = decide_keeps p (core replies key c dealt s r) replies c r.kept.0 r.kept.1 w.number w.seat we.seat reply fits in
@@ -94,6 +99,7 @@ module _ {B : Type 0} (replies : ℕ → List Reply) (key : About B) (c : State)
         no_result = decided_no_result p replies c r.kept w.number w.seat we.seat reply kept r.no_result;
         names = decided_named p w.number reply w.seat.task;
         answer_is = λ j q. fits j (awaited_decided p reply w.seat w.seat.task j q);
+        slots = λ k h. inl (had_before p reply w.seat k h);
       }
 
   decided_so : IsDecided (ready_seat p w) w.answer
@@ -123,6 +129,7 @@ module _ {B : Type 0} (replies : ℕ → List Reply) (key : About B) (c : State)
         mine_is = we.mine;
         over_is = we.over;
         answer_is = decided_so.answer_is;
+        handed = record { bodies = λ _ q. q; afters = λ _ h. h; slots = decided_so.slots };
       })
       s.words r.words
 

@@ -40,6 +40,7 @@ use Rattle.table_rule.specs.Words.{status_word, words_of, event_place}
 use Rattle.table_rule.specs.Picture.{Dealt, WorkerFits, IsPictureOf, worker_view}
 use Rattle.table_rule.specs.Plays.{unasked, claimed_seat, shown_seat, settled_seat, claim_tells, show_tells, settle_tells, look_at_tells}
 use Rattle.table_rule.proofs.Words.{status_found, status_set, place_set}
+use Rattle.table_rule.proofs.Hands.{row_handed_so}
 use Rattle.table_rule.proofs.GuardKept.{row_no_result}
 use Rattle.table_rule.proofs.Frame.{sizes, core, found_as, words_as, mine, IsNext, Owed, owes, nothing_new, settled_stays, word_same}
 
@@ -95,11 +96,15 @@ module _ {B : Type 0} (replies : ℕ → List Reply) (key : About B) (c : State)
     given = given;
     keys = keys;
     stays = stays;
-    seat_is = ap (λ (l : List Seat). slice_get l w.number) seats ∙ get_set_same c.seats w.number seat w.seat we.seat;
+    seat_is = sits;
     mine_is = part;
     over_is = λ o. stays (we.over o);
     answer_is = tt;
+    handed = row_handed_so p replies c r.kept w.number w.seat we.seat reply a d seat q sits;
   }
+    where
+      sits : slice_get d.seats w.number ≡ Some seat
+      sits = ap (λ (l : List Seat). slice_get l w.number) seats ∙ get_set_same c.seats w.number seat w.seat we.seat
 
   -- Claim, own.
   abbrev pub claim_word : Option ℕ → ℕ → ℕ
@@ -207,6 +212,7 @@ module _ {B : Type 0} (replies : ℕ → List Reply) (key : About B) (c : State)
         mine_is = we.mine;
         over_is = finds n x refl;
         answer_is = we.answer;
+        handed = record { bodies = λ _ q. q; afters = λ _ h. h; slots = λ _ h. inl h };
       })
       (word_same s.words n x refl ∙ r.words)
       refl

@@ -22,6 +22,7 @@ use Rattle.table_rule.specs.declared.view.Dispatching.{Dispatching}
 use Rattle.table_rule.specs.declared.view.Place.{Place}
 use Rattle.table_rule.specs.declared.view.Place.TheVariants.{Spent, Worker, Dispatcher}
 use Rattle.table_rule.specs.Words.{words_of}
+use Rattle.table_rule.specs.Slots.{AreSlots}
 use Rattle.table_rule.specs.Guards.{NoResultYet}
 
 abbrev pub free_seat : Seat
@@ -36,6 +37,10 @@ pub record Dealt : Type 0 where
 abbrev pub IsAnswer : PlanParts → (ℕ → List Reply) → Seat → Option Reply → Type 0
 IsAnswer p replies seat None = Unit {0}
 IsAnswer p replies seat (Some reply) = (job : ℕ) → awaited p seat seat.task ≡ Some job → (i : ℕ) × (slice_get (replies job) i ≡ Some reply)
+
+-- each of the first replies is one of the others
+abbrev pub AreAmong : (told replies : ℕ → List Reply) → Type 0
+AreAmong told replies = (number i : ℕ) (reply : Reply) → slice_get (told number) i ≡ Some reply → (j : ℕ) × (slice_get (replies number) j ≡ Some reply)
 
 -- The seat of a worker: it is its own, its task and hand are those of the core, its list is its part of what is published, and
 -- where it has found node 0 settled, that is settled.
@@ -85,11 +90,19 @@ module _ {B : Type 0} where
     pub words : s.words ≡ words_of key.plan c
     pub idle : (w : ℕ) → dealt.many ≤ w → w < key.workers → IsIdle c w
     pub views : (id : ℕ) (v : View B) → get_elem? s.views id ≡ some v → ViewFits replies key c dealt id v
+    pub slots : AreSlots replies key c s
 
   pub record Picture (replies : ℕ → List Reply) (key : About B) (s : TableState (Slot B) (View B)) : Type 0 where
     pub core : State
     pub dealt : Dealt
     pub is : IsPictureOf replies key core dealt s
+
+  -- The rule: what the jobs have answered are replies that they may give, and the words, the slots and the views are those of a
+  -- state that the core may come to where they give these.
+  pub record Ruled (replies : ℕ → List Reply) (key : About B) (s : TableState (Slot B) (View B)) : Type 0 where
+    pub told : ℕ → List Reply
+    pub among : AreAmong told replies
+    pub picture : Picture told key s
 
   -- what the table is told, as plain data
   abbrev pub about_of : Told B → About B
@@ -112,4 +125,4 @@ module _ {B : Type 0} where
 
   -- the view of the first seat: the dispatcher's, who has dealt no seat and read nothing
   abbrev pub opener : About B → View B
-  opener key = dispatcher_view key (record { dealt = 0; read = [] })
+  opener key = dispatcher_view key (record { dealt = 0; read = []; slots = [] })

@@ -1,9 +1,11 @@
 -- What each kind of step tells the seat that makes it: the seat after it, by the seat before and the word that was found.
 use Rattle.std.specs.Prelude.{◌≡◌, ℕ, suc, ◌+◌, ◌<◌, ◌==◌, ◌||◌, ◌&&◌, Bool, true, false, cond, List, [], ◌∷◌, ◌++◌, Option, Some, None, MatchBool, zero, ◌/◌, ◌%◌}
+use mathlib.Core.Option.{some}
 use Rattle.atomic_table.specs.Table.{Me, Step}
 use Rattle.descriptor.specs.Nodes.{parent_of}
 use Rattle.plan_events.specs.declared.event.Event.{Event}
 use Rattle.plan_events.specs.declared.event.EventKind.TheVariants.{Started, Finished, Skipped, Registered}
+use Rattle.plan_events.specs.declared.note.Note.{Note}
 use Rattle.plan_events.specs.declared.outcome.Reply.{Reply}
 use Rattle.plan_events.specs.declared.status.Status.{Status}
 use Rattle.plan_events.specs.declared.status.Status.TheVariants.{Successful, Aborted, Failed}
@@ -22,11 +24,15 @@ use Rattle.scheduling.specs.Choices.{keys_count, lock_from, claims, begins, givi
 use Rattle.scheduling.specs.Rows.{with_task, ends_or_free, weighed, after_start, one_more, waits_for, waits_no_more, decided_seat}
 use Rattle.table_rule.specs.declared.view.View.{View}
 use Rattle.table_rule.specs.declared.view.Slot.{Slot}
+use Rattle.table_rule.specs.declared.view.Slot.TheVariants.{Empty, Answered}
+use Rattle.table_rule.specs.declared.view.Shelf.{Shelf}
+use Rattle.table_rule.specs.declared.view.Shelf.TheVariants.{Unmoved, Out, Left, Noted, Taking, Taken}
 use Rattle.table_rule.specs.declared.view.Working.{Working}
 use Rattle.table_rule.specs.declared.view.Dispatching.{Dispatching}
 use Rattle.table_rule.specs.declared.view.Place.{Place}
 use Rattle.table_rule.specs.declared.view.Place.TheVariants.{Spent, Worker, Dispatcher}
 use Rattle.table_rule.specs.Words.{status_word}
+use Rattle.table_rule.specs.Slots.{after_slot, jobs_at, told_status, decides, IsFinished, IsNoteDue, slot_due, made_of, home_by, note_in}
 use Rattle.table_rule.specs.Picture.{free_seat}
 
 -- Seats of the core.
@@ -152,7 +158,7 @@ ready_seat p w = seat_by p w.seat (awaited p w.seat w.seat.task) w.answer
 
 -- Workers.
 abbrev pub sits : Seat → Option Reply → List Event → Working → Working
-sits seat answer mine w = record { number = w.number; seat = seat; answer = answer; mine = mine; over = w.over }
+sits seat answer mine w = record { number = w.number; seat = seat; answer = answer; mine = mine; over = w.over; slots = w.slots }
 
 abbrev pub ready : PlanParts → Working → Working
 ready p w = sits (ready_seat p w) w.answer w.mine w
@@ -164,17 +170,25 @@ abbrev pub draws_on : Event → Seat → Working → Working
 draws_on e seat w = sits seat None (w.mine ++ e ∷ []) w
 
 abbrev pub finds_over : Bool → Working → Working
-finds_over over w = record { number = w.number; seat = w.seat; answer = w.answer; mine = w.mine; over = w.over || over }
+finds_over over w = record { number = w.number; seat = w.seat; answer = w.answer; mine = w.mine; over = w.over || over; slots = w.slots }
 
 abbrev pub newcomer : ℕ → Working
-newcomer number = record { number = number; seat = free_seat; answer = None; mine = []; over = false }
+newcomer number = record { number = number; seat = free_seat; answer = None; mine = []; over = false; slots = [] }
+
+-- it makes this of a slot, and has this answer
+abbrev pub makes : ℕ → Shelf → Option Reply → Working → Working
+makes k shelf answer w = record { number = w.number; seat = w.seat; answer = answer; mine = w.mine; over = w.over; slots = (k, shelf) ∷ w.slots }
 
 -- The dispatcher.
 abbrev pub reads_on : Event → Dispatching → Dispatching
-reads_on e d = record { dealt = d.dealt; read = d.read ++ e ∷ [] }
+reads_on e d = record { dealt = d.dealt; read = d.read ++ e ∷ []; slots = d.slots }
+
+-- it makes this of a slot
+abbrev pub notes : ℕ → Shelf → Dispatching → Dispatching
+notes k shelf d = record { dealt = d.dealt; read = d.read; slots = (k, shelf) ∷ d.slots }
 
 abbrev pub deals_one : Dispatching → Dispatching
-deals_one d = record { dealt = d.dealt + 1; read = d.read }
+deals_one d = record { dealt = d.dealt + 1; read = d.read; slots = d.slots }
 
 -- what a seat knows, as a worker or as the dispatcher
 abbrev pub worker_in : Place → Working
@@ -183,8 +197,8 @@ worker_in (Worker w) = w
 worker_in (Dispatcher d) = newcomer 0
 
 abbrev pub dispatcher_in : Place → Dispatching
-dispatcher_in Spent = record { dealt = 0; read = [] }
-dispatcher_in (Worker w) = record { dealt = 0; read = [] }
+dispatcher_in Spent = record { dealt = 0; read = []; slots = [] }
+dispatcher_in (Worker w) = record { dealt = 0; read = []; slots = [] }
 dispatcher_in (Dispatcher d) = d
 
 module _ {B : Type 0} where
@@ -211,10 +225,10 @@ module _ {B : Type 0} where
   abbrev pub claim_tells : Step (Slot B) → Me (Slot B) (View B) → ℕ → Me (Slot B) (View B) → Type 0
   claim_tells st m r n = MatchBool (r == st.first) (n ≡ (at_work m.0 (goes_on (claimed_seat m.0.about.plan (worker m.0).seat st.word) (worker m.0)), m.1)) (n ≡ m)
 
-  -- the event that is due stands at the place that was found
+  -- the event that is due stands at the place that was found; and of a node that starts the seat has moved no slot
   abbrev pub draw_tells : Step (Slot B) → Me (Slot B) (View B) → ℕ → Me (Slot B) (View B) → Type 0
   draw_tells st m r n = (e : Event) → event_due (worker m.0).number (ready_in m.0).seat.task ≡ Some e
-      → (n ≡ (at_work m.0 (draws_on e (drawn_seat r (ready_in m.0).seat (ready_in m.0).seat.task) (ready_in m.0)), m.1)) × (r < most_events m.0.about.plan)
+      → (n ≡ (at_work m.0 (draws_on e (drawn_seat r (ready_in m.0).seat (ready_in m.0).seat.task) (ready_in m.0)), m.1)) × (r < most_events m.0.about.plan) × (e.kind ≡ Started → made_of (worker m.0).slots e.node ≡ Unmoved)
 
   abbrev pub show_tells : Step (Slot B) → Me (Slot B) (View B) → ℕ → Me (Slot B) (View B) → Type 0
   show_tells st m r n = n ≡ (at_work m.0 (goes_on (shown_seat m.0.about.plan (worker m.0).seat (worker m.0).seat.task) (worker m.0)), m.1)
@@ -255,20 +269,48 @@ module _ {B : Type 0} where
   add_child_tells st m r n = (hand : Hand) (c : ℕ) → (worker m.0).seat.hand ≡ Some hand → next_spare m.0.about.plan hand.factory hand.registered ≡ Some c
       → n ≡ (at_work m.0 (goes_on (with_task (worker m.0).seat (Opens c Registering)) (worker m.0)), m.1)
 
-  -- a settled node is counted off at its parent: whoever takes the last one off ends that
+  -- a settled node is counted off at its parent: whoever takes the last one off ends that, and has not moved the slot of its after-body
   abbrev pub count_off_tells : Step (Slot B) → Me (Slot B) (View B) → ℕ → Me (Slot B) (View B) → Type 0
   count_off_tells st m r n = (k : ℕ) → (worker m.0).seat.task ≡ Closes k CountingOff
-      → n ≡ (at_work m.0 (goes_on (with_task (worker m.0).seat (ends_or_free m.0.about.plan (parent_of m.0.about.plan.tree k) (result_in r) (outstanding_in r))) (worker m.0)), m.1)
+      → (n ≡ (at_work m.0 (goes_on (with_task (worker m.0).seat (ends_or_free m.0.about.plan (parent_of m.0.about.plan.tree k) (result_in r) (outstanding_in r))) (worker m.0)), m.1))
+      × (outstanding_in r ≡ 1 → made_of (worker m.0).slots (after_slot m.0.about.plan (parent_of m.0.about.plan.tree k)) ≡ Unmoved)
 
-  -- a guard is given up: whoever takes the last one off ends its node
+  -- a guard is given up: whoever takes the last one off ends its node, and has not moved the slot of its after-body
   abbrev pub guard_tells : Step (Slot B) → Me (Slot B) (View B) → ℕ → Me (Slot B) (View B) → Type 0
   guard_tells st m r n = (g : Guard) → guard_due m.0.about.plan (ready_in m.0).answer (ready_in m.0).seat (ready_in m.0).seat.task ≡ Some g
-      → n ≡ (at_work m.0 (goes_on (ended_seat m.0.about.plan g (outstanding_in r)) (ready_in m.0)), m.1)
+      → (n ≡ (at_work m.0 (goes_on (ended_seat m.0.about.plan g (outstanding_in r)) (ready_in m.0)), m.1))
+      × (outstanding_in r ≡ 1 → made_of (worker m.0).slots (after_slot m.0.about.plan g.node) ≡ Unmoved)
 
   -- whether node 0 was found settled is noted
   abbrev pub look_at_tells : Step (Slot B) → Me (Slot B) (View B) → ℕ → Me (Slot B) (View B) → Type 0
   look_at_tells st m r n = n ≡ (at_work m.0 (finds_over ((st.word == 0) && (r == 1)) (worker m.0)), m.1)
 
-  -- an empty place tells nothing; else its event is given
+  -- an empty place tells nothing; else its event is given, and of a node that finishes no note was taken
   abbrev pub read_tells : Step (Slot B) → Me (Slot B) (View B) → ℕ → Me (Slot B) (View B) → Type 0
-  read_tells st m r n = MatchBool (r == 0) (n ≡ m) ((e : Event) × (is_lawful e ≡ true) × (word_of e ≡ r) × (n ≡ (seated m.0 (Dispatcher (reads_on e (dispatcher m.0))), m.1)))
+  read_tells st m r n = MatchBool (r == 0) (n ≡ m) ((e : Event) × (is_lawful e ≡ true) × (word_of e ≡ r) × (n ≡ (seated m.0 (Dispatcher (reads_on e (dispatcher m.0))), m.1))
+      × (e.kind ≡ Finished → (made_of (dispatcher m.0).slots e.node ≡ Unmoved) × (made_of (dispatcher m.0).slots (after_slot m.0.about.plan e.node) ≡ Unmoved)))
+
+  -- The slots: a worker takes the slot of the job that it waits for, with what it knows to be there
+  abbrev pub lift_tells : Step (Slot B) → Me (Slot B) (View B) → ℕ → Me (Slot B) (View B) → Type 0
+  lift_tells st m r n = (k : ℕ) (y : Slot B) → slot_due m.0.about.plan (worker m.0).seat (worker m.0).seat.task ≡ Some k → home_by m.0.about k (made_of (worker m.0).slots k) ≡ some y
+      → n ≡ (at_work m.0 (makes k Out None (worker m.0)), (k, y) ∷ m.1)
+
+  -- it gives the slot back empty: the job has left
+  abbrev pub leave_tells : Step (Slot B) → Me (Slot B) (View B) → ℕ → Me (Slot B) (View B) → Type 0
+  leave_tells st m r n = (k : ℕ) → m.1 ≡ (k, Empty) ∷ [] → n ≡ (at_work m.0 (makes k Left None (worker m.0)), [])
+
+  -- it gives the slot back with a note: that of a reply, which is its answer
+  abbrev pub answer_tells : Step (Slot B) → Me (Slot B) (View B) → ℕ → Me (Slot B) (View B) → Type 0
+  answer_tells st m r n = (k : ℕ) (status : Status) (note : Note) → m.1 ≡ (k, Answered status note) ∷ []
+      → (reply : Reply) × (note_in {B = B} m.0.about.plan k reply ≡ Answered status note) × (n ≡ (at_work m.0 (makes k (Noted reply) (Some reply) (worker m.0)), []))
+
+  -- the dispatcher takes the slot with the number of the word, that of a job of a finished node, with the note of what the job
+  -- answered; and if that decides how the node ends, its status is the one that was read
+  abbrev pub note_lift_tells : Step (Slot B) → Me (Slot B) (View B) → ℕ → Me (Slot B) (View B) → Type 0
+  note_lift_tells st m r n = (node : ℕ) (status : Status) → IsFinished (dispatcher m.0).read node status → IsNoteDue m.0.about.plan (dispatcher m.0).slots node st.word
+      → (reply : Reply) × (n ≡ (seated m.0 (Dispatcher (notes st.word (Taking reply) (dispatcher m.0))), (st.word, note_in m.0.about.plan st.word reply) ∷ m.1))
+      × (decides m.0.about.plan node st.word reply ≡ true → told_status (jobs_at m.0.about.plan st.word) reply ≡ status)
+
+  -- it gives the slot back empty: the note was taken
+  abbrev pub note_leave_tells : Step (Slot B) → Me (Slot B) (View B) → ℕ → Me (Slot B) (View B) → Type 0
+  note_leave_tells st m r n = (k : ℕ) (reply : Reply) → m.1 ≡ (k, Empty) ∷ [] → made_of (dispatcher m.0).slots k ≡ Taking reply → n ≡ (seated m.0 (Dispatcher (notes k (Taken reply) (dispatcher m.0))), [])

@@ -6,8 +6,9 @@ mod rule;
 mod view;
 
 pub use plays::{
-    AddsChild, Admits, Claims, CountsOff, Deals, Draws, Gathers, Gives, GivesGuard, GivesUp, Looks,
-    LooksAt, Notices, Raises, Reads, Settles, Shows, Takes, Weighs,
+    AddsChild, Admits, AnswersIn, Claims, CountsOff, Deals, Draws, Gathers, Gives, GivesGuard,
+    GivesUp, Leaves, LeavesNote, Lifts, LiftsNote, Looks, LooksAt, Notices, Raises, Reads, Settles,
+    Shows, Takes, Weighs,
 };
 pub use rule::Law;
-pub use view::{About, Dispatching, Place, Slot, Told, View, Working};
+pub use view::{About, Dispatching, Place, Shelf, Slot, Told, View, Working};

@@ -1,7 +1,7 @@
 //! The kinds of step, each with what it tells its seat.
 
 ghost use Rattle.table_rule.specs.Picture.{dispatcher_view, worker_view};
-ghost use Rattle.table_rule.specs.Plays.{add_child_tells, admit_tells, claim_tells, count_off_tells, deals_one, dispatcher, draw_tells, give_tells, give_up_tells, guard_tells, look_at_tells, look_tells, newcomer, notice_tells, raise_tells, read_tells, settle_tells, show_tells, spent_view, take_tells, weigh_tells};
+ghost use Rattle.table_rule.specs.Plays.{add_child_tells, admit_tells, claim_tells, count_off_tells, deals_one, dispatcher, draw_tells, give_tells, give_up_tells, guard_tells, look_at_tells, look_tells, newcomer, notice_tells, raise_tells, read_tells, settle_tells, show_tells, spent_view, take_tells, weigh_tells, lift_tells, leave_tells, answer_tells, note_lift_tells, note_leave_tells};
 
 use crate::view::{Slot, View};
 use atomic_table::{Join, Play, Split};
@@ -119,11 +119,46 @@ impl<B> Play<Slot<B>, View<B>> for LooksAt {
     ghost then = { look_at_tells };
 }
 
+/// A worker takes the slot of the job that it waits for: a load of a word, which moves the slot.
+pub struct Lifts;
+
+impl<B> Play<Slot<B>, View<B>> for Lifts {
+    ghost then = { lift_tells };
+}
+
+/// A worker gives the slot back empty: its job has left.
+pub struct Leaves;
+
+impl<B> Play<Slot<B>, View<B>> for Leaves {
+    ghost then = { leave_tells };
+}
+
+/// A worker gives the slot back with the note of the job's answer.
+pub struct AnswersIn;
+
+impl<B> Play<Slot<B>, View<B>> for AnswersIn {
+    ghost then = { answer_tells };
+}
+
 /// The dispatcher reads the next place.
 pub struct Reads;
 
 impl<B> Play<Slot<B>, View<B>> for Reads {
     ghost then = { read_tells };
+}
+
+/// The dispatcher takes the slot of a job of a finished node, with its note: a load of a word, which moves the slot.
+pub struct LiftsNote;
+
+impl<B> Play<Slot<B>, View<B>> for LiftsNote {
+    ghost then = { note_lift_tells };
+}
+
+/// The dispatcher gives the slot back empty: its note was taken.
+pub struct LeavesNote;
+
+impl<B> Play<Slot<B>, View<B>> for LeavesNote {
+    ghost then = { note_leave_tells };
 }
 
 /// The dispatcher deals a worker its seat.
