@@ -1,5 +1,5 @@
 -- Weigh, take and give keep the rule.
-use Rattle.std.proofs.Common.{◌≡◌, ◌≢◌, ℕ, zero, suc, ◌+◌, ◌-◌, ◌%◌, ◌^◌, ◌<◌, ◌==◌, eq-eqb, ne_eqb, Bool, true, false, cond, List, [], ◌∷◌, length, set, get_or, Some, None, slice_get, sym, refl, ap, ◌∙◌, subst, arith, mod-eq_of_lt, length-set}
+use Rattle.std.proofs.Common.{◌≡◌, ◌≢◌, ℕ, zero, suc, ◌+◌, ◌-◌, ◌%◌, ◌^◌, ◌<◌, ◌≤◌, ◌==◌, eq-eqb, ne_eqb, Bool, true, false, cond, List, [], ◌∷◌, length, set, get_or, Some, None, slice_get, sym, refl, ap, ◌∙◌, subst, arith, mod-eq_of_lt, length-set}
 use Rattle.std.proofs.Math.Nat.{add-mod_right}
 use Rattle.std.proofs.lemmas.Option.{none-some, same_Some}
 use mathlib.Core.Logic.{dite}
@@ -130,8 +130,12 @@ module _ {B : Type 0} (replies : ℕ → List Reply) (key : About B) (c : State)
       (by_row replies key c dealt s r id w at unasked Weigh d seat w.mine q kept refl refl (λ z. z) refl we.mine)
       (word_same s.words (lock_place p k) x refl ∙ r.words)
       (λ m j e2. (let en : n ≡ m = node_same n m i j (sym e ∙ e2) in let ei : i ≡ j = place_same n m i j (sym e ∙ e2) in
-      λ y. (worker_view key (goes_on (with_task w.seat (Opens (en y) (weighed p (en y) (ei y) (word y)))) w), [])))
+      ((λ y. (worker_view key (goes_on (with_task w.seat (Opens (en y) (weighed p (en y) (ei y) (word y)))) w), [])), few (lock_at c k) (small k low) (found k low))))
     where
+      few : (v : LockWord) → IsSmall v → {x : ℕ} → x ≡ lock_word v → x ≤ 65536
+      few (Readers q) low same = omega (arith, low, same)
+      few Written low same = omega (arith, same)
+
       node_same : (n m i j : ℕ) → Opens n (Locking i) ≡ Opens m (Locking j) → n ≡ m
       node_same n m i j q = cc
 

@@ -24,3 +24,4 @@ pub mod Noting
 pub mod Ruled
 pub mod Slotting
 pub mod GivingUp
+pub mod Within

@@ -1,16 +1,21 @@
 -- Notice, raise, the look for who takes the next sibling, and the next dynamic test of a factory keep the rule.
-use Rattle.std.proofs.Common.{◌≡◌, ℕ, suc, ◌+◌, ◌%◌, ◌^◌, ◌<◌, ◌==◌, cond, Bool, true, false, List, [], set, get_or, Some, None, sym, refl, ap, ◌∙◌, subst, arith, mod-eq_of_lt}
-use Rattle.std.proofs.lemmas.Bool.{false≢true, lt-ltb}
+use Rattle.std.proofs.Common.{◌≡◌, ℕ, suc, ◌+◌, ◌%◌, ◌^◌, ◌<◌, ◌==◌, ◌&&◌, cond, eqb-true, Bool, true, false, List, [], set, get_or, Some, None, sym, refl, ap, ◌∙◌, subst, arith, mod-eq_of_lt}
+use Rattle.std.proofs.lemmas.Bool.{false≢true, lt-ltb, and_parts}
 use Rattle.std.proofs.lemmas.List.{set-get_or}
 use Rattle.std.proofs.lemmas.Option.{same_Some}
 use mathlib.Core.Option.{some, none}
 use lib.ListN.{get_elem?}
 use Rattle.atomic_table.specs.Table.{State as TableState, Me, step}
 use Rattle.descriptor.specs.Nodes.{size, parent_of, IsChild, is_spare_at}
+use Rattle.plan_events.specs.declared.event.Event.{Event}
+use Rattle.plan_events.specs.declared.event.EventKind.TheVariants.{Started}
 use Rattle.plan_events.specs.declared.outcome.Reply.{Reply}
 use Rattle.plan_events.specs.declared.status.Status.{Status}
 use Rattle.plan_events.specs.declared.status.Status.TheVariants.{Successful, Aborted, Failed}
 use Rattle.resource_locks.specs.Plans.{PlanParts}
+use Rattle.event_history.specs.Places.{is_of}
+use Rattle.event_history.specs.Following.{started_by}
+use Rattle.event_history.proofs.Places.{finds}
 use Rattle.scheduling.specs.declared.status.NodeStatus.TheVariants.{Claimed}
 use Rattle.scheduling.specs.declared.task.Opening.TheVariants.{Registering, Noticing}
 use Rattle.scheduling.specs.declared.task.Closing.TheVariants.{Raising, Looking, Passing}
@@ -21,7 +26,7 @@ use Rattle.scheduling.specs.declared.step.Action.TheVariants.{Notice, Raise, Loo
 use Rattle.scheduling.specs.State.{State, status_at, counter_at, result_at}
 use Rattle.scheduling.specs.Choices.{keys_count, begins, giving, next_spare}
 use Rattle.scheduling.specs.Rows.{with_task, goes, goes_to, raised, notice_row, raise_row, look_found, look_row, child_added, add_by_hand, add_child_hand, add_child_row}
-use Rattle.scheduling.specs.Stages.{Stage, Below, Shut, Runs, Past, picture, runner_of, is_unseen, is_over}
+use Rattle.scheduling.specs.Stages.{Stage, Below, Shut, Runs, Past, picture, starter_by, starter_of, runner_of, is_unseen, is_over}
 use Rattle.scheduling.specs.Invariant.{ClosingOk, ShapeOk, Fits, TaskOk}
 use Rattle.scheduling.proofs.Ranges.{ranges}
 use Rattle.scheduling.proofs.RowsOne.{runs_is, notice_keeps, raise_keeps, look_keeps}
@@ -101,7 +106,17 @@ module _ {B : Type 0} (replies : ℕ → List Reply) (key : About B) (c : State)
       node_same n m q = cc
 
   -- Look.
-  parent_claimed : (n m : ℕ) → w.seat.task ≡ Closes n (Looking m) → (o : ℕ) × (status_at c (parent_of p.tree n) ≡ Claimed o) × (parent_of p.tree n < size p.tree)
+  -- who has started a node is one of the workers
+  starter_few : (a o : ℕ) → started_by a (o + 1) c.published ≡ true → o < 64
+  starter_few a o q =
+      let by = finds (λ e. is_of Started a e && (e.worker == (o + 1))) c.published q in
+      let e : Event = by.1.0 in
+      let of : e.worker ≡ o + 1 = eqb-true e.worker (o + 1) (and_parts (is_of Started a e) (e.worker == (o + 1)) by.1.2).1 in
+      let low = r.kept.1.published.legal.by_workers by.0 e by.1.1 in
+      let few = r.kept.1.workers_few in
+      omega (arith, of, low, few)
+
+  parent_claimed : (n m : ℕ) → w.seat.task ≡ Closes n (Looking m) → (o : ℕ) × (status_at c (parent_of p.tree n) ≡ Claimed o) × (parent_of p.tree n < size p.tree) × (o < 64)
   parent_claimed n m e =
       let task : TaskOk p g w.number (Closes n (Looking m)) = subst (TaskOk p g w.number) e (r.kept.1.seats w.number w.seat we.seat).task in
       let shape : ClosingOk p replies c.published n (Looking m) task.1.1 = subst (ShapeOk p replies c.published n) task.1.2 (r.kept.1.shapes n task.0) in
@@ -112,7 +127,8 @@ module _ {B : Type 0} (replies : ℕ → List Reply) (key : About B) (c : State)
       let runs = runs_some p (picture p a (g a)).below a n (g n) (ap is_unseen task.1.2) (ap (is_over (is_spare_at p.tree n)) task.1.2) (r.kept.1.edges a n child) in
       let is = runs_is p a (g a) runs.0 runs.1 in
       let inside : a < size p.tree = (let low = task.0 in omega (arith, up, low)) in
-      (runs.0, r.kept.1.words a inside ∙ is.0, inside)
+      let starts : starter_of (picture p a (g a)) ≡ Some runs.0 = λ i. starter_by (is.1 i) (is.0 i) in
+      (runs.0, r.kept.1.words a inside ∙ is.0, inside, starter_few a runs.0 (r.kept.1.starters a runs.0 inside starts))
 
   abbrev pub look_told : ℕ → ℕ → ℕ → Me (Slot B) (View B) → Type 0
   look_told slots a = look_tells (step slots a 0 0 none) (worker_view key w, [])
@@ -131,7 +147,7 @@ module _ {B : Type 0} (replies : ℕ → List Reply) (key : About B) (c : State)
       owes replies key c dealt s r id w at a (λ y. y) (look_told slots a) x d seat None w.mine w.over
       (by_row replies key c dealt s r id w at unasked Look d seat w.mine q kept refl refl (λ z. z) refl we.mine)
       (word_same s.words a x refl ∙ r.words)
-      (λ k j e2. (let en : n ≡ k = node_same n k m j (sym e ∙ e2) in let em : m ≡ j = next_same n k m j (sym e ∙ e2) in (o, sym found, λ y. (worker_view key (goes_on (with_task w.seat (Closes (en y) (Passing (em y) o))) w), []))))
+      (λ k j e2. (let en : n ≡ k = node_same n k m j (sym e ∙ e2) in let em : m ≡ j = next_same n k m j (sym e ∙ e2) in (o, by.3, sym found, λ y. (worker_view key (goes_on (with_task w.seat (Closes (en y) (Passing (em y) o))) w), []))))
     where
       node_same : (n k m j : ℕ) → Closes n (Looking m) ≡ Closes k (Looking j) → n ≡ k
       node_same n k m j q = cc

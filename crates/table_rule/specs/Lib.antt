@@ -4,3 +4,4 @@ pub mod Slots
 pub mod Guards
 pub mod Picture
 pub mod Plays
+pub mod Within

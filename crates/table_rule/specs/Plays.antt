@@ -1,5 +1,5 @@
 -- What each kind of step tells the seat that makes it: the seat after it, by the seat before and the word that was found.
-use Rattle.std.specs.Prelude.{◌≡◌, ℕ, suc, ◌+◌, ◌<◌, ◌==◌, ◌||◌, ◌&&◌, Bool, true, false, cond, List, [], ◌∷◌, ◌++◌, Option, Some, None, MatchBool, zero, ◌/◌, ◌%◌}
+use Rattle.std.specs.Prelude.{◌≡◌, ℕ, suc, ◌+◌, ◌<◌, ◌≤◌, ◌==◌, ◌||◌, ◌&&◌, Bool, true, false, cond, List, [], ◌∷◌, ◌++◌, Option, Some, None, MatchBool, zero, ◌/◌, ◌%◌}
 use mathlib.Core.Option.{some}
 use Rattle.atomic_table.specs.Table.{Me, Step}
 use Rattle.descriptor.specs.Nodes.{parent_of}
@@ -246,9 +246,9 @@ module _ {B : Type 0} where
   abbrev pub raise_tells : Step (Slot B) → Me (Slot B) (View B) → ℕ → Me (Slot B) (View B) → Type 0
   raise_tells st m r n = (k : ℕ) → (worker m.0).seat.task ≡ Closes k Raising → n ≡ (at_work m.0 (goes_on (with_task (worker m.0).seat (Closes k (giving (keys_count m.0.about.plan k)))) (worker m.0)), m.1)
 
-  -- the key's word decides whether it is tried
+  -- the key's word, which is no greater than that of one that is written, decides whether it is tried
   abbrev pub weigh_tells : Step (Slot B) → Me (Slot B) (View B) → ℕ → Me (Slot B) (View B) → Type 0
-  weigh_tells st m r n = (k i : ℕ) → (worker m.0).seat.task ≡ Opens k (Locking i) → n ≡ (at_work m.0 (goes_on (with_task (worker m.0).seat (Opens k (weighed m.0.about.plan k i (lock_read r)))) (worker m.0)), m.1)
+  weigh_tells st m r n = (k i : ℕ) → (worker m.0).seat.task ≡ Opens k (Locking i) → (n ≡ (at_work m.0 (goes_on (with_task (worker m.0).seat (Opens k (weighed m.0.about.plan k i (lock_read r)))) (worker m.0)), m.1)) × (r ≤ 65536)
 
   -- the key is taken, if its word is still the one that was seen
   abbrev pub take_tells : Step (Slot B) → Me (Slot B) (View B) → ℕ → Me (Slot B) (View B) → Type 0
@@ -262,7 +262,7 @@ module _ {B : Type 0} where
 
   -- the parent is claimed, and who claimed it takes the sibling
   abbrev pub look_tells : Step (Slot B) → Me (Slot B) (View B) → ℕ → Me (Slot B) (View B) → Type 0
-  look_tells st m r n = (k j : ℕ) → (worker m.0).seat.task ≡ Closes k (Looking j) → (o : ℕ) × (status_word (Claimed o) ≡ r) × (n ≡ (at_work m.0 (goes_on (with_task (worker m.0).seat (Closes k (Passing j o))) (worker m.0)), m.1))
+  look_tells st m r n = (k j : ℕ) → (worker m.0).seat.task ≡ Closes k (Looking j) → (o : ℕ) × (o < 64) × (status_word (Claimed o) ≡ r) × (n ≡ (at_work m.0 (goes_on (with_task (worker m.0).seat (Closes k (Passing j o))) (worker m.0)), m.1))
 
   -- the next spare of the factory in hand is to be registered
   abbrev pub add_child_tells : Step (Slot B) → Me (Slot B) (View B) → ℕ → Me (Slot B) (View B) → Type 0
