@@ -96,7 +96,11 @@ fn told_report(
     let text = run_text(alloc, options, warnings, &results, texts)?;
     let needs_tests = options.fail_if_no_tests;
     // a pass over the nodes, which is spared where the number says nothing
-    let tests = if needs_tests { results.tests_found() } else { 0 };
+    let tests = if needs_tests {
+        results.tests_found()
+    } else {
+        0
+    };
     let status = ExitStatus::of_run(needs_tests, tests, results.failed());
     Ok(Report { text, status })
 }
