@@ -1,0 +1,3 @@
+-- What the steps ask of the rule, by the numbers that the code has, and what the seat's fields say after a step.
+pub mod Asks
+pub mod Facts

@@ -1,0 +1,3 @@
+-- What clauses say of the table and of its seats.
+pub mod Reading
+pub mod Seats

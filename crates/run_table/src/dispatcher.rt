@@ -1,0 +1,97 @@
+//! The seat of the dispatcher: it deals the workers their seats, and reads the events.
+
+ghost use Rattle.std.specs.Prelude.{◌≡◌, true, None, IfSome, IfNone};
+ghost use Rattle.plan_events.specs.Words.{is_lawful};
+ghost use Rattle.scheduling.specs.declared.task.Task.TheVariants.{Free};
+ghost use Rattle.table_rule.specs.Plays.{worker, dispatcher, newcomer, reads_on, deals_one};
+ghost use Rattle.run_table.specs.Seats.{IsAtDesk, IsSeatOf, IsOf};
+
+use crate::table::RunTable;
+use crate::worker::WorkerSeat;
+use plan_events::{Event, Job};
+use scheduling::Task;
+use table_rule::{Deals, Gathers, Reads, Slot, View};
+
+/// The dispatcher's seat at the table: how many workers have a seat, of how many, and the place that it reads next.
+#[derive(Drop)]
+pub struct DispatcherSeat<B> {
+    pub(crate) seat: atomic_table::Seat<Slot<B>, View<B>>,
+    pub(crate) dealt: u8,
+    pub(crate) workers: u8,
+    pub(crate) next: usize,
+    pub ghost at_desk: { IsAtDesk seat.me dealt workers next },
+}
+
+impl<B: Job> DispatcherSeat<B> {
+    /// The event at the next place, if it is shown.
+    pub fn read(&mut self, table: &RunTable<B>) -> Option<Event>
+        requires { IsSeatOf table.now.table self.old.seat }
+        ensures same { IsOf self.old.seat self.new.seat }
+        ensures read { IfSome result (λ e. dispatcher self.new.seat.me.0 ≡ reads_on e (dispatcher self.old.seat.me.0)) }
+        ensures lawful { IfSome result (λ e. is_lawful e ≡ true) }
+        ensures none { IfNone result (self.new.seat.me ≡ self.old.seat.me) }
+    {
+        if self.next >= table.plan.most_events() {
+            return None;
+        }
+        let word = table
+            .table
+            .shared
+            .load::<Reads>(&mut self.seat, table.event_at(self.next));
+        if word == 0 {
+            return None;
+        }
+        self.next += 1;
+        let Some(event) = Event::from_word(word) else {
+            unreachable!()
+        };
+        Some(event)
+    }
+
+    /// The seat of the next worker, if there is one that has none.
+    pub fn split(&mut self, table: &RunTable<B>) -> Option<WorkerSeat<B>>
+        requires { IsSeatOf table.now.table self.old.seat }
+        ensures same { IsOf self.old.seat self.new.seat }
+        ensures dealt { IfSome result (λ w. dispatcher self.new.seat.me.0 ≡ deals_one (dispatcher self.old.seat.me.0)) }
+        ensures seat { IfSome result (λ w. IsOf self.old.seat w.seat) }
+        ensures free { IfSome result (λ w. (w.task ≡ Free) × (w.hand ≡ None)) }
+        ensures newcomer { IfSome result (λ w. worker w.seat.me.0 ≡ newcomer (dispatcher self.old.seat.me.0).dealt) }
+        ensures none { IfNone result ((self.new.seat.me ≡ self.old.seat.me) × ((dispatcher self.old.seat.me.0).dealt ≡ self.old.seat.me.0.about.workers)) }
+    {
+        if self.dealt >= self.workers {
+            return None;
+        }
+        let seat = table.table.shared.split_seat::<Deals>(&mut self.seat);
+        let number = self.dealt;
+        self.dealt += 1;
+        Some(WorkerSeat {
+            seat,
+            number,
+            task: Task::Free,
+            hand: None,
+            answer: None,
+        })
+    }
+
+    /// A worker's seat comes back.
+    pub fn join(&mut self, table: &RunTable<B>, worker: WorkerSeat<B>)
+        requires table { IsSeatOf table.now.table self.old.seat }
+        requires seat { IsSeatOf table.now.table worker.seat }
+        requires free { worker.task ≡ Free }
+        requires empty { worker.hand ≡ None }
+        ensures same { IsOf self.old.seat self.new.seat }
+        ensures kept { self.new.seat.me ≡ self.old.seat.me }
+    {
+        let WorkerSeat {
+            seat,
+            number: _,
+            task: _,
+            hand: _,
+            answer: _,
+        } = worker;
+        table
+            .table
+            .shared
+            .join_seat::<Gathers>(&mut self.seat, seat);
+    }
+}

@@ -1,0 +1,20 @@
+//! The running table: what the threads of a run share, and the seats by which they take its steps.
+#![tactic(auto)]
+
+mod counting;
+mod dispatcher;
+mod fault;
+mod guards;
+mod keys;
+mod offering;
+mod passing;
+mod ready;
+mod table;
+mod telling;
+mod words;
+mod worker;
+
+pub use dispatcher::DispatcherSeat;
+pub use fault::NotEnabled;
+pub use table::RunTable;
+pub use worker::WorkerSeat;
