@@ -1,5 +1,5 @@
 -- What the fields of a seat say after a step.
-use Rattle.std.proofs.Common.{◌≡◌, ℕ, zero, suc, ◌+◌, ◌<◌, ◌≤◌, arith, Some, ◌==◌, ◌&&◌, ◌||◌, ◌/◌, ◌%◌, eq-eqb, ne_eqb, ◌≢◌, Bool, true, false, cond, Option, None, MatchBool, sym, refl, ap, ◌∙◌, subst}
+use Rattle.std.proofs.Common.{◌≡◌, ℕ, zero, suc, ◌+◌, ◌<◌, ◌≤◌, arith, Some, ◌==◌, ◌&&◌, ◌||◌, ◌/◌, ◌%◌, eq-eqb, ne_eqb, ◌≢◌, Bool, true, false, cond, List, [], Option, None, MatchBool, sym, refl, ap, ◌∙◌, subst}
 use Rattle.atomic_table.specs.Table.{Me}
 use Rattle.plan_events.specs.declared.event.Event.{Event}
 use Rattle.plan_events.specs.declared.status.Status.{Status}
@@ -34,10 +34,12 @@ use Rattle.table_rule.specs.declared.view.Slot.{Slot}
 use Rattle.table_rule.specs.declared.view.Working.{Working}
 use Rattle.table_rule.specs.declared.view.Place.{Place}
 use Rattle.table_rule.specs.declared.view.Place.TheVariants.{Worker}
-use Rattle.table_rule.specs.Picture.{free_seat}
+use Rattle.table_rule.specs.declared.view.About.{About}
+use Rattle.table_rule.specs.Picture.{free_seat, worker_view}
 use Rattle.table_rule.specs.Plays.{Guard, guard_due, hand_guard, pulled_guard, newcomer, Offer, offer_due, admitted_seat, seat_by, ready_seat, Back, back_due, worker_in, worker, at_work, goes_on, draws_on, drawn_seat, ready_in, finds_over, claimed_seat}
 use Rattle.table_rule.specs.Within.{IsSeatWithin, IsWorkerWithin, IsWithin}
 use Rattle.table_rule.proofs.Keys.{IsSmall}
+use Rattle.run_table.specs.Moved.{moved_in}
 use Rattle.run_table.specs.Reading.{owner_by, status_by, status_read}
 use Rattle.run_table.specs.Seats.{IsAtWork, IsFitting, IsSeatOf, seated, back_at, offer_to, guard_to, answer_in, reply_in}
 
@@ -50,13 +52,13 @@ pub plan_is : {B A : Type 0} (t : Table (Slot B) (View B) (Told B) Law A) (p : P
 plan_is t p turns s fit of = ap (λ a. a.plan) of.about ∙ sym fit.plan
 
 -- what the seat names is in range
-pub seat_in : {B A : Type 0} (t : Table (Slot B) (View B) (Told B) Law A) (p : PlanParts) (turns : Turns) (s : TableSeat (Slot B) (View B)) → IsFitting t p turns → IsSeatOf t s → {number : ℕ} {seat : Seat} {answer : Option Answer}
-    → IsAtWork s.me number seat answer → IsWorkerWithin s.me.0.about.plan (worker s.me.0) → IsSeatWithin p number seat
+pub seat_in : {B A : Type 0} (t : Table (Slot B) (View B) (Told B) Law A) (p : PlanParts) (turns : Turns) (s : TableSeat (Slot B) (View B)) → IsFitting t p turns → IsSeatOf t s → {number : ℕ} {seat : Seat} {answer : Option Answer} {moved : List Bool}
+    → IsAtWork s.me number seat answer moved → IsWorkerWithin s.me.0.about.plan (worker s.me.0) → IsSeatWithin p number seat
 seat_in t p turns s fit of {number} {seat} it range = subst (λ (z : PlanParts × ℕ × Seat). IsSeatWithin z.0 z.1 z.2) (λ k. (plan_is t p turns s fit of k, it.number_is k, it.seat_is k)) range.now
 
 -- and once the job's answer is made use of
-pub ready_seat_in : {B A : Type 0} (t : Table (Slot B) (View B) (Told B) Law A) (p : PlanParts) (turns : Turns) (s : TableSeat (Slot B) (View B)) → IsFitting t p turns → IsSeatOf t s → {number : ℕ} {seat : Seat} {answer : Option Answer}
-    → IsAtWork s.me number seat answer → IsWorkerWithin s.me.0.about.plan (worker s.me.0) → IsSeatWithin p number (ready_seat s.me.0.about.plan (worker s.me.0))
+pub ready_seat_in : {B A : Type 0} (t : Table (Slot B) (View B) (Told B) Law A) (p : PlanParts) (turns : Turns) (s : TableSeat (Slot B) (View B)) → IsFitting t p turns → IsSeatOf t s → {number : ℕ} {seat : Seat} {answer : Option Answer} {moved : List Bool}
+    → IsAtWork s.me number seat answer moved → IsWorkerWithin s.me.0.about.plan (worker s.me.0) → IsSeatWithin p number (ready_seat s.me.0.about.plan (worker s.me.0))
 ready_seat_in t p turns s fit of {number} {seat} it range = subst (λ (z : PlanParts × ℕ). IsSeatWithin z.0 z.1 (ready_seat s.me.0.about.plan (worker s.me.0))) (λ k. (plan_is t p turns s fit of k, it.number_is k)) range.ready
 
 -- the node that a task offers is of the plan
@@ -190,22 +192,24 @@ same_drawn r seat task hand e h = λ k. drawn_seat r (record { task = sym e k; h
 
 module _ {B : Type 0} (m old : Me (Slot B) (View B)) where
   -- a step that goes on with this seat
-  pub works : (seat next : Seat) (number : ℕ) (was : Seat) (answer : Option Answer) → IsAtWork old number was answer → m ≡ (at_work old.0 (goes_on next (worker old.0)), old.1) → next ≡ seat → IsAtWork m number seat None
-  works seat next number was answer it now same = subst (λ (u : Me (Slot B) (View B)). IsAtWork u number seat None) (sym now) (record {
+  pub works : (seat next : Seat) (number : ℕ) (was : Seat) (answer : Option Answer) {moved : List Bool} → IsAtWork old number was answer moved → m ≡ (at_work old.0 (goes_on next (worker old.0)), old.1) → next ≡ seat → IsAtWork m number seat None moved
+  works seat next number was answer {moved} it now same = subst (λ (u : Me (Slot B) (View B)). IsAtWork u number seat None moved) (sym now) (record {
     place = refl;
     number_is = it.number_is;
     seat_is = same;
     answer_is = refl;
+    moved_is = it.moved_is;
     no_slot = it.no_slot;
   })
 
   -- one that draws an event
-  pub works_drawn : (e : Event) (seat next : Seat) (number : ℕ) (was : Seat) (answer : Option Answer) → IsAtWork old number was answer → m ≡ (at_work old.0 (draws_on e next (ready_in old.0)), old.1) → next ≡ seat → IsAtWork m number seat None
-  works_drawn e seat next number was answer it now same = subst (λ (u : Me (Slot B) (View B)). IsAtWork u number seat None) (sym now) (record {
+  pub works_drawn : (e : Event) (seat next : Seat) (number : ℕ) (was : Seat) (answer : Option Answer) {moved : List Bool} → IsAtWork old number was answer moved → m ≡ (at_work old.0 (draws_on e next (ready_in old.0)), old.1) → next ≡ seat → IsAtWork m number seat None moved
+  works_drawn e seat next number was answer {moved} it now same = subst (λ (u : Me (Slot B) (View B)). IsAtWork u number seat None moved) (sym now) (record {
     place = refl;
     number_is = it.number_is;
     seat_is = same;
     answer_is = refl;
+    moved_is = it.moved_is;
     no_slot = it.no_slot;
   })
 
@@ -219,3 +223,17 @@ module _ {B : Type 0} (m old : Me (Slot B) (View B)) where
       or_true : (b : Bool) → (b || true) ≡ true
       or_true true = refl
       or_true false = refl
+
+-- a seat that was just dealt
+pub sits_down : {B : Type 0} (m : Me (Slot B) (View B)) (about : About B) (number : ℕ) (moved : List Bool) → m ≡ (worker_view about (newcomer number), []) → moved ≡ moved_in [] → IsAtWork m number (seated Free None) None moved
+sits_down {B} m about number moved now marks = subst (λ (u : Me (Slot B) (View B)). IsAtWork u number (seated Free None) None moved) (sym now) (record {
+  place = refl;
+  number_is = refl;
+  seat_is = refl;
+  answer_is = refl;
+  moved_is = marks;
+  no_slot = refl;
+})
+
+pub in_range : {B : Type 0} (m : Me (Slot B) (View B)) (about : About B) (number : ℕ) → m ≡ (worker_view about (newcomer number), []) → number < 64 → IsWorkerWithin m.0.about.plan (worker m.0)
+in_range {B} m about number now few = subst (λ (u : Me (Slot B) (View B)). IsWorkerWithin u.0.about.plan (worker u.0)) (sym now) (newcomer_within about.plan number few)

@@ -1,3 +1,4 @@
 -- What the steps ask of the rule, by the numbers that the code has, and what the seat's fields say after a step.
 pub mod Asks
 pub mod Facts
+pub mod JobMoves

@@ -1,3 +1,4 @@
 -- What clauses say of the table and of its seats.
+pub mod Moved
 pub mod Reading
 pub mod Seats

@@ -1,5 +1,5 @@
 -- What clauses say of a table and of its seats.
-use Rattle.std.specs.Prelude.{◌≡◌, ℕ, ◌≤◌, ◌⊎◌, [], length, Option, Some, None}
+use Rattle.std.specs.Prelude.{◌≡◌, ℕ, ◌<◌, ◌≤◌, ◌⊎◌, Bool, true, is_some, List, [], length, Option, Some, None}
 use Rattle.atomic_table.specs.declared.owned.Table.{Table}
 use Rattle.atomic_table.specs.declared.shared.Seat.{Seat as TableSeat}
 use Rattle.atomic_table.specs.Table.{Me}
@@ -25,7 +25,9 @@ use Rattle.table_rule.specs.declared.view.View.{View}
 use Rattle.table_rule.specs.declared.view.Slot.{Slot}
 use Rattle.table_rule.specs.declared.view.Place.TheVariants.{Worker, Dispatcher}
 use Rattle.table_rule.specs.Words.{word_count}
+use Rattle.table_rule.specs.Slots.{slot_count, job_at, job_with}
 use Rattle.table_rule.specs.Picture.{about_of}
+use Rattle.run_table.specs.Moved.{moved_in}
 use Rattle.table_rule.specs.Plays.{Back, Guard, Offer, guard_due, ended_seat, outstanding_in, result_in, unasked, worker, dispatcher, ready_in, goes_on, draws_on}
 
 -- a task, and what is in hand
@@ -61,12 +63,13 @@ reply_in None = None
 reply_in (Some answer) = Some (reply_by answer)
 
 module _ {B A : Type 0} where
-  -- the table runs this plan: it has the plan's words, and at most 64 workers; and these are the plan's turns
+  -- the table runs this plan: it has the plan's words, at most 64 workers, and a job for each body; and these are the plan's turns
   pub record IsFitting (t : Table (Slot B) (View B) (Told B) Law A) (p : PlanParts) (turns : Turns) : Type 0 where
     pub plan : p ≡ (about_of t.shared.key).plan
     pub words : t.shared.table_id.words ≡ word_count p
     pub workers : t.shared.key.workers ≤ 64
     pub are_turns : AreTurns p turns
+    pub jobs : (k number : ℕ) → k < slot_count p → job_at p k ≡ Some number → is_some (job_with (about_of t.shared.key).jobs number) ≡ true
 
   -- the seat is of this table
   pub record IsSeatOf (t : Table (Slot B) (View B) (Told B) Law A) (s : TableSeat (Slot B) (View B)) : Type 0 where
@@ -75,11 +78,12 @@ module _ {B A : Type 0} where
 
 module _ {B : Type 0} where
   -- the seat's own fields say what its view does, and it holds no slot
-  pub record IsAtWork (m : Me (Slot B) (View B)) (number : ℕ) (seat : Seat) (answer : Option Answer) : Type 0 where
+  pub record IsAtWork (m : Me (Slot B) (View B)) (number : ℕ) (seat : Seat) (answer : Option Answer) (moved : List Bool) : Type 0 where
     pub place : m.0.place ≡ Worker (worker m.0)
     pub number_is : (worker m.0).number ≡ number
     pub seat_is : (worker m.0).seat ≡ seat
     pub answer_is : answer_in (worker m.0).answer ≡ answer
+    pub moved_is : moved ≡ moved_in (worker m.0).slots
     pub no_slot : m.1 ≡ []
 
   -- a step leads to a seat of the same worker

@@ -6,6 +6,7 @@ ghost use Rattle.scheduling.specs.declared.task.Task.TheVariants.{Free};
 ghost use Rattle.table_rule.specs.Plays.{worker, dispatcher, newcomer, reads_on, deals_one};
 ghost use Rattle.run_table.specs.Seats.{IsAtDesk, IsSeatOf, IsOf};
 
+use crate::moving::none_moved;
 use crate::table::RunTable;
 use crate::worker::WorkerSeat;
 use plan_events::{Event, Job};
@@ -70,6 +71,7 @@ impl<B: Job> DispatcherSeat<B> {
             task: Task::Free,
             hand: None,
             answer: None,
+            moved: none_moved(),
         })
     }
 
@@ -88,6 +90,7 @@ impl<B: Job> DispatcherSeat<B> {
             task: _,
             hand: _,
             answer: _,
+            moved: _,
         } = worker;
         table
             .table

@@ -6,6 +6,7 @@ mod dispatcher;
 mod fault;
 mod guards;
 mod keys;
+mod moving;
 mod offering;
 mod passing;
 mod ready;

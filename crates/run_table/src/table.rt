@@ -26,7 +26,8 @@ pub struct RunTable<B: Job> {
 impl<B: Job> RunTable<B> {
     /// How many nodes the plan has.
     pub(crate) fn nodes(&self) -> usize
-        ensures { result ≡ size self.now.plan.tree }
+        ensures is { result ≡ size self.now.plan.tree }
+        ensures few { result ≤ 4096 }
     {
         self.plan.tree().len()
     }

@@ -18,7 +18,11 @@ use plan_events::Job;
 use scheduling::{Answer, Hand, NodeStatus, Task, claims, is_of_hand};
 use table_rule::{Claims, LooksAt, Slot, View};
 
-/// A worker's seat at the table: its place among the workers, from 0, its task, and the factory in its hand.
+/// The most slots that a plan can have: two for each of 4,096 nodes.
+pub(crate) const MOST_SLOTS: usize = 8192;
+
+/// A worker's seat at the table: its place among the workers, from 0, its task, the factory in its hand, the answer of the job
+/// that these wait for, and the slots that it has moved.
 #[derive(Drop)]
 pub struct WorkerSeat<B> {
     pub(crate) seat: atomic_table::Seat<Slot<B>, View<B>>,
@@ -26,7 +30,8 @@ pub struct WorkerSeat<B> {
     pub(crate) task: Task,
     pub(crate) hand: Option<Hand>,
     pub(crate) answer: Option<Answer>,
-    pub ghost at_work: { IsAtWork seat.me number (seated task hand) answer },
+    pub(crate) moved: [bool; MOST_SLOTS],
+    pub ghost at_work: { IsAtWork seat.me number (seated task hand) answer moved },
     pub ghost within: { IsWorkerWithin seat.me.0.about.plan (worker seat.me.0) },
 }
 

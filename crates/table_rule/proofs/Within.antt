@@ -1,14 +1,12 @@
 -- What a worker's seat names is in range, since the core's state keeps it so: every step tells it besides what it tells of its kind.
-use Rattle.std.proofs.Common.{◌≡◌, ℕ, ◌<◌, List, length, Some, slice_get, sym, subst, arith}
+use Rattle.std.proofs.Common.{◌≡◌, ℕ, List, length, Some, slice_get, sym, subst, arith}
 use mathlib.Core.Option.{some}
 use lib.ListN.{get_elem?}
 use Rattle.std.proofs.lemmas.Option.{slice_get_within}
 use Rattle.atomic_table.specs.Table.{State as TableState, Me, Allows}
 use Rattle.event_history.proofs.Few.{legal_few}
 use Rattle.plan_events.specs.declared.outcome.Reply.{Reply}
-use Rattle.resource_locks.specs.Plans.{PlanParts}
 use Rattle.scheduling.specs.declared.seat.Seat.{Seat}
-use Rattle.scheduling.specs.Shown.{named}
 use Rattle.scheduling.specs.State.{State}
 use Rattle.scheduling.proofs.Ranges.{ranges}
 use Rattle.table_rule.specs.declared.view.About.{About}
@@ -17,7 +15,7 @@ use Rattle.table_rule.specs.declared.view.Slot.{Slot}
 use Rattle.table_rule.specs.declared.view.Working.{Working}
 use Rattle.table_rule.specs.declared.view.Place.{Place}
 use Rattle.table_rule.specs.declared.view.Place.TheVariants.{Spent, Worker, Dispatcher}
-use Rattle.table_rule.specs.Picture.{Dealt, IsPictureOf, Picture, Names, worker_view}
+use Rattle.table_rule.specs.Picture.{Dealt, IsPictureOf, Picture, Ruled, Names, worker_view}
 use Rattle.table_rule.specs.Plays.{ready_seat, ready}
 use Rattle.table_rule.specs.Within.{IsSeatWithin, IsWorkerWithin, IsWithin}
 use Rattle.table_rule.proofs.Frame.{mine}
@@ -71,3 +69,10 @@ module _ {B : Type 0} (replies : ℕ → List Reply) (key : About B) where
   and_within slots id m i f told allows s r long at fits =
       let o = allows s r long at fits in
       (o.0, o.1, o.2, o.3, (o.4, picture_within _ o.3 id o.0 (here_after s.views id o.0 m.0 at)))
+
+-- And so does one that gives a job's answer, by which the rule of what was told changes.
+pub ruled_within : {B : Type 0} (replies : ℕ → List Reply) (key : About B) (slots id : ℕ) (m : Me (Slot B) (View B)) (i : ℕ) (f : ℕ → ℕ) (told : ℕ → Me (Slot B) (View B) → Type 0) → Allows (Ruled replies key) slots id m i f told
+    → Allows (Ruled replies key) slots id m i f (λ r n. told r n × IsWithin n.0.about.plan n.0.place)
+ruled_within replies key slots id m i f told allows s r long at fits =
+    let o = allows s r long at fits in
+    (o.0, o.1, o.2, o.3, (o.4, picture_within o.3.told key _ o.3.picture id o.0 (here_after s.views id o.0 m.0 at)))

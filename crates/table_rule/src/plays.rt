@@ -124,21 +124,21 @@ impl<B> Play<Slot<B>, View<B>> for LooksAt {
 pub struct Lifts;
 
 impl<B> Play<Slot<B>, View<B>> for Lifts {
-    ghost then = { lift_tells };
+    ghost then = { within lift_tells };
 }
 
 /// A worker gives the slot back empty: its job has left.
 pub struct Leaves;
 
 impl<B> Play<Slot<B>, View<B>> for Leaves {
-    ghost then = { leave_tells };
+    ghost then = { within leave_tells };
 }
 
 /// A worker gives the slot back with the note of the job's answer.
 pub struct AnswersIn;
 
 impl<B> Play<Slot<B>, View<B>> for AnswersIn {
-    ghost then = { answer_tells };
+    ghost then = { within answer_tells };
 }
 
 /// The dispatcher reads the next place.
