@@ -1,5 +1,5 @@
 -- What a slot's move makes of a seat, and of the marks of the slots that it has moved.
-use Rattle.std.proofs.Common.{◌≡◌, ℕ, zero, suc, ◌<◌, cond, eq-eqb, ne_eqb, Bool, true, false, List, [], ◌∷◌, length, set, get_or, Option, Some, None, sym, refl, ap, ◌∙◌, subst, arith}
+use Rattle.std.proofs.Common.{◌≡◌, ◌⊎◌, inl, inr, ℕ, zero, suc, ◌<◌, cond, eq-eqb, ne_eqb, Bool, true, false, List, [], ◌∷◌, length, set, get_or, Option, Some, None, sym, refl, ap, ◌∙◌, subst, arith}
 use Rattle.std.proofs.lemmas.List.{get_or-set_same, get_or-set_other, get_or-replicate, length-set, length-replicate}
 use Rattle.std.proofs.lemmas.Option.{none-some, same_Some}
 use Rattle.std.specs.Option.{is_some}
@@ -7,6 +7,9 @@ use mathlib.Core.Option.{some}
 use mathlib.Core.Logic.{dite}
 use native.Mathlib.Decide.{ℕ_discrete}
 use Rattle.atomic_table.specs.Table.{Me, rest}
+use Rattle.plan_events.specs.declared.note.Note.{Note}
+use Rattle.plan_events.specs.declared.outcome.Reply.{Reply}
+use Rattle.plan_events.specs.declared.status.Status.{Status}
 use Rattle.resource_locks.specs.Plans.{PlanParts}
 use Rattle.scheduling.specs.declared.answer.Answer.{Answer}
 use Rattle.scheduling.specs.declared.seat.Hand.{Hand}
@@ -19,11 +22,13 @@ use Rattle.scheduling.specs.Choices.{awaited}
 use Rattle.table_rule.specs.declared.view.About.{About}
 use Rattle.table_rule.specs.declared.view.View.{View}
 use Rattle.table_rule.specs.declared.view.Slot.{Slot}
-use Rattle.table_rule.specs.declared.view.Slot.TheVariants.{Empty, Body}
+use Rattle.table_rule.specs.declared.view.Slot.TheVariants.{Empty, Body, Answered}
 use Rattle.table_rule.specs.declared.view.Shelf.{Shelf}
 use Rattle.table_rule.specs.declared.view.Shelf.TheVariants.{Unmoved, Out, Left, Noted, Taking, Taken}
-use Rattle.table_rule.specs.Slots.{after_slot, slot_count, job_at, made_of, slot_due, job_with, slot_with, slot_for, fresh, home_by}
-use Rattle.table_rule.specs.Plays.{worker, at_work, makes}
+use Rattle.table_rule.specs.Slots.{after_slot, slot_count, job_at, made_of, slot_due, job_with, slot_with, slot_for, fresh, home_by, note_in, IsNoteDue}
+use Rattle.table_rule.specs.declared.view.Place.TheVariants.{Dispatcher}
+use Rattle.table_rule.specs.Plays.{worker, dispatcher, at_work, makes, notes}
+use Rattle.table_rule.specs.Plays.{seated as seated_at}
 use Rattle.table_rule.specs.Within.{IsSeatWithin}
 use Rattle.table_rule.proofs.Jobs.{body_job, after_job_at, after_is}
 use Rattle.run_table.specs.Moved.{is_moved, moved_in, job_slot}
@@ -122,3 +127,34 @@ fresh_is {B} key k number at known = by (job_with key.jobs number) refl known
 
 pub home_is : {B : Type 0} (about key : About B) (k : ℕ) (shelf : Shelf) → about ≡ key → shelf ≡ Unmoved → home_by key k shelf ≡ some (fresh about k)
 home_is about key k shelf same unmoved = ap (home_by key k) unmoved ∙ ap (λ a. some (fresh a k)) (sym same)
+
+-- What the dispatcher takes.
+module _ {B : Type 0} (m : Me (Slot B) (View B)) (k : ℕ) where
+  abbrev pub note_taken : Reply → Me (Slot B) (View B)
+  note_taken reply = (seated_at m.0 (Dispatcher (notes k (Taking reply) (dispatcher m.0))), (k, note_in m.0.about.plan k reply) ∷ m.1)
+
+  abbrev first_shelf : List (ℕ × Shelf) → Shelf
+  first_shelf [] = Unmoved
+  first_shelf (x ∷ l) = x.1
+
+  taking_same : (x y : Reply) → Taking x ≡ Taking y → x ≡ y
+  taking_same x y q = cc
+
+  pub one_note : (x y : Reply) → note_taken x ≡ note_taken y → x ≡ y
+  one_note x y q = taking_same x y (ap (λ (u : Me (Slot B) (View B)). first_shelf (dispatcher u.0).slots) q)
+
+pub due_of : (p : PlanParts) (made : List (ℕ × Shelf)) (n k : ℕ) → IsNoteDue p made n k → (k ≡ n) ⊎ (k ≡ after_slot p n)
+due_of p made n k due = elim due [ inl x ↦ inl x.slot | inr x ↦ inr x.slot ]
+
+pub same_note : {B : Type 0} (status other : Status) (note last : Note) → ◌≡◌ {A = Slot B} (Answered status note) (Answered other last) → (status ≡ other) × (note ≡ last)
+same_note status other note last q = (ap (λ x. status_in status x) q, ap (λ x. note_in_slot note x) q)
+  where
+    status_in : {B : Type 0} → Status → Slot B → Status
+    status_in d (Answered s n) = s
+    status_in d Empty = d
+    status_in d (Body job) = d
+
+    note_in_slot : {B : Type 0} → Note → Slot B → Note
+    note_in_slot d (Answered s n) = n
+    note_in_slot d Empty = d
+    note_in_slot d (Body job) = d

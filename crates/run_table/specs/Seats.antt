@@ -25,7 +25,8 @@ use Rattle.table_rule.specs.declared.view.View.{View}
 use Rattle.table_rule.specs.declared.view.Slot.{Slot}
 use Rattle.table_rule.specs.declared.view.Place.TheVariants.{Worker, Dispatcher}
 use Rattle.table_rule.specs.Words.{word_count}
-use Rattle.table_rule.specs.Slots.{slot_count, job_at, job_with}
+use Rattle.table_rule.specs.declared.view.Dispatching.{Dispatching}
+use Rattle.table_rule.specs.Slots.{slot_count, job_at, job_with, jobs_at, decides, told_status, IsFinished, IsNoteDue}
 use Rattle.table_rule.specs.Picture.{about_of}
 use Rattle.run_table.specs.Moved.{moved_in}
 use Rattle.table_rule.specs.Plays.{Back, Guard, Offer, guard_due, ended_seat, outstanding_in, result_in, unasked, worker, dispatcher, ready_in, goes_on, draws_on}
@@ -56,6 +57,10 @@ offer_to node to = record { node = node; to = to }
 -- a guard that is given up
 abbrev pub guard_to : ℕ → Status → Option Hand → Guard
 guard_to node result hand = record { node = node; result = result; hand = hand }
+
+-- where the answer of this slot's job decides how a finished node ends, its status is the one that was read
+abbrev pub IsEnded : PlanParts → Dispatching → ℕ → Reply → Type 0
+IsEnded p d k reply = (node : ℕ) (status : Status) → IsFinished d.read node status → IsNoteDue p d.slots node k → decides p node k reply ≡ true → told_status (jobs_at p k) reply ≡ status
 
 -- a reply of which a step knows this, if there is one
 abbrev pub reply_in : Option Answer → Option Reply

@@ -1,8 +1,11 @@
 //! The seat of the dispatcher: it deals the workers their seats, and reads the events.
 
 ghost use Rattle.std.specs.Prelude.{◌≡◌, true, None, IfSome, IfNone};
+ghost use Rattle.plan_events.specs.declared.event.EventKind.TheVariants.{Finished};
 ghost use Rattle.plan_events.specs.Words.{is_lawful};
 ghost use Rattle.scheduling.specs.declared.task.Task.TheVariants.{Free};
+ghost use Rattle.table_rule.specs.Slots.{after_slot, made_of};
+ghost use Rattle.table_rule.specs.declared.view.Shelf.TheVariants.{Unmoved};
 ghost use Rattle.table_rule.specs.Plays.{worker, dispatcher, newcomer, reads_on, deals_one};
 ghost use Rattle.run_table.specs.Seats.{IsAtDesk, IsSeatOf, IsOf};
 
@@ -24,12 +27,13 @@ pub struct DispatcherSeat<B> {
 }
 
 impl<B: Job> DispatcherSeat<B> {
-    /// The event at the next place, if it is shown.
+    /// The event at the next place, if it is shown. Of a node that finishes it has taken no note.
     pub fn read(&mut self, table: &RunTable<B>) -> Option<Event>
         requires { IsSeatOf table.now.table self.old.seat }
         ensures same { IsOf self.old.seat self.new.seat }
         ensures read { IfSome result (λ e. dispatcher self.new.seat.me.0 ≡ reads_on e (dispatcher self.old.seat.me.0)) }
         ensures lawful { IfSome result (λ e. is_lawful e ≡ true) }
+        ensures untaken { IfSome result (λ e. e.kind ≡ Finished → (made_of (dispatcher self.old.seat.me.0).slots e.node ≡ Unmoved) × (made_of (dispatcher self.old.seat.me.0).slots (after_slot self.old.seat.me.0.about.plan e.node) ≡ Unmoved)) }
         ensures none { IfNone result (self.new.seat.me ≡ self.old.seat.me) }
     {
         if self.next >= table.plan.most_events() {

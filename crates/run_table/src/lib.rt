@@ -7,6 +7,7 @@ mod fault;
 mod guards;
 mod keys;
 mod moving;
+mod noting;
 mod offering;
 mod passing;
 mod ready;
