@@ -1,0 +1,10 @@
+-- The request that was made.
+use Rattle.std.proofs.Common.{[], ◌∷◌, ◌++◌, ap, ◌∙◌}
+use Rattle.sched_core.proofs.Tracing.{if_ok}
+use Rattle.uses.proofs.selected_tree.select_by.Goals as goal
+
+pub returns : goal.returns
+returns c =
+    if_ok c.discover.result
+    (λ found same. (record { selectors = c.push.new.self; include = c.new.result; exclude = c.new-2.result }, c.in-Ok.ensures.items ∙ ap (λ l. l ++ c.args.selector ∷ []) c.new-selectors.ensures.items, c.new.ensures.items, c.new-2.ensures.items, same))
+    c.discover.ensures.ok

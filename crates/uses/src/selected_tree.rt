@@ -1,0 +1,25 @@
+//! Calls `selectors`: the tree of what one selector selects.
+
+ghost use Rattle.std.specs.Prelude.{◌≡◌, [], ◌∷◌, IfOk};
+ghost use Rattle.selectors.specs.declared.request.Request.{Request};
+ghost use Rattle.selectors.specs.Selections.{answer};
+
+use descriptor::Tree;
+use selectors::{Request, SelectFault, Selector, discover};
+use std::alloc::Global;
+
+/// The tests and factories that a selector covers, and what they are below.
+pub fn select_by(alloc: Global, tree: Tree, selector: Selector) -> Result<Tree, SelectFault>
+    ensures { IfOk result (λ found. (request : Request) × (request.selectors.items ≡ selector ∷ []) × (request.include.items ≡ []) × (request.exclude.items ≡ []) × (found ≡ answer tree request)) }
+{
+    let mut selectors = Vec::new(alloc);
+    let Ok(()) = selectors.push(selector) else {
+        return Err(SelectFault::NoMemory);
+    };
+    let request = Request {
+        selectors,
+        include: Vec::new(alloc),
+        exclude: Vec::new(alloc),
+    };
+    discover(alloc, tree, &request)
+}

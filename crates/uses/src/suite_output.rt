@@ -1,0 +1,22 @@
+//! Calls `launcher`: a suite in memory is run, and what is printed is appended to a vector.
+
+ghost use Rattle.std.specs.Prelude.{Some, take};
+ghost use Rattle.launcher.specs.Asked.{asked_by};
+ghost use Rattle.launcher.specs.Runs.{IsRun};
+ghost use Rattle.suite_text.specs.SuiteBytes.{suite_read};
+
+use launcher::{ExitStatus, LaunchFault, Options, run_options};
+use std::alloc::Global;
+
+/// Appends to `output` what the options print of a suite.
+pub fn run_text(
+    alloc: Global,
+    options: &Options,
+    suite: &[u8],
+    output: &mut Vec<u8>,
+) -> Result<ExitStatus, LaunchFault>
+    ensures { IsRun (asked_by options.now) (suite_read (take 1048577 suite.now)) (Some output.old.items) (Some output.new.items) result }
+{
+    let mut left = suite;
+    run_options(alloc, options, &mut left, output)
+}

@@ -1,0 +1,17 @@
+//! Calls `suite_text`: a suite is read.
+
+ghost use Rattle.std.specs.Prelude.{◌≡◌, IfOk};
+ghost use Rattle.descriptor.specs.Nodes.{size};
+ghost use Rattle.suite_text.specs.SuiteParts.{SuiteParts};
+ghost use Rattle.suite_text.specs.WrittenSuites.{IsSuite};
+
+use std::alloc::Global;
+use suite_text::{Suite, SuiteFault};
+
+/// How many nodes the suite of a text has, the plan included.
+pub fn node_count(alloc: Global, text: &str) -> Result<usize, SuiteFault>
+    ensures { (suite : SuiteParts) → IsSuite text.now suite → IfOk result (λ count. count ≡ size suite.tree) }
+{
+    let suite = Suite::parse(alloc, text)?;
+    Ok(suite.tree.len())
+}
