@@ -6,9 +6,9 @@ use Rattle.std.proofs.lemmas.Option.{none-some}
 use Rattle.clap.specs.Words.{Text}
 use Rattle.launcher.specs.declared.fault.LaunchFault.{LaunchFault}
 use Rattle.launcher.specs.declared.fault.LaunchFault.TheVariants.{NoMemory, Suite, BadWords, BadStep, BadSelector, BadTags, BadPair, BadSettings, NothingMatches, TooManyKeys, TooManyWorkers, Reading, Writing}
-use Rattle.suite_text.specs.declared.suite_fault.SuiteFault.{SuiteFault}
-use Rattle.suite_text.specs.SuiteParts.{SuiteParts}
-use Rattle.suite_text.specs.SuiteBytes.{suite_read}
+use Rattle.suite_text.specs.declared.suite.fault.SuiteFault.{SuiteFault}
+use Rattle.suite_text.specs.Reading.Parts.{SuiteParts}
+use Rattle.suite_text.specs.Reading.Bytes.{suite_read}
 use Rattle.launcher.specs.Asked.{Asked, AreAsked}
 use Rattle.launcher.specs.Runs.{IsRun, TakesFrom, fault_in}
 use Rattle.launcher.specs.declared.exit_status.ExitStatus.{ExitStatus}

@@ -1,8 +1,8 @@
 -- From the words that the system gave to the program's answer.
 use Rattle.std.proofs.Common.{◌≡◌, ◌∙◌, ℕ, List, map, Option, Some, None, IfOk, IfSome, Result, Ok, Err, subst}
 use Rattle.clap.specs.Words.{Text}
-use Rattle.suite_text.specs.SuiteParts.{SuiteParts}
-use Rattle.suite_text.specs.declared.suite_fault.SuiteFault.{SuiteFault}
+use Rattle.suite_text.specs.Reading.Parts.{SuiteParts}
+use Rattle.suite_text.specs.declared.suite.fault.SuiteFault.{SuiteFault}
 use Rattle.launcher.specs.declared.exit_status.ExitStatus.{ExitStatus}
 use Rattle.launcher.specs.declared.fault.LaunchFault.{LaunchFault}
 use Rattle.launcher.specs.declared.fault.LaunchFault.TheVariants.{NoMemory}

@@ -9,8 +9,8 @@ use Rattle.launcher.specs.declared.closing.Closing.{Closing}
 use Rattle.launcher.specs.declared.exit_status.ExitStatus.{ExitStatus}
 use Rattle.launcher.specs.declared.fault.LaunchFault.{LaunchFault}
 use Rattle.launcher.specs.declared.fault.LaunchFault.TheVariants.{NoMemory}
-use Rattle.suite_text.specs.SuiteParts.{SuiteParts}
-use Rattle.suite_text.specs.declared.suite_fault.SuiteFault.{SuiteFault}
+use Rattle.suite_text.specs.Reading.Parts.{SuiteParts}
+use Rattle.suite_text.specs.declared.suite.fault.SuiteFault.{SuiteFault}
 use Rattle.command_line.specs.Words.{values_given}
 
 -- words that give no options are refused, and nothing else is done

@@ -6,7 +6,7 @@ ghost use Rattle.std.specs.IoError.{error_kind};
 ghost use Rattle.std.specs.Result.{IsErrAnd};
 ghost use Rattle.std.specs.Vec.Iter.{into_iter_items};
 ghost use Rattle.launcher.specs.Runs.{TakesFrom, fault_in, is_writing};
-ghost use Rattle.suite_text.specs.SuiteBytes.{suite_read};
+ghost use Rattle.suite_text.specs.Reading.Bytes.{suite_read};
 ghost use Rattle.command_line.specs.GivenWords.{IsGivenFault};
 ghost use Rattle.command_line.specs.Runs.{Closes, IsRunBy, RefusesWords, RunsAsAsked};
 ghost use Rattle.command_line.specs.Words.{words_refusal};

@@ -4,12 +4,12 @@ use Rattle.std.specs.Prelude.{nat_lt, Bool, true, false, if◌then◌else◌}
 use borrow.Author.Tests.{tests}
 use Rattle.std.specs.Result.{IsErrAnd}
 use Rattle.std.specs.Io.KnownBytes.{IsAtEnd}
-use Rattle.suite_text.specs.SuiteBytes.{suite_read}
-use Rattle.suite_text.specs.SuiteParts.{SuiteParts}
+use Rattle.suite_text.specs.Reading.Bytes.{suite_read}
+use Rattle.suite_text.specs.Reading.Parts.{SuiteParts}
 use Rattle.suite_text.specs.Suites.{suite_parts}
 use Rattle.suite_text.specs.declared.suite.Suite.{Suite}
-use Rattle.suite_text.specs.declared.suite_fault.SuiteFault.{SuiteFault}
-use Rattle.suite_text.specs.declared.suite_fault.SuiteFault.TheVariants as causes
+use Rattle.suite_text.specs.declared.suite.fault.SuiteFault.{SuiteFault}
+use Rattle.suite_text.specs.declared.suite.fault.SuiteFault.TheVariants as causes
 use Rattle.launcher.specs.Asked.{Asked}
 use Rattle.launcher.specs.Bytes.{ReadsFront, BreaksOff}
 use Rattle.launcher.specs.Faults.{IsReadFault, IsSuiteFault}

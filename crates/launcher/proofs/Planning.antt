@@ -21,7 +21,7 @@ use Rattle.selectors.specs.Selections.{answer, refusal}
 use Rattle.selectors.specs.declared.request.Request.{Request}
 use Rattle.selectors.specs.declared.select_fault.SelectFault.{SelectFault}
 use Rattle.selectors.specs.declared.select_fault.SelectFault.TheVariants as selections
-use Rattle.suite_text.specs.SuiteParts.{SuiteParts}
+use Rattle.suite_text.specs.Reading.Parts.{SuiteParts}
 use Rattle.launcher.specs.Asked.{Asked}
 use Rattle.launcher.specs.Faults.{IsPlanFault, IsSelectFault}
 use Rattle.launcher.specs.Reports.{IsOutput}

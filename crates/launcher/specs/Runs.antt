@@ -21,8 +21,8 @@ use Rattle.selectors.specs.declared.select_fault.SelectFault.{SelectFault}
 use Rattle.selectors.specs.declared.select_fault.SelectFault.TheVariants as selections
 use Rattle.selectors.specs.Selections.{answer, refusal}
 use Rattle.suite_text.specs.declared.script.Script.{Script}
-use Rattle.suite_text.specs.declared.suite_fault.SuiteFault.{SuiteFault}
-use Rattle.suite_text.specs.SuiteParts.{SuiteParts}
+use Rattle.suite_text.specs.declared.suite.fault.SuiteFault.{SuiteFault}
+use Rattle.suite_text.specs.Reading.Parts.{SuiteParts}
 use Rattle.suite_text.specs.Suites.{suite_parts}
 use Rattle.suite_text.specs.declared.suite.Suite as suites
 use Rattle.launcher.specs.Asked.{Asked}

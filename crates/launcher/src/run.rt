@@ -2,7 +2,7 @@
 
 ghost use Rattle.std.specs.Prelude.{◌≡◌, ◌≢◌, None, Some, IfOk, IfErr, IfSome, false, take, string_bytes};
 ghost use Rattle.std.specs.Io.KnownBytes.{Keeps};
-ghost use Rattle.suite_text.specs.SuiteBytes.{suite_read};
+ghost use Rattle.suite_text.specs.Reading.Bytes.{suite_read};
 ghost use Rattle.suite_text.specs.Suites.{suite_parts};
 ghost use Rattle.launcher.specs.Runs.{IsRun, IsSuiteOutput, IsSuiteRun, FailsSuite, ReadsSuite, TakesFrom, TakesMemory, answers_of as answers_in, fault_in, is_writing, plan_of as plan_in, plan_refusal, selection_refusal, workers_refusal};
 ghost use Rattle.selectors.specs.Selections.{answer};

@@ -5,7 +5,7 @@ use Rattle.descriptor.specs.declared.kind.Kind.{Kind}
 use Rattle.descriptor.specs.Kinds.{is_container, is_test}
 use Rattle.descriptor.specs.Nodes.{count_below}
 use Rattle.descriptor.proofs.Counts.{count_most}
-use Rattle.listeners.specs.declared.outline.Place.{Place}
+use Rattle.listeners.specs.declared.node_places.Place.{Place}
 use Rattle.listeners.specs.declared.told.Told.{Told}
 use Rattle.listeners.specs.declared.counts.SortCounts.{SortCounts}
 use Rattle.listeners.specs.Counts.{place_in, FollowParents, is_lost_within, is_lost, is_counted, is_found, counts_as_skipped, six, counts_in, counts_below, counts_with, AreAtMost}

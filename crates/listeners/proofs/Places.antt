@@ -4,7 +4,7 @@ use Rattle.std.specs.List.{range_with_len}
 use Rattle.std.proofs.lemmas.Bool.{ne_eqb}
 use Rattle.std.proofs.lemmas.List.FromFn.{length-map-range_with_len, get_or-map-range_with_len, map-range_with_len_more}
 use Rattle.descriptor.specs.Nodes.{Nodes, IsTree, size, parent_of}
-use Rattle.listeners.specs.declared.outline.Place.{Place}
+use Rattle.listeners.specs.declared.node_places.Place.{Place}
 use Rattle.listeners.specs.Counts.{place_of, outline_of, place_in, FollowParents}
 
 -- one more place

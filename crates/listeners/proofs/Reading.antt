@@ -11,7 +11,7 @@ use Rattle.plan_events.specs.declared.status.Status.{Status}
 use Rattle.plan_events.specs.declared.status.Status.TheVariants.{Successful, Aborted, Failed}
 use Rattle.plan_events.specs.Statuses.{is_failed}
 use Rattle.resource_locks.specs.Plans.{PlanParts}
-use Rattle.listeners.specs.declared.outline.Place.{Place}
+use Rattle.listeners.specs.declared.node_places.Place.{Place}
 use Rattle.listeners.specs.declared.told.Told.{Told}
 use Rattle.listeners.specs.Counts.{place_of, outline_of, place_in, is_counted, is_found, was_found}
 use Rattle.listeners.specs.Results.{is_failure, has_failed, HasFailed}

@@ -4,7 +4,7 @@ use Rattle.std.proofs.lemmas.Bool.{or_right}
 use Rattle.std.proofs.lemmas.List.FromFn.{get_or-map-range_with_len}
 use Rattle.descriptor.specs.Nodes.{Nodes, IsTree, IsChild, Below, child, under, size, parent_of, is_spare_at}
 use Rattle.plan_events.specs.declared.event.Event.{Event}
-use Rattle.listeners.specs.declared.outline.Place.{Place}
+use Rattle.listeners.specs.declared.node_places.Place.{Place}
 use Rattle.listeners.specs.declared.told.Told.{Told}
 use Rattle.listeners.specs.Told.{is_skipped, all_told, told_at}
 use Rattle.listeners.specs.Counts.{place_of, outline_of, place_in, is_lost_within, is_lost, counts_as_skipped, IsBelowSkipped, WasSkipped, SkipsReachBelow}

@@ -2,7 +2,7 @@
 use Rattle.std.specs.Prelude.{List}
 use Rattle.descriptor.specs.Nodes.{Nodes}
 use Rattle.plan_events.specs.Texts.{TextParts}
-use Rattle.listeners.specs.declared.drawing.Drawing.{Drawing}
+use Rattle.listeners.specs.declared.tree_drawing.Drawing.{Drawing}
 use Rattle.listeners.specs.declared.theme.Theme.{Theme}
 use Rattle.listeners.specs.declared.told.Told.{Told}
 use Rattle.listeners.specs.Told.{told_at}

@@ -1,7 +1,7 @@
 -- What contracts see of a listener that counts.
 use Rattle.std.specs.Prelude.{ℕ, List}
 use Rattle.plan_events.specs.declared.event.Event.{Event}
-use Rattle.listeners.specs.declared.outline.Place.{Place}
+use Rattle.listeners.specs.declared.node_places.Place.{Place}
 
 -- what it was told, in order, how many more events it can be told without taking memory, and what it kept of the plan last
 -- prepared: a place for each node, and none before

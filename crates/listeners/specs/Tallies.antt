@@ -1,7 +1,7 @@
 -- What is kept of a plan and of what was told of its nodes, which only proofs need.
 use Rattle.std.specs.Prelude.{◌≡◌, ℕ, ◌<◌, ◌≤◌, List, length, Some}
 use Rattle.plan_events.specs.declared.status.Status.TheVariants.{Failed}
-use Rattle.listeners.specs.declared.outline.Place.{Place}
+use Rattle.listeners.specs.declared.node_places.Place.{Place}
 use Rattle.listeners.specs.declared.told.Told.{Told}
 use Rattle.listeners.specs.declared.tally.Tally.TheInside.{Inside}
 use Rattle.listeners.specs.Counts.{FollowParents}

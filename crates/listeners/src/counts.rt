@@ -5,7 +5,7 @@ ghost use Rattle.descriptor.specs.Kinds.{is_container, is_test};
 ghost use Rattle.descriptor.specs.Nodes.{bit};
 ghost use Rattle.listeners.specs.Counts.{is_counted, is_found, is_lost, counts_as_skipped, six, counts_below, FollowParents};
 
-use crate::outline::Place;
+use crate::node_places::Place;
 use crate::told::Told;
 use plan_events::Status;
 

@@ -3,12 +3,10 @@
 
 mod audience;
 mod counts;
-mod drawing;
 mod event_list;
 mod feed;
 mod listener;
-mod outline;
-mod output;
+mod node_places;
 mod printed;
 mod recorder;
 mod results;
@@ -16,13 +14,15 @@ mod summary;
 mod summary_lines;
 mod tally;
 mod theme;
+mod to_writer;
 mod told;
+mod tree_drawing;
 
 pub use audience::{Audience, TooManyListeners};
 pub use feed::feed_text;
 pub use listener::Listener;
-pub use output::{WriteFault, print_to};
 pub use recorder::Recorder;
 pub use results::{Results, summary_text, tree_text};
 pub use summary::Summary;
 pub use theme::Theme;
+pub use to_writer::{WriteFault, print_to};

@@ -8,12 +8,12 @@ ghost use Rattle.listeners.specs.Results.{tests_found, has_failed, HasFailed};
 ghost use Rattle.listeners.specs.SummaryTexts.{summary_of};
 ghost use Rattle.listeners.specs.TreeTexts.{tree_of, drawn_of, lines_below};
 
-use crate::drawing::draw;
 use crate::feed::feed_text;
 use crate::summary_lines::push_counts;
 use crate::tally::Tally;
 use crate::theme::Theme;
 use crate::told::tells_failure;
+use crate::tree_drawing::draw;
 use plan_events::{Event, Texts};
 use resource_locks::Plan;
 use std::alloc::{AllocError, Global};

@@ -8,7 +8,7 @@ ghost use Rattle.listeners.specs.Told.{all_told};
 ghost use Rattle.listeners.specs.Counts.{outline_of, counts_below};
 
 use crate::counts::{Counts, count};
-use crate::outline::{Place, outline_of};
+use crate::node_places::{Place, outline_of};
 use crate::told::{Told, note, told_of};
 use plan_events::Event;
 use resource_locks::Plan;

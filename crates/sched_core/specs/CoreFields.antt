@@ -2,7 +2,7 @@
 use Rattle.sched_core.specs.Snapshot.{Snapshot}
 use Rattle.scheduling.specs.LinkLists.{AreTurns}
 use Rattle.sched_core.specs.Fields.{state_of, IsSound}
-use Rattle.sched_core.specs.declared.core_run.Core.TheInside.{Inside}
+use Rattle.sched_core.specs.declared.core_steps.Core.TheInside.{Inside}
 
 -- what contracts see of the fields
 abbrev pub snapshot_of : Inside → Snapshot

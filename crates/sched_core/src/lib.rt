@@ -4,7 +4,7 @@
 
 mod answers;
 mod children;
-mod core_run;
+mod core_steps;
 mod fault;
 mod machine;
 mod run;
@@ -15,7 +15,7 @@ mod text;
 mod trace;
 
 pub use answers::Answers;
-pub use core_run::Core;
+pub use core_steps::Core;
 pub use fault::{CoreFault, NotEnabled};
 pub use run::{drive, run_steps};
 pub use text::texts_of;

@@ -10,7 +10,7 @@ ghost use Rattle.sched_core.specs.Traces.{IsTraceOf, IsRightTrace, IsDriven, IsO
 ghost use Rattle.sched_core.specs.Fields.{state_of, IsSound};
 
 use crate::answers::Answers;
-use crate::core_run::worker_count;
+use crate::core_steps::worker_count;
 use crate::fault::CoreFault;
 use crate::machine::Machine;
 use crate::trace::Trace;

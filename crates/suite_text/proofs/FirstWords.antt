@@ -5,7 +5,7 @@ use Rattle.std.proofs.lemmas.Bool.{cases_lt}
 use Rattle.std.proofs.lemmas.List.{drop_all, take_all}
 use Rattle.std.proofs.lemmas.List.Sums.{fails_before_first}
 use Rattle.std.proofs.lemmas.List.Splits.{slice_split_first, slice_split_none, slice_split-cons_yes}
-use Rattle.suite_text.specs.SuiteLines.{without_front, first_word, after_word}
+use Rattle.suite_text.specs.Reading.Lines.{without_front, first_word, after_word}
 use Rattle.suite_text.specs.Words.{is_space, words_in}
 
 abbrev is_word : List ℕ → Bool

@@ -1,17 +1,17 @@
 -- The suite of a text, line by line, or its first fault.
 use Rattle.std.specs.Prelude.{ℕ, ◌+◌, ◌==◌, ◌&&◌, nat_lt, Bool, List, [], ◌∷◌, length, if◌then◌else◌, Result, Ok, Err}
 use Rattle.std.specs.Str.Lines.{lines}
-use Rattle.suite_text.specs.declared.suite_fault.SuiteFault.{SuiteFault}
-use Rattle.suite_text.specs.declared.suite_fault.SuiteFault.TheVariants.{TooLarge}
+use Rattle.suite_text.specs.declared.suite.fault.SuiteFault.{SuiteFault}
+use Rattle.suite_text.specs.declared.suite.fault.SuiteFault.TheVariants.{TooLarge}
 use Rattle.suite_text.specs.declared.suite.Suite.{Suite}
 use Rattle.unique_id.specs.Answers.{◌>>=◌}
-use Rattle.suite_text.specs.SuiteLines.{says_nothing, after_word, level_of}
-use Rattle.suite_text.specs.SuiteAfter.{is_after, with_after_line}
-use Rattle.suite_text.specs.SuiteWords.{Declaration, declared_by}
+use Rattle.suite_text.specs.Reading.Lines.{says_nothing, after_word, level_of}
+use Rattle.suite_text.specs.Reading.After.{is_after, with_after_line}
+use Rattle.suite_text.specs.Reading.Words.{Declaration, declared_by}
 use Rattle.config_params.specs.Parameters.{Parameters}
-use Rattle.suite_text.specs.SuiteProperties.{is_property, with_property}
-use Rattle.suite_text.specs.SuiteParts.{SuiteParts, LinesRead, no_lines, parts_of}
-use Rattle.suite_text.specs.SuiteNodes.{word_on, refusal_on, grown, unless_refused}
+use Rattle.suite_text.specs.Reading.Properties.{is_property, with_property}
+use Rattle.suite_text.specs.Reading.Parts.{SuiteParts, LinesRead, no_lines, parts_of}
+use Rattle.suite_text.specs.Reading.Nodes.{word_on, refusal_on, grown, unless_refused}
 
 -- with the node that is declared on a level
 abbrev pub with_declared : ℕ → LinesRead → ℕ → Declaration → Result LinesRead SuiteFault

@@ -17,7 +17,7 @@ pub struct Script {
 }
 
 impl Script {
-    ghost use Rattle.suite_text.specs.SuiteScripts.{ending};
+    ghost use Rattle.suite_text.specs.Reading.Scripts.{ending};
 
     /// The script of a body that counts as far as `spin`, registers so many tests, and ends with
     /// this status and text.

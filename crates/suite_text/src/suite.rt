@@ -2,19 +2,31 @@
 
 ghost use Rattle.std.specs.Prelude.{◌≡◌, ◌≢◌, ◌≤◌, ◌+◌, ◌==◌, length, count_by, IfOk, IfErr, Ok, Err};
 ghost use Rattle.std.specs.Str.{IsUtf8};
-ghost use Rattle.suite_text.specs.SuiteBytes.{suite_read};
-ghost use Rattle.suite_text.specs.SuiteFaults.{Gives};
-ghost use Rattle.suite_text.specs.SuiteIds.{IdsFollow};
-ghost use Rattle.suite_text.specs.SuiteParts.{SuiteParts, AreBodiesOf, bodies_answered};
+ghost use Rattle.suite_text.specs.Reading.Bytes.{suite_read};
+ghost use Rattle.suite_text.specs.Reading.Faults.{Gives};
+ghost use Rattle.suite_text.specs.Reading.Ids.{IdsFollow};
+ghost use Rattle.suite_text.specs.Reading.Parts.{SuiteParts, AreBodiesOf, bodies_answered};
 ghost use Rattle.suite_text.specs.Suites.{suite_of, suite_parts};
-ghost use Rattle.suite_text.specs.WrittenSuites.{IsSuite};
+ghost use Rattle.suite_text.specs.Writing.Suites.{IsSuite};
+
+mod after;
+mod attributes;
+mod builder;
+mod fault;
+mod lines;
+mod locks;
+mod properties;
+mod pulls;
+mod spins;
+mod verdicts;
+mod words;
 
 use crate::script::Script;
-use crate::suite_builder::SuiteBuilder;
-use crate::suite_fault::SuiteFault;
-use crate::suite_lines::lines_in;
+use builder::SuiteBuilder;
 use config_params::Params;
 use descriptor::Tree;
+pub use fault::SuiteFault;
+use lines::lines_in;
 use std::alloc::Global;
 
 /// The greatest number of bytes of a suite text.

@@ -3,7 +3,7 @@
 ghost use Rattle.std.specs.Prelude.{Some, take};
 ghost use Rattle.launcher.specs.Asked.{asked_by};
 ghost use Rattle.launcher.specs.Runs.{IsRun};
-ghost use Rattle.suite_text.specs.SuiteBytes.{suite_read};
+ghost use Rattle.suite_text.specs.Reading.Bytes.{suite_read};
 
 use launcher::{ExitStatus, LaunchFault, Options, run_options};
 use std::alloc::Global;

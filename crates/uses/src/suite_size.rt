@@ -2,8 +2,8 @@
 
 ghost use Rattle.std.specs.Prelude.{◌≡◌, IfOk};
 ghost use Rattle.descriptor.specs.Nodes.{size};
-ghost use Rattle.suite_text.specs.SuiteParts.{SuiteParts};
-ghost use Rattle.suite_text.specs.WrittenSuites.{IsSuite};
+ghost use Rattle.suite_text.specs.Reading.Parts.{SuiteParts};
+ghost use Rattle.suite_text.specs.Writing.Suites.{IsSuite};
 
 use std::alloc::Global;
 use suite_text::{Suite, SuiteFault};

@@ -1,7 +1,7 @@
 -- The words that were listed are those that were given.
 use Rattle.std.proofs.Common.{string_bytes, take}
 use Rattle.std.specs.Vec.Iter.{into_iter_items}
-use Rattle.suite_text.specs.SuiteBytes.{suite_read}
+use Rattle.suite_text.specs.Reading.Bytes.{suite_read}
 use Rattle.command_line.proofs.Told.{told_words, told_no_words}
 use Rattle.command_line.proofs.program.answer_to.Goals as goal
 

@@ -1,7 +1,7 @@
 -- What is read is the front of what the reader holds, and it is what is judged.
 use Rattle.std.proofs.Common.{ℕ, ◌≤◌, List, length, None, ap, sym, subst, ◌∙◌}
 use Rattle.launcher.specs.Runs.{ReadsSuite}
-use Rattle.suite_text.specs.SuiteBytes.{suite_read}
+use Rattle.suite_text.specs.Reading.Bytes.{suite_read}
 use Rattle.launcher.proofs.Launching.{takes_broken, takes_refused, takes_whole}
 use Rattle.launcher.proofs.Reading.{if_known, suite_refused}
 use Rattle.launcher.proofs.run.read_suite.Goals as goal

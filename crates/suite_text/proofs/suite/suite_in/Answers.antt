@@ -2,7 +2,7 @@ use Rattle.std.proofs.Common.{◌≡◌, arith, ◌<◌, ◌≤◌, length, ◌�
 use Rattle.std.proofs.lemmas.Result.{err_from_is_err_and}
 use Rattle.std.specs.Str.Lines.{lines}
 use Rattle.unique_id.specs.Answers.{texts}
-use Rattle.suite_text.proofs.SuiteSteps.{line_next, line_fails, suite_done, suite_fails}
+use Rattle.suite_text.proofs.Reading.Steps.{line_next, line_fails, suite_done, suite_fails}
 use Rattle.suite_text.proofs.suite.suite_in.Goals as goal
 
 pub loop-index-preserved : goal.loop-index-preserved

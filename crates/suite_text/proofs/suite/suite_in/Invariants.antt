@@ -1,6 +1,6 @@
 use Rattle.std.proofs.Common.{◌≡◌, ◌+◌, drop}
 use Rattle.unique_id.specs.Answers.{texts}
-use Rattle.suite_text.specs.SuiteParts.{no_lines}
+use Rattle.suite_text.specs.Reading.Parts.{no_lines}
 use Rattle.suite_text.specs.Suites.{suite_from}
 use Rattle.suite_text.proofs.suite.suite_in.Given as goal
 

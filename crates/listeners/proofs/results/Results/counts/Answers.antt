@@ -1,6 +1,6 @@
 -- What is told of each node is what the events tell, so the counts are theirs.
 use Rattle.std.proofs.Common.{◌∙◌, List, ap, subst}
-use Rattle.listeners.specs.declared.outline.Place.{Place}
+use Rattle.listeners.specs.declared.node_places.Place.{Place}
 use Rattle.listeners.specs.Counts.{counts_in, counts_on, counts_of, SkipsReachBelow}
 use Rattle.listeners.specs.Results.{ResultParts}
 use Rattle.listeners.proofs.Counting.{twelve_are}

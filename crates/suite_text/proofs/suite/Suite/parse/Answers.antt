@@ -1,6 +1,6 @@
 -- A text that may be written for a suite is read as that suite, and none is read as want of memory.
-use Rattle.suite_text.proofs.SuiteNever.{never_no_memory}
-use Rattle.suite_text.proofs.WrittenSuites as written
+use Rattle.suite_text.proofs.Reading.Never.{never_no_memory}
+use Rattle.suite_text.proofs.Writing.Suites as written
 use Rattle.suite_text.proofs.suite.Suite.parse.Goals as goal
 
 pub returns-clause-reads_back : goal.returns-clause-reads_back

@@ -1,0 +1,12 @@
+-- Lemmas on what lines say.
+pub mod Afters
+pub mod Outcomes
+pub mod Attributes
+pub mod Ids
+pub mod Locks
+pub mod Never
+pub mod Paths
+pub mod Pulls
+pub mod Lines
+pub mod Spaces
+pub mod Steps

@@ -1,0 +1,68 @@
+-- One more line of a suite.
+use Rattle.std.proofs.Common.{rules, ◌≤◌, ◌≡◌, ℕ, ◌+◌, ◌<◌, List, ◌∷◌, map, drop, length, get_or, arith, Result, Ok, sym, subst, ap, ◌∙◌, refl}
+use Rattle.std.specs.Prelude.{nat_lt, Bool, false, IfErr}
+use Rattle.std.proofs.lemmas.List.{drop-map, drop_more, drop_all, length-map}
+use borrow.Author.Tests.{tests}
+use Rattle.std.specs.Str.Lines.{lines}
+use denote.Ref.{Bor}
+use Rattle.suite_text.specs.declared.suite.fault.SuiteFault.{SuiteFault}
+use Rattle.suite_text.specs.Reading.Faults.{Fails}
+use Rattle.unique_id.specs.Answers.{◌>>=◌}
+use Rattle.unique_id.specs.Answers.{texts}
+use Rattle.suite_text.specs.Reading.Parts.{SuiteParts, LinesRead, no_lines, parts_of}
+use Rattle.suite_text.specs.Suites.{with_declared, with_node_line, with_line, suite_from, suite_of}
+use Rattle.suite_text.specs.Reading.Nodes.{word_on}
+use Rattle.suite_text.specs.Reading.Words.{Declaration, declared_by}
+
+-- a fault of the first step is one of both
+pub fails_then : {A B : Type 0} (fault : SuiteFault) (r : Result A SuiteFault) (f : A → Result B SuiteFault) → Fails fault r → Fails fault (r >>= f)
+fails_then fault r f h = λ other. ap (λ x. x >>= f) (h other)
+
+-- and of what equals them
+pub fails_as : {A : Type 0} (fault : SuiteFault) (r s : Result A SuiteFault) → r ≡ s → Fails fault r → Fails fault s
+fails_as fault r s e h = λ other. sym e ∙ h other
+
+texts_drop : (xs : List (Bor (List ℕ))) (i : ℕ) (d : Bor (List ℕ)) → i < length xs → drop i (texts xs) ≡ (get_or xs i d).now ∷ drop (i + 1) (texts xs)
+texts_drop xs i d h =
+    let now : Bor (List ℕ) → List ℕ = λ x. x.now in
+    drop-map now i xs ∙ ap (map now) (drop_more xs i d h) ∙ ap (λ t. now (get_or xs i d) ∷ t) (sym (drop-map now (i + 1) xs))
+
+module _ (xs : List (Bor (List ℕ))) (i : ℕ) (d : Bor (List ℕ)) (old : LinesRead) (all : Result LinesRead SuiteFault)
+    (inside : i < length xs) (so_far : suite_from (i + 1) old (drop i (texts xs)) ≡ all) where
+  line_read : (with_line (i + 1) old (get_or xs i d).now >>= (λ next. suite_from (i + 1 + 1) next (drop (i + 1) (texts xs)))) ≡ all
+  line_read = sym (ap (suite_from (i + 1) old) (texts_drop xs i d inside)) ∙ so_far
+
+  pub line_next : (new : LinesRead) → with_line (i + 1) old (get_or xs i d).now ≡ Ok new → suite_from (i + 1 + 1) new (drop (i + 1) (texts xs)) ≡ all
+  line_next new read = sym (ap (λ r. r >>= (λ next. suite_from (i + 1 + 1) next (drop (i + 1) (texts xs)))) read) ∙ line_read
+
+  pub line_fails : (fault : SuiteFault) → Fails fault (with_line (i + 1) old (get_or xs i d).now) → Fails fault all
+  line_fails fault h = fails_as fault _ all line_read (fails_then fault (with_line (i + 1) old (get_or xs i d).now) (λ next. suite_from (i + 1 + 1) next (drop (i + 1) (texts xs))) h)
+
+-- the suite of a text that is not too large
+small : (text : List ℕ) (b : Bool) → nat_lt 1048576 (length text) ≡ b → b ≡ false → suite_of text ≡ (suite_from 1 no_lines (lines text) >>= (λ read. Ok (parts_of read)))
+small text b is e = rw (is ∙ e) refl
+
+pub suite_small : (text : List ℕ) → length text ≤ 1048576 → suite_of text ≡ (suite_from 1 no_lines (lines text) >>= (λ read. Ok (parts_of read)))
+suite_small text h = small text (nat_lt 1048576 (length text)) refl (search (rules, tests))
+
+-- where no line is left, what was made is the suite
+pub suite_done : (text : List ℕ) (xs : List (Bor (List ℕ))) (i : ℕ) (read : LinesRead) (parts : SuiteParts) → length text ≤ 1048576 → texts xs ≡ lines text → length xs ≤ i
+    → suite_from (i + 1) read (drop i (texts xs)) ≡ suite_from 1 no_lines (texts xs) → parts ≡ parts_of read → suite_of text ≡ Ok parts
+suite_done text xs i read parts h e past so_far is =
+    let now : Bor (List ℕ) → List ℕ = λ x. x.now in
+    let all : length (texts xs) ≡ length xs = length-map xs now in
+    suite_small text h
+    ∙ ap (λ l. suite_from 1 no_lines l >>= (λ r. Ok (parts_of r))) (sym e)
+    ∙ ap (λ r. r >>= (λ x. Ok (parts_of x))) (sym so_far ∙ ap (suite_from (i + 1) read) (drop_all i (texts xs) (omega (arith, all, past))))
+    ∙ ap Ok (sym is)
+
+pub suite_fails : (text : List ℕ) (ls : List (List ℕ)) (fault : SuiteFault) → length text ≤ 1048576 → ls ≡ lines text → Fails fault (suite_from 1 no_lines ls) → Fails fault (suite_of text)
+suite_fails text ls fault h e fails =
+    fails_as fault _ (suite_of text) (ap (λ l. suite_from 1 no_lines l >>= (λ read. Ok (parts_of read))) e ∙ sym (suite_small text h))
+    (fails_then fault (suite_from 1 no_lines ls) (λ read. Ok (parts_of read)) fails)
+
+-- a node's line that is read fails as its node does
+pub node_fails : (number level : ℕ) (read : LinesRead) (line : List ℕ) (d : Declaration) (result : Result (Unit {0}) SuiteFault) → declared_by number (word_on read level) line ≡ Ok d
+    → IfErr result (λ fault. Fails fault (with_declared number read level d)) → IfErr result (λ fault. Fails fault (with_node_line number read level line))
+node_fails number level read line d result says =
+    subst (λ (r : Result LinesRead SuiteFault). IfErr result (λ fault. Fails fault r)) (sym (ap (λ r. r >>= (λ x. with_declared number read level x)) says))

@@ -1,0 +1,17 @@
+-- Each body and after-body has one script.
+use Rattle.std.proofs.Common.{◌≡◌, List, arith, subst, sym}
+use Rattle.std.proofs.lemmas.Grind.{common_steps}
+use Rattle.descriptor.specs.Nodes.{Nodes}
+use Rattle.suite_text.specs.declared.script.Script.{Script}
+use Rattle.suite_text.specs.Reading.Parts.{AreBodiesOf, bodies_answered, parts_of}
+use Rattle.suite_text.specs.Reading.Paths.{IsSound}
+use Rattle.suite_text.proofs.Reading.Pulls.{all_answered}
+use Rattle.suite_text.proofs.suite.builder.SuiteBuilder.finish.Goals as goal
+
+pub returns-clause-answered : goal.returns-clause-answered
+returns-clause-answered c =
+    let read = c.args.self in
+    let tree : c.finish-tree.result ≡ read.tree = grind (arith, common_steps) in
+    let items : c.in_ok-scripts.scripts.items ≡ (parts_of read).scripts = grind (arith, common_steps) in
+    subst (λ (l : List Script). AreBodiesOf c.finish-tree.result.nodes (bodies_answered l)) (sym items)
+    (subst (λ (t : Nodes). AreBodiesOf t.nodes (bodies_answered (parts_of read).scripts)) (sym tree) (all_answered read (subst IsSound c.self.view_is c.self.invariant)))

@@ -1,0 +1,23 @@
+//! The line `after`: what the after-body of a class answers.
+
+ghost use Rattle.std.specs.Prelude.{◌≡◌};
+ghost use Rattle.suite_text.specs.Reading.After.{after_said};
+ghost use Rattle.suite_text.specs.Reading.Faults.{Gives};
+
+use crate::suite::fault::SuiteFault;
+use crate::suite::lines::word_and_text;
+use crate::suite::verdicts::{status_of, verdict_in};
+use crate::suite::words::Word;
+use plan_events::Status;
+
+/// The status and the text that the body ends with, by what follows the word `after`: a verdict as
+/// that of a test, but not `disabled`.
+pub(crate) fn after_in<'a>(number: usize, rest: &'a str) -> Result<(Status, &'a str), SuiteFault>
+    ensures { Gives (λ said. (said.0, said.1.now)) result (after_said number rest.now) }
+{
+    let (first, text) = word_and_text(rest);
+    match status_of(verdict_in(number, Word::Test, first, text)?) {
+        Some(status) => Ok((status, text)),
+        None => Err(SuiteFault::BadLine(number)),
+    }
+}

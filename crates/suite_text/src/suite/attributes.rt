@@ -1,0 +1,240 @@
+//! The attributes of a line, which stand before its verdict.
+
+ghost use Rattle.std.specs.Prelude.{◌≡◌, OnOk, IfErr, Ok};
+ghost use Rattle.suite_text.specs.Reading.Attributes.{after_sign, declaration_in, attribute_of, no_attributes, with_tag_of, with_spin_of, with_pulls_of, with_mode, with_attribute, attributes_of, spin_said, pulls_said};
+ghost use Rattle.suite_text.specs.Reading.Faults.{Fails, Gives};
+ghost use Rattle.suite_text.specs.Reading.Lines.{first_word};
+
+use crate::suite::fault::SuiteFault;
+use crate::suite::lines::next_word;
+use crate::suite::locks::put_lock;
+use crate::suite::spins::{count_in, key_and_value};
+use crate::suite::words::Word;
+use descriptor::Mode;
+use resource_locks::LockSet;
+use std::alloc::Global;
+use tag_expr::{TagFault, TagSet, tag_of};
+
+/// The farthest that a body counts.
+const LONGEST_SPIN: u32 = 1_000_000;
+
+/// The greatest number of tests that a body registers.
+const MOST_PULLS: u32 = 4_096;
+
+/// What an attribute is about.
+#[derive(Clone, Copy)]
+pub(crate) enum Attribute {
+    /// `#TAG`
+    Tag,
+    /// `spin=N`
+    Spin,
+    /// `pulls=N`
+    Pulls,
+    /// `@concurrent`, `@same_thread`
+    Runs(Mode),
+    /// `lock=KEY`
+    Lock,
+    /// `isolated`
+    Isolated,
+}
+
+impl Attribute {
+    /// The attribute that a word of a line is, where a node of this word may have it.
+    fn of(word: Word, text: &str) -> Option<Attribute>
+        ensures { result ≡ attribute_of word text.now }
+    {
+        if !matches!(word, Word::Dyn) && text.starts_with('#') {
+            return Some(Attribute::Tag);
+        }
+        let (key, _) = key_and_value(text);
+        if word.takes_spin(key) {
+            return Some(Attribute::Spin);
+        }
+        if word.takes_pulls(key) {
+            return Some(Attribute::Pulls);
+        }
+        if word.may_declare() {
+            Attribute::declaring(text, key)
+        } else {
+            None
+        }
+    }
+
+    /// The attribute that declares how a node is executed, of a word with this key.
+    fn declaring(text: &str, key: &str) -> Option<Attribute>
+        ensures { result ≡ declaration_in text.now key.now }
+    {
+        match text {
+            "@concurrent" => Some(Attribute::Runs(Mode::Concurrent)),
+            "@same_thread" => Some(Attribute::Runs(Mode::SameThread)),
+            "isolated" => Some(Attribute::Isolated),
+            _ => {
+                if key == "lock" {
+                    Some(Attribute::Lock)
+                } else {
+                    None
+                }
+            }
+        }
+    }
+}
+
+/// What the attributes of a line say.
+#[derive(Drop)]
+pub(crate) struct Attributes {
+    /// Each tag once, in the order of the line.
+    pub(crate) tags: TagSet,
+    /// How far the node's body counts first.
+    pub(crate) spin: Option<u32>,
+    /// How many tests the node's body registers.
+    pub(crate) pulls: Option<u16>,
+    pub(crate) mode: Option<Mode>,
+    /// Each key once, in byte order.
+    pub(crate) locks: LockSet,
+    pub(crate) isolated: bool,
+}
+
+impl Attributes {
+    /// Before the first attribute.
+    fn none(alloc: Global) -> Attributes
+        ensures { result ≡ no_attributes }
+    {
+        Attributes {
+            tags: TagSet::new(alloc),
+            spin: None,
+            pulls: None,
+            mode: None,
+            locks: LockSet::new(alloc),
+            isolated: false,
+        }
+    }
+
+    /// How far the node's body counts first, 0 where the line does not say it.
+    pub(crate) fn spin(&self) -> u32
+        ensures { result ≡ spin_said self.now }
+    {
+        match self.spin {
+            Some(spin) => spin,
+            None => 0,
+        }
+    }
+
+    /// How many tests the node's body registers, 0 where the line does not say it.
+    pub(crate) fn pulls(&self) -> u16
+        ensures { result ≡ pulls_said self.now }
+    {
+        match self.pulls {
+            Some(pulls) => pulls,
+            None => 0,
+        }
+    }
+
+    /// Adds the tag that a text is.
+    fn add_tag(&mut self, alloc: Global, number: usize, text: &str) -> Result<(), SuiteFault>
+        ensures added { OnOk result (with_tag_of number self.old text.now ≡ Ok self.new) }
+        ensures refused { IfErr result (λ fault. Fails fault (with_tag_of number self.old text.now)) }
+    {
+        match tag_of(alloc, text) {
+            Ok(tag) => Ok(self.tags.add(tag)?),
+            Err(TagFault::NoMemory) => Err(SuiteFault::NoMemory),
+            Err(_) => Err(SuiteFault::BadLine(number)),
+        }
+    }
+
+    /// Sets how far the body counts first, which a line may say once.
+    fn set_spin(&mut self, number: usize, value: &str) -> Result<(), SuiteFault>
+        ensures added { OnOk result (with_spin_of number self.old value.now ≡ Ok self.new) }
+        ensures refused { IfErr result (λ fault. Fails fault (with_spin_of number self.old value.now)) }
+    {
+        if self.spin.is_some() {
+            return Err(SuiteFault::BadLine(number));
+        }
+        self.spin = Some(count_in(number, LONGEST_SPIN, value)?);
+        Ok(())
+    }
+
+    /// Sets how many tests the body registers, which a line may say once.
+    fn set_pulls(&mut self, number: usize, value: &str) -> Result<(), SuiteFault>
+        ensures added { OnOk result (with_pulls_of number self.old value.now ≡ Ok self.new) }
+        ensures refused { IfErr result (λ fault. Fails fault (with_pulls_of number self.old value.now)) }
+    {
+        if self.pulls.is_some() {
+            return Err(SuiteFault::BadLine(number));
+        }
+        self.pulls = Some(count_in(number, MOST_PULLS, value)? as u16);
+        Ok(())
+    }
+
+    /// Sets the mode, which a line may say once.
+    fn set_mode(&mut self, number: usize, mode: Mode) -> Result<(), SuiteFault>
+        ensures added { OnOk result (with_mode number self.old mode ≡ Ok self.new) }
+        ensures refused { IfErr result (λ fault. Fails fault (with_mode number self.old mode)) }
+    {
+        if self.mode.is_some() {
+            return Err(SuiteFault::BadLine(number));
+        }
+        self.mode = Some(mode);
+        Ok(())
+    }
+
+    /// Adds what an attribute says, which is this word of the line.
+    fn add(
+        &mut self,
+        alloc: Global,
+        number: usize,
+        attribute: Attribute,
+        text: &str,
+    ) -> Result<(), SuiteFault>
+        ensures added { OnOk result (with_attribute number self.old text.now attribute ≡ Ok self.new) }
+        ensures refused { IfErr result (λ fault. Fails fault (with_attribute number self.old text.now attribute)) }
+    {
+        match attribute {
+            Attribute::Tag => self.add_tag(alloc, number, after_sign(text)),
+            Attribute::Spin => self.set_spin(number, key_and_value(text).1),
+            Attribute::Pulls => self.set_pulls(number, key_and_value(text).1),
+            Attribute::Runs(mode) => self.set_mode(number, mode),
+            Attribute::Lock => put_lock(&mut self.locks, number, key_and_value(text).1),
+            Attribute::Isolated => {
+                self.isolated = true;
+                Ok(())
+            }
+        }
+    }
+}
+
+/// What follows the first number sign of a word.
+fn after_sign(text: &str) -> &str
+    ensures { result.now ≡ after_sign text.now }
+{
+    match text.split_once('#') {
+        Some((_, rest)) => rest,
+        None => "",
+    }
+}
+
+/// The attribute that the first word of a text is, where a node of this word may have it.
+fn first_attribute(word: Word, text: &str) -> Option<Attribute>
+    ensures { result ≡ attribute_of word (first_word text.now) }
+{
+    let (first, _) = next_word(text);
+    Attribute::of(word, first)
+}
+
+/// What the attributes at the front of a text say, and what follows them.
+pub(crate) fn attributes_in<'a>(
+    alloc: Global,
+    number: usize,
+    word: Word,
+    text: &'a str,
+) -> Result<(Attributes, &'a str), SuiteFault>
+    ensures { Gives (λ read. (read.0, read.1.now)) result (attributes_of number word text.now) }
+{
+    let mut said = Attributes::none(alloc);
+    let mut left = text;
+    while let Some(attribute) = first_attribute(word, left) {
+        let (first, after) = next_word(left);
+        said.add(alloc, number, attribute, first)?;
+        left = after;
+    }
+    Ok((said, left))
+}

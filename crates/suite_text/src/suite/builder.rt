@@ -1,0 +1,444 @@
+//! A suite that grows line by line.
+
+ghost use Rattle.std.specs.Prelude.{◌≡◌, ◌≢◌, ◌≤◌, ◌<◌, ◌+◌, length, OnOk, OnErr, IfOk, IfErr, IfSome, Some, None, Ok, false, true, [], ◌∷◌, ◌++◌, take, vec_len, vec_capacity};
+
+use crate::script::Script;
+use crate::suite::Suite;
+use crate::suite::after::after_in;
+use crate::suite::fault::SuiteFault;
+use crate::suite::lines::{level_at, next_word, without_front};
+use crate::suite::locks::locks_of;
+use crate::suite::properties::{is_property, put_property};
+use crate::suite::pulls::{Pending, all_settled, lines_below};
+use crate::suite::words::{Declared, Word, declared_in};
+use config_params::Params;
+use descriptor::{BodyId, Node, NodeId, Tree, TreeBuilder, TreeFault};
+use plan_events::Status;
+use std::alloc::{AllocError, Global};
+use std::marker::Model;
+use unique_id::{Text, UidFault, UniqueId};
+
+/// The greatest number of nodes for which room is made before the first line.
+const MOST_NODES: usize = 4_095;
+
+/// The number of a node's after-body, less the node's own: above all numbers of nodes.
+const FIRST_AFTER: u16 = 8_192;
+
+/// A node that the next line may hang below, and the word of its line.
+#[derive(Clone, Copy)]
+pub(crate) struct Opened {
+    pub(crate) node: NodeId,
+    pub(crate) word: Word,
+}
+
+/// The tree, the scripts and the properties of the lines so far, and the last node with those
+/// above it.
+#[derive(Drop)]
+pub(crate) struct SuiteBuilder {
+    tree: TreeBuilder,
+    path: Vec<Opened>,
+    scripts: Vec<Pending>,
+    // those of after-bodies, in the order of their lines
+    afters: Vec<Script>,
+    properties: Params,
+}
+
+impl Model for SuiteBuilder {
+    ghost use Rattle.suite_text.specs.Reading.Parts.{LinesRead};
+    ghost use Rattle.suite_text.specs.Reading.Paths.{IsSound};
+
+    ghost Value = { LinesRead };
+
+    ghost view = { λ b. record { tree = b.tree; path = b.path.items; scripts = b.scripts.items; afters = b.afters.items; properties = b.properties } };
+
+    ghost invariant = { λ b. IsSound (record { tree = b.tree; path = b.path.items; scripts = b.scripts.items; afters = b.afters.items; properties = b.properties }) };
+}
+
+ghost use Rattle.unique_id.specs.Spelling.{refusal};
+ghost use Rattle.descriptor.specs.Nodes.{size, IsTree, MayTake};
+ghost use Rattle.suite_text.specs.Reading.Parts.{above, word_of_opened, node_of_opened};
+ghost use Rattle.suite_text.specs.Reading.Words.{declaration_of};
+ghost use Rattle.suite_text.specs.Reading.Nodes.{id_at, value_declared, node_with, node_declared, is_over_limit, place_on, word_on, refusal_on, grown};
+
+/// The unique id of a node below this one, or at level 0.
+fn id_below(
+    alloc: Global,
+    tree: &Tree,
+    parent: Option<Opened>,
+    kind: &str,
+    name: &str,
+) -> Result<UniqueId, UidFault>
+    requires { IfSome parent (λ opened. (0 < opened.node) × (opened.node < size tree.now)) }
+    ensures ok { IfOk result (λ id. id ≡ id_at tree.now (node_of_opened parent) ++ record { kind = kind.now; value = name.now } ∷ []) }
+    ensures accepted { IfOk result (λ _. refusal (id_at tree.now (node_of_opened parent)) kind.now name.now ≡ None) }
+    ensures refused { IfErr result (λ fault. fault ≢ UidFault.NoMemory → refusal (id_at tree.now (node_of_opened parent)) kind.now name.now ≡ Some fault) }
+{
+    match parent {
+        None => UniqueId::of(alloc, kind, name),
+        Some(opened) => tree.node(opened.node).id.append(alloc, kind, name),
+    }
+}
+
+/// The node of this unique id and number that a line declares.
+fn node_with(
+    alloc: Global,
+    id: UniqueId,
+    number: u16,
+    declared: Declared<'_>,
+) -> Result<Node, AllocError>
+    ensures { IfOk result (λ node. node ≡ node_with number id (declaration_of declared.entry)) }
+{
+    let body = declared.body(number);
+    let disabled = declared.reason(alloc)?;
+    let name = Text::new(alloc, declared.name)?;
+    let kind = declared.word.kind();
+    let role = declared.word.role();
+    let attributes = declared.attributes;
+    Ok(Node {
+        role,
+        mode: attributes.mode,
+        locks: locks_of(alloc, &attributes.locks)?,
+        isolated: attributes.isolated,
+        body,
+        disabled,
+        tags: attributes.tags,
+        ..Node::plain(alloc, id, name, kind)
+    })
+}
+
+/// The unique id of the node that a line declares as the child of this place, from 1, of this one,
+/// or at level 0.
+fn id_declared(
+    alloc: Global,
+    tree: &Tree,
+    parent: Option<Opened>,
+    kind: &str,
+    place: u16,
+    declared: &Declared<'_>,
+) -> Result<UniqueId, UidFault>
+    requires { IfSome parent (λ opened. (0 < opened.node) × (opened.node < size tree.now)) }
+    ensures ok { IfOk result (λ id. id ≡ id_at tree.now (node_of_opened parent) ++ record { kind = kind.now; value = value_declared (declaration_of declared.now) place } ∷ []) }
+    ensures accepted { IfOk result (λ _. refusal (id_at tree.now (node_of_opened parent)) kind.now (value_declared (declaration_of declared.now) place) ≡ None) }
+    ensures refused { IfErr result (λ fault. fault ≢ UidFault.NoMemory → refusal (id_at tree.now (node_of_opened parent)) kind.now (value_declared (declaration_of declared.now) place) ≡ Some fault) }
+{
+    if declared.word.role().is_spare() {
+        let value = format!(in alloc; "#{place}")?;
+        return id_below(alloc, tree, parent, kind, value.as_str());
+    }
+    id_below(alloc, tree, parent, kind, declared.name)
+}
+
+/// The node of this number that a line declares as the child of this place, from 1, of this one, or
+/// at level 0.
+fn node_below(
+    alloc: Global,
+    tree: &Tree,
+    parent: Option<Opened>,
+    place: u16,
+    number: u16,
+    declared: Declared<'_>,
+) -> Result<Node, TreeFault>
+    requires { IfSome parent (λ opened. (0 < opened.node) × (opened.node < size tree.now)) }
+    ensures ok { IfOk result (λ node. node ≡ node_declared number (word_of_opened parent) (id_at tree.now (node_of_opened parent)) place (declaration_of declared.entry)) }
+    ensures accepted { IfOk result (λ _. is_over_limit (id_at tree.now (node_of_opened parent)) (word_of_opened parent) place (declaration_of declared.entry) ≡ false) }
+    ensures refused { IfErr result (λ fault. fault ≢ TreeFault.NoMemory → (fault ≡ TreeFault.OverLimit) × (is_over_limit (id_at tree.now (node_of_opened parent)) (word_of_opened parent) place (declaration_of declared.entry) ≡ true)) }
+{
+    let kind = declared.word.segment_type(parent.map(|opened| opened.word));
+    let id = match id_declared(alloc, tree, parent, kind, place, &declared) {
+        Ok(id) => id,
+        Err(UidFault::NoMemory) => return Err(TreeFault::NoMemory),
+        Err(_) => return Err(TreeFault::OverLimit),
+    };
+    Ok(node_with(alloc, id, number, declared)?)
+}
+
+/// Makes a node the last of a path, on this level.
+fn open_on(path: &mut Vec<Opened>, level: usize, opened: Opened)
+    requires { vec_len path.old < vec_capacity path.old }
+    ensures { path.new.items ≡ take level path.old.items ++ opened ∷ [] }
+{
+    path.truncate(level);
+    path.push(opened).unwrap();
+}
+
+/// The node, or the plan where there is none.
+fn node_or_plan(opened: Option<Opened>) -> NodeId
+    ensures { result ≡ node_of_opened opened }
+{
+    match opened {
+        None => NodeId::ROOT,
+        Some(opened) => opened.node,
+    }
+}
+
+impl SuiteBuilder {
+    ghost use Rattle.suite_text.specs.Reading.Parts.{no_lines};
+    ghost use Rattle.suite_text.specs.Reading.Ids.{IdsFollow};
+    ghost use Rattle.suite_text.specs.Reading.Nodes.{node_on, is_over_limit_on};
+    ghost use Rattle.suite_text.specs.Reading.Faults.{Fails, Gives};
+    ghost use Rattle.suite_text.specs.Reading.After.{class_of, after_body, with_after_body, with_after_line};
+    ghost use Rattle.descriptor.specs.Refusals.{after_refusal};
+    ghost use Rattle.suite_text.specs.Suites.{is_property_in, with_declared, with_node_line, with_declaration, with_words, with_line, suite_parts};
+    ghost use Rattle.suite_text.specs.Reading.Parts.{parts_of, AreBodiesOf, bodies_answered};
+
+    /// Before the first line, with room for the nodes of so many lines.
+    pub(crate) fn new(alloc: Global, lines: usize) -> Result<SuiteBuilder, AllocError>
+        ensures { IfOk result (λ b. b ≡ no_lines) }
+    {
+        let nodes = lines.min(MOST_NODES);
+        Ok(SuiteBuilder {
+            tree: TreeBuilder::with_capacity(alloc, nodes)?,
+            path: Vec::new(alloc),
+            scripts: Vec::with_capacity(alloc, nodes)?,
+            afters: Vec::new(alloc),
+            properties: Params::new(alloc),
+        })
+    }
+
+    /// The open node that a line of this level hangs below; none at level 0.
+    fn above(&self, level: usize) -> Option<Opened>
+        requires { level ≤ length self.now.path }
+        ensures above { result ≡ above self.now.path level }
+        ensures inside { IfSome result (λ opened. (0 < opened.node) × (opened.node < size self.now.tree)) }
+        ensures may_take { MayTake self.now.tree (node_of_opened result) }
+    {
+        if level == 0 {
+            None
+        } else {
+            Some(self.path[level - 1])
+        }
+    }
+
+    /// The number of the next node.
+    fn next_number(&self) -> u16
+        ensures number { result ≡ size self.now.tree }
+        ensures tree { IsTree self.now.tree }
+    {
+        self.tree.tree().len() as u16
+    }
+
+    /// Which child, from 1, of the node that it hangs below a line of this level declares.
+    fn place_on(&self, level: usize) -> u16
+        requires { level ≤ length self.now.path }
+        ensures { result ≡ place_on self.now level }
+    {
+        lines_below(self.tree.tree(), node_or_plan(self.above(level))) + 1
+    }
+
+    /// The node that a line of this level declares.
+    fn node_on(
+        &self,
+        alloc: Global,
+        level: usize,
+        declared: Declared<'_>,
+    ) -> Result<Node, TreeFault>
+        requires { level ≤ length self.now.path }
+        ensures ok { IfOk result (λ node. node ≡ node_on self.now level (declaration_of declared.entry)) }
+        ensures accepted { IfOk result (λ _. is_over_limit_on self.now level (declaration_of declared.entry) ≡ false) }
+        ensures refused { IfErr result (λ fault. fault ≢ TreeFault.NoMemory → (fault ≡ TreeFault.OverLimit) × (is_over_limit_on self.now level (declaration_of declared.entry) ≡ true)) }
+    {
+        let parent = self.above(level);
+        let number = self.next_number();
+        let place = self.place_on(level);
+        node_below(alloc, self.tree.tree(), parent, place, number, declared)
+    }
+
+    /// Adds the node that a line of this level declares.
+    fn add(&mut self, alloc: Global, level: usize, declared: Declared<'_>) -> Result<(), TreeFault>
+        requires { level ≤ length self.old.path }
+        ensures accepted { OnOk result (refusal_on self.old level (declaration_of declared.entry) ≡ None) }
+        ensures added { OnOk result (self.new ≡ grown self.old level (declaration_of declared.entry)) }
+        ensures refused { IfErr result (λ fault. fault ≢ TreeFault.NoMemory → refusal_on self.old level (declaration_of declared.entry) ≡ Some fault) }
+        ensures err { OnErr result (self.new ≡ self.old) }
+    {
+        let script = declared.script(alloc, self.next_number())?;
+        let word = declared.word;
+        let node = self.node_on(alloc, level, declared)?;
+        let parent = node_or_plan(self.above(level));
+        self.path.reserve(1)?;
+        self.scripts.reserve(1)?;
+        let node = self.tree.add(alloc, parent, node)?;
+        open_on(&mut self.path, level, Opened { node, word });
+        if let Some(script) = script {
+            self.scripts.push(script).unwrap();
+        }
+        Ok(())
+    }
+
+    /// The same at the line of this number, which a refusal names.
+    fn declare(
+        &mut self,
+        alloc: Global,
+        number: usize,
+        level: usize,
+        declared: Declared<'_>,
+    ) -> Result<(), SuiteFault>
+        requires { level ≤ length self.old.path }
+        ensures added { OnOk result (with_declared number self.old level (declaration_of declared.entry) ≡ Ok self.new) }
+        ensures refused { IfErr result (λ fault. Fails fault (with_declared number self.old level (declaration_of declared.entry))) }
+    {
+        match self.add(alloc, level, declared) {
+            Ok(()) => Ok(()),
+            Err(fault) => Err(SuiteFault::at_line(number, fault)),
+        }
+    }
+
+    /// Whether a line is a property's: it stands before the first engine.
+    fn is_property(&self, line: &str) -> bool
+        ensures { result ≡ is_property_in self.now line.now }
+    {
+        self.levels() == 0 && is_property(line)
+    }
+
+    /// The class that an after-body's line of this level belongs to, which has none yet.
+    fn class_on(&self, number: usize, level: usize) -> Result<NodeId, SuiteFault>
+        requires { level ≤ length self.now.path }
+        ensures exact { Gives (λ node. node) result (class_of number self.now.tree (above self.now.path level)) }
+        ensures inside { IfOk result (λ node. (0 < node) × (node < size self.now.tree)) }
+        ensures few { IfOk result (λ node. node < 4096) }
+    {
+        let Some(opened) = self.above(level) else {
+            return Err(SuiteFault::BadLine(number));
+        };
+        if matches!(opened.word, Word::Class) && self.tree.tree().after(opened.node).is_none() {
+            return Ok(opened.node);
+        }
+        Err(SuiteFault::BadLine(number))
+    }
+
+    /// Gives a class its after-body, which ends with this status and text.
+    fn set_after(
+        &mut self,
+        alloc: Global,
+        class: NodeId,
+        status: Status,
+        text: &str,
+    ) -> Result<(), TreeFault>
+        requires inside { (0 < class) × (class < size self.old.tree) }
+        requires few { class < 4096 }
+        ensures accepted { OnOk result (after_refusal self.old.tree class (after_body class) ≡ None) }
+        ensures set { OnOk result (self.new ≡ with_after_body self.old class (status, text.now)) }
+        ensures refused { IfErr result (λ fault. fault ≢ TreeFault.NoMemory → after_refusal self.old.tree class (after_body class) ≡ Some fault) }
+    {
+        let body = BodyId::new(FIRST_AFTER + class.number());
+        let script = Script::ending(alloc, body, 0, 0, status, text)?;
+        self.afters.reserve(1)?;
+        self.tree.set_after(class, body)?;
+        self.afters.push(script).unwrap();
+        Ok(())
+    }
+
+    /// Reads what follows the word `after` on a line of this level.
+    fn read_after(
+        &mut self,
+        alloc: Global,
+        number: usize,
+        level: usize,
+        rest: &str,
+    ) -> Result<(), SuiteFault>
+        requires { level ≤ length self.old.path }
+        ensures added { OnOk result (with_after_line number self.old level rest.now ≡ Ok self.new) }
+        ensures refused { IfErr result (λ fault. Fails fault (with_after_line number self.old level rest.now)) }
+    {
+        let class = self.class_on(number, level)?;
+        let (status, text) = after_in(number, rest)?;
+        match self.set_after(alloc, class, status, text) {
+            Ok(()) => Ok(()),
+            Err(fault) => Err(SuiteFault::at_line(number, fault)),
+        }
+    }
+
+    /// The word of the node that a line of this level hangs below; none at level 0.
+    fn word_on(&self, level: usize) -> Option<Word>
+        requires { level ≤ length self.now.path }
+        ensures { result ≡ word_on self.now level }
+    {
+        self.above(level).map(|opened| opened.word)
+    }
+
+    /// Reads the line of a node on this level.
+    fn read_node(
+        &mut self,
+        alloc: Global,
+        number: usize,
+        level: usize,
+        line: &str,
+    ) -> Result<(), SuiteFault>
+        requires { level ≤ length self.old.path }
+        ensures added { OnOk result (with_node_line number self.old level line.now ≡ Ok self.new) }
+        ensures refused { IfErr result (λ fault. Fails fault (with_node_line number self.old level line.now)) }
+    {
+        let declared = declared_in(alloc, number, self.word_on(level), line)?;
+        self.declare(alloc, number, level, declared)
+    }
+
+    /// Reads the line of an after-body or of a node on this level.
+    fn read_declaration(
+        &mut self,
+        alloc: Global,
+        number: usize,
+        level: usize,
+        line: &str,
+    ) -> Result<(), SuiteFault>
+        requires { level ≤ length self.old.path }
+        ensures added { OnOk result (with_declaration number self.old level line.now ≡ Ok self.new) }
+        ensures refused { IfErr result (λ fault. Fails fault (with_declaration number self.old level line.now)) }
+    {
+        let (first, rest) = next_word(line);
+        if first == "after" {
+            self.read_after(alloc, number, level, rest)
+        } else {
+            self.read_node(alloc, number, level, line)
+        }
+    }
+
+    /// Reads a line of words: a property's, an after-body's or a node's.
+    fn read_words(&mut self, alloc: Global, number: usize, line: &str) -> Result<(), SuiteFault>
+        ensures added { OnOk result (with_words number self.old line.now ≡ Ok self.new) }
+        ensures refused { IfErr result (λ fault. Fails fault (with_words number self.old line.now)) }
+    {
+        let level = level_at(number, self.levels(), line)?;
+        if self.is_property(line) {
+            return put_property(alloc, &mut self.properties, number, line);
+        }
+        self.read_declaration(alloc, number, level, line)
+    }
+
+    /// The number of levels on which a line may stand next.
+    fn levels(&self) -> usize
+        ensures { result ≡ length self.now.path }
+    {
+        self.path.len()
+    }
+
+    /// Reads the line of this number.
+    pub(crate) fn read_line(
+        &mut self,
+        alloc: Global,
+        number: usize,
+        line: &str,
+    ) -> Result<(), SuiteFault>
+        ensures added { OnOk result (with_line number self.old line.now ≡ Ok self.new) }
+        ensures refused { IfErr result (λ fault. Fails fault (with_line number self.old line.now)) }
+    {
+        if line.starts_with('#') || without_front(line).is_empty() {
+            return Ok(());
+        }
+        self.read_words(alloc, number, line)
+    }
+
+    /// What the lines have made.
+    pub(crate) fn finish(self, alloc: Global) -> Result<Suite, AllocError>
+        ensures parts { IfOk result (λ suite. suite_parts suite ≡ parts_of self) }
+        ensures ids { IfOk result (λ suite. IdsFollow suite.tree) }
+        ensures answered { IfOk result (λ suite. AreBodiesOf suite.tree.nodes (bodies_answered suite.scripts.items)) }
+    {
+        let tree = self.tree.finish();
+        let scripts = all_settled(alloc, &tree, self.scripts, self.afters)?;
+        Ok(Suite {
+            tree,
+            scripts,
+            properties: self.properties,
+        })
+    }
+}

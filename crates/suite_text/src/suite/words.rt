@@ -1,0 +1,263 @@
+//! What the words of a line declare.
+
+ghost use Rattle.std.specs.Prelude.{◌≡◌, IfOk};
+ghost use Rattle.suite_text.specs.Reading.Words.{word_of, may_stand, placed, with_verdict, with_attributes, with_name, declared_by, declaration_of};
+ghost use Rattle.suite_text.specs.Reading.Faults.{Gives};
+
+use crate::script::Script;
+use crate::suite::attributes::{Attributes, attributes_in};
+use crate::suite::fault::SuiteFault;
+use crate::suite::lines::{next_word, word_and_text};
+use crate::suite::pulls::Pending;
+use crate::suite::verdicts::{Verdict, status_of, verdict_in};
+use descriptor::{BodyId, Kind, Role};
+use std::alloc::{AllocError, Global};
+use unique_id::Text;
+
+/// The first word of a line that declares a node.
+#[derive(Clone, Copy)]
+pub(crate) enum Word {
+    Engine,
+    Class,
+    Test,
+    Factory,
+    Dyn,
+}
+
+/// The node that a line declares.
+#[derive(Drop)]
+pub(crate) struct Declared<'a> {
+    pub(crate) word: Word,
+    pub(crate) name: &'a str,
+    pub(crate) attributes: Attributes,
+    pub(crate) verdict: Option<Verdict>,
+    /// What follows the verdict.
+    pub(crate) text: &'a str,
+}
+
+impl Word {
+    ghost use Rattle.suite_text.specs.Reading.Nodes.{segment_kind, kind_declared, role_declared};
+    ghost use Rattle.suite_text.specs.Reading.Attributes.{may_declare};
+    ghost use Rattle.suite_text.specs.Reading.Spins.{is_spin};
+    ghost use Rattle.suite_text.specs.Reading.Pulls.{is_pulls};
+
+    /// The word with this spelling.
+    fn spelled(text: &str) -> Option<Word>
+        ensures { result ≡ word_of text.now }
+    {
+        match text {
+            "engine" => Some(Word::Engine),
+            "class" => Some(Word::Class),
+            "test" => Some(Word::Test),
+            "factory" => Some(Word::Factory),
+            "dyn" => Some(Word::Dyn),
+            _ => None,
+        }
+    }
+
+    /// Whether the word may stand right below a node of this word, or at level 0 where there is
+    /// none.
+    fn stands_below(self, above: Option<Word>) -> bool
+        ensures { result ≡ may_stand above self }
+    {
+        match (above, self) {
+            (None, Word::Engine) => true,
+            (Some(Word::Engine), Word::Class) => true,
+            (Some(Word::Class), Word::Class) => true,
+            (Some(Word::Class), Word::Test) => true,
+            (Some(Word::Class), Word::Factory) => true,
+            (Some(Word::Factory), Word::Dyn) => true,
+            _ => false,
+        }
+    }
+
+    /// The type of a node's segment, right below a node of this word or at level 0.
+    pub(crate) fn segment_type(self, above: Option<Word>) -> &'static str
+        ensures { result.now ≡ segment_kind above self }
+    {
+        match (above, self) {
+            (_, Word::Engine) => "engine",
+            (Some(Word::Engine), Word::Class) => "class",
+            (_, Word::Class) => "nested-class",
+            (_, Word::Test) => "method",
+            (_, Word::Factory) => "test-factory",
+            (_, Word::Dyn) => "dynamic-test",
+        }
+    }
+
+    /// What the node may hold.
+    pub(crate) fn kind(self) -> Kind
+        ensures { result ≡ kind_declared self }
+    {
+        match self {
+            Word::Engine | Word::Class | Word::Factory => Kind::Container,
+            Word::Test | Word::Dyn => Kind::Test,
+        }
+    }
+
+    /// Whether the node makes tests while the plan runs, or is one of these.
+    pub(crate) fn role(self) -> Role
+        ensures { result ≡ role_declared self }
+    {
+        match self {
+            Word::Engine | Word::Class | Word::Test => Role::Plain,
+            Word::Factory => Role::Factory,
+            Word::Dyn => Role::Spare,
+        }
+    }
+
+    /// Whether a node of this word may declare a mode, locks and isolation.
+    pub(crate) fn may_declare(self) -> bool
+        ensures { result ≡ may_declare self }
+    {
+        match self {
+            Word::Engine | Word::Dyn => false,
+            Word::Class | Word::Test | Word::Factory => true,
+        }
+    }
+
+    /// Whether a word with this key is the attribute `spin` of a node of this word.
+    pub(crate) fn takes_spin(self, key: &str) -> bool
+        ensures { result ≡ is_spin self key.now }
+    {
+        match self {
+            Word::Engine | Word::Class | Word::Factory => false,
+            Word::Test | Word::Dyn => key == "spin",
+        }
+    }
+
+    /// Whether a word with this key is the attribute `pulls` of a node of this word.
+    pub(crate) fn takes_pulls(self, key: &str) -> bool
+        ensures { result ≡ is_pulls self key.now }
+    {
+        match self {
+            Word::Engine | Word::Class | Word::Test | Word::Dyn => false,
+            Word::Factory => key == "pulls",
+        }
+    }
+}
+
+impl<'a> Declared<'a> {
+    ghost use Rattle.suite_text.specs.Reading.Nodes.{body_declared, counts_lines, script_declared};
+    ghost use Rattle.suite_text.specs.Reading.Verdicts.{reason_declared};
+
+    /// What runs for the node of this number.
+    pub(crate) fn body(&self, number: u16) -> Option<BodyId>
+        ensures { result ≡ body_declared self.now.verdict number }
+    {
+        match status_of(self.verdict) {
+            Some(_) => Some(BodyId::new(number)),
+            None => None,
+        }
+    }
+
+    /// Why the node is disabled, where it is.
+    pub(crate) fn reason(&self, alloc: Global) -> Result<Option<Text>, AllocError>
+        ensures { IfOk result (λ reason. reason ≡ reason_declared self.now.verdict self.now.text.now) }
+    {
+        match self.verdict {
+            Some(Verdict::Disabled) => Ok(Some(Text::new(alloc, self.text)?)),
+            _ => Ok(None),
+        }
+    }
+
+    /// Whether the body is pulled once for each line of its factory: the line does not say how
+    /// often.
+    fn counts_lines(&self) -> bool
+        ensures { result ≡ counts_lines (declaration_of self.now) }
+    {
+        self.word.role().is_factory() && self.attributes.pulls.is_none()
+    }
+
+    /// What the body of the node of this number answers.
+    pub(crate) fn script(&self, alloc: Global, number: u16) -> Result<Option<Pending>, AllocError>
+        ensures { IfOk result (λ script. script ≡ script_declared (declaration_of self.now) number) }
+    {
+        match status_of(self.verdict) {
+            Some(status) => {
+                let body = BodyId::new(number);
+                let spin = self.attributes.spin();
+                let pulls = self.attributes.pulls();
+                let counts = self.counts_lines();
+                let script = Script::ending(alloc, body, spin, pulls, status, self.text)?;
+                Ok(Some(Pending { script, counts }))
+            }
+            None => Ok(None),
+        }
+    }
+}
+
+/// The word, where it may stand right below a node of the word above.
+fn placed(number: usize, above: Option<Word>, word: Option<Word>) -> Result<Word, SuiteFault>
+    ensures { Gives (λ word. word) result (placed number above word) }
+{
+    match word {
+        Some(word) if word.stands_below(above) => Ok(word),
+        _ => Err(SuiteFault::BadLine(number)),
+    }
+}
+
+/// The node of this word, name and attributes, with the verdict that is left of its line.
+fn with_verdict<'a>(
+    number: usize,
+    word: Word,
+    name: &'a str,
+    attributes: Attributes,
+    rest: &'a str,
+) -> Result<Declared<'a>, SuiteFault>
+    ensures { Gives declaration_of result (with_verdict number word name.now attributes rest.now) }
+{
+    let (first, text) = word_and_text(rest);
+    let verdict = verdict_in(number, word, first, text)?;
+    Ok(Declared {
+        word,
+        name,
+        attributes,
+        verdict,
+        text,
+    })
+}
+
+/// The node of this word and name, with the attributes and the verdict that are left of its line.
+fn with_attributes<'a>(
+    alloc: Global,
+    number: usize,
+    word: Word,
+    name: &'a str,
+    rest: &'a str,
+) -> Result<Declared<'a>, SuiteFault>
+    ensures { Gives declaration_of result (with_attributes number word name.now rest.now) }
+{
+    let (attributes, rest) = attributes_in(alloc, number, word, rest)?;
+    with_verdict(number, word, name, attributes, rest)
+}
+
+/// The node of this word, with the name and all else that is left of its line.
+fn with_name<'a>(
+    alloc: Global,
+    number: usize,
+    word: Word,
+    rest: &'a str,
+) -> Result<Declared<'a>, SuiteFault>
+    ensures { Gives declaration_of result (with_name number word rest.now) }
+{
+    let (name, rest) = next_word(rest);
+    if name.is_empty() {
+        return Err(SuiteFault::BadLine(number));
+    }
+    with_attributes(alloc, number, word, name, rest)
+}
+
+/// The node that a line declares below a node of this word.
+pub(crate) fn declared_in<'a>(
+    alloc: Global,
+    number: usize,
+    above: Option<Word>,
+    line: &'a str,
+) -> Result<Declared<'a>, SuiteFault>
+    ensures { Gives declaration_of result (declared_by number above line.now) }
+{
+    let (first, rest) = next_word(line);
+    let word = placed(number, above, Word::spelled(first))?;
+    with_name(alloc, number, word, rest)
+}
