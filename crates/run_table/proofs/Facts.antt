@@ -4,7 +4,6 @@ use Rattle.atomic_table.specs.Table.{Me}
 use Rattle.plan_events.specs.declared.event.Event.{Event}
 use Rattle.plan_events.specs.declared.status.Status.{Status}
 use Rattle.plan_events.specs.declared.status.Status.TheVariants.{Successful}
-use Rattle.scheduling.specs.Answers.{answer_of, reply_by}
 use Rattle.plan_events.specs.declared.outcome.Reply.{Reply}
 use Rattle.scheduling.specs.declared.answer.Answer.{Answer}
 use Rattle.atomic_table.specs.declared.owned.Table.{Table}
@@ -41,7 +40,7 @@ use Rattle.table_rule.specs.Within.{IsSeatWithin, IsWorkerWithin, IsWithin}
 use Rattle.table_rule.proofs.Keys.{IsSmall}
 use Rattle.run_table.specs.Moved.{moved_in}
 use Rattle.run_table.specs.Reading.{owner_by, status_by, status_read}
-use Rattle.run_table.specs.Seats.{IsAtWork, IsFitting, IsSeatOf, seated, back_at, offer_to, guard_to, answer_in, reply_in}
+use Rattle.run_table.specs.Seats.{IsAtWork, IsFitting, IsSeatOf, seated, back_at, offer_to, guard_to}
 
 -- what was found is what was asked for
 pub hit : (X Y : Type 0) (found first : ℕ) → found ≡ first → MatchBool (found == first) X Y → X
@@ -95,21 +94,6 @@ guard_low p answer (Opens n Guarding) hand node result rest inside low q = subst
 guard_low p answer Free hand node result rest inside low q = hand_low p hand answer node result rest low q
 guard_low p answer _ hand node result rest inside low q = absurd (none-some (guard_to node result rest) q)
 
--- A guard is given up by what a step knows of an answer.
-pulled_known : (p : PlanParts) (f k : ℕ) (waiting : Option ℕ) (reply : Reply) → pulled_guard p f k waiting reply ≡ pulled_guard p f k waiting (reply_by (answer_of reply))
-pulled_known p f k (Some c) reply = refl
-pulled_known p f k None reply = refl
-
-hand_known : (p : PlanParts) (hand : Option Hand) (answer : Option Reply) → hand_guard p hand answer ≡ hand_guard p hand (reply_in (answer_in answer))
-hand_known p None answer = refl
-hand_known p (Some h) None = refl
-hand_known p (Some h) (Some reply) = pulled_known p h.factory h.registered h.waiting reply
-
-pub guard_known : (p : PlanParts) (answer : Option Reply) (seat : Seat) (task : Task) → guard_due p answer seat task ≡ guard_due p (reply_in (answer_in answer)) seat task
-guard_known p answer seat (Opens n Guarding) = refl
-guard_known p answer seat Free = hand_known p seat.hand answer
-guard_known p answer seat _ = refl
-
 -- a status that is read as settled has the word 1
 pub settled_read : (word : ℕ) → status_read word ≡ Settled → (word == 1) ≡ true
 settled_read word q = by (word == 1) (word % 4) q
@@ -154,6 +138,8 @@ free_within p w = record {
   hand = λ h q. absurd (none-some h q);
   factory = λ h q. absurd (none-some h q);
   registered = λ h q. absurd (none-some h q);
+  maker = λ h q. absurd (none-some h q);
+  spares = λ h q. absurd (none-some h q);
   placed = λ i e q. absurd (none-some (i, e) q);
   lawful = λ i e q. absurd (none-some (i, e) q);
   locking = λ n i q. absurd (let h : Free ≡ Opens n (Locking i) = q in cc);

@@ -7,6 +7,7 @@ use mathlib.Core.Option.{some}
 use mathlib.Core.Logic.{dite}
 use native.Mathlib.Decide.{ℕ_discrete}
 use Rattle.atomic_table.specs.Table.{Me, rest}
+use Rattle.plan_events.specs.declared.event.Event.{Event}
 use Rattle.plan_events.specs.declared.note.Note.{Note}
 use Rattle.plan_events.specs.declared.outcome.Reply.{Reply}
 use Rattle.plan_events.specs.declared.status.Status.{Status}
@@ -25,12 +26,13 @@ use Rattle.table_rule.specs.declared.view.Slot.{Slot}
 use Rattle.table_rule.specs.declared.view.Slot.TheVariants.{Empty, Body, Answered}
 use Rattle.table_rule.specs.declared.view.Shelf.{Shelf}
 use Rattle.table_rule.specs.declared.view.Shelf.TheVariants.{Unmoved, Out, Left, Noted, Taking, Taken}
-use Rattle.table_rule.specs.Slots.{after_slot, slot_count, job_at, made_of, slot_due, job_with, slot_with, slot_for, fresh, home_by, note_in, IsNoteDue}
+use Rattle.table_rule.specs.Slots.{after_slot, slot_count, job_at, made_of, slot_due, job_with, slot_with, slot_for, fresh, home_by, note_in, decides, IsFinished, EndsBy, IsNoteDue}
 use Rattle.table_rule.specs.declared.view.Place.TheVariants.{Dispatcher}
 use Rattle.table_rule.specs.Plays.{worker, dispatcher, at_work, makes, notes}
 use Rattle.table_rule.specs.Plays.{seated as seated_at}
 use Rattle.table_rule.specs.Within.{IsSeatWithin}
 use Rattle.table_rule.proofs.Jobs.{body_job, after_job_at, after_is}
+use Rattle.run_table.specs.Answering.{known_by}
 use Rattle.run_table.specs.Moved.{is_moved, moved_in, job_slot}
 use Rattle.run_table.specs.Seats.{IsAtWork, seated}
 
@@ -117,6 +119,18 @@ module _ {B : Type 0} where
     no_slot = refl;
   })
 
+  -- its answer has come
+  pub answered_works : (m old : Me (Slot B) (View B)) (k number : ℕ) (seat : Seat) (answer : Option Answer) (moved : List Bool) (reply : Reply) (known : Answer) → IsAtWork old number seat answer moved
+      → m ≡ (at_work old.0 (makes k (Noted reply) (Some reply) (makes k Out None (worker old.0))), []) → known_by seat.task seat.hand reply ≡ known → IsAtWork m number seat (Some known) (set moved k true)
+  answered_works m old k number seat answer moved reply known it now same = subst (λ (u : Me (Slot B) (View B)). IsAtWork u number seat (Some known) (set moved k true)) (sym now) (record {
+    place = refl;
+    number_is = it.number_is;
+    seat_is = it.seat_is;
+    answer_is = ap (λ (x : Answer). Some x) same;
+    moved_is = ap (λ (l : List Bool). set l k true) it.moved_is ∙ sym (set_two (moved_in (worker old.0).slots) k true true);
+    no_slot = refl;
+  })
+
 -- What waits in the slot of a job.
 pub fresh_is : {B : Type 0} (key : About B) (k number : ℕ) → job_at key.plan k ≡ Some number → is_some (job_with key.jobs number) ≡ true → (job : B) × (fresh key k ≡ Body job)
 fresh_is {B} key k number at known = by (job_with key.jobs number) refl known
@@ -143,18 +157,28 @@ module _ {B : Type 0} (m : Me (Slot B) (View B)) (k : ℕ) where
   pub one_note : (x y : Reply) → note_taken x ≡ note_taken y → x ≡ y
   one_note x y q = taking_same x y (ap (λ (u : Me (Slot B) (View B)). first_shelf (dispatcher u.0).slots) q)
 
+-- of which it may be told what else it is of
+pub ends_as : {p : PlanParts} {replies : ℕ → List Reply} {read : List Event} {node : ℕ} {status : Status} {finish : IsFinished read node status} {k : ℕ} (reply other : Reply) → other ≡ reply
+    → (decides p node k other ≡ true → EndsBy p replies read node status finish k other) → decides p node k reply ≡ true → EndsBy p replies read node status finish k reply
+ends_as {p} {replies} {read} {node} {status} {finish} {k} reply other same told = subst (λ z. decides p node k z ≡ true → EndsBy p replies read node status finish k z) same told
+
 pub due_of : (p : PlanParts) (made : List (ℕ × Shelf)) (n k : ℕ) → IsNoteDue p made n k → (k ≡ n) ⊎ (k ≡ after_slot p n)
 due_of p made n k due = elim due [ inl x ↦ inl x.slot | inr x ↦ inr x.slot ]
 
-pub same_note : {B : Type 0} (status other : Status) (note last : Note) → ◌≡◌ {A = Slot B} (Answered status note) (Answered other last) → (status ≡ other) × (note ≡ last)
-same_note status other note last q = (ap (λ x. status_in status x) q, ap (λ x. note_in_slot note x) q)
+pub same_note : {B : Type 0} (pulls many : ℕ) (status other : Status) (note last : Note) → ◌≡◌ {A = Slot B} (Answered pulls status note) (Answered many other last) → (pulls ≡ many) × (status ≡ other) × (note ≡ last)
+same_note pulls many status other note last q = (ap (λ x. pulls_in pulls x) q, ap (λ x. status_in status x) q, ap (λ x. note_in_slot note x) q)
   where
+    pulls_in : {B : Type 0} → ℕ → Slot B → ℕ
+    pulls_in d (Answered k s n) = k
+    pulls_in d Empty = d
+    pulls_in d (Body job) = d
+
     status_in : {B : Type 0} → Status → Slot B → Status
-    status_in d (Answered s n) = s
+    status_in d (Answered k s n) = s
     status_in d Empty = d
     status_in d (Body job) = d
 
     note_in_slot : {B : Type 0} → Note → Slot B → Note
-    note_in_slot d (Answered s n) = n
+    note_in_slot d (Answered k s n) = n
     note_in_slot d Empty = d
     note_in_slot d (Body job) = d

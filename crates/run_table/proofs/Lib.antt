@@ -2,3 +2,5 @@
 pub mod Asks
 pub mod Facts
 pub mod JobMoves
+pub mod Knowing
+pub mod Replies

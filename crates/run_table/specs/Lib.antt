@@ -1,4 +1,5 @@
 -- What clauses say of the table and of its seats.
+pub mod Answering
 pub mod Moved
 pub mod Reading
 pub mod Seats

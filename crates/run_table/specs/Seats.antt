@@ -16,7 +16,7 @@ use Rattle.scheduling.specs.declared.task.Task.TheVariants.{Closes}
 use Rattle.scheduling.specs.Rows.{with_task, ends_or_free}
 use Rattle.descriptor.specs.Nodes.{parent_of}
 use Rattle.scheduling.specs.declared.turns.Turns.{Turns}
-use Rattle.scheduling.specs.Answers.{answer_of, reply_by}
+use Rattle.scheduling.specs.Answers.{reply_by}
 use Rattle.scheduling.specs.Choices.{decided}
 use Rattle.scheduling.specs.LinkLists.{AreTurns}
 use Rattle.table_rule.specs.declared.rule.Law.{Law}
@@ -26,19 +26,15 @@ use Rattle.table_rule.specs.declared.view.Slot.{Slot}
 use Rattle.table_rule.specs.declared.view.Place.TheVariants.{Worker, Dispatcher}
 use Rattle.table_rule.specs.Words.{word_count}
 use Rattle.table_rule.specs.declared.view.Dispatching.{Dispatching}
-use Rattle.table_rule.specs.Slots.{slot_count, job_at, job_with, jobs_at, decides, told_status, IsFinished, IsNoteDue}
+use Rattle.table_rule.specs.Slots.{slot_count, job_at, job_with, decides, IsFinished, EndsBy, IsNoteDue}
 use Rattle.table_rule.specs.Picture.{about_of}
+use Rattle.run_table.specs.Answering.{known_in}
 use Rattle.run_table.specs.Moved.{moved_in}
 use Rattle.table_rule.specs.Plays.{Back, Guard, Offer, guard_due, ended_seat, outstanding_in, result_in, unasked, worker, dispatcher, ready_in, goes_on, draws_on}
 
 -- a task, and what is in hand
 abbrev pub seated : Task → Option Hand → Seat
 seated task hand = record { task = task; hand = hand }
-
--- what a step has to know of an answer, if there is one
-abbrev pub answer_in : Option Reply → Option Answer
-answer_in None = None
-answer_in (Some reply) = Some (answer_of reply)
 
 -- a task that waits for the answer of this job, once the answer is made use of
 abbrev pub task_by : PlanParts → Option ℕ → Option Answer → Task → Task
@@ -58,9 +54,9 @@ offer_to node to = record { node = node; to = to }
 abbrev pub guard_to : ℕ → Status → Option Hand → Guard
 guard_to node result hand = record { node = node; result = result; hand = hand }
 
--- where the answer of this slot's job decides how a finished node ends, its status is the one that was read
-abbrev pub IsEnded : PlanParts → Dispatching → ℕ → Reply → Type 0
-IsEnded p d k reply = (node : ℕ) (status : Status) → IsFinished d.read node status → IsNoteDue p d.slots node k → decides p node k reply ≡ true → told_status (jobs_at p k) reply ≡ status
+-- where the answer of this slot's job decides how a finished node ends, the node ended by it
+abbrev pub IsEnded : PlanParts → (ℕ → List Reply) → Dispatching → ℕ → Reply → Type 0
+IsEnded p replies d k reply = (node : ℕ) (status : Status) (finish : IsFinished d.read node status) → IsNoteDue p d.slots node k → decides p node k reply ≡ true → EndsBy p replies d.read node status finish k reply
 
 -- a reply of which a step knows this, if there is one
 abbrev pub reply_in : Option Answer → Option Reply
@@ -87,7 +83,7 @@ module _ {B : Type 0} where
     pub place : m.0.place ≡ Worker (worker m.0)
     pub number_is : (worker m.0).number ≡ number
     pub seat_is : (worker m.0).seat ≡ seat
-    pub answer_is : answer_in (worker m.0).answer ≡ answer
+    pub answer_is : known_in seat (worker m.0).answer ≡ answer
     pub moved_is : moved ≡ moved_in (worker m.0).slots
     pub no_slot : m.1 ≡ []
 

@@ -1,6 +1,7 @@
 //! The running table: what the threads of a run share, and the seats by which they take its steps.
 #![tactic(auto)]
 
+mod answering;
 mod counting;
 mod dispatcher;
 mod fault;

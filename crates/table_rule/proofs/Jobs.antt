@@ -113,13 +113,13 @@ module _ {B : Type 0} (key : About B) (k : ℕ) where
           not_body q = cc
       go (Some number) e q = (number, e, by_job number (job_with key.jobs number) refl q)
 
-  pub fresh_no_note : (status : Status) (note : Note) → fresh key k ≡ Answered status note → ⊥
-  fresh_no_note status note = go (job_at key.plan k)
+  pub fresh_no_note : (pulls : ℕ) (status : Status) (note : Note) → fresh key k ≡ Answered pulls status note → ⊥
+  fresh_no_note pulls status note = go (job_at key.plan k)
     where
-      by_job : (found : Option B) → slot_with found ≡ Answered status note → ⊥
+      by_job : (found : Option B) → slot_with found ≡ Answered pulls status note → ⊥
       by_job None q = cc
       by_job (Some job) q = cc
 
-      go : (found : Option ℕ) → slot_for key.jobs found ≡ Answered status note → ⊥
+      go : (found : Option ℕ) → slot_for key.jobs found ≡ Answered pulls status note → ⊥
       go None q = cc
       go (Some number) q = by_job (job_with key.jobs number) q

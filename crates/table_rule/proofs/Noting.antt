@@ -36,8 +36,8 @@ use Rattle.table_rule.specs.declared.view.Shelf.TheVariants.{Unmoved, Out, Left,
 use Rattle.table_rule.specs.declared.view.Dispatching.{Dispatching}
 use Rattle.table_rule.specs.declared.view.Place.{Place}
 use Rattle.table_rule.specs.declared.view.Place.TheVariants.{Spent, Worker, Dispatcher}
-use Rattle.table_rule.specs.Slots.{after_slot, slot_count, is_body_slot, job_at, jobs_at, told_note, told_by, is_last, decides, taken_part, made_of, IsFinished, WentOn, IsNoteDue, HasSlot, DispatcherKnows, PlaceKnows, home_by, note_in}
-use Rattle.table_rule.specs.Picture.{Names, DispatcherFits, PlaceFits, ViewFits, IsPictureOf, Ruled, dispatcher_view}
+use Rattle.table_rule.specs.Slots.{after_slot, slot_count, is_body_slot, job_at, jobs_at, told_note, told_by, is_last, decides, taken_part, made_of, IsFinished, EndsBy, WentOn, IsNoteDue, HasSlot, DispatcherKnows, PlaceKnows, home_by, note_in}
+use Rattle.table_rule.specs.Picture.{Names, DispatcherFits, PlaceFits, ViewFits, IsPictureOf, Ruled, replies_of, dispatcher_view}
 use Rattle.table_rule.specs.Plays.{notes, note_lift_tells, note_leave_tells}
 use Rattle.table_rule.proofs.Frame.{word_same}
 use Rattle.table_rule.proofs.Holders.{slot_unfinished}
@@ -222,15 +222,23 @@ module _ {B : Type 0} (replies : ℕ → List Reply) (key : About B) (s : TableS
   of_node : (n k : ℕ) → IsNoteDue p d.slots n k → (k ≡ n) ⊎ (k ≡ after_slot p n)
   of_node n k due = elim due [ inl x ↦ inl x.slot | inr x ↦ inr x.slot ]
 
+  -- an answer that decides is the one by which the node ended
+  ended_by : (n k : ℕ) (status : Status) (f : IsFinished d.read n status) (due : IsNoteDue p d.slots n k) (reply : Reply) → told (verdict n k status f due).number ≡ reply ∷ [] → decides p n k reply ≡ true → EndsBy p replies d.read n status f k reply
+  ended_by n k status f due reply one last =
+      let tells = (verdict n k status f due).tells reply one last in
+      record {
+        status_is = tells.status_is;
+        text_is = λ reason. wide_result told replies rule.among p d.read f.place f.event (text_of_note reason (told_note (jobs_at p k) reply))
+            (subst (HasResult p told d.read f.place f.event) (sym (tells.text_is reason)) (finish_text n status f).1);
+      }
+
   -- The note that was taken of an answer that decides is the text of the finish.
   pub taken_text : (n k : ℕ) (status : Status) (f : IsFinished d.read n status) → IsNoteDue p d.slots n k → (reply : Reply) → made_of d.slots k ≡ Taken reply → decides p n k reply ≡ true → (reason : Option (List ℕ))
       → HasResult p replies d.read f.place f.event (text_of_note reason (told_note (jobs_at p k) reply))
   taken_text n k status f due reply made last reason =
       let x = verdict n k status f due in
       let shelf : r.slots.shelf k ≡ Taken reply = taken_shelf (r.slots.shelf k) reply (knew k ∙ made) in
-      let one : told x.number ≡ reply ∷ [] = r.slots.told_is k x.number x.low x.job ∙ ap told_by shelf in
-      wide_result told replies rule.among p d.read f.place f.event (text_of_note reason (told_note (jobs_at p k) reply))
-      (subst (HasResult p told d.read f.place f.event) (sym ((x.tells reply one last).text_is reason)) (finish_text n status f).1)
+      (ended_by n k status f due reply (r.slots.told_is k x.number x.low x.job ∙ ap told_by shelf) last).text_is reason
 
   -- The dispatcher moves a slot that nobody has, the job of which has answered.
   dispatcher_moves : (k : ℕ) (old new : Shelf) (reply : Reply) (words : List ℕ) → words ≡ s.words → k < slot_count p → r.slots.shelf k ≡ old → told_by old ≡ reply ∷ [] → told_by new ≡ reply ∷ [] → taken_part new ≡ new → new ≢ Unmoved → ((n : ℕ) → n < size p.tree → has Finished n d.read ≡ false → (k ≡ n) ⊎ (k ≡ after_slot p n) → ⊥)
@@ -311,11 +319,11 @@ module _ {B : Type 0} (replies : ℕ → List Reply) (key : About B) (s : TableS
   abbrev pub NoteOwed : List (ℕ × Slot B) → ℕ → (ℕ → Me (Slot B) (View B) → Type 0) → Type 0
   NoteOwed carried i tells = (v : View B) × (a : Act (Slot B)) × Valid s.homes carried a × Ruled replies key (stepped s i (get_or s.words i 0) id carried v a) × tells (get_or s.words i 0) (v, carried_after carried a)
 
-  abbrev pub note_lift_told : ℕ → ℕ → ℕ → Me (Slot B) (View B) → Type 0
-  note_lift_told slots k = note_lift_tells (step slots k 0 0 none) (dispatcher_view key d, [])
+  abbrev pub note_lift_told : (B → List Reply) → ℕ → ℕ → ℕ → Me (Slot B) (View B) → Type 0
+  note_lift_told answers slots k = note_lift_tells answers (step slots k 0 0 none) (dispatcher_view key d, [])
 
-  pub note_lift_step : (slots node k : ℕ) (status : Status) → IsFinished d.read node status → IsNoteDue p d.slots node k → made_of d.slots k ≡ Unmoved → NoteOwed [] k (note_lift_told slots k)
-  note_lift_step slots node k status f due unmoved =
+  pub note_lift_step : (answers : B → List Reply) → replies ≡ replies_of answers key → (slots node k : ℕ) (status : Status) → IsFinished d.read node status → IsNoteDue p d.slots node k → made_of d.slots k ≡ Unmoved → NoteOwed [] k (note_lift_told answers slots k)
+  note_lift_step answers same slots node k status f due unmoved =
       let x = verdict node k status f due in
       let says = x.has_told in
       let is : told x.number ≡ told_by (r.slots.shelf k) = r.slots.told_is k x.number x.low x.job in
@@ -327,7 +335,7 @@ module _ {B : Type 0} (replies : ℕ → List Reply) (key : About B) (s : TableS
         r.slots.homes k x.low ∙ ap (λ (z : Shelf). some (home_by key k z)) noted.1,
         dispatcher_moves k (Noted reply) (Taking reply) reply (set s.words k word) (word_same s.words k word refl) x.low noted.1 refl refl refl (taking_moved reply) (read_before node k status f (of_node node k due)) (nobody node k status f (of_node node k due)),
         λ node2 status2 f2 due2. (let y = verdict node2 k status2 f2 due2 in
-            (reply, refl, λ last. (y.tells reply (r.slots.told_is k y.number y.low y.job ∙ ap told_by noted.1) last).status_is)),
+            (reply, refl, λ last. subst (λ (l : ℕ → List Reply). EndsBy p l d.read node2 status2 f2 k reply) same (ended_by node2 k status2 f2 due2 reply (r.slots.told_is k y.number y.low y.job ∙ ap told_by noted.1) last))),
       )
 
   abbrev first_number : List (ℕ × Slot B) → ℕ
@@ -366,9 +374,9 @@ module _ {B : Type 0} (replies : ℕ → List Reply) (key : About B) (slots id :
       subst (λ (u : Me (Slot B) (View B)). (v : View B) × (a : Act (Slot B)) × Valid s.homes u.1 a × Ruled replies key (stepped s i (slice_index s.words i) id u.1 v a) × tells u (slice_index s.words i) (v, carried_after u.1 a))
       whole (owes s r (subst (λ (v : View B). get_elem? s.views id ≡ some v) (sym e) at))
 
-  pub note_lift_allows : (node k : ℕ) (status : Status) → m.1 ≡ [] → IsFinished d.read node status → IsNoteDue key.plan d.slots node k → made_of d.slots k ≡ Unmoved
-      → Allows (Ruled replies key) slots id m k (λ x. x) (note_lift_tells (step slots k 0 0 none) m)
-  note_lift_allows node k status holds f due unmoved = note_allows k [] (note_lift_tells (step slots k 0 0 none)) holds (λ s r at. note_lift_step replies key s r id d at slots node k status f due unmoved)
+  pub note_lift_allows : (answers : B → List Reply) → replies ≡ replies_of answers key → (node k : ℕ) (status : Status) → m.1 ≡ [] → IsFinished d.read node status → IsNoteDue key.plan d.slots node k → made_of d.slots k ≡ Unmoved
+      → Allows (Ruled replies key) slots id m k (λ x. x) (note_lift_tells answers (step slots k 0 0 none) m)
+  note_lift_allows answers same node k status holds f due unmoved = note_allows k [] (note_lift_tells answers (step slots k 0 0 none)) holds (λ s r at. note_lift_step replies key s r id d at answers same slots node k status f due unmoved)
 
   pub note_leave_allows : (i node k : ℕ) (status : Status) (reply : Reply) → m.1 ≡ (k, Empty) ∷ [] → IsFinished d.read node status → (k ≡ node) ⊎ (k ≡ after_slot key.plan node) → made_of d.slots k ≡ Taking reply
       → Allows (Ruled replies key) slots id m i (λ x. x) (note_leave_tells (step slots i 0 0 none) m)

@@ -1,12 +1,24 @@
 -- What a worker's seat names is in range, since the core's state keeps it so: every step tells it besides what it tells of its kind.
-use Rattle.std.proofs.Common.{◌≡◌, ℕ, List, length, Some, slice_get, sym, subst, arith}
+use Rattle.std.proofs.Common.{◌≡◌, ℕ, ◌≤◌, ◌&&◌, List, length, Some, slice_get, sym, subst, arith}
+use Rattle.std.proofs.lemmas.Bool.{and_parts}
 use mathlib.Core.Option.{some}
 use lib.ListN.{get_elem?}
 use Rattle.std.proofs.lemmas.Option.{slice_get_within}
 use Rattle.atomic_table.specs.Table.{State as TableState, Me, Allows}
+use Rattle.descriptor.specs.Nodes.{size}
+use Rattle.plan_events.specs.declared.event.Event.{Event}
+use Rattle.plan_events.specs.declared.event.EventKind.TheVariants.{Registered}
+use Rattle.event_history.specs.Plans.{is_spare_of, spare_count}
+use Rattle.event_history.specs.Places.{has}
+use Rattle.event_history.specs.Following.{registered_in}
+use Rattle.event_history.proofs.Counting.{count_le}
 use Rattle.event_history.proofs.Few.{legal_few}
+use Rattle.event_history.proofs.Spares.{plan_tree}
 use Rattle.plan_events.specs.declared.outcome.Reply.{Reply}
+use Rattle.scheduling.specs.declared.seat.Hand.{Hand}
 use Rattle.scheduling.specs.declared.seat.Seat.{Seat}
+use Rattle.scheduling.specs.Stages.{Stage}
+use Rattle.scheduling.specs.Invariant.{IsInHand, HandOk}
 use Rattle.scheduling.specs.State.{State}
 use Rattle.scheduling.proofs.Ranges.{ranges}
 use Rattle.table_rule.specs.declared.view.About.{About}
@@ -22,6 +34,13 @@ use Rattle.table_rule.proofs.Frame.{mine}
 use Rattle.table_rule.proofs.Ready.{here_after, ready_core, ready_table, ready_picture, ready_at}
 
 module _ {B : Type 0} (replies : ℕ → List Reply) (key : About B) where
+  -- no more dynamic tests of a factory are registered than it has
+  few_registered : {g : ℕ → Stage} {w : ℕ} (h : List Event) (hand : Hand) → IsInHand key.plan g h w hand → hand.registered ≤ spare_count key.plan hand.factory
+  few_registered h hand x =
+      let count : registered_in key.plan h hand.factory ≡ hand.registered = x.count in
+      let most = count_le (λ c. is_spare_of key.plan hand.factory c && has Registered c h) (is_spare_of key.plan hand.factory) (size key.plan.tree) (λ c low q. (and_parts (is_spare_of key.plan hand.factory c) (has Registered c h) q).0) in
+      omega (arith, count, most)
+
   seat_within : (c : State) (dealt : Dealt) (s : TableState (Slot B) (View B)) → IsPictureOf replies key c dealt s → (w : ℕ) (seat : Seat) → slice_get c.seats w ≡ Some seat → IsSeatWithin key.plan w seat
   seat_within c dealt s r w seat is =
       let range = ranges key.plan r.plan replies c r.kept r.placed w seat is in
@@ -31,6 +50,8 @@ module _ {B : Type 0} (replies : ℕ → List Reply) (key : About B) where
         hand = range.hand;
         factory = range.factory;
         registered = range.registered;
+        maker = λ h q. (plan_tree key.plan.tree r.plan.tree).factory_sort h.factory (range.factory h q);
+        spares = λ h q. few_registered c.published h (subst (HandOk key.plan r.kept.0 c.published w) q (r.kept.1.seats w seat is).hand);
         placed = λ i e names. (let low = range.shown i e names in let long = r.kept.1.shown_len in omega (arith, low, long, few));
         lawful = λ i e names. r.kept.1.published.legal.lawful i e (r.placed.stands w seat i e is names).0;
         locking = range.locking;

@@ -32,8 +32,8 @@ use Rattle.table_rule.specs.declared.view.Dispatching.{Dispatching}
 use Rattle.table_rule.specs.declared.view.Place.{Place}
 use Rattle.table_rule.specs.declared.view.Place.TheVariants.{Spent, Worker, Dispatcher}
 use Rattle.table_rule.specs.Words.{status_word}
-use Rattle.table_rule.specs.Slots.{after_slot, jobs_at, told_status, decides, IsFinished, IsNoteDue, slot_due, made_of, home_by, note_in}
-use Rattle.table_rule.specs.Picture.{free_seat}
+use Rattle.table_rule.specs.Slots.{after_slot, decides, IsFinished, EndsBy, IsNoteDue, slot_due, made_of, home_by, note_in}
+use Rattle.table_rule.specs.Picture.{free_seat, replies_of}
 
 -- Seats of the core.
 -- once the seat has claimed a node
@@ -301,15 +301,15 @@ module _ {B : Type 0} where
 
   -- it gives the slot back with a note: that of a reply, which is its answer
   abbrev pub answer_tells : Step (Slot B) → Me (Slot B) (View B) → ℕ → Me (Slot B) (View B) → Type 0
-  answer_tells st m r n = (k : ℕ) (status : Status) (note : Note) → m.1 ≡ (k, Answered status note) ∷ []
-      → (reply : Reply) × (note_in {B = B} m.0.about.plan k reply ≡ Answered status note) × (n ≡ (at_work m.0 (makes k (Noted reply) (Some reply) (worker m.0)), []))
+  answer_tells st m r n = (k pulls : ℕ) (status : Status) (note : Note) → m.1 ≡ (k, Answered pulls status note) ∷ []
+      → (reply : Reply) × (note_in {B = B} m.0.about.plan k reply ≡ Answered pulls status note) × (n ≡ (at_work m.0 (makes k (Noted reply) (Some reply) (worker m.0)), []))
 
   -- the dispatcher takes the slot with the number of the word, that of a job of a finished node, with the note of what the job
-  -- answered; and if that decides how the node ends, its status is the one that was read
-  abbrev pub note_lift_tells : Step (Slot B) → Me (Slot B) (View B) → ℕ → Me (Slot B) (View B) → Type 0
-  note_lift_tells st m r n = (node : ℕ) (status : Status) → IsFinished (dispatcher m.0).read node status → IsNoteDue m.0.about.plan (dispatcher m.0).slots node st.word
+  -- answered; and if that decides how the node ends, it is the answer by which the node ended
+  abbrev pub note_lift_tells : (B → List Reply) → Step (Slot B) → Me (Slot B) (View B) → ℕ → Me (Slot B) (View B) → Type 0
+  note_lift_tells answers st m r n = (node : ℕ) (status : Status) (finish : IsFinished (dispatcher m.0).read node status) → IsNoteDue m.0.about.plan (dispatcher m.0).slots node st.word
       → (reply : Reply) × (n ≡ (seated m.0 (Dispatcher (notes st.word (Taking reply) (dispatcher m.0))), (st.word, note_in m.0.about.plan st.word reply) ∷ m.1))
-      × (decides m.0.about.plan node st.word reply ≡ true → told_status (jobs_at m.0.about.plan st.word) reply ≡ status)
+      × (decides m.0.about.plan node st.word reply ≡ true → EndsBy m.0.about.plan (replies_of answers m.0.about) (dispatcher m.0).read node status finish st.word reply)
 
   -- it gives the slot back empty: the note was taken
   abbrev pub note_leave_tells : Step (Slot B) → Me (Slot B) (View B) → ℕ → Me (Slot B) (View B) → Type 0

@@ -6,6 +6,7 @@ use lib.ListN.{get_elem?}
 use Rattle.atomic_table.specs.Table.{State as TableState}
 use Rattle.descriptor.specs.Nodes.{size, body_of, after_of}
 use Rattle.plan_events.specs.Statuses.{is_successful}
+use Rattle.plan_events.specs.Texts.{text_of_note}
 use Rattle.plan_events.specs.declared.event.Event.{Event}
 use Rattle.plan_events.specs.declared.event.EventKind.TheVariants.{Started, Finished}
 use Rattle.plan_events.specs.declared.note.Note.{Note}
@@ -15,6 +16,7 @@ use Rattle.plan_events.specs.declared.status.Status.{Status}
 use Rattle.plan_events.specs.declared.status.Status.TheVariants.{Successful, Failed}
 use Rattle.resource_locks.specs.Plans.{PlanParts}
 use Rattle.event_history.specs.Places.{has}
+use Rattle.event_history.specs.History.{HasResult}
 use Rattle.event_history.specs.Results.{Jobs, Pulled, Around, NoJob, jobs_of}
 use Rattle.scheduling.specs.declared.task.Opening.TheVariants.{StartedAt, Awaiting}
 use Rattle.scheduling.specs.declared.task.Closing.TheVariants.{AwaitingAfter}
@@ -52,10 +54,18 @@ job_at p k = cond (is_body_slot p k) (body_of p.tree k) (after_of p.tree (k - si
 abbrev pub jobs_at : PlanParts → ℕ → Jobs
 jobs_at p k = cond (is_body_slot p k) (jobs_of p k) NoJob
 
--- The note of an answer: its status and text, but where a factory's has more pulls than there are dynamic tests.
+-- The note of an answer: its pulls, status and text, but where a factory's has more pulls than there are dynamic tests.
 abbrev pub is_too_many : Jobs → Reply → Bool
 is_too_many (Pulled body spares) reply = nat_lt spares reply.pulls
 is_too_many _ reply = false
+
+abbrev pub spares_in : Jobs → ℕ
+spares_in (Pulled body spares) = spares
+spares_in _ = 0
+
+-- how many more than there are it has, is not told
+abbrev pub told_pulls : Jobs → Reply → ℕ
+told_pulls jobs reply = cond (is_too_many jobs reply) (spares_in jobs + 1) reply.pulls
 
 abbrev pub told_status : Jobs → Reply → Status
 told_status jobs reply = cond (is_too_many jobs reply) Failed reply.outcome.status
@@ -100,6 +110,11 @@ pub record IsFinished (read : List Event) (n : ℕ) (status : Status) : Type 0 w
   pub kind : event.kind ≡ Finished
   pub node : event.node ≡ n
   pub ends : event.status ≡ Some status
+
+-- The answer by which a node ended whose finish was read: its status is the finish's, and its note gives the text of that.
+pub record EndsBy (p : PlanParts) (replies : ℕ → List Reply) (read : List Event) (n : ℕ) (status : Status) (finish : IsFinished read n status) (k : ℕ) (reply : Reply) : Type 0 where
+  pub status_is : told_status (jobs_at p k) reply ≡ status
+  pub text_is : (reason : Option (List ℕ)) → HasResult p replies read finish.place finish.event (text_of_note reason (told_note (jobs_at p k) reply))
 
 -- the body of a container, if it has one, was a success, as the note says that was taken out of its slot
 abbrev pub WentOn : List (ℕ × Shelf) → ℕ → Option ℕ → Type 0
@@ -180,7 +195,7 @@ module _ {B : Type 0} where
 
   -- and once its job has answered
   abbrev pub note_in : PlanParts → ℕ → Reply → Slot B
-  note_in p k reply = Answered (told_status (jobs_at p k) reply) (told_note (jobs_at p k) reply)
+  note_in p k reply = Answered (told_pulls (jobs_at p k) reply) (told_status (jobs_at p k) reply) (told_note (jobs_at p k) reply)
 
   -- what stands at home in it
   abbrev pub home_by : About B → ℕ → Shelf → plain.Option (Slot B)

@@ -6,6 +6,7 @@ ghost use Rattle.table_rule.specs.Within.{within};
 
 use crate::view::{Slot, View};
 use atomic_table::{Join, Play, Split};
+use plan_events::Job;
 
 /// A worker claims a node: a compare-exchange of the node's status.
 pub struct Claims;
@@ -151,8 +152,8 @@ impl<B> Play<Slot<B>, View<B>> for Reads {
 /// The dispatcher takes the slot of a job of a finished node, with its note: a load of a word, which moves the slot.
 pub struct LiftsNote;
 
-impl<B> Play<Slot<B>, View<B>> for LiftsNote {
-    ghost then = { note_lift_tells };
+impl<B: Job> Play<Slot<B>, View<B>> for LiftsNote {
+    ghost then = { note_lift_tells B.answers };
 }
 
 /// The dispatcher gives the slot back empty: its note was taken.

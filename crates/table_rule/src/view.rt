@@ -14,8 +14,8 @@ pub enum Slot<B> {
     Empty,
     /// The job, as it was handed in.
     Body(B),
-    /// How the job ended, and where its text comes from.
-    Answered(Status, Note),
+    /// How many dynamic tests the job asked for, how it ended, and where its text comes from.
+    Answered(u16, Status, Note),
 }
 
 /// What has become of a slot.

@@ -3,13 +3,13 @@ use Rattle.std.proofs.Common.{◌≡◌, ◌<◌, [], true, refl, sym, ap, ◌�
 use Rattle.table_rule.specs.declared.view.Slot.TheVariants.{Empty}
 use Rattle.table_rule.specs.declared.view.Shelf.TheVariants.{Taking, Taken}
 use Rattle.table_rule.specs.declared.view.Place.TheVariants.{Dispatcher}
-use Rattle.table_rule.specs.Slots.{slot_count, made_of, note_in, jobs_at, told_status, decides, IsNoteDue}
+use Rattle.table_rule.specs.Slots.{slot_count, made_of, note_in, IsNoteDue}
 use Rattle.table_rule.specs.Plays.{dispatcher, notes, seated}
 use Rattle.table_rule.proofs.Jobs.{made_here}
 use Rattle.table_rule.proofs.Noting.{note_lift_allows, note_leave_allows}
 use Rattle.run_table.specs.Seats.{IsAtDesk}
 use Rattle.run_table.proofs.Facts.{plan_is}
-use Rattle.run_table.proofs.JobMoves.{taken_as, holds, swapped, got, one_note, due_of, same_note}
+use Rattle.run_table.proofs.JobMoves.{taken_as, holds, swapped, got, one_note, ends_as, due_of, same_note}
 use Rattle.run_table.proofs.dispatcher.DispatcherSeat.note_out.Goals as goal
 
 pub load-requires : goal.load-requires
@@ -21,7 +21,7 @@ load-requires g c =
     let low = subst (λ p. c.args.slot < slot_count p) (plan_is _ _ _ self.seat fit c.requires.table) c.requires.inside in (
       c.requires.table.same,
       omega (arith, fit.words, low),
-      note_lift_allows _ _ _ _ m (dispatcher m.0) self.at_desk.place due.0 c.args.slot due.1 self.at_desk.no_slot due.2 (subst (λ a. IsNoteDue a.plan (dispatcher m.0).slots due.0 c.args.slot) c.requires.table.about due.3) c.requires.unmoved,
+      note_lift_allows _ _ _ _ m (dispatcher m.0) self.at_desk.place _ refl due.0 c.args.slot due.1 self.at_desk.no_slot due.2 (subst (λ a. IsNoteDue a.plan (dispatcher m.0).slots due.0 c.args.slot) c.requires.table.about due.3) c.requires.unmoved,
     )
 
 pub exchange-held-requires : goal.exchange-held-requires
@@ -85,7 +85,7 @@ unreachable-requires g c =
     let y = note_in m.0.about.plan k reply in
     let v = seated m.0 (Dispatcher (notes k (Taking reply) (dispatcher m.0))) in
     let lifted = taken_as c.load.new.seat.me v k y m.1 self.at_desk.no_slot told.1 in
-    c.in_default.not-Answered _ _ (got c.load.new.seat.me v k y c.exchange-held.result lifted c.exchange-held.ensures.2)
+    c.in_default.not-Answered _ _ _ (got c.load.new.seat.me v k y c.exchange-held.result lifted c.exchange-held.ensures.2)
 
 pub returns-clause-same : goal.returns-clause-same
 returns-clause-same g c =
@@ -120,12 +120,11 @@ returns-clause-taken g c =
     let ex = c.exchange-held.ensures in
     let put = swapped c.load.new.seat.me c.exchange-held.new.seat.me v k y Empty lifted ex.3 in
     let now = c.load-2.ensures.2 k reply (ap (λ u. u.1) put) (ap (λ u. made_of (dispatcher u.0).slots k) put ∙ made_here k (Taking reply) (dispatcher m.0).slots) ∙ ap (λ u. (seated u.0 (Dispatcher (notes k (Taken reply) (dispatcher u.0))), [])) put in
-    let note = same_note c.in-Answered.status _ c.in-Answered.note _ (sym c.in-Answered.is ∙ got c.load.new.seat.me v k y c.exchange-held.result lifted ex.2) in (
+    let note = same_note _ _ c.in-Answered.status _ c.in-Answered.note _ (sym c.in-Answered.is ∙ got c.load.new.seat.me v k y c.exchange-held.result lifted ex.2) in (
       reply,
-      note.0,
       note.1,
+      note.2,
       ap (λ u. dispatcher u.0) now,
       λ node status read waits decided. (let other = c.load.ensures.2 node status read waits in
-          let one = one_note m k other.0 reply (sym other.1 ∙ told.1) in
-          ap (λ z. told_status (jobs_at m.0.about.plan k) z) (sym one) ∙ other.2 (subst (λ z. decides m.0.about.plan node k z ≡ true) (sym one) decided)),
+          ends_as reply other.0 (one_note m k other.0 reply (sym other.1 ∙ told.1)) other.2 decided),
     )
