@@ -1,5 +1,5 @@
 -- What a step knows of an answer decides as the answer does.
-use Rattle.std.proofs.Common.{◌≡◌, ◌⊎◌, inl, inr, ⊎_elim, ℕ, ◌+◌, ◌<◌, ◌==◌, ne_eqb, ◌||◌, ◌&&◌, nat_lt, not, cond, Bool, true, false, Option, Some, None, sym, refl, ap, ◌∙◌, subst, arith}
+use Rattle.std.proofs.Common.{◌≡◌, ℕ, ◌+◌, ◌<◌, ◌==◌, ne_eqb, ◌||◌, ◌&&◌, nat_lt, not, cond, Bool, true, false, Option, Some, None, sym, refl, ap, ◌∙◌, subst, arith}
 use Rattle.std.proofs.lemmas.Bool.{lt-ltb, ltb-true}
 use Rattle.descriptor.specs.Nodes.{body_of}
 use Rattle.plan_events.specs.declared.outcome.Reply.{Reply}
@@ -16,7 +16,7 @@ use Rattle.scheduling.specs.declared.task.Closing.TheVariants.{AwaitingAfter, En
 use Rattle.scheduling.specs.declared.task.Task.{Task}
 use Rattle.scheduling.specs.declared.task.Task.TheVariants.{Free, Opens, Closes}
 use Rattle.scheduling.specs.Answers.{answer_of, reply_by}
-use Rattle.scheduling.specs.Choices.{awaited, decided, is_leaf, admit_from, status_by, is_pulled, pulled_result}
+use Rattle.scheduling.specs.Choices.{awaited, decided, is_leaf, admit_from, status_by}
 use Rattle.table_rule.specs.declared.view.Working.{Working}
 use Rattle.table_rule.specs.Plays.{Guard, guard_due, hand_guard, pulled_guard, seat_by, ready_seat}
 use Rattle.run_table.specs.Answering.{known_by, known_in}

@@ -3,4 +3,5 @@ pub mod Asks
 pub mod Facts
 pub mod JobMoves
 pub mod Knowing
+pub mod Notes
 pub mod Replies

@@ -1,5 +1,6 @@
 -- What clauses say of the table and of its seats.
 pub mod Answering
 pub mod Moved
+pub mod Notes
 pub mod Reading
 pub mod Seats

@@ -1,12 +1,15 @@
 -- What clauses say of a table and of its seats.
-use Rattle.std.specs.Prelude.{◌≡◌, ℕ, ◌<◌, ◌≤◌, ◌⊎◌, Bool, true, is_some, List, [], length, Option, Some, None}
+use Rattle.std.specs.Prelude.{◌≡◌, ℕ, ◌<◌, ◌≤◌, ◌⊎◌, Bool, true, false, is_some, List, [], length, get_or, Option, Some, None, slice_get}
 use Rattle.atomic_table.specs.declared.owned.Table.{Table}
 use Rattle.atomic_table.specs.declared.shared.Seat.{Seat as TableSeat}
 use Rattle.atomic_table.specs.Table.{Me}
 use Rattle.plan_events.specs.declared.event.Event.{Event}
+use Rattle.plan_events.specs.declared.event.EventKind.TheVariants.{Finished}
 use Rattle.plan_events.specs.declared.status.Status.{Status}
 use Rattle.plan_events.specs.declared.outcome.Reply.{Reply}
+use Rattle.plan_events.specs.Words.{is_lawful}
 use Rattle.resource_locks.specs.Plans.{PlanParts}
+use Rattle.event_history.specs.Places.{has}
 use Rattle.scheduling.specs.declared.answer.Answer.{Answer}
 use Rattle.scheduling.specs.declared.seat.Hand.{Hand}
 use Rattle.scheduling.specs.declared.seat.Seat.{Seat}
@@ -110,13 +113,16 @@ module _ {B : Type 0} where
     pub task : t ≡ seat.task
 
   -- the dispatcher's own fields say what its view does, and it holds no slot
-  pub record IsAtDesk (m : Me (Slot B) (View B)) (dealt workers next : ℕ) : Type 0 where
+  pub record IsAtDesk (m : Me (Slot B) (View B)) (dealt workers next : ℕ) (ended taken : List Bool) : Type 0 where
     pub place : m.0.place ≡ Dispatcher (dispatcher m.0)
     pub dealt_is : (dispatcher m.0).dealt ≡ dealt
     pub workers_is : m.0.about.workers ≡ workers
     pub next_is : length (dispatcher m.0).read ≡ next
     pub no_slot : m.1 ≡ []
     pub few : dealt ≤ workers
+    pub ended_is : (n : ℕ) → n < 4096 → get_or ended n false ≡ has Finished n (dispatcher m.0).read
+    pub lawful : (i : ℕ) (e : Event) → slice_get (dispatcher m.0).read i ≡ Some e → is_lawful e ≡ true
+    pub taken_is : taken ≡ moved_in (dispatcher m.0).slots
 
   -- a seat of the same table, whose view names the same plan
   pub record IsOf (old new : TableSeat (Slot B) (View B)) : Type 0 where

@@ -1,8 +1,9 @@
 //! The seat of the dispatcher: it deals the workers their seats, and reads the events.
 
-ghost use Rattle.std.specs.Prelude.{◌≡◌, true, None, IfSome, IfNone};
+ghost use Rattle.std.specs.Prelude.{◌≡◌, ◌<◌, ◌||◌, ◌&&◌, ◌==◌, ℕ, true, false, replicate, get_or, None, IfSome, IfNone};
 ghost use Rattle.plan_events.specs.declared.event.EventKind.TheVariants.{Finished};
 ghost use Rattle.plan_events.specs.Words.{is_lawful};
+ghost use Rattle.event_history.specs.Places.{same_kind};
 ghost use Rattle.scheduling.specs.declared.task.Task.TheVariants.{Free};
 ghost use Rattle.table_rule.specs.Slots.{after_slot, made_of};
 ghost use Rattle.table_rule.specs.declared.view.Shelf.TheVariants.{Unmoved};
@@ -11,19 +12,44 @@ ghost use Rattle.run_table.specs.Seats.{IsAtDesk, IsSeatOf, IsOf};
 
 use crate::moving::none_moved;
 use crate::table::RunTable;
-use crate::worker::WorkerSeat;
-use plan_events::{Event, Job};
+use crate::worker::{MOST_SLOTS, WorkerSeat};
+use descriptor::NodeId;
+use plan_events::{Event, EventKind, Job};
 use scheduling::Task;
 use table_rule::{Deals, Gathers, Reads, Slot, View};
 
-/// The dispatcher's seat at the table: how many workers have a seat, of how many, and the place that it reads next.
+/// The most nodes that a plan can have.
+pub(crate) const MOST_NODES: usize = 4096;
+
+/// The marks of a dispatcher that has read no finish.
+pub(crate) fn none_ended() -> [bool; MOST_NODES]
+    ensures { result ≡ replicate 4096 false }
+{
+    [false; MOST_NODES]
+}
+
+/// Marks the node of an event of this kind, if that finishes it.
+fn mark_ended(ended: &mut [bool; MOST_NODES], kind: EventKind, node: NodeId)
+    requires { node < 4096 }
+    ensures { (n : ℕ) → n < 4096 → get_or ended.new n false ≡ (get_or ended.old n false || (same_kind kind Finished && (node == n))) }
+{
+    match kind {
+        EventKind::Finished => ended[node.index()] = true,
+        EventKind::Started | EventKind::Skipped | EventKind::Registered => {}
+    }
+}
+
+/// The dispatcher's seat at the table: how many workers have a seat, of how many, the place that it reads next, the nodes whose
+/// finish it has read, and the slots that it has moved.
 #[derive(Drop)]
 pub struct DispatcherSeat<B> {
     pub(crate) seat: atomic_table::Seat<Slot<B>, View<B>>,
     pub(crate) dealt: u8,
     pub(crate) workers: u8,
     pub(crate) next: usize,
-    pub ghost at_desk: { IsAtDesk seat.me dealt workers next },
+    pub(crate) ended: [bool; MOST_NODES],
+    pub(crate) taken: [bool; MOST_SLOTS],
+    pub ghost at_desk: { IsAtDesk seat.me dealt workers next ended taken },
 }
 
 impl<B: Job> DispatcherSeat<B> {
@@ -50,6 +76,7 @@ impl<B: Job> DispatcherSeat<B> {
         let Some(event) = Event::from_word(word) else {
             unreachable!()
         };
+        mark_ended(&mut self.ended, event.kind, event.node);
         Some(event)
     }
 

@@ -81,7 +81,7 @@ taking_shelf (Taking answer) reply q = q
 taking_shelf (Taken answer) reply q = q
 
 -- the body of a container with an after-body
-around_body : (sort : Sort) (b after : Option ℕ) (spares : ℕ) (body last : Option ℕ) → jobs_by sort b after spares ≡ Around body last → b ≡ body
+pub around_body : (sort : Sort) (b after : Option ℕ) (spares : ℕ) (body last : Option ℕ) → jobs_by sort b after spares ≡ Around body last → b ≡ body
 around_body Leaf None after spares body last q = absurd (not_around q)
   where
     not_around : NoJob ≡ Around body last → ⊥
