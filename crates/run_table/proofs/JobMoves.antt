@@ -108,6 +108,28 @@ module _ {B : Type 0} where
   pub got : (now : Me (Slot B) (View B)) (v : View B) (k : ℕ) (y x : Slot B) → now ≡ (v, (k, y) ∷ []) → now.1 ≡ (k, x) ∷ rest now.1 → x ≡ y
   got now v k y x is was = sym (ap (first_slot Empty) was) ∙ ap (λ (u : Me (Slot B) (View B)). first_slot Empty u.1) is
 
+  -- what was put into an empty slot
+  pub put_by : (old loaded put : Me (Slot B) (View B)) (k : ℕ) (x : Slot B) → old.1 ≡ [] → loaded ≡ (at_work old.0 (makes k Out None (worker old.0)), (k, Empty) ∷ old.1) → put ≡ (loaded.0, (k, x) ∷ rest loaded.1)
+      → put ≡ (at_work old.0 (makes k Out None (worker old.0)), (k, x) ∷ [])
+  put_by old loaded put k x none is now = swapped loaded put (at_work old.0 (makes k Out None (worker old.0))) k Empty x (taken_as loaded (at_work old.0 (makes k Out None (worker old.0))) k Empty old.1 none is) now
+
+  -- and what the step that gives it back tells of it
+  pub record IsGiven (old last : Me (Slot B) (View B)) (k pulls : ℕ) (status : Status) (note : Note) : Type 0 where
+    pub reply : Reply
+    pub note_is : note_in {B = B} old.0.about.plan k reply ≡ Answered pulls status note
+    pub now : last ≡ (at_work old.0 (makes k (Noted reply) (Some reply) (makes k Out None (worker old.0))), [])
+
+  pub given : (old put last : Me (Slot B) (View B)) (k pulls : ℕ) (status : Status) (note : Note) → put ≡ (at_work old.0 (makes k Out None (worker old.0)), (k, Answered pulls status note) ∷ [])
+      → ((j many : ℕ) (other : Status) (end : Note) → put.1 ≡ (j, Answered many other end) ∷ []
+      → (reply : Reply) × (note_in {B = B} put.0.about.plan j reply ≡ Answered many other end) × (last ≡ (at_work put.0 (makes j (Noted reply) (Some reply) (worker put.0)), []))) → IsGiven old last k pulls status note
+  given old put last k pulls status note is told =
+      let x = told k pulls status note (ap (λ (u : Me (Slot B) (View B)). u.1) is) in
+      record {
+        reply = x.0;
+        note_is = ap (λ (u : Me (Slot B) (View B)). note_in u.0.about.plan k x.0) (sym is) ∙ x.1;
+        now = x.2 ∙ ap (λ (u : Me (Slot B) (View B)). (at_work u.0 (makes k (Noted x.0) (Some x.0) (worker u.0)), [])) is;
+      }
+
   -- the job has left
   pub left_works : (m old : Me (Slot B) (View B)) (k number : ℕ) (seat : Seat) (answer : Option Answer) (moved : List Bool) → IsAtWork old number seat answer moved → m ≡ (at_work old.0 (makes k Left None (makes k Out None (worker old.0))), []) → IsAtWork m number seat None (set moved k true)
   left_works m old k number seat answer moved it now = subst (λ (u : Me (Slot B) (View B)). IsAtWork u number seat None (set moved k true)) (sym now) (record {
