@@ -1,7 +1,7 @@
 -- What the dispatcher's marks say, and which note of a finished node gives the text of its finish.
-use Rattle.std.proofs.Common.{◌≡◌, ◌≢◌, ◌⊎◌, inl, inr, ℕ, ◌+◌, ◌<◌, ◌||◌, not, cond, Bool, true, false, List, [], ◌∷◌, get_or, set, Option, Some, None, slice_get, sym, refl, ap, ◌∙◌, subst, arith}
+use Rattle.std.proofs.Common.{◌≡◌, ◌≢◌, ◌⊎◌, inl, inr, ℕ, ◌+◌, ◌<◌, ◌||◌, not, cond, Bool, true, false, List, [], ◌∷◌, get_or, replicate, set, Option, Some, None, slice_get, sym, refl, ap, ◌∙◌, subst, arith}
 use Rattle.std.proofs.lemmas.Bool.{true≢false, and_parts, lt-ltb}
-use Rattle.std.proofs.lemmas.List.{length-append}
+use Rattle.std.proofs.lemmas.List.{length-append, get_or-replicate}
 use Rattle.std.proofs.lemmas.Option.{none-some}
 use Rattle.atomic_table.specs.Table.{Me}
 use Rattle.descriptor.specs.Nodes.{size, body_of}
@@ -22,12 +22,14 @@ use Rattle.event_history.specs.Plans.{sort_of, spare_count}
 use Rattle.event_history.specs.Results.{Jobs, NoJob, Alone, Pulled, Around, jobs_of, after_run}
 use Rattle.event_history.proofs.Places.{get_snoc, has_stands}
 use Rattle.scheduling.proofs.Basics.{event_snoc}
+use Rattle.table_rule.specs.declared.view.About.{About}
 use Rattle.table_rule.specs.declared.view.View.{View}
 use Rattle.table_rule.specs.declared.view.Slot.{Slot}
 use Rattle.table_rule.specs.declared.view.Shelf.TheVariants.{Taking, Taken}
 use Rattle.table_rule.specs.declared.view.Dispatching.{Dispatching}
 use Rattle.table_rule.specs.declared.view.Place.TheVariants.{Dispatcher}
 use Rattle.table_rule.specs.Slots.{after_slot, jobs_at, told_status, told_note, is_last, decides, made_of, IsFinished, WentOn, IsNoteDue, IsAfterDue}
+use Rattle.table_rule.specs.Picture.{opener}
 use Rattle.table_rule.specs.Plays.{dispatcher, seated, reads_on, notes}
 use Rattle.table_rule.proofs.Jobs.{far, made_here, made_else}
 use Rattle.table_rule.proofs.Noting.{around_body}
@@ -51,7 +53,23 @@ finish_read read n lawful q =
     let s = some_status e.kind e.status x.1.kind (and_parts (fits_status e.kind e.status) _ (and_parts _ _ (and_parts _ _ (lawful x.0 e x.1.here)).0).0).0 in
     (s.0, record { place = x.0; event = e; stands = x.1.here; kind = x.1.kind; node = x.1.node; ends = s.1 })
 
--- The dispatcher has read one event more.
+-- The dispatcher has read nothing yet.
+module _ {B : Type 0} where
+  pub desk_opens : (m : Me (Slot B) (View B)) (key : About B) (workers : ℕ) (ended taken : List Bool) → m ≡ (opener key, []) → key.workers ≡ workers → ended ≡ replicate 4096 false → taken ≡ moved_in []
+      → IsAtDesk m 0 workers 0 ended taken
+  desk_opens m key workers ended taken now many marks none = subst (λ (u : Me (Slot B) (View B)). IsAtDesk u 0 workers 0 ended taken) (sym now) (record {
+    place = refl;
+    dealt_is = refl;
+    workers_is = many;
+    next_is = refl;
+    no_slot = refl;
+    few = omega (arith);
+    ended_is = λ n low. ap (λ (l : List Bool). get_or l n false) marks ∙ get_or-replicate 4096 n false false low;
+    lawful = λ i e q. absurd (none-some _ q);
+    taken_is = none;
+  })
+
+-- It has read one event more.
 module _ {B : Type 0} where
   pub desk_reads : (m old : Me (Slot B) (View B)) (e : Event) (dealt workers next : ℕ) (ended more taken : List Bool) → IsAtDesk old dealt workers next ended taken → m ≡ (seated old.0 (Dispatcher (reads_on e (dispatcher old.0))), old.1) → is_lawful e ≡ true
       → ((n : ℕ) → n < 4096 → get_or more n false ≡ (get_or ended n false || is_of Finished n e)) → IsAtDesk m dealt workers (next + 1) more taken

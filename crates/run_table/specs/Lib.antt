@@ -2,5 +2,6 @@
 pub mod Answering
 pub mod Moved
 pub mod Notes
+pub mod Prepared
 pub mod Reading
 pub mod Seats

@@ -1,15 +1,17 @@
 //! The seat of the dispatcher: it deals the workers their seats, and reads the events.
 
-ghost use Rattle.std.specs.Prelude.{◌≡◌, ◌<◌, ◌||◌, ◌&&◌, ◌==◌, ℕ, true, false, replicate, get_or, None, IfSome, IfNone};
+ghost use Rattle.std.specs.Prelude.{◌≡◌, ◌+◌, ◌<◌, ◌≤◌, ◌||◌, ◌&&◌, ◌==◌, ℕ, true, false, replicate, get_or, None, IfSome, IfNone, vec_len, vec_capacity};
 ghost use Rattle.plan_events.specs.declared.event.EventKind.TheVariants.{Finished};
 ghost use Rattle.plan_events.specs.Words.{is_lawful};
 ghost use Rattle.event_history.specs.Places.{same_kind};
 ghost use Rattle.scheduling.specs.declared.task.Task.TheVariants.{Free};
-ghost use Rattle.table_rule.specs.Slots.{after_slot, made_of};
+ghost use Rattle.table_rule.specs.Slots.{after_slot, made_of, slot_count};
 ghost use Rattle.table_rule.specs.declared.view.Shelf.TheVariants.{Unmoved};
 ghost use Rattle.table_rule.specs.Plays.{worker, dispatcher, newcomer, reads_on, deals_one};
+ghost use Rattle.run_table.specs.Prepared.{unused_of};
 ghost use Rattle.run_table.specs.Seats.{IsAtDesk, IsSeatOf, IsOf};
 
+use crate::filling::Jobs;
 use crate::moving::none_moved;
 use crate::table::RunTable;
 use crate::worker::{MOST_SLOTS, WorkerSeat};
@@ -40,7 +42,7 @@ fn mark_ended(ended: &mut [bool; MOST_NODES], kind: EventKind, node: NodeId)
 }
 
 /// The dispatcher's seat at the table: how many workers have a seat, of how many, the place that it reads next, the nodes whose
-/// finish it has read, and the slots that it has moved.
+/// finish it has read, the slots that it has moved, and the jobs that no slot has, with room for all others.
 #[derive(Drop)]
 pub struct DispatcherSeat<B> {
     pub(crate) seat: atomic_table::Seat<Slot<B>, View<B>>,
@@ -49,7 +51,10 @@ pub struct DispatcherSeat<B> {
     pub(crate) next: usize,
     pub(crate) ended: [bool; MOST_NODES],
     pub(crate) taken: [bool; MOST_SLOTS],
+    pub(crate) unused: Jobs<B>,
     pub ghost at_desk: { IsAtDesk seat.me dealt workers next ended taken },
+    pub ghost left_over: { unused.items ≡ unused_of seat.me.0.about },
+    pub ghost room: { vec_len unused + slot_count seat.me.0.about.plan ≤ vec_capacity unused },
 }
 
 impl<B: Job> DispatcherSeat<B> {

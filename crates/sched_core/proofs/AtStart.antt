@@ -20,11 +20,10 @@ use Rattle.scheduling.specs.declared.lock_word.LockWord.TheVariants.{Readers}
 use Rattle.scheduling.specs.declared.seat.Seat.{Seat}
 use Rattle.scheduling.specs.Runs.{first_status, first_counter, opening}
 use Rattle.scheduling.specs.State.{State}
-use Rattle.scheduling.proofs.Basics.{count_same}
-use Rattle.scheduling.proofs.Spares.{count_zero}
 use Rattle.scheduling.proofs.FirstState.{each_length, each_at, opening_is}
 use Rattle.scheduling.proofs.Headline.{core_plan}
 use Rattle.scheduling.proofs.Placing.{opening_placed}
+use Rattle.scheduling.proofs.Counters.{counters_are}
 use Rattle.scheduling.specs.Invariant.{IsKept}
 use Rattle.scheduling.specs.Shown.{IsPlaced}
 use Rattle.sched_core.specs.declared.machine.Machine.{Machine}
@@ -46,29 +45,6 @@ statuses_are n above =
 
 same_for_all : {X : Type 0} (n : ℕ) (x : X) → replicate n x ≡ table (λ k. x) n
 same_for_all n x = table_is (λ k. x) x n (replicate n x) (length-replicate n x) (λ k lt. get_or-replicate n k x x lt)
-
--- a factory's children are spares, and no others are
-counter_is : (p : PlanParts) → IsTree p.tree → (n : ℕ) → guard_and_children p.tree n ≡ first_counter p n
-counter_is p tree n = go (is_factory_at p.tree n) refl
-  where
-    go : (factory : Bool) → is_factory_at p.tree n ≡ factory → cond factory 1 (length (children_of p.tree n) + 1) ≡ first_counter p n
-    go true is =
-        let none = count_same (λ c. is_child p.tree n c && not (is_spare_at p.tree c)) (λ c. false) (size p.tree) (λ c lt. elim (cases_Bool (is_child p.tree n c)) [
-          | inl child ↦ ap (λ (b : Bool). b && not (is_spare_at p.tree c)) child ∙ ap not (tree.spares n c (is_child_test p.tree n c lt child) ∙ is)
-          | inr other ↦ ap (λ (b : Bool). b && not (is_spare_at p.tree c)) other
-        ]) in
-        let zero' = count_zero (λ (c : ℕ). false) (size p.tree) (λ c lt. refl) in
-        omega (arith, none, zero')
-    go false is =
-        let all = count_same (λ c. is_child p.tree n c && not (is_spare_at p.tree c)) (is_child p.tree n) (size p.tree) (λ c lt. elim (cases_Bool (is_child p.tree n c)) [
-          | inl child ↦ ap (λ (b : Bool). b && not (is_spare_at p.tree c)) child ∙ ap not (tree.spares n c (is_child_test p.tree n c lt child) ∙ is) ∙ sym child
-          | inr other ↦ ap (λ (b : Bool). b && not (is_spare_at p.tree c)) other ∙ sym other
-        ]) in
-        let counted = children_counted p.tree n in
-        omega (arith, all, counted)
-
-counters_are : (p : PlanParts) → IsTree p.tree → table (guard_and_children p.tree) (size p.tree) ≡ table (first_counter p) (size p.tree)
-counters_are p tree = table_is (first_counter p) 0 (size p.tree) (table (guard_and_children p.tree) (size p.tree)) (each_length (guard_and_children p.tree) (size p.tree)) (λ k lt. each_at (guard_and_children p.tree) 0 (size p.tree) k lt ∙ counter_is p tree k)
 
 pub starts : (p : PlanParts) → IsTree p.tree → (workers : ℕ) (statuses : List NodeStatus) (counters : List ℕ) (results : List Status) (locks : List LockWord) (seats : List Seat) (published : List Event) (shown : List Bool)
     → statuses ≡ set (replicate (size p.tree) Hidden) 0 (Ready None) → counters ≡ table (guard_and_children p.tree) (size p.tree) → results ≡ replicate (size p.tree) Successful → locks ≡ replicate (length p.keys) (Readers 0)

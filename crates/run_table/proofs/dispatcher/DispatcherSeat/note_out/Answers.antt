@@ -1,5 +1,6 @@
 -- The slot is taken with the note of a finished node in it, and given back empty.
-use Rattle.std.proofs.Common.{◌<◌, [], refl, sym, ap, ◌∙◌, subst, arith}
+use Rattle.std.proofs.Common.{◌≡◌, ◌+◌, ◌<◌, ◌≤◌, [], true, refl, sym, ap, ◌∙◌, subst, arith, vec_len}
+use Rattle.std.specs.Prelude.{vec_capacity}
 use Rattle.table_rule.specs.declared.view.Slot.TheVariants.{Empty}
 use Rattle.table_rule.specs.declared.view.Shelf.TheVariants.{Taking, Taken}
 use Rattle.table_rule.specs.declared.view.Place.TheVariants.{Dispatcher}
@@ -7,6 +8,7 @@ use Rattle.table_rule.specs.Slots.{slot_count, made_of, note_in, IsNoteDue}
 use Rattle.table_rule.specs.Plays.{dispatcher, notes, seated}
 use Rattle.table_rule.proofs.Jobs.{made_here}
 use Rattle.table_rule.proofs.Noting.{note_lift_allows, note_leave_allows}
+use Rattle.run_table.specs.Prepared.{unused_of}
 use Rattle.run_table.proofs.Notes.{desk_takes}
 use Rattle.run_table.proofs.Facts.{plan_is}
 use Rattle.run_table.proofs.JobMoves.{taken_as, holds, swapped, got, one_note, ends_as, due_of, same_note}
@@ -71,7 +73,11 @@ invariant_of-self g c =
     let ex = c.exchange-held.ensures in
     let put = swapped c.load.new.seat.me c.exchange-held.new.seat.me v k y Empty lifted ex.3 in
     let now = c.load-2.ensures.2 k reply (ap (λ u. u.1) put) (ap (λ u. made_of (dispatcher u.0).slots k) put ∙ made_here k (Taking reply) (dispatcher m.0).slots) ∙ ap (λ u. (seated u.0 (Dispatcher (notes k (Taken reply) (dispatcher u.0))), [])) put in
-    record { at_desk = desk_takes c.load-2.new.seat.me m k reply _ _ _ _ _ self.at_desk now }
+    record {
+      at_desk = desk_takes c.load-2.new.seat.me m k reply _ _ _ _ _ self.at_desk now;
+      left_over = self.left_over ∙ ap (λ u. unused_of u.0.about) (sym now);
+      room = subst (λ p. vec_len self.unused + slot_count p ≤ vec_capacity self.unused) (ap (λ u. u.0.about.plan) (sym now)) self.room;
+    }
 
 pub unreachable-requires : goal.unreachable-requires
 unreachable-requires g c =
