@@ -6,7 +6,7 @@ use Rattle.std.proofs.lemmas.Option.{none-some, same_Some, slice_get_read, get_o
 use mathlib.Core.Option.{some, some-injective, some-ne-none}
 use mathlib.Core.Logic.{dite}
 use native.Mathlib.Decide.{ℕ_discrete}
-use lib.ListN.{get_elem?}
+use lib.ListN.{get_elem?, take}
 use Rattle.atomic_table.proofs.Lists.{at_index, set_here, set_else}
 use Rattle.descriptor.specs.Nodes.{IsTree}
 use Rattle.resource_locks.specs.Plans.{PlanParts}
@@ -252,3 +252,19 @@ module _ {B : Type 0} where
 
   pub jobs_first : (p : PlanParts) (slots : List (Slot B)) (slot : Slot B) → jobs_from p 0 (slots ++ slot ∷ []) ≡ jobs_from p 0 slots ++ job_in (job_at p (length slots)) slot
   jobs_first p slots slot = jobs_more p 0 slots slot ∙ ap (λ (i : ℕ). jobs_from p 0 slots ++ job_in (job_at p i) slot) (let e : 0 + length slots ≡ length slots = omega arith in e)
+
+  -- with one more slot taken out of a row
+  one_taken : (slots : List (Slot B)) (i : ℕ) (slot : Slot B) → get_elem? slots i ≡ some slot → take (suc i) slots ≡ take i slots ++ slot ∷ []
+  one_taken [] i slot q = absurd (some-ne-none slot (sym q))
+  one_taken (x ∷ slots) zero slot q = ap (λ y. y ∷ []) (some-injective x slot q)
+  one_taken (x ∷ slots) (suc i) slot q = ap (λ l. x ∷ l) (one_taken slots i slot q)
+
+  so_many : (slots : List (Slot B)) (i : ℕ) (slot : Slot B) → get_elem? slots i ≡ some slot → length (take i slots) ≡ i
+  so_many [] i slot q = absurd (some-ne-none slot (sym q))
+  so_many (x ∷ slots) zero slot q = refl
+  so_many (x ∷ slots) (suc i) slot q = ap suc (so_many slots i slot q)
+
+  pub jobs_taken : (p : PlanParts) (slots : List (Slot B)) (i : ℕ) (slot : Slot B) → get_elem? slots i ≡ some slot → jobs_from p 0 (take (i + 1) slots) ≡ jobs_from p 0 (take i slots) ++ job_in (job_at p i) slot
+  jobs_taken p slots i slot q =
+      ap (λ (n : ℕ). jobs_from p 0 (take n slots)) (let e : i + 1 ≡ suc i = omega arith in e)
+      ∙ (ap (jobs_from p 0) (one_taken slots i slot q) ∙ (jobs_first p (take i slots) slot ∙ ap (λ (n : ℕ). jobs_from p 0 (take i slots) ++ job_in (job_at p n) slot) (so_many slots i slot q)))

@@ -1,5 +1,7 @@
 -- What clauses say of the table and of its seats.
 pub mod Answering
+pub mod Ended
+pub mod Filling
 pub mod Moved
 pub mod Notes
 pub mod Prepared

@@ -2,6 +2,7 @@
 #![tactic(auto)]
 
 mod answering;
+mod close;
 mod counting;
 mod dispatcher;
 mod fault;
@@ -20,6 +21,7 @@ mod telling;
 mod words;
 mod worker;
 
+pub use close::Closed;
 pub use dispatcher::DispatcherSeat;
 pub use fault::{NotEnabled, TableFault};
 pub use filling::Jobs;
