@@ -1,8 +1,8 @@
 -- What is known of a run once its table is taken apart.
-use Rattle.std.specs.Prelude.{◌≡◌, ℕ, ◌<◌, false, List, ◌++◌, length}
+use Rattle.std.specs.Prelude.{◌≡◌, ℕ, ◌<◌, false, List, [], ◌∷◌, ◌++◌, length, Some}
 use mathlib.Core.Option.{some}
 use lib.ListN.{get_elem?}
-use Rattle.descriptor.specs.Nodes.{size}
+use Rattle.descriptor.specs.Nodes.{size, body_of}
 use Rattle.plan_events.specs.declared.event.EventKind.TheVariants.{Started, Finished}
 use Rattle.plan_events.specs.declared.outcome.Reply.{Reply}
 use Rattle.event_history.specs.Places.{StandsAt, has}
@@ -13,7 +13,8 @@ use Rattle.table_rule.specs.declared.view.Dispatching.{Dispatching}
 use Rattle.table_rule.specs.declared.view.Shelf.{Shelf}
 use Rattle.table_rule.specs.declared.view.Shelf.TheVariants.{Unmoved}
 use Rattle.table_rule.specs.declared.view.Slot.{Slot}
-use Rattle.table_rule.specs.Slots.{slot_count, home_by, made_of, taken_part}
+use Rattle.table_rule.specs.Slots.{slot_count, job_at, home_by, made_of, taken_part, told_by}
+use Rattle.table_rule.specs.Picture.{AreAmong}
 use Rattle.run_table.specs.Prepared.{unused_of, jobs_from}
 
 module _ {B : Type 0} where
@@ -34,3 +35,10 @@ module _ {B : Type 0} where
     pub waits : (n : ℕ) → n < size key.plan.tree → has Started n core.published ≡ false → shelf n ≡ Unmoved
     pub taken : (k : ℕ) → taken_part (shelf k) ≡ made_of d.slots k
     pub undealt : d.dealt ≡ 0 → (k : ℕ) → shelf k ≡ Unmoved
+    -- what the jobs have answered, each by one of its replies; what is published is right by these alone
+    pub told : ℕ → List Reply
+    pub among : AreAmong told replies
+    pub right_by : IsRight key.plan told key.workers core
+    pub told_is : (k number : ℕ) → k < slot_count key.plan → job_at key.plan k ≡ Some number → told number ≡ told_by (shelf k)
+    -- the body of a node that has finished has left, and has answered
+    pub ran : (i n body : ℕ) → StandsAt core.published i Finished n → body_of key.plan.tree n ≡ Some body → (reply : Reply) × (told_by (shelf n) ≡ reply ∷ [])

@@ -1,10 +1,9 @@
 -- The machine's fields at the start are those of the opening state, and it is sound.
-use Rattle.std.proofs.Common.{◌≡◌, ◌∙◌, ℕ, zero, suc, ◌+◌, ◌<◌, ◌≤◌, Bool, true, false, ◌&&◌, not, cond, List, [], set, length, replicate, take, None, refl, sym, ap, subst, arith, length-set, inl, inr}
+use Rattle.std.proofs.Common.{◌≡◌, ◌∙◌, ℕ, zero, suc, ◌<◌, ◌≤◌, Bool, false, List, [], set, length, replicate, take, None, refl, sym, ap, subst, arith, length-set, inl, inr}
 use Rattle.std.proofs.lemmas.List.{length-replicate, get_or-replicate, get_or-set_other}
 use Rattle.std.proofs.lemmas.Grind.{get_or-set_at}
-use Rattle.std.proofs.lemmas.Bool.{cases_Bool, cases_eq}
-use Rattle.descriptor.specs.Nodes.{IsTree, size, children_of, is_child, is_spare_at, is_factory_at}
-use Rattle.descriptor.proofs.Children.{children_counted}
+use Rattle.std.proofs.lemmas.Bool.{cases_eq}
+use Rattle.descriptor.specs.Nodes.{IsTree, size}
 use Rattle.plan_events.specs.declared.event.Event.{Event}
 use Rattle.plan_events.specs.declared.outcome.Reply.{Reply}
 use Rattle.plan_events.specs.declared.status.Status.{Status}
@@ -12,15 +11,14 @@ use Rattle.plan_events.specs.declared.status.Status.TheVariants.{Successful}
 use Rattle.resource_locks.specs.Held.{table}
 use Rattle.resource_locks.specs.Plans.{PlanParts, IsPlan}
 use Rattle.resource_locks.proofs.Turns.{table_is}
-use Rattle.event_history.proofs.Trees.{is_child_test}
 use Rattle.scheduling.specs.declared.status.NodeStatus.{NodeStatus}
 use Rattle.scheduling.specs.declared.status.NodeStatus.TheVariants.{Hidden, Ready}
 use Rattle.scheduling.specs.declared.lock_word.LockWord.{LockWord}
 use Rattle.scheduling.specs.declared.lock_word.LockWord.TheVariants.{Readers}
 use Rattle.scheduling.specs.declared.seat.Seat.{Seat}
-use Rattle.scheduling.specs.Runs.{first_status, first_counter, opening}
+use Rattle.scheduling.specs.Runs.{first_status, opening}
 use Rattle.scheduling.specs.State.{State}
-use Rattle.scheduling.proofs.FirstState.{each_length, each_at, opening_is}
+use Rattle.scheduling.proofs.FirstState.{opening_is}
 use Rattle.scheduling.proofs.Headline.{core_plan}
 use Rattle.scheduling.proofs.Placing.{opening_placed}
 use Rattle.scheduling.proofs.Counters.{counters_are}
