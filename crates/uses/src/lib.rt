@@ -26,7 +26,7 @@ pub use key_word::take_key;
 pub use legal_history::published_by;
 pub use node_mode::mode_given;
 pub use selected_tree::select_by;
-pub use small_tree::one_class;
+pub use small_tree::one_engine;
 pub use steps_named::step_count;
 pub use suite_output::run_text;
 pub use suite_size::node_count;
