@@ -1,0 +1,4 @@
+pub mod Marks
+pub mod Messages
+pub mod Near
+pub mod Sentences

@@ -1,0 +1,18 @@
+//! What a refusal says on standard error: what is wrong, where, and what would be right. Each message is a function of the
+//! refusal and of what was given: the values of the options and the bytes of the suite.
+#![tactic(auto)]
+
+mod attributes;
+mod bytes;
+mod line;
+mod lines;
+mod marked;
+mod message;
+mod nearest;
+mod options;
+mod sentence;
+mod settings;
+mod suite;
+mod values;
+
+pub use message::{Message, message_of};

@@ -1,0 +1,285 @@
+//! What is wrong with a suite, and where.
+
+use crate::attributes::{KNOWN, first_trouble, key_of, looks_like_attribute};
+use crate::bytes::{last_line, text_of};
+use crate::line::{VERDICTS, WORDS, cut, indentation, where_stands, without_front};
+use crate::lines::{deepest, line_at, may_stand, same_node};
+use crate::marked::{push_marked, push_marked_rest};
+use crate::nearest::{is_known, push_nearest};
+use config_params::ParamsFault;
+use descriptor::TreeFault;
+use std::alloc::{AllocError, Global};
+use suite_text::SuiteFault;
+
+/// A line of a suite that is refused, and its number.
+#[derive(Clone, Copy)]
+struct Spot<'a> {
+    line: &'a str,
+    number: usize,
+}
+
+impl<'a> Spot<'a> {
+    /// Appends this of the line, and the line with a mark below the place from which on it is this rest.
+    fn push_said(
+        self,
+        alloc: Global,
+        text: &mut String,
+        rest: &str,
+        said: &str,
+    ) -> Result<(), AllocError> {
+        let number = self.number;
+        write!(text, "Line {number}: {said}\n")?;
+        push_marked_rest(alloc, text, self.line, rest)
+    }
+
+    /// Appends that this word, with which the rest begins, is none of the known ones, and which is nearest.
+    fn push_unknown(
+        self,
+        alloc: Global,
+        text: &mut String,
+        rest: &str,
+        what: &str,
+        known: &[&str],
+    ) -> Result<(), AllocError> {
+        let (number, word) = (self.number, cut(rest).0);
+        write!(text, "Line {number}: {what}")?;
+        push_nearest(alloc, text, known, key_of(word))?;
+        text.push_str("\n")?;
+        push_marked_rest(alloc, text, self.line, rest)
+    }
+
+    /// Appends what is wrong with a verdict, with which this rest begins.
+    fn push_verdict(
+        self,
+        alloc: Global,
+        text: &mut String,
+        first: &str,
+        rest: &str,
+    ) -> Result<(), AllocError> {
+        let (word, behind) = cut(rest);
+        if first == "engine" {
+            return self.push_said(
+                alloc,
+                text,
+                rest,
+                "an engine has a name and tags, and nothing else",
+            );
+        }
+        if word == "pass" {
+            return self.push_said(alloc, text, behind, "nothing stands behind pass");
+        }
+        let said = if looks_like_attribute(word) {
+            "this line may have no such attribute"
+        } else {
+            "neither an attribute nor a verdict: pass, fail TEXT, abort TEXT or disabled TEXT"
+        };
+        self.push_unknown(alloc, text, rest, said, KNOWN.as_slice())
+    }
+
+    /// Appends what is wrong behind the first word, which may stand there.
+    fn push_behind(
+        self,
+        alloc: Global,
+        text: &mut String,
+        first: &str,
+        rest: &str,
+    ) -> Result<(), AllocError> {
+        let (name, more) = cut(rest);
+        if name.is_empty() {
+            return self.push_said(alloc, text, "", "a name belongs behind the first word");
+        }
+        match first_trouble(alloc, first, more) {
+            (left, Some(said)) => self.push_said(alloc, text, left, said),
+            (left, None) => self.push_verdict(alloc, text, first, left),
+        }
+    }
+
+    /// Appends what is wrong with an `after` line that stands in a class.
+    fn push_after(self, alloc: Global, text: &mut String, rest: &str) -> Result<(), AllocError> {
+        let (word, behind) = cut(rest);
+        let is_whole = match word {
+            "pass" => behind.is_empty(),
+            "fail" | "abort" => true,
+            _ => false,
+        };
+        if is_whole {
+            return self.push_said(
+                alloc,
+                text,
+                without_front(self.line),
+                "a class has one after line at most",
+            );
+        }
+        if word == "pass" {
+            return self.push_said(alloc, text, behind, "nothing stands behind pass");
+        }
+        self.push_unknown(
+            alloc,
+            text,
+            rest,
+            "pass, fail TEXT or abort TEXT belongs there",
+            VERDICTS.as_slice(),
+        )
+    }
+
+    /// Appends what is wrong with this line, one of these, which cannot be read.
+    fn push_unread(
+        self,
+        alloc: Global,
+        text: &mut String,
+        lines: &[&str],
+    ) -> Result<(), AllocError> {
+        let start = without_front(self.line);
+        let (first, rest) = cut(start);
+        if !is_known(WORDS.as_slice(), first) {
+            let said = "no line begins with that word";
+            return self.push_unknown(alloc, text, start, said, WORDS.as_slice());
+        }
+        if !may_stand(lines, self.number, first) {
+            return self.push_said(alloc, text, start, where_stands(first));
+        }
+        if first == "after" {
+            return self.push_after(alloc, text, rest);
+        }
+        self.push_behind(alloc, text, first, rest)
+    }
+
+    /// Appends why the line may not begin with so many spaces.
+    fn push_indent(self, alloc: Global, text: &mut String, most: usize) -> Result<(), AllocError> {
+        let (number, spaces) = (self.number, indentation(self.line));
+        write!(text, "Line {number} begins with {spaces} spaces: ")?;
+        if spaces % 2 != 0 {
+            text.push_str("a level is two spaces, so their number is even\n")?;
+        } else {
+            write!(
+                text,
+                "here {most} are the most, two more than the line of a node above it\n"
+            )?;
+        }
+        push_marked(alloc, text, self.line, spaces)
+    }
+
+    /// Appends which limit the line of a node is over.
+    fn push_node(
+        self,
+        alloc: Global,
+        text: &mut String,
+        fault: TreeFault,
+        same: usize,
+    ) -> Result<(), AllocError> {
+        let (_, name) = cut(without_front(self.line));
+        let said = match fault {
+            TreeFault::TooMany => "with this node the suite has more than 4,095",
+            TreeFault::DoubleId =>
+                "the same word and name stand below the same line already: give it another name",
+            TreeFault::OverLimit => {
+                "a name, a reason and the key of a lock have at most 1,024 bytes, a node has at most 16 keys, and a unique id at most 64 levels and 1,024 bytes"
+            }
+            _ => "this node may not stand here",
+        };
+        self.push_said(alloc, text, name, said)?;
+        if same > 0 {
+            write!(text, "It stands in line {same} first.\n")?;
+        }
+        Ok(())
+    }
+}
+
+/// Appends where bytes are that are no text, behind this text.
+fn push_bytes(
+    alloc: Global,
+    text: &mut String,
+    number: usize,
+    front: &str,
+) -> Result<(), AllocError> {
+    let line = format!(in alloc; "{}?", last_line(front))?;
+    let spot = Spot {
+        line: line.as_str(),
+        number,
+    };
+    spot.push_said(
+        alloc,
+        text,
+        "?",
+        "the byte there is no UTF-8; save the suite as UTF-8",
+    )
+}
+
+/// Appends what is wrong with a property.
+fn push_property(
+    alloc: Global,
+    text: &mut String,
+    lines: &[&str],
+    fault: ParamsFault,
+) -> Result<(), AllocError> {
+    let (number, said) = match fault {
+        ParamsFault::NoMemory => return Ok(()),
+        ParamsFault::NoEquals(number) => (
+            number,
+            "a property is KEY=VALUE: an = belongs behind the key",
+        ),
+        ParamsFault::EmptyKey(number) => (
+            number,
+            "a property is KEY=VALUE: a key belongs before the =",
+        ),
+    };
+    let line = line_at(lines, number);
+    let spot = Spot { line, number };
+    spot.push_said(alloc, text, cut(without_front(line)).1, said)
+}
+
+/// Appends what is wrong with a line of these.
+fn push_line(
+    alloc: Global,
+    text: &mut String,
+    fault: SuiteFault,
+    lines: &[&str],
+) -> Result<(), AllocError> {
+    match fault {
+        SuiteFault::NoMemory | SuiteFault::TooLarge => Ok(()),
+        SuiteFault::BadLine(number) => {
+            let line = line_at(lines, number);
+            Spot { line, number }.push_unread(alloc, text, lines)
+        }
+        SuiteFault::BadIndent(number) => {
+            let line = line_at(lines, number);
+            Spot { line, number }.push_indent(alloc, text, deepest(lines, number))
+        }
+        SuiteFault::MissingVerdict(number) => {
+            let line = line_at(lines, number);
+            let said = "a verdict belongs at the end: pass, fail TEXT, abort TEXT or disabled TEXT";
+            Spot { line, number }.push_said(alloc, text, "", said)
+        }
+        SuiteFault::Refused {
+            fault,
+            line: number,
+        } => {
+            let line = line_at(lines, number);
+            let same = match fault {
+                TreeFault::DoubleId => same_node(lines, number),
+                _ => 0,
+            };
+            Spot { line, number }.push_node(alloc, text, fault, same)
+        }
+        SuiteFault::BadProperty(fault) => push_property(alloc, text, lines, fault),
+    }
+}
+
+/// Appends what is wrong with the suite of these bytes.
+pub(crate) fn push_suite(
+    alloc: Global,
+    text: &mut String,
+    fault: SuiteFault,
+    bytes: &[u8],
+) -> Result<(), AllocError> {
+    if let SuiteFault::TooLarge = fault {
+        return text.push_str("A suite has at most 1,048,576 bytes.\n");
+    }
+    let (front, is_text) = text_of(bytes);
+    if !is_text {
+        let number = fault.place().unwrap_or(0);
+        return push_bytes(alloc, text, number as usize, front);
+    }
+    let lines: Vec<&str> = front.lines().collect(alloc)?;
+    push_line(alloc, text, fault, lines.as_slice())
+}

@@ -1,0 +1,299 @@
+//! What is wrong with the values of options.
+
+use crate::bytes::text_of;
+use crate::lines::class_names;
+use crate::marked::push_marked;
+use crate::nearest::{is_known, push_nearest};
+use crate::options::{DETAILS, THEMES, form_of, option_of, pair_option};
+use config_params::ParamsFault;
+use launcher::Given;
+use selectors::SelectorKind;
+use std::alloc::{AllocError, Global};
+use tag_expr::{TagExpr, TagFault};
+use unique_id::{UidFault, UniqueId};
+
+/// Appends an option with its value, and a mark below this byte of the value.
+fn push_option(
+    alloc: Global,
+    text: &mut String,
+    option: &str,
+    value: &str,
+    at: usize,
+) -> Result<(), AllocError> {
+    let line = format!(in alloc; "{option} {value}")?;
+    let front = option.len().saturating_add(1);
+    push_marked(alloc, text, line.as_str(), front.saturating_add(at))
+}
+
+/// Appends that an option's value is none of these.
+fn push_choice(
+    alloc: Global,
+    text: &mut String,
+    option: &str,
+    value: &str,
+    known: &[&str],
+) -> Result<(), AllocError> {
+    write!(text, "{option} is one of")?;
+    for (index, name) in known.iter().enumerate() {
+        let sign = if index == 0 { "" } else { "," };
+        write!(text, "{sign} {name}")?;
+    }
+    push_nearest(alloc, text, known, value)?;
+    text.push_str("\n")?;
+    push_option(alloc, text, option, value, 0)
+}
+
+/// Appends which of the values that stand for something is none: what `--details`, then `--details-theme`, and then
+/// `--processors` may be.
+pub(crate) fn push_words(
+    alloc: Global,
+    text: &mut String,
+    given: &Given<'_>,
+) -> Result<(), AllocError> {
+    if let Some(name) = given.details {
+        if !is_known(DETAILS.as_slice(), name) {
+            return push_choice(alloc, text, "--details", name, DETAILS.as_slice());
+        }
+    }
+    if let Some(name) = given.theme {
+        if !is_known(THEMES.as_slice(), name) {
+            return push_choice(alloc, text, "--details-theme", name, THEMES.as_slice());
+        }
+    }
+    let Some(number) = given.processors else {
+        return Ok(());
+    };
+    text.push_str("--processors is a number from 1 to 1024\n")?;
+    push_option(alloc, text, "--processors", number, 0)
+}
+
+/// Appends which word of the replay names no step.
+pub(crate) fn push_step(
+    alloc: Global,
+    text: &mut String,
+    number: usize,
+    given: &Given<'_>,
+) -> Result<(), AllocError> {
+    let replay = given.replay.unwrap_or("");
+    let mut count = 0usize;
+    let mut at = 0usize;
+    for word in replay.split(' ') {
+        if !word.is_empty() {
+            count = count.saturating_add(1);
+        }
+        if count == number {
+            write!(
+                text,
+                "Its word {number} is none: d:read, or wK:STEP with K from 1 to 64"
+            )?;
+            push_nearest_step(alloc, text, word)?;
+            text.push_str("\n")?;
+            return push_option(alloc, text, "--replay", replay, at);
+        }
+        at = at.saturating_add(word.len()).saturating_add(1);
+    }
+    Ok(())
+}
+
+/// Appends the step that is nearest to that of a word.
+fn push_nearest_step(alloc: Global, text: &mut String, word: &str) -> Result<(), AllocError> {
+    let known = [
+        "claim:N",
+        "own:N",
+        "draw",
+        "show",
+        "admit",
+        "done",
+        "settle",
+        "look",
+        "weigh",
+        "take",
+        "give",
+        "give_up",
+        "add_child",
+        "notice",
+        "raise",
+    ];
+    let (_, step) = word.split_once(':').unwrap_or(("", word));
+    push_nearest(alloc, text, known.as_slice(), step)
+}
+
+/// The selector of this number, from 1.
+fn selector_at<'a>(given: &Given<'a>, number: usize) -> Option<(SelectorKind, &'a str)> {
+    match given.selectors.as_slice().get(number.saturating_sub(1)) {
+        Some((kind, text)) => Some((*kind, *text)),
+        None => None,
+    }
+}
+
+/// What is wrong in a text that is no unique id.
+fn said_of_id(fault: UidFault) -> &'static str {
+    match fault {
+        UidFault::NoMemory => "",
+        UidFault::Empty => "the id is empty",
+        UidFault::NoBracket(_) => "a [, a ], or a / behind a segment belongs there",
+        UidFault::NoColon(_) => "a : belongs there, behind the type of the segment",
+        UidFault::BadEscape(_) =>
+            "a % stands before two hexadecimal digits, which give the bytes of a text",
+        UidFault::EmptyPart(_) => "the part that ends there is empty",
+        UidFault::TooLong => "an id has at most 64 segments and 1,024 bytes",
+    }
+}
+
+/// Appends what is wrong in a unique id.
+fn push_id(alloc: Global, text: &mut String, id: &str) -> Result<(), AllocError> {
+    let Err(fault) = UniqueId::parse(alloc, id) else {
+        return Ok(());
+    };
+    let said = said_of_id(fault);
+    write!(text, "{said}\n")?;
+    let at = fault.place().unwrap_or(0);
+    push_option(alloc, text, "--select-unique-id", id, at)
+}
+
+/// Appends which selector cannot be read.
+pub(crate) fn push_selector(
+    alloc: Global,
+    text: &mut String,
+    number: usize,
+    given: &Given<'_>,
+) -> Result<(), AllocError> {
+    let Some((kind, value)) = selector_at(given, number) else {
+        return Ok(());
+    };
+    let form = form_of(kind);
+    write!(text, "Selector {number} is {form}")?;
+    if let SelectorKind::UniqueId = kind {
+        text.push_str(": ")?;
+        return push_id(alloc, text, value);
+    }
+    text.push_str("\n")?;
+    push_option(alloc, text, option_of(kind), value, 0)
+}
+
+/// Appends the class of the suite whose name is nearest.
+fn push_nearest_class(
+    alloc: Global,
+    text: &mut String,
+    name: &str,
+    suite: &[u8],
+) -> Result<(), AllocError> {
+    let lines: Vec<&str> = text_of(suite).0.lines().collect(alloc)?;
+    let names = class_names(alloc, lines.as_slice())?;
+    push_nearest(alloc, text, names.as_slice(), name)
+}
+
+/// Appends which selector covers nothing.
+pub(crate) fn push_covering(
+    alloc: Global,
+    text: &mut String,
+    number: usize,
+    given: &Given<'_>,
+    suite: &[u8],
+) -> Result<(), AllocError> {
+    let Some((kind, value)) = selector_at(given, number) else {
+        return Ok(());
+    };
+    let option = option_of(kind);
+    write!(
+        text,
+        "Selector {number} is {option} {value:?}, and no node of the suite has that name"
+    )?;
+    if let SelectorKind::Class = kind {
+        push_nearest_class(alloc, text, value, suite)?;
+    }
+    text.push_str(
+        "\nWithout selectors the tree shows the names, and --details testfeed the unique ids.\n",
+    )
+}
+
+/// What belongs to the place of a tag expression that is refused.
+fn said_of_tags(fault: TagFault) -> &'static str {
+    match fault {
+        TagFault::NoMemory => "",
+        TagFault::Empty =>
+            "It has tags, any(), none(), !, &, | and parentheses, as in \"slow & !db\"",
+        TagFault::BadTag(_) => "A tag has no space, no control character and none of , ( ) & | !",
+        TagFault::OperandMissing(_) => "A tag, any(), none(), ! or ( belongs there",
+        TagFault::OperatorMissing(_) => "An & or an | belongs there",
+        TagFault::ParenOpen(_) => "A ) belongs behind it",
+        TagFault::ParenClose(_) => "No ( stands before it that is still open",
+        TagFault::TooDeep =>
+            "It has at most 1,024 bytes, and at most 64 of ! and ( that wait for their end",
+    }
+}
+
+/// Appends the first of these expressions that is refused; whether there is one.
+fn push_expression(
+    alloc: Global,
+    text: &mut String,
+    fault: TagFault,
+    option: &str,
+    expressions: &[&str],
+) -> Result<bool, AllocError> {
+    for expression in expressions {
+        if TagExpr::parse(alloc, expression).is_err() {
+            let said = said_of_tags(fault);
+            write!(text, "{said}\n")?;
+            push_option(alloc, text, option, expression, fault.place().unwrap_or(0))?;
+            return Ok(true);
+        }
+    }
+    Ok(false)
+}
+
+/// Appends which tag expression is refused, and where.
+pub(crate) fn push_tags(
+    alloc: Global,
+    text: &mut String,
+    fault: TagFault,
+    given: &Given<'_>,
+) -> Result<(), AllocError> {
+    if push_expression(
+        alloc,
+        text,
+        fault,
+        "--include-tag",
+        given.include_tags.as_slice(),
+    )? {
+        return Ok(());
+    }
+    push_expression(
+        alloc,
+        text,
+        fault,
+        "--exclude-tag",
+        given.exclude_tags.as_slice(),
+    )?;
+    Ok(())
+}
+
+/// Appends which word of `--config` or `--system` is no pair.
+pub(crate) fn push_pair(
+    alloc: Global,
+    text: &mut String,
+    fault: ParamsFault,
+    given: &Given<'_>,
+) -> Result<(), AllocError> {
+    let (number, said) = match fault {
+        ParamsFault::NoMemory => return Ok(()),
+        ParamsFault::NoEquals(number) => (number, "an = and a value belong behind it"),
+        ParamsFault::EmptyKey(number) => (number, "a key belongs before the ="),
+    };
+    let (config, system) = (given.config.as_slice(), given.system.as_slice());
+    let option = pair_option(number, config.len());
+    let value = match config.get(number.saturating_sub(1)) {
+        Some(value) => *value,
+        None => match system.get(number.saturating_sub(config.len()).saturating_sub(1)) {
+            Some(value) => *value,
+            None => "",
+        },
+    };
+    write!(text, "{option} is KEY=VALUE: {said}\n")?;
+    let at = if let ParamsFault::EmptyKey(_) = fault {
+        0
+    } else {
+        value.len()
+    };
+    push_option(alloc, text, option, value, at)
+}
