@@ -1,5 +1,5 @@
 -- What the program reads and writes by the words of its command line.
-use Rattle.std.specs.Prelude.{◌≡◌, ℕ, List, Option, Some, None, Result, Ok, Err, ◌⊎◌}
+use Rattle.std.specs.Prelude.{◌≡◌, ℕ, List, Option, Some, None, IsSomeAnd, Result, Ok, Err, ◌⊎◌}
 use Rattle.clap.specs.Words.{Text}
 use Rattle.launcher.specs.Asked.{Asked, AreAsked}
 use Rattle.launcher.specs.Closings.{line_after}
@@ -9,6 +9,8 @@ use Rattle.launcher.specs.declared.closing.Closing.{Closing}
 use Rattle.launcher.specs.declared.exit_status.ExitStatus.{ExitStatus}
 use Rattle.launcher.specs.declared.fault.LaunchFault.{LaunchFault}
 use Rattle.launcher.specs.declared.fault.LaunchFault.TheVariants.{NoMemory}
+use Rattle.messages.specs.Sentences.{sentence_of}
+use Rattle.messages.specs.declared.message.Message.{Message}
 use Rattle.suite_text.specs.Reading.Parts.{SuiteParts}
 use Rattle.suite_text.specs.declared.suite.fault.SuiteFault.{SuiteFault}
 use Rattle.command_line.specs.Words.{values_given}
@@ -40,3 +42,9 @@ pub record Closes (closing : Closing) (Answered : Result ExitStatus LaunchFault 
   pub answered : Answered answer
   pub line : closing.line ≡ line_after answer
   pub status : closing.status ≡ status_after answer
+
+-- the message that stands there after this answer: what stood there before where nothing was refused, and else one that begins
+-- with the refusal's sentence
+abbrev pub Tells : Option Message → Result ExitStatus LaunchFault → Option Message → Type 0
+Tells old (Ok status) new = new ≡ old
+Tells old (Err fault) new = IsSomeAnd new (λ message. message.sentence.now ≡ sentence_of fault)

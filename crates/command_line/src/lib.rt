@@ -2,11 +2,14 @@
 #![tactic(auto)]
 
 mod found;
+mod kept;
 mod option_names;
 mod program;
+mod said;
 mod system_words;
 mod words;
 
 pub use program::{run_console, run_program};
+pub use said::message_of;
 pub use system_words::given_words;
 pub use words::read_options;

@@ -35,25 +35,31 @@ pub(crate) const FAIL_FAST: &str = "fail-fast";
 
 pub(crate) const REPLAY: &str = "replay";
 
-fn single<'a>(alloc: Global, name: &'a str) -> Arg<'a>
+fn single<'a>(alloc: Global, name: &'a str, help: &'a str) -> Arg<'a>
     ensures rule { rule_of result ≡ single name.now }
     ensures local { result.global ≡ false }
 {
-    Arg::new(alloc, name).long(name)
+    Arg::new(alloc, name).long(name).help(help)
 }
 
-fn repeated<'a>(alloc: Global, name: &'a str) -> Arg<'a>
+fn repeated<'a>(alloc: Global, name: &'a str, help: &'a str) -> Arg<'a>
     ensures rule { rule_of result ≡ repeated name.now }
     ensures local { result.global ≡ false }
 {
-    Arg::new(alloc, name).long(name).action(ArgAction::Append)
+    Arg::new(alloc, name)
+        .long(name)
+        .action(ArgAction::Append)
+        .help(help)
 }
 
-fn flag<'a>(alloc: Global, name: &'a str) -> Arg<'a>
+fn flag<'a>(alloc: Global, name: &'a str, help: &'a str) -> Arg<'a>
     ensures rule { rule_of result ≡ flag name.now }
     ensures local { result.global ≡ false }
 {
-    Arg::new(alloc, name).long(name).action(ArgAction::SetTrue)
+    Arg::new(alloc, name)
+        .long(name)
+        .action(ArgAction::SetTrue)
+        .help(help)
 }
 
 /// The command with one more option.
@@ -69,12 +75,54 @@ fn selecting<'a>(alloc: Global) -> Result<Command<'a>, AllocError>
     ensures { IfOk result (λ command. app_of command ≡ selecting) }
 {
     let command = Command::new(alloc, "console");
-    let command = with(command, repeated(alloc, SELECT_UNIQUE_ID))?;
-    let command = with(command, repeated(alloc, SELECT_CLASS))?;
-    let command = with(command, repeated(alloc, SELECT_METHOD))?;
-    let command = with(command, repeated(alloc, SELECT_PACKAGE))?;
-    let command = with(command, repeated(alloc, INCLUDE_TAG))?;
-    with(command, repeated(alloc, EXCLUDE_TAG))
+    let command = with(
+        command,
+        repeated(
+            alloc,
+            SELECT_UNIQUE_ID,
+            "Runs the node with this unique id, as in [engine:e]/[class:a.B], and all below it",
+        ),
+    )?;
+    let command = with(
+        command,
+        repeated(
+            alloc,
+            SELECT_CLASS,
+            "Runs the classes of this name, as in a.B",
+        ),
+    )?;
+    let command = with(
+        command,
+        repeated(
+            alloc,
+            SELECT_METHOD,
+            "Runs the test or factory CLASS#METHOD, as in a.B#t()",
+        ),
+    )?;
+    let command = with(
+        command,
+        repeated(
+            alloc,
+            SELECT_PACKAGE,
+            "Runs the classes of this package, as in a.b",
+        ),
+    )?;
+    let command = with(
+        command,
+        repeated(
+            alloc,
+            INCLUDE_TAG,
+            "Runs only what has tags that make this expression true, as in \"slow & !db\"",
+        ),
+    )?;
+    with(
+        command,
+        repeated(
+            alloc,
+            EXCLUDE_TAG,
+            "Runs nothing that has tags that make this expression true",
+        ),
+    )
 }
 
 /// The same, and the options that say with which settings.
@@ -82,9 +130,30 @@ fn configuring<'a>(alloc: Global) -> Result<Command<'a>, AllocError>
     ensures { IfOk result (λ command. app_of command ≡ configuring) }
 {
     let command = selecting(alloc)?;
-    let command = with(command, repeated(alloc, CONFIG))?;
-    let command = with(command, repeated(alloc, SYSTEM))?;
-    with(command, single(alloc, PROCESSORS))
+    let command = with(
+        command,
+        repeated(
+            alloc,
+            CONFIG,
+            "Sets a parameter, as KEY=VALUE, over the system and the suite",
+        ),
+    )?;
+    let command = with(
+        command,
+        repeated(
+            alloc,
+            SYSTEM,
+            "Sets a parameter, as KEY=VALUE, over the suite",
+        ),
+    )?;
+    with(
+        command,
+        single(
+            alloc,
+            PROCESSORS,
+            "How many processors there are, 1 to 1024 [default: 1]",
+        ),
+    )
 }
 
 /// The program and its options.
@@ -92,9 +161,44 @@ pub(crate) fn command<'a>(alloc: Global) -> Result<Command<'a>, AllocError>
     ensures { IfOk result (λ command. app_of command ≡ program) }
 {
     let command = configuring(alloc)?;
-    let command = with(command, single(alloc, DETAILS))?;
-    let command = with(command, single(alloc, DETAILS_THEME))?;
-    let command = with(command, flag(alloc, FAIL_IF_NO_TESTS))?;
-    let command = with(command, flag(alloc, FAIL_FAST))?;
-    with(command, single(alloc, REPLAY))
+    let command = with(
+        command,
+        single(
+            alloc,
+            DETAILS,
+            "What is printed: none, summary, tree or testfeed [default: tree]",
+        ),
+    )?;
+    let command = with(
+        command,
+        single(
+            alloc,
+            DETAILS_THEME,
+            "The signs of the tree: unicode or ascii [default: unicode]",
+        ),
+    )?;
+    let command = with(
+        command,
+        flag(
+            alloc,
+            FAIL_IF_NO_TESTS,
+            "Ends with status 2 where there is no test",
+        ),
+    )?;
+    let command = with(
+        command,
+        flag(
+            alloc,
+            FAIL_FAST,
+            "Starts nothing more once a node has failed",
+        ),
+    )?;
+    with(
+        command,
+        single(
+            alloc,
+            REPLAY,
+            "Runs these steps in place of the schedule, as in \"w1:claim:0 w1:draw\"",
+        ),
+    )
 }

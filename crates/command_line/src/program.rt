@@ -8,12 +8,15 @@ ghost use Rattle.std.specs.Vec.Iter.{into_iter_items};
 ghost use Rattle.launcher.specs.Runs.{TakesFrom, fault_in, is_writing};
 ghost use Rattle.suite_text.specs.Reading.Bytes.{suite_read};
 ghost use Rattle.command_line.specs.GivenWords.{IsGivenFault};
-ghost use Rattle.command_line.specs.Runs.{Closes, IsRunBy, RefusesWords, RunsAsAsked};
+ghost use Rattle.command_line.specs.Runs.{Closes, IsRunBy, RefusesWords, RunsAsAsked, Tells};
 ghost use Rattle.command_line.specs.Words.{words_refusal};
 
+use crate::kept::Kept;
+use crate::said::message_of;
 use crate::system_words::given_words;
 use crate::words::read_options;
 use launcher::{Closing, ExitStatus, LaunchFault, run_options};
+use messages::Message;
 use std::alloc::Global;
 use std::env::Args;
 use std::io::{self, Read, Write};
@@ -37,6 +40,28 @@ pub fn run_console<R: Read, W: Write>(
     run_options(alloc, &options, reader, writer)
 }
 
+/// Runs what `run_console` runs, and where that is refused puts in its message.
+fn run_told<R: Read, W: Write>(
+    alloc: Global,
+    words: &[String],
+    reader: &mut R,
+    writer: &mut W,
+    message: &mut Option<Message>,
+) -> Result<ExitStatus, LaunchFault>
+    ensures run { IfSome (R.remaining reader.old) (λ bytes. IsRunBy (words_refusal (map string_bytes words.now)) (map string_bytes words.now) (suite_read (take 1048577 bytes)) (W.contents writer.old) (W.contents writer.new) result) }
+    ensures told { Tells message.old result message.new }
+{
+    let mut kept = Kept {
+        reader,
+        bytes: Vec::new(alloc),
+    };
+    let answer = run_console(alloc, words, &mut kept, writer);
+    if let Err(fault) = answer {
+        *message = Some(message_of(alloc, fault, words, kept.bytes.as_slice()));
+    }
+    answer
+}
+
 /// What the program answers to the words that the system gave: as `run_console` says, or, where it
 /// gave none, as `given_words` says.
 fn answer_to<R: Read, W: Write>(
@@ -44,26 +69,34 @@ fn answer_to<R: Read, W: Write>(
     words: io::Result<Args>,
     reader: &mut R,
     writer: &mut W,
+    message: &mut Option<Message>,
 ) -> Result<ExitStatus, LaunchFault>
     ensures run { IfOk words (λ given. IfSome (R.remaining reader.old) (λ bytes. IsRunBy (words_refusal (map string_bytes (into_iter_items given))) (map string_bytes (into_iter_items given)) (suite_read (take 1048577 bytes)) (W.contents writer.old) (W.contents writer.new) result)) }
     ensures refused { IfErr words (λ error. IsErrAnd result (IsGivenFault (error_kind error))) }
+    ensures told { Tells message.old result message.new }
 {
     match given_words(alloc, words) {
-        Ok(words) => run_console(alloc, words.as_slice(), reader, writer),
-        Err(fault) => Err(fault),
+        Ok(words) => run_told(alloc, words.as_slice(), reader, writer, message),
+        Err(fault) => {
+            *message = Some(Message::with_details(fault, String::new(alloc)));
+            Err(fault)
+        }
     }
 }
 
-/// The program: all that is left to do is to print the line of the closing, if there is one, and to
-/// end with its status.
+/// The program: all that is left to do is to print the line of the closing, if there is one, and the
+/// message, which a refusal alone puts in, and to end with the status.
 pub fn run_program<R: Read, W: Write>(
     alloc: Global,
     words: io::Result<Args>,
     reader: &mut R,
     writer: &mut W,
+    message: &mut Option<Message>,
 ) -> Closing
     ensures run { Closes result (λ answer. IfOk words (λ given. IfSome (R.remaining reader.old) (λ bytes. IsRunBy (words_refusal (map string_bytes (into_iter_items given))) (map string_bytes (into_iter_items given)) (suite_read (take 1048577 bytes)) (W.contents writer.old) (W.contents writer.new) answer))) }
     ensures refused { Closes result (λ answer. IfErr words (λ error. IsErrAnd answer (IsGivenFault (error_kind error)))) }
+    // Where nothing is refused no message is put in, and that of a refusal is its own.
+    ensures told { Closes result (λ answer. Tells message.old answer message.new) }
 {
-    Closing::after(answer_to(alloc, words, reader, writer))
+    Closing::after(answer_to(alloc, words, reader, writer, message))
 }

@@ -39,7 +39,7 @@ fn matches_of<'a>(alloc: Global, words: &'a [String]) -> Result<ArgMatches<'a>, 
 }
 
 /// What the words give the options, each value as text.
-fn given_by<'a>(alloc: Global, words: &'a [String]) -> Result<Given<'a>, LaunchFault>
+pub(crate) fn given_by<'a>(alloc: Global, words: &'a [String]) -> Result<Given<'a>, LaunchFault>
     ensures given { IfOk result (λ given. values_of given ≡ values_given (map string_bytes words.entry.now)) }
     ensures accepted { IfOk result (λ _. fault_of program (map string_bytes words.entry.now) ≡ []) }
     ensures refused { IfErr result (λ fault. fault ≢ NoMemory → (fault ≡ LaunchFault.BadWords) × (fault_of program (map string_bytes words.entry.now) ≢ [])) }
