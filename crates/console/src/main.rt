@@ -1,4 +1,4 @@
-//! The program: a suite from standard input, and what became of it on standard output.
+//! The program: a suite from standard input, what became of it on standard output, and what is wrong on standard error.
 #![tactic(auto)]
 
 use command_line::run_program;
@@ -6,14 +6,19 @@ use std::io;
 use std::process::ExitCode;
 
 fn main(rt: HostRuntime) -> io::Result<ExitCode> {
+    let mut message = None;
     let closing = run_program(
         rt.alloc(),
         std::env::args(&rt),
         &mut rt.reader(),
         &mut io::writer(&rt),
+        &mut message,
     );
     if let Some(fault) = closing.line {
         let _ = println!(rt; "{fault}");
+    }
+    if let Some(message) = message {
+        let _ = eprint!(rt; "{message}");
     }
     Ok(ExitCode::from(closing.status.number()))
 }

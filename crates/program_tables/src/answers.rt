@@ -1,7 +1,7 @@
 //! What the program does with a row.
 
 use crate::rows::push_line;
-use command_line::run_console;
+use command_line::{message_of, run_console};
 use launcher::{ExitStatus, LaunchFault};
 use std::alloc::{AllocError, Global};
 
@@ -23,28 +23,49 @@ fn end_line(alloc: Global, end: Result<ExitStatus, LaunchFault>) -> Result<Strin
     }
 }
 
-/// Appends what the program writes, and how it ends.
+/// Appends what stands on standard error after this end.
+fn push_message(
+    alloc: Global,
+    answers: &mut Vec<u8>,
+    words: &[String],
+    suite: &[u8],
+    end: Result<ExitStatus, LaunchFault>,
+) -> Result<(), AllocError> {
+    if let Err(fault) = end {
+        let message = message_of(alloc, fault, words, suite);
+        answers.extend_from_slice(format!(in alloc; "{message}")?.as_bytes())?;
+    }
+    Ok(())
+}
+
+/// Appends what the program writes, and how it ends; where `tells`, what stands on standard error too.
 fn push_run(
     alloc: Global,
     answers: &mut Vec<u8>,
     words: &[String],
     suite: &[u8],
+    tells: bool,
 ) -> Result<(), AllocError> {
     let end = run(alloc, answers, words, suite);
-    answers.extend_from_slice(end_line(alloc, end)?.as_bytes())
+    answers.extend_from_slice(end_line(alloc, end)?.as_bytes())?;
+    if tells {
+        push_message(alloc, answers, words, suite, end)?;
+    }
+    Ok(())
 }
 
-/// Appends the words of a row, what the program writes, and how it ends.
+/// Appends the words of a row, what the program writes, and how it ends; where `tells`, what stands on standard error too.
 pub(crate) fn push_answer(
     alloc: Global,
     answers: &mut Vec<u8>,
     line: &str,
     suite: &[u8],
+    tells: bool,
 ) -> Result<(), AllocError> {
-    answers.extend_from_slice(b"== ")?;
+    answers.extend_from_slice(if tells { b"=? " } else { b"== " })?;
     answers.extend_from_slice(line.as_bytes())?;
     answers.push(b'\n')?;
     let mut words = Vec::new(alloc);
     push_line(alloc, &mut words, line)?;
-    push_run(alloc, answers, words.as_slice(), suite)
+    push_run(alloc, answers, words.as_slice(), suite, tells)
 }

@@ -8,6 +8,8 @@ use std::alloc::{AllocError, Global};
 #[derive(Drop)]
 pub(crate) struct Table {
     words: String,
+    /// Whether the row asks for standard error too.
+    tells: bool,
     suite: Vec<u8>,
     answers: Vec<u8>,
 }
@@ -17,6 +19,7 @@ impl Table {
     pub(crate) fn new(alloc: Global) -> Table {
         Table {
             words: String::new(alloc),
+            tells: false,
             suite: Vec::new(alloc),
             answers: Vec::new(alloc),
         }
@@ -28,18 +31,27 @@ impl Table {
             return Ok(());
         }
         let (words, suite) = (self.words.as_str(), self.suite.as_slice());
-        push_answer(alloc, &mut self.answers, words, suite)
+        push_answer(alloc, &mut self.answers, words, suite, self.tells)
+    }
+
+    /// Runs the program on the row that was read, and begins the next with these words.
+    fn begin(&mut self, alloc: Global, words: &str, tells: bool) -> Result<(), AllocError> {
+        self.run(alloc)?;
+        self.suite.clear();
+        self.words.clear();
+        self.tells = tells;
+        self.words.push_str(words)
     }
 
     /// Reads a line: the words of the next row, or one of the row's suite.
     pub(crate) fn take(&mut self, alloc: Global, line: &str) -> Result<(), AllocError> {
-        let Some(words) = line.strip_prefix("== ") else {
-            return push_suite_line(alloc, &mut self.suite, line);
-        };
-        self.run(alloc)?;
-        self.suite.clear();
-        self.words.clear();
-        self.words.push_str(words)
+        if let Some(words) = line.strip_prefix("== ") {
+            return self.begin(alloc, words, false);
+        }
+        if let Some(words) = line.strip_prefix("=? ") {
+            return self.begin(alloc, words, true);
+        }
+        push_suite_line(alloc, &mut self.suite, line)
     }
 
     /// The answers.
