@@ -1,6 +1,7 @@
 //! The seat of the dispatcher: it deals the workers their seats, and reads the events.
 
-ghost use Rattle.std.specs.Prelude.{◌≡◌, ◌+◌, ◌<◌, ◌≤◌, ◌||◌, ◌&&◌, ◌==◌, ℕ, true, false, replicate, get_or, None, IfSome, IfNone, vec_len, vec_capacity};
+ghost use Rattle.std.specs.Prelude.{◌≡◌, ◌+◌, ◌<◌, ◌≤◌, ◌||◌, ◌&&◌, ◌==◌, ℕ, true, false, replicate, get_or, length, None, IfSome, IfNone, vec_len, vec_capacity};
+ghost use Rattle.resource_locks.specs.Plans.{most_events};
 ghost use Rattle.plan_events.specs.declared.event.EventKind.TheVariants.{Finished};
 ghost use Rattle.plan_events.specs.Words.{is_lawful};
 ghost use Rattle.event_history.specs.Places.{same_kind};
@@ -63,6 +64,7 @@ impl<B: Job> DispatcherSeat<B> {
         requires { IsSeatOf table.now.table self.old.seat }
         ensures same { IsOf self.old.seat self.new.seat }
         ensures read { IfSome result (λ e. dispatcher self.new.seat.me.0 ≡ reads_on e (dispatcher self.old.seat.me.0)) }
+        ensures inside { IfSome result (λ e. length (dispatcher self.old.seat.me.0).read < most_events self.old.seat.me.0.about.plan) }
         ensures lawful { IfSome result (λ e. is_lawful e ≡ true) }
         ensures untaken { IfSome result (λ e. e.kind ≡ Finished → (made_of (dispatcher self.old.seat.me.0).slots e.node ≡ Unmoved) × (made_of (dispatcher self.old.seat.me.0).slots (after_slot self.old.seat.me.0.about.plan e.node) ≡ Unmoved)) }
         ensures none { IfNone result (self.new.seat.me ≡ self.old.seat.me) }

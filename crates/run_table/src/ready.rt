@@ -42,7 +42,7 @@ fn ready_by(
 
 impl<B: Job> WorkerSeat<B> {
     /// The task, with the job's answer made use of.
-    pub(crate) fn ready_task(&self, table: &RunTable<B>) -> Task
+    pub fn ready_task(&self, table: &RunTable<B>) -> Task
         requires { IsSeatOf table.now.table self.now.seat }
         ensures { result ≡ (ready_in self.now.seat.me.0).seat.task }
     {

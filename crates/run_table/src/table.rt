@@ -24,6 +24,13 @@ pub struct RunTable<B: Job> {
 }
 
 impl<B: Job> RunTable<B> {
+    /// The plan that is run.
+    pub fn plan(&self) -> &Plan
+        ensures { result.now ≡ self.now.plan }
+    {
+        &self.plan
+    }
+
     /// How many nodes the plan has.
     pub(crate) fn nodes(&self) -> usize
         ensures is { result ≡ size self.now.plan.tree }

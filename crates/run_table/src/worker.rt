@@ -36,6 +36,27 @@ pub struct WorkerSeat<B> {
 }
 
 impl<B: Job> WorkerSeat<B> {
+    /// Its place among the workers, from 0.
+    pub fn place(&self) -> u8
+        ensures { result ≡ self.now.number }
+    {
+        self.number
+    }
+
+    /// What it does next.
+    pub fn task(&self) -> Task
+        ensures { result ≡ self.now.task }
+    {
+        self.task
+    }
+
+    /// The factory in its hand.
+    pub fn hand(&self) -> Option<Hand>
+        ensures { result ≡ self.now.hand }
+    {
+        self.hand
+    }
+
     /// Claims a node that is offered to any. A worker with a task, or with a factory in hand, has none to claim; and where the node
     /// is not offered to any, nothing changes.
     pub fn claim(&mut self, table: &RunTable<B>, node: NodeId) -> Result<Task, NotEnabled>
