@@ -1,0 +1,2 @@
+-- What clauses say of workers and of the dispatcher.
+pub mod Going

@@ -1,0 +1,5 @@
+//! The pool: threads that work at a running table, and the dispatcher, who tells the listeners what they did.
+#![tactic(auto)]
+
+pub mod scan;
+pub mod turns;
