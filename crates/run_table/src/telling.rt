@@ -1,15 +1,18 @@
 //! The steps by which a worker draws events and shows them.
 
-ghost use Rattle.std.specs.Prelude.{◌≡◌, ◌<◌, ℕ, Some, None, IfOk, IfErr};
+ghost use Rattle.std.specs.Prelude.{◌≡◌, ◌<◌, ℕ, false, Some, None, IfOk, IfErr};
 ghost use Rattle.descriptor.specs.Nodes.{size};
 ghost use Rattle.plan_events.specs.declared.event.Event.{Event as EventValue};
 ghost use Rattle.scheduling.specs.Choices.{event_of};
 ghost use Rattle.scheduling.specs.Shown.{named};
 ghost use Rattle.scheduling.specs.declared.task.Opening.{Opening as OpeningValue};
 ghost use Rattle.scheduling.specs.declared.task.Closing.{Closing as ClosingValue};
+ghost use Rattle.scheduling.specs.declared.task.Opening.TheVariants.{Beginning};
 ghost use Rattle.scheduling.specs.declared.task.Task.TheVariants.{Opens, Closes};
 ghost use Rattle.scheduling.specs.declared.seat.Hand.{Hand as HandValue};
 ghost use Rattle.table_rule.specs.Plays.{worker, ready_in, event_due, drawn_seat, shown_seat};
+ghost use Rattle.table_rule.specs.Slots.{made_of};
+ghost use Rattle.table_rule.specs.declared.view.Shelf.TheVariants.{Unmoved};
 ghost use Rattle.run_table.specs.Seats.{IsSeatOf, IsMove, IsDraw, SameSeat, seated};
 
 use crate::fault::NotEnabled;
@@ -160,11 +163,13 @@ fn after_show(plan: &Plan, task: Task, hand: Option<Hand>) -> Seat
 }
 
 impl<B: Job> WorkerSeat<B> {
-    /// Draws the event that is due: it stands at the next place of the row, not shown yet.
+    /// Draws the event that is due: it stands at the next place of the row, not shown yet. The seat has not moved the slot of a node
+    /// that starts.
     pub fn draw(&mut self, table: &RunTable<B>) -> Result<Task, NotEnabled>
         requires { IsSeatOf table.now.table self.old.seat }
         ensures same { SameSeat self.old.seat self.new.seat }
         ensures done { IfOk result (λ t. (e : EventValue) × (number : ℕ) × (event_due (worker self.old.seat.me.0).number (ready_in self.old.seat.me.0).seat.task ≡ Some e) × IsDraw self.old.seat self.new.seat e (drawn_seat number (ready_in self.old.seat.me.0).seat (ready_in self.old.seat.me.0).seat.task) t) }
+        ensures unmoved { IfOk result (λ _. (n : ℕ) → (ready_in self.old.seat.me.0).seat.task ≡ Opens n (Beginning false) → made_of (worker self.old.seat.me.0).slots n ≡ Unmoved) }
         ensures refused { IfErr result (λ _. (self.new.seat.me ≡ self.old.seat.me) × (event_due (worker self.old.seat.me.0).number (ready_in self.old.seat.me.0).seat.task ≡ None)) }
     {
         let Some(_event) = due_event(self.number, self.ready_task(table)) else {
@@ -180,6 +185,7 @@ impl<B: Job> WorkerSeat<B> {
         requires due { (e : EventValue) × (event_due (worker self.old.seat.me.0).number (ready_in self.old.seat.me.0).seat.task ≡ Some e) }
         ensures same { SameSeat self.old.seat self.new.seat }
         ensures done { (e : EventValue) → event_due (worker self.old.seat.me.0).number (ready_in self.old.seat.me.0).seat.task ≡ Some e → (number : ℕ) × IsDraw self.old.seat self.new.seat e (drawn_seat number (ready_in self.old.seat.me.0).seat (ready_in self.old.seat.me.0).seat.task) self.new.task }
+        ensures unmoved { (n : ℕ) → (ready_in self.old.seat.me.0).seat.task ≡ Opens n (Beginning false) → made_of (worker self.old.seat.me.0).slots n ≡ Unmoved }
     {
         let task = self.ready_task(table);
         let number = table

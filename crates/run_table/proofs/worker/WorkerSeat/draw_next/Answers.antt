@@ -1,11 +1,13 @@
 -- One event more is drawn, and its place is the number that was found.
 use Rattle.plan_events.specs.declared.event.Event.{Event}
+use Rattle.plan_events.specs.declared.event.EventKind.TheVariants.{Started}
+use Rattle.scheduling.specs.Choices.{event_of}
 use Rattle.table_rule.specs.Plays.{worker, ready, ready_seat, draw_tells, event_due}
 use Rattle.table_rule.specs.Words.{draw_place}
 use Rattle.table_rule.proofs.Allowed.{draw_allows}
 use Rattle.run_table.proofs.Asks.{add_asks}
 use Rattle.run_table.proofs.Facts.{works_drawn, same_drawn, ready_hand}
-use Rattle.std.proofs.Common.{◌≡◌, Some, sym, ap, ◌∙◌, subst, refl, arith}
+use Rattle.std.proofs.Common.{◌≡◌, Some, None, sym, ap, ◌∙◌, subst, refl, arith}
 use Rattle.run_table.proofs.Facts.{within_now}
 use Rattle.run_table.proofs.worker.WorkerSeat.draw_next.Goals as goal
 
@@ -48,3 +50,8 @@ returns-clause-same g c =
       about = ap (λ u. u.0.about) drawn.0;
       number = ap (λ u. (worker u.0).number) drawn.0;
     }
+
+pub returns-clause-unmoved : goal.returns-clause-unmoved
+returns-clause-unmoved g c =
+    let number = (worker c.args.self.now.seat.me.0).number in
+    λ n is. (c.fetch_add-number.ensures.2.0 (event_of Started n None number) (ap (event_due number) is)).2 refl
