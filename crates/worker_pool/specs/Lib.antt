@@ -1,2 +1,3 @@
 -- What clauses say of workers and of the dispatcher.
 pub mod Going
+pub mod Steady

@@ -3,12 +3,13 @@
 ghost use Rattle.std.specs.Prelude.{◌≡◌, ◌≢◌, ℕ, None};
 ghost use Rattle.scheduling.specs.Shown.{named};
 ghost use Rattle.scheduling.specs.declared.lock_word.LockWord.{LockWord as Word};
-ghost use Rattle.scheduling.specs.declared.task.Opening.TheVariants.{Awaiting, Backing, Locking, Noticing, Weighed};
+ghost use Rattle.scheduling.specs.declared.task.Opening.TheVariants.{Awaiting, Backing, Guarding, Locking, Noticing, Weighed};
 ghost use Rattle.scheduling.specs.declared.task.Closing.TheVariants.{AwaitingAfter, CountingOff, Looking, Raising, Settling};
 ghost use Rattle.scheduling.specs.declared.task.Task.TheVariants.{Opens, Closes};
-ghost use Rattle.table_rule.specs.Plays.{worker, ready_in, event_due, offer_due, back_due, guard_due};
+ghost use Rattle.table_rule.specs.Plays.{worker, ready_in, event_due, offer_due, back_due};
 ghost use Rattle.run_table.specs.Seats.{IsSeatOf};
 ghost use Rattle.worker_pool.specs.Going.{GoesOn};
+ghost use Rattle.worker_pool.specs.Steady.{Phase, Steady};
 
 use plan_events::Job;
 use run_table::{RunTable, WorkerSeat};
@@ -18,7 +19,8 @@ use scheduling::{Closing, Opening};
 pub fn draw<B: Job>(table: &RunTable<B>, seat: &mut WorkerSeat<B>)
     requires table { IsSeatOf table.now.table seat.old.seat }
     requires due { event_due (worker seat.old.seat.me.0).number (ready_in seat.old.seat.me.0).seat.task ≢ None }
-    ensures { GoesOn seat.old.seat seat.new.seat }
+    ensures goes_on { GoesOn seat.old.seat seat.new.seat }
+    ensures steady { (phase : Phase) → Steady phase seat.old.seat → Steady phase seat.new.seat }
 {
     let Ok(_) = seat.draw(table) else {
         unreachable!()
@@ -29,7 +31,8 @@ pub fn draw<B: Job>(table: &RunTable<B>, seat: &mut WorkerSeat<B>)
 fn show<B: Job>(table: &RunTable<B>, seat: &mut WorkerSeat<B>)
     requires table { IsSeatOf table.now.table seat.old.seat }
     requires due { named seat.old.number seat.old.task ≢ None }
-    ensures { GoesOn seat.old.seat seat.new.seat }
+    ensures goes_on { GoesOn seat.old.seat seat.new.seat }
+    ensures steady { (phase : Phase) → Steady phase seat.old.seat → Steady phase seat.new.seat }
 {
     let Ok(_) = seat.show(table) else {
         unreachable!()
@@ -40,7 +43,8 @@ fn show<B: Job>(table: &RunTable<B>, seat: &mut WorkerSeat<B>)
 pub fn admit<B: Job>(table: &RunTable<B>, seat: &mut WorkerSeat<B>)
     requires table { IsSeatOf table.now.table seat.old.seat }
     requires due { offer_due seat.old.seat.me.0.about.plan (worker seat.old.seat.me.0).number (ready_in seat.old.seat.me.0).seat.task ≢ None }
-    ensures { GoesOn seat.old.seat seat.new.seat }
+    ensures goes_on { GoesOn seat.old.seat seat.new.seat }
+    ensures steady { (phase : Phase) → Steady phase seat.old.seat → Steady phase seat.new.seat }
 {
     let Ok(_) = seat.admit(table) else {
         unreachable!()
@@ -50,8 +54,9 @@ pub fn admit<B: Job>(table: &RunTable<B>, seat: &mut WorkerSeat<B>)
 /// Gives up the guard that is due.
 pub fn give_guard<B: Job>(table: &RunTable<B>, seat: &mut WorkerSeat<B>)
     requires table { IsSeatOf table.now.table seat.old.seat }
-    requires due { guard_due seat.old.seat.me.0.about.plan (ready_in seat.old.seat.me.0).answer (ready_in seat.old.seat.me.0).seat (ready_in seat.old.seat.me.0).seat.task ≢ None }
-    ensures { GoesOn seat.old.seat seat.new.seat }
+    requires due { (n : ℕ) × ((ready_in seat.old.seat.me.0).seat.task ≡ Opens n Guarding) }
+    ensures goes_on { GoesOn seat.old.seat seat.new.seat }
+    ensures steady { (phase : Phase) → Steady phase seat.old.seat → Steady phase seat.new.seat }
 {
     let Ok(_) = seat.done(table) else {
         unreachable!()
@@ -62,7 +67,8 @@ pub fn give_guard<B: Job>(table: &RunTable<B>, seat: &mut WorkerSeat<B>)
 fn count_off<B: Job>(table: &RunTable<B>, seat: &mut WorkerSeat<B>)
     requires table { IsSeatOf table.now.table seat.old.seat }
     requires due { (n : ℕ) × (seat.old.task ≡ Closes n CountingOff) }
-    ensures { GoesOn seat.old.seat seat.new.seat }
+    ensures goes_on { GoesOn seat.old.seat seat.new.seat }
+    ensures steady { (phase : Phase) → Steady phase seat.old.seat → Steady phase seat.new.seat }
 {
     let Ok(_) = seat.done(table) else {
         unreachable!()
@@ -73,7 +79,8 @@ fn count_off<B: Job>(table: &RunTable<B>, seat: &mut WorkerSeat<B>)
 fn notice<B: Job>(table: &RunTable<B>, seat: &mut WorkerSeat<B>)
     requires table { IsSeatOf table.now.table seat.old.seat }
     requires due { (n : ℕ) × (seat.old.task ≡ Opens n Noticing) }
-    ensures { GoesOn seat.old.seat seat.new.seat }
+    ensures goes_on { GoesOn seat.old.seat seat.new.seat }
+    ensures steady { (phase : Phase) → Steady phase seat.old.seat → Steady phase seat.new.seat }
 {
     let Ok(_) = seat.notice(table) else {
         unreachable!()
@@ -84,7 +91,8 @@ fn notice<B: Job>(table: &RunTable<B>, seat: &mut WorkerSeat<B>)
 fn weigh<B: Job>(table: &RunTable<B>, seat: &mut WorkerSeat<B>)
     requires table { IsSeatOf table.now.table seat.old.seat }
     requires due { (n i : ℕ) × (seat.old.task ≡ Opens n (Locking i)) }
-    ensures { GoesOn seat.old.seat seat.new.seat }
+    ensures goes_on { GoesOn seat.old.seat seat.new.seat }
+    ensures steady { (phase : Phase) → Steady phase seat.old.seat → Steady phase seat.new.seat }
 {
     let Ok(_) = seat.weigh(table) else {
         unreachable!()
@@ -95,7 +103,8 @@ fn weigh<B: Job>(table: &RunTable<B>, seat: &mut WorkerSeat<B>)
 fn take<B: Job>(table: &RunTable<B>, seat: &mut WorkerSeat<B>)
     requires table { IsSeatOf table.now.table seat.old.seat }
     requires due { (n i : ℕ) × (word : Word) × (seat.old.task ≡ Opens n (Weighed i word)) }
-    ensures { GoesOn seat.old.seat seat.new.seat }
+    ensures goes_on { GoesOn seat.old.seat seat.new.seat }
+    ensures steady { (phase : Phase) → Steady phase seat.old.seat → Steady phase seat.new.seat }
 {
     let Ok(_) = seat.take(table) else {
         unreachable!()
@@ -106,7 +115,8 @@ fn take<B: Job>(table: &RunTable<B>, seat: &mut WorkerSeat<B>)
 fn give<B: Job>(table: &RunTable<B>, seat: &mut WorkerSeat<B>)
     requires table { IsSeatOf table.now.table seat.old.seat }
     requires due { back_due seat.old.task ≢ None }
-    ensures { GoesOn seat.old.seat seat.new.seat }
+    ensures goes_on { GoesOn seat.old.seat seat.new.seat }
+    ensures steady { (phase : Phase) → Steady phase seat.old.seat → Steady phase seat.new.seat }
 {
     let Ok(_) = seat.give(table) else {
         unreachable!()
@@ -117,7 +127,8 @@ fn give<B: Job>(table: &RunTable<B>, seat: &mut WorkerSeat<B>)
 fn give_up<B: Job>(table: &RunTable<B>, seat: &mut WorkerSeat<B>)
     requires table { IsSeatOf table.now.table seat.old.seat }
     requires due { (n : ℕ) × (seat.old.task ≡ Opens n (Backing 0)) }
-    ensures { GoesOn seat.old.seat seat.new.seat }
+    ensures goes_on { GoesOn seat.old.seat seat.new.seat }
+    ensures steady { (phase : Phase) → Steady phase seat.old.seat → Steady phase seat.new.seat }
 {
     let Ok(_) = seat.give_up(table) else {
         unreachable!()
@@ -128,7 +139,8 @@ fn give_up<B: Job>(table: &RunTable<B>, seat: &mut WorkerSeat<B>)
 fn raise<B: Job>(table: &RunTable<B>, seat: &mut WorkerSeat<B>)
     requires table { IsSeatOf table.now.table seat.old.seat }
     requires due { (n : ℕ) × (seat.old.task ≡ Closes n Raising) }
-    ensures { GoesOn seat.old.seat seat.new.seat }
+    ensures goes_on { GoesOn seat.old.seat seat.new.seat }
+    ensures steady { (phase : Phase) → Steady phase seat.old.seat → Steady phase seat.new.seat }
 {
     let Ok(_) = seat.raise(table) else {
         unreachable!()
@@ -139,7 +151,8 @@ fn raise<B: Job>(table: &RunTable<B>, seat: &mut WorkerSeat<B>)
 fn settle<B: Job>(table: &RunTable<B>, seat: &mut WorkerSeat<B>)
     requires table { IsSeatOf table.now.table seat.old.seat }
     requires due { (n : ℕ) × (seat.old.task ≡ Closes n Settling) }
-    ensures { GoesOn seat.old.seat seat.new.seat }
+    ensures goes_on { GoesOn seat.old.seat seat.new.seat }
+    ensures steady { (phase : Phase) → Steady phase seat.old.seat → Steady phase seat.new.seat }
 {
     let Ok(_) = seat.settle(table) else {
         unreachable!()
@@ -150,7 +163,8 @@ fn settle<B: Job>(table: &RunTable<B>, seat: &mut WorkerSeat<B>)
 fn look<B: Job>(table: &RunTable<B>, seat: &mut WorkerSeat<B>)
     requires table { IsSeatOf table.now.table seat.old.seat }
     requires due { (n m : ℕ) × (seat.old.task ≡ Closes n (Looking m)) }
-    ensures { GoesOn seat.old.seat seat.new.seat }
+    ensures goes_on { GoesOn seat.old.seat seat.new.seat }
+    ensures steady { (phase : Phase) → Steady phase seat.old.seat → Steady phase seat.new.seat }
 {
     let Ok(_) = seat.look(table) else {
         unreachable!()
@@ -166,7 +180,8 @@ pub fn go_on_opening<B: Job>(
     requires table { IsSeatOf table.now.table seat.old.seat }
     requires task { (n : ℕ) × (seat.old.task ≡ Opens n opening) }
     requires ready { opening ≢ Awaiting }
-    ensures { GoesOn seat.old.seat seat.new.seat }
+    ensures goes_on { GoesOn seat.old.seat seat.new.seat }
+    ensures steady { (phase : Phase) → Steady phase seat.old.seat → Steady phase seat.new.seat }
 {
     match opening {
         Opening::Registering => draw(table, seat),
@@ -195,7 +210,8 @@ pub fn go_on_closing<B: Job>(
     requires task { (n : ℕ) × (seat.old.task ≡ Closes n closing) }
     requires ready { closing ≢ AwaitingAfter }
     requires some { closing ≢ Closing.Giving 0 }
-    ensures { GoesOn seat.old.seat seat.new.seat }
+    ensures goes_on { GoesOn seat.old.seat seat.new.seat }
+    ensures steady { (phase : Phase) → Steady phase seat.old.seat → Steady phase seat.new.seat }
 {
     match closing {
         Closing::AwaitingAfter => unreachable!(),

@@ -1,0 +1,201 @@
+-- Each step of a worker keeps it steady.
+use Rattle.std.proofs.Common.{◌≡◌, ◌≢◌, ℕ, zero, suc, ◌+◌, ◌==◌, ◌⊎◌, inl, inr, Bool, true, false, cond, List, Option, Some, None, arith, refl, sym, ap, ◌∙◌, subst}
+use Rattle.std.proofs.lemmas.Option.{none-some, same_Some}
+use Rattle.std.proofs.lemmas.Bool.{false≢true}
+use Rattle.std.specs.Option.{is_some}
+use Rattle.atomic_table.specs.declared.shared.Seat.{Seat as TableSeat}
+use Rattle.plan_events.specs.declared.event.Event.{Event}
+use Rattle.plan_events.specs.declared.outcome.Reply.{Reply}
+use Rattle.plan_events.specs.declared.status.Status.{Status}
+use Rattle.plan_events.specs.declared.status.Status.TheVariants.{Successful}
+use Rattle.resource_locks.specs.Plans.{PlanParts}
+use Rattle.event_history.specs.Plans.{pulls_job, is_same}
+use Rattle.event_history.specs.Results.{Jobs, Around, jobs_of}
+use Rattle.scheduling.specs.declared.seat.Hand.{Hand}
+use Rattle.scheduling.specs.declared.seat.Seat.{Seat}
+use Rattle.scheduling.specs.declared.task.Opening.{Opening}
+use Rattle.scheduling.specs.declared.task.Closing.{Closing}
+use Rattle.scheduling.specs.declared.task.Opening.TheVariants.{Registering, RegisteredAt, Offering, StartedAt, Awaiting, Beginning, Admitting, Guarding}
+use Rattle.scheduling.specs.declared.task.Closing.TheVariants.{AwaitingAfter, Ending, FinishedAt, SkippedAt, Giving, Settling, Looking, Passing, CountingOff}
+use Rattle.scheduling.specs.declared.task.Task.{Task}
+use Rattle.scheduling.specs.declared.task.Task.TheVariants.{Free, Opens, Closes}
+use Rattle.scheduling.specs.Choices.{admit_next, admit_from, answered, awaited, decided, pass_to, after_settle, after_finish, ending_by, ending}
+use Rattle.scheduling.specs.Rows.{with_task, one_more, waits_for, waits_no_more, ends_or_free}
+use Rattle.scheduling.specs.Shown.{named}
+use Rattle.table_rule.specs.declared.view.View.{View}
+use Rattle.table_rule.specs.declared.view.Slot.{Slot}
+use Rattle.table_rule.specs.declared.view.Shelf.{Shelf}
+use Rattle.table_rule.specs.declared.view.Shelf.TheVariants.{Unmoved}
+use Rattle.table_rule.specs.declared.view.Working.{Working}
+use Rattle.table_rule.specs.Slots.{made_of, after_slot}
+use Rattle.table_rule.specs.Plays.{Guard, worker, goes_on, ready, ready_in, seat_by, ready_seat, event_due, drawn_seat, shown_seat, offer_due, admitted_seat, settled_seat, unasked, ended_seat, guard_due, Offer}
+use Rattle.run_table.specs.Seats.{seated}
+use Rattle.worker_pool.specs.Steady.{Phase, AtNodes, AtTests, opened_by, registering, IsTaken, IsPulled, HandKept, IsSteady, Steady}
+use Rattle.worker_pool.proofs.Quiet.{is_quiet, steady_quiet, OpensNoOther, hand_to, quietly, quiet_admit, quiet_finish}
+
+pub opens_busy : (n : ℕ) (d : Opening) → Opens n d ≢ Free
+opens_busy n d is = none-some n (ap opened_by (sym is))
+
+pub closes_busy : (n : ℕ) (d : Closing) → Closes n d ≢ Free
+closes_busy n d is = by is
+  where
+    by : Closes n d ≡ Free → ⊥
+    by e = cc
+
+pub opens_closes : (n : ℕ) (d : Opening) (m : ℕ) (e : Closing) → Opens n d ≢ Closes m e
+opens_closes n d m e is = none-some n (sym (ap opened_by is))
+
+-- where a seat comes to
+pub arrives : {B : Type 0} (old new : TableSeat (Slot B) (View B)) (phase : Phase) (w : Working) → new.me.0.about ≡ old.me.0.about → worker new.me.0 ≡ w → IsSteady old.me.0.about.plan phase w.seat w.slots (is_some w.answer) → Steady phase new
+arrives old new phase w about is it =
+    subst (λ (z : PlanParts × Working). IsSteady z.0 phase z.1.seat z.1.slots (is_some z.1.answer)) (λ k. ((sym about k).plan, sym is k)) it
+
+-- a step to a quiet task
+pub moved : {B : Type 0} (old new : TableSeat (Slot B) (View B)) (phase : Phase) (task : Task) (hand : Option Hand) → (worker old.me.0).seat ≡ seated task hand → new.me.0.about ≡ old.me.0.about → Steady phase old
+    → (t : Task) → worker new.me.0 ≡ goes_on (with_task (seated task hand) t) (worker old.me.0) → (u : Task) → task ≡ u → u ≢ Free → registering u ≡ 0 → is_quiet t ≡ true → OpensNoOther u t → Steady phase new
+moved old new phase task hand seat_is about it t is u is_u busy none quiet no_other =
+    let p = old.me.0.about.plan in
+    let made = (worker old.me.0).slots in
+    arrives old new phase (goes_on (with_task (seated task hand) t) (worker old.me.0)) about is
+        (quietly p phase (seated task hand) made (subst (λ (s : Seat). HandKept p phase s made) seat_is it.hand) u is_u busy none t quiet no_other false)
+
+-- The job's answer decides the task.
+quiet_answered : (n : ℕ) (status : Status) (c : Option ℕ) (b : Bool) → is_quiet (cond b (Closes n (Ending status)) (Opens n (admit_next c))) ≡ true
+quiet_answered n status c true = refl
+quiet_answered n status c false = quiet_admit n c
+
+same_answered : (n : ℕ) (status : Status) (c : Option ℕ) (b : Bool) → OpensNoOther (Opens n Awaiting) (cond b (Closes n (Ending status)) (Opens n (admit_next c)))
+same_answered n status c true = inl refl
+same_answered n status c false = inr refl
+
+decided_steady : (p : PlanParts) (phase : Phase) (seat : Seat) (made : List (ℕ × Shelf)) (a : Bool) (reply : Reply) → IsSteady p phase seat made a → IsSteady p phase (with_task seat (decided p reply seat.task)) made a
+decided_steady p phase seat made a reply it = by seat.task refl
+  where
+    by : (t : Task) → seat.task ≡ t → IsSteady p phase (with_task seat (decided p reply t)) made a
+    by (Opens n Awaiting) is = quietly p phase seat made it.hand (Opens n Awaiting) is (opens_busy n Awaiting) refl (answered p n reply) (quiet_answered n _ _ _) (same_answered n _ _ _) a
+    by (Closes n AwaitingAfter) is = quietly p phase seat made it.hand (Closes n AwaitingAfter) is (closes_busy n AwaitingAfter) refl (Closes n (Ending reply.outcome.status)) refl (inl refl) a
+    by _ is = subst (λ (t : Task). IsSteady p phase (with_task seat t) made a) is it
+
+pub ready_steady : (p : PlanParts) (phase : Phase) (w : Working) → IsSteady p phase w.seat w.slots (is_some w.answer) → IsSteady p phase (ready_seat p w) w.slots (is_some w.answer)
+ready_steady p phase w it = by (awaited p w.seat w.seat.task) w.answer
+  where
+    by : (job : Option ℕ) (answer : Option Reply) → IsSteady p phase (seat_by p w.seat job answer) w.slots (is_some w.answer)
+    by None answer = decided_steady p phase w.seat w.slots (is_some w.answer) unasked it
+    by (Some job) None = it
+    by (Some job) (Some reply) = decided_steady p phase w.seat w.slots (is_some w.answer) reply it
+
+-- A start is drawn of a node whose slot is not moved.
+opened_node : (n m : ℕ) (d e : Opening) → Opens n d ≡ Opens m e → n ≡ m
+opened_node n m d e is = same_Some n m (ap opened_by is)
+
+abbrev is_beginning : Opening → Bool
+is_beginning (StartedAt i) = true
+is_beginning _ = false
+
+abbrev opening_of : Task → Opening
+opening_of (Opens n d) = d
+opening_of _ = Guarding
+
+abbrev is_awaiting : Opening → Bool
+is_awaiting Awaiting = true
+is_awaiting _ = false
+
+started_steady : (p : PlanParts) (phase : Phase) (seat : Seat) (made : List (ℕ × Shelf)) (n number : ℕ) → HandKept p phase (with_task seat (Opens n (StartedAt number))) made → made_of made n ≡ Unmoved → IsSteady p phase (with_task seat (Opens n (StartedAt number))) made false
+started_steady p phase seat made n number hand unmoved = record {
+  gives = λ m is. none-some n (sym (ap opened_by is));
+  plain = λ m is. absurd (false≢true (sym (ap (λ t. is_beginning (opening_of t)) is)));
+  starts = λ m i is. subst (λ (k : ℕ). made_of made k ≡ Unmoved) (opened_node n m (StartedAt number) (StartedAt i) is) unmoved;
+  waits = λ m is. absurd (false≢true (sym (ap (λ t. is_beginning (opening_of t)) is)));
+  after = λ m is. absurd (none-some n (sym (ap opened_by is)));
+  hand = hand;
+}
+
+-- one more dynamic test is registered
+hand_more : (p : PlanParts) (phase : Phase) (seat : Seat) (made : List (ℕ × Shelf)) (n number : ℕ) → HandKept p phase seat made → seat.task ≡ Opens n Registering → HandKept p phase (record { task = Opens n (RegisteredAt number); hand = one_more seat.hand }) made
+hand_more p AtNodes seat made n number kept is = λ h e. absurd (by seat.hand refl h e)
+  where
+    by : (x : Option Hand) → seat.hand ≡ x → (h : Hand) → one_more x ≡ Some h → ⊥
+    by None held h e = none-some h e
+    by (Some h0) held h e = opens_busy n Registering (sym is ∙ (kept h0 held).free)
+hand_more p (AtTests factory asked) seat made n number kept is = record {
+  hand = record { factory = kept.hand.factory; registered = kept.hand.registered + 1; waiting = kept.hand.waiting };
+  held = ap one_more kept.held;
+  is_it = kept.is_it;
+  counted = omega (arith, ap (λ t. kept.hand.registered + registering t) is, kept.counted);
+  pulls = kept.pulls;
+  left = kept.left;
+  about = λ m e. kept.about m (ap opened_by is ∙ e);
+}
+
+pub drawn_steady : (p : PlanParts) (phase : Phase) (seat : Seat) (made : List (ℕ × Shelf)) (a : Bool) → IsSteady p phase seat made a → (w number : ℕ) (e : Event) → event_due w seat.task ≡ Some e → ((n : ℕ) → seat.task ≡ Opens n (Beginning false) → made_of made n ≡ Unmoved)
+    → IsSteady p phase (drawn_seat number seat seat.task) made false
+drawn_steady p phase seat made a it w number e due unmoved = by seat.task refl due
+  where
+    by : (t : Task) → seat.task ≡ t → event_due w t ≡ Some e → IsSteady p phase (drawn_seat number seat t) made false
+    by (Opens n Registering) is due = steady_quiet p phase (record { task = Opens n (RegisteredAt number); hand = one_more seat.hand }) made false refl (hand_more p phase seat made n number it.hand is)
+    by (Opens n (Beginning true)) is due = quietly p phase seat made it.hand (Opens n (Beginning true)) is (opens_busy n (Beginning true)) refl (Closes n (SkippedAt number)) refl (inl refl) false
+    by (Opens n (Beginning false)) is due =
+        started_steady p phase seat made n number (hand_to p phase seat made it.hand (λ free. opens_busy n (Beginning false) (sym is ∙ free)) (Opens n (StartedAt number)) (ap registering is) (inr (ap opened_by (sym is)))) (unmoved n is)
+    by (Closes n (Ending status)) is due = quietly p phase seat made it.hand (Closes n (Ending status)) is (closes_busy n (Ending status)) refl (Closes n (FinishedAt number status)) refl (inl refl) false
+    by _ is due = absurd (none-some e due)
+
+-- A factory is taken in hand, or the node's job is waited for.
+awaiting_steady : (p : PlanParts) (phase : Phase) (seat : Seat) (made : List (ℕ × Shelf)) (n : ℕ) → HandKept p phase (with_task seat (Opens n Awaiting)) made → pulls_job p n ≡ false → made_of made n ≡ Unmoved → IsSteady p phase (with_task seat (Opens n Awaiting)) made false
+awaiting_steady p phase seat made n hand plain unmoved = record {
+  gives = λ m is. none-some n (sym (ap opened_by is));
+  plain = λ m is. subst (λ (k : ℕ). pulls_job p k ≡ false) (opened_node n m Awaiting Awaiting is) plain;
+  starts = λ m i is. absurd (false≢true (sym (ap (λ t. is_awaiting (opening_of t)) is)));
+  waits = λ m is. inl (subst (λ (k : ℕ). made_of made k ≡ Unmoved) (opened_node n m Awaiting Awaiting is) unmoved);
+  after = λ m is. absurd (none-some n (sym (ap opened_by is)));
+  hand = hand;
+}
+
+start_steady : (p : PlanParts) (phase : Phase) (seat : Seat) (made : List (ℕ × Shelf)) (a : Bool) → IsSteady p phase seat made a → (n i : ℕ) → seat.task ≡ Opens n (StartedAt i) → (b : Bool) → pulls_job p n ≡ b
+    → IsSteady p phase (cond b (record { task = Free; hand = Some (record { factory = n; registered = 0; waiting = None }) }) (with_task seat (Opens n Awaiting))) made false
+start_steady p AtNodes seat made a it n i is true pulls =
+    steady_quiet p AtNodes (record { task = Free; hand = Some (record { factory = n; registered = 0; waiting = None }) }) made false refl
+        (λ h e. subst (λ (x : Hand). IsTaken p (record { task = Free; hand = Some (record { factory = n; registered = 0; waiting = None }) }) made x) (same_Some (record { factory = n; registered = 0; waiting = None }) h e)
+            (record { free = refl; idle = refl; none = refl; pulls = pulls; unmoved = it.starts n i is }))
+start_steady p (AtTests factory asked) seat made a it n i is true pulls = absurd (false≢true (sym (it.hand.about n (ap opened_by is)).1 ∙ pulls))
+start_steady p phase seat made a it n i is false pulls =
+    awaiting_steady p phase seat made n (hand_to p phase seat made it.hand (λ free. opens_busy n (StartedAt i) (sym is ∙ free)) (Opens n Awaiting) (ap registering is) (inr (ap opened_by (sym is)))) pulls (it.starts n i is)
+
+pub shown_steady : (p : PlanParts) (phase : Phase) (seat : Seat) (made : List (ℕ × Shelf)) (a : Bool) → IsSteady p phase seat made a → (w : ℕ) (x : ℕ × Event) → named w seat.task ≡ Some x → IsSteady p phase (shown_seat p seat seat.task) made false
+shown_steady p phase seat made a it w x due = by seat.task refl due
+  where
+    by : (t : Task) → seat.task ≡ t → named w t ≡ Some x → IsSteady p phase (shown_seat p seat t) made false
+    by (Opens n (RegisteredAt i)) is due = quietly p phase seat made it.hand (Opens n (RegisteredAt i)) is (opens_busy n (RegisteredAt i)) refl (Opens n Offering) refl (inr refl) false
+    by (Opens n (StartedAt i)) is due = start_steady p phase seat made a it n i is (pulls_job p n) refl
+    by (Closes n (SkippedAt i)) is due = quietly p phase seat made it.hand (Closes n (SkippedAt i)) is (closes_busy n (SkippedAt i)) refl (Closes n Settling) refl (inl refl) false
+    by (Closes n (FinishedAt i status)) is due = quietly p phase seat made it.hand (Closes n (FinishedAt i status)) is (closes_busy n (FinishedAt i status)) refl (Closes n (after_finish p n status)) (quiet_finish p n status) (inl refl) false
+    by _ is due = absurd (none-some x due)
+
+-- A dynamic test is offered, or settled: the factory in hand waits for it, or no longer.
+pub hand_turned : (p : PlanParts) (phase : Phase) (seat : Seat) (made : List (ℕ × Shelf)) → HandKept p phase seat made → seat.task ≢ Free → registering seat.task ≡ 0 → (turn : Option Hand → Option Hand) → turn None ≡ None
+    → (waiting : Hand → Option ℕ) → ((h : Hand) → turn (Some h) ≡ Some (record { factory = h.factory; registered = h.registered; waiting = waiting h }))
+    → (t : Task) → opened_by t ≡ None → registering t ≡ 0 → HandKept p phase (record { task = t; hand = turn seat.hand }) made
+hand_turned p AtNodes seat made kept busy none turn still waiting turns t opens no_more = λ h e. absurd (by seat.hand refl h e)
+  where
+    by : (x : Option Hand) → seat.hand ≡ x → (h : Hand) → turn x ≡ Some h → ⊥
+    by None held h e = none-some h (sym still ∙ e)
+    by (Some h0) held h e = busy (kept h0 held).free
+hand_turned p (AtTests factory asked) seat made kept busy none turn still waiting turns t opens no_more = record {
+  hand = record { factory = kept.hand.factory; registered = kept.hand.registered; waiting = waiting kept.hand };
+  held = ap turn kept.held ∙ turns kept.hand;
+  is_it = kept.is_it;
+  counted = ap (λ k. kept.hand.registered + k) (no_more ∙ sym none) ∙ kept.counted;
+  pulls = kept.pulls;
+  left = kept.left;
+  about = λ m e. absurd (none-some m (sym opens ∙ e));
+}
+
+pub admitted_steady : (p : PlanParts) (phase : Phase) (seat : Seat) (made : List (ℕ × Shelf)) (a : Bool) → IsSteady p phase seat made a → (w : ℕ) (o : Offer) → offer_due p w seat.task ≡ Some o → IsSteady p phase (admitted_seat p seat seat.task) made false
+admitted_steady p phase seat made a it w o due = by seat.task refl due
+  where
+    by : (t : Task) → seat.task ≡ t → offer_due p w t ≡ Some o → IsSteady p phase (admitted_seat p seat t) made false
+    by (Opens n (Admitting c)) is due = quietly p phase seat made it.hand (Opens n (Admitting c)) is (opens_busy n (Admitting c)) refl (Opens n (admit_from p n (suc c))) (quiet_admit n _) (inr refl) false
+    by (Opens n Offering) is due =
+        steady_quiet p phase (record { task = Free; hand = waits_for p n seat.hand }) made false refl
+            (hand_turned p phase seat made it.hand (λ free. opens_busy n Offering (sym is ∙ free)) (ap registering is) (waits_for p n) refl (λ h. cond (is_same p n) (Some n) h.waiting) (λ h. refl) Free refl refl)
+    by (Closes n (Passing m owner)) is due = quietly p phase seat made it.hand (Closes n (Passing m owner)) is (closes_busy n (Passing m owner)) refl (Closes n CountingOff) refl (inl refl) false
+    by _ is due = absurd (none-some o due)

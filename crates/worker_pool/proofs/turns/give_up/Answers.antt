@@ -1,0 +1,12 @@
+use Rattle.std.proofs.Common.{◌≡◌, ◌⊎◌, ℕ, inl, inr, Some, None, refl, sym, ap, ◌∙◌, subst}
+use Rattle.scheduling.specs.declared.task.Opening.TheVariants.{Backing}
+use Rattle.scheduling.specs.declared.task.Task.TheVariants.{Opens, Closes}
+use Rattle.worker_pool.proofs.Steps.{moved, opens_busy}
+use Rattle.worker_pool.proofs.turns.give_up.Goals as goal
+
+pub returns-clause-steady : goal.returns-clause-steady
+returns-clause-steady g c = λ phase it.
+    let self = c.args.seat.now in
+    let p = self.seat.me.0.about.plan in
+    let d = c.in-Ok.ensures.done in
+    moved self.seat c.give_up.new.self.seat phase self.task self.hand self.at_work.seat_is c.give_up.ensures.same.about it _ d.2.worker_is (Opens d.0 (Backing 0)) d.1 (opens_busy d.0 (Backing 0)) refl (refl) (inl refl)

@@ -1,0 +1,13 @@
+use Rattle.std.proofs.Common.{◌≡◌, ◌⊎◌, ℕ, inl, inr, Some, None, refl, sym, ap, ◌∙◌, subst}
+use Rattle.scheduling.specs.declared.task.Opening.TheVariants.{Locking}
+use Rattle.scheduling.specs.declared.task.Task.TheVariants.{Opens, Closes}
+use Rattle.worker_pool.proofs.Steps.{moved, opens_busy}
+use Rattle.worker_pool.proofs.Quiet.{quiet_weighed}
+use Rattle.worker_pool.proofs.turns.weigh.Goals as goal
+
+pub returns-clause-steady : goal.returns-clause-steady
+returns-clause-steady g c = λ phase it.
+    let self = c.args.seat.now in
+    let p = self.seat.me.0.about.plan in
+    let d = c.in-Ok.ensures.done in
+    moved self.seat c.weigh.new.self.seat phase self.task self.hand self.at_work.seat_is c.weigh.ensures.same.about it _ d.4.worker_is (Opens d.0 (Locking d.1)) d.3 (opens_busy d.0 (Locking d.1)) refl (quiet_weighed p d.0 d.1 d.2) (inr refl)
