@@ -1,5 +1,5 @@
 -- What the steps of a worker keep.
 pub mod Quiet
-
 pub mod Steps
 pub mod Endings
+pub mod Outgoing

@@ -56,6 +56,7 @@ hand_to p (AtTests factory asked) old made kept busy t same no_other = record {
   hand = kept.hand;
   held = kept.held;
   is_it = kept.is_it;
+  inside = kept.inside;
   counted = ap (λ k. kept.hand.registered + k) (sym same) ∙ kept.counted;
   pulls = kept.pulls;
   left = kept.left;

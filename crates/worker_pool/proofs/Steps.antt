@@ -100,6 +100,9 @@ abbrev is_awaiting : Opening → Bool
 is_awaiting Awaiting = true
 is_awaiting _ = false
 
+pub awaits_no_start : (n m i : ℕ) → Opens n Awaiting ≢ Opens m (StartedAt i)
+awaits_no_start n m i is = false≢true (sym (ap (λ t. is_awaiting (opening_of t)) is))
+
 started_steady : (p : PlanParts) (phase : Phase) (seat : Seat) (made : List (ℕ × Shelf)) (n number : ℕ) → HandKept p phase (with_task seat (Opens n (StartedAt number))) made → made_of made n ≡ Unmoved → IsSteady p phase (with_task seat (Opens n (StartedAt number))) made false
 started_steady p phase seat made n number hand unmoved = record {
   gives = λ m is. none-some n (sym (ap opened_by is));
@@ -121,6 +124,7 @@ hand_more p (AtTests factory asked) seat made n number kept is = record {
   hand = record { factory = kept.hand.factory; registered = kept.hand.registered + 1; waiting = kept.hand.waiting };
   held = ap one_more kept.held;
   is_it = kept.is_it;
+  inside = kept.inside;
   counted = omega (arith, ap (λ t. kept.hand.registered + registering t) is, kept.counted);
   pulls = kept.pulls;
   left = kept.left;
@@ -183,6 +187,7 @@ hand_turned p (AtTests factory asked) seat made kept busy none turn still waitin
   hand = record { factory = kept.hand.factory; registered = kept.hand.registered; waiting = waiting kept.hand };
   held = ap turn kept.held ∙ turns kept.hand;
   is_it = kept.is_it;
+  inside = kept.inside;
   counted = ap (λ k. kept.hand.registered + k) (no_more ∙ sym none) ∙ kept.counted;
   pulls = kept.pulls;
   left = kept.left;

@@ -1,3 +1,5 @@
 -- What clauses say of workers and of the dispatcher.
+pub mod Answering
 pub mod Going
+pub mod Premises
 pub mod Steady

@@ -3,14 +3,18 @@
 ghost use Rattle.std.specs.Prelude.{◌≡◌, ◌≢◌, ℕ, None};
 ghost use Rattle.scheduling.specs.Shown.{named};
 ghost use Rattle.scheduling.specs.declared.lock_word.LockWord.{LockWord as Word};
-ghost use Rattle.scheduling.specs.declared.task.Opening.TheVariants.{Awaiting, Backing, Guarding, Locking, Noticing, Weighed};
-ghost use Rattle.scheduling.specs.declared.task.Closing.TheVariants.{AwaitingAfter, CountingOff, Looking, Raising, Settling};
+ghost use Rattle.scheduling.specs.declared.task.Opening.TheVariants.{Backing, Guarding, Locking, Noticing, Weighed};
+ghost use Rattle.scheduling.specs.declared.task.Closing.TheVariants.{CountingOff, Looking, Raising, Settling};
 ghost use Rattle.scheduling.specs.declared.task.Task.TheVariants.{Opens, Closes};
 ghost use Rattle.table_rule.specs.Plays.{worker, ready_in, event_due, offer_due, back_due};
 ghost use Rattle.run_table.specs.Seats.{IsSeatOf};
+ghost use Rattle.table_rule.specs.Picture.{about_of};
 ghost use Rattle.worker_pool.specs.Going.{GoesOn};
+ghost use Rattle.worker_pool.specs.Premises.{MayAnswer};
 ghost use Rattle.worker_pool.specs.Steady.{Phase, Steady};
 
+use crate::answering::{answer_after, answer_body};
+use descriptor::NodeId;
 use plan_events::Job;
 use run_table::{RunTable, WorkerSeat};
 use scheduling::{Closing, Opening};
@@ -171,15 +175,17 @@ fn look<B: Job>(table: &RunTable<B>, seat: &mut WorkerSeat<B>)
     };
 }
 
-/// The step of a task that opens a node, and waits for no answer.
+/// The step of a task that opens a node.
 pub fn go_on_opening<B: Job>(
     table: &RunTable<B>,
     seat: &mut WorkerSeat<B>,
+    node: NodeId,
     opening: Opening,
 )
     requires table { IsSeatOf table.now.table seat.old.seat }
-    requires task { (n : ℕ) × (seat.old.task ≡ Opens n opening) }
-    requires ready { opening ≢ Awaiting }
+    requires jobs { MayAnswer B.answers (about_of table.now.table.shared.key) }
+    requires task { seat.old.task ≡ Opens node opening }
+    requires steady { (phase : Phase) × Steady phase seat.old.seat }
     ensures goes_on { GoesOn seat.old.seat seat.new.seat }
     ensures steady { (phase : Phase) → Steady phase seat.old.seat → Steady phase seat.new.seat }
 {
@@ -194,30 +200,32 @@ pub fn go_on_opening<B: Job>(
         Opening::Backing(_) => give(table, seat),
         Opening::Beginning(_) => draw(table, seat),
         Opening::StartedAt(_) => show(table, seat),
-        Opening::Awaiting => unreachable!(),
+        Opening::Awaiting => answer_body(table, seat, node),
         Opening::Admitting(_) => admit(table, seat),
         Opening::Guarding => give_guard(table, seat),
     }
 }
 
-/// The step of a task that closes a node, and waits for no answer.
+/// The step of a task that closes a node.
 pub fn go_on_closing<B: Job>(
     table: &RunTable<B>,
     seat: &mut WorkerSeat<B>,
+    node: NodeId,
     closing: Closing,
 )
     requires table { IsSeatOf table.now.table seat.old.seat }
-    requires task { (n : ℕ) × (seat.old.task ≡ Closes n closing) }
-    requires ready { closing ≢ AwaitingAfter }
-    requires some { closing ≢ Closing.Giving 0 }
+    requires jobs { MayAnswer B.answers (about_of table.now.table.shared.key) }
+    requires task { seat.old.task ≡ Closes node closing }
+    requires steady { (phase : Phase) × Steady phase seat.old.seat }
     ensures goes_on { GoesOn seat.old.seat seat.new.seat }
     ensures steady { (phase : Phase) → Steady phase seat.old.seat → Steady phase seat.new.seat }
 {
     match closing {
-        Closing::AwaitingAfter => unreachable!(),
+        Closing::AwaitingAfter => answer_after(table, seat, node),
         Closing::Ending(_) => draw(table, seat),
         Closing::FinishedAt(_, _) | Closing::SkippedAt(_) => show(table, seat),
         Closing::Raising => raise(table, seat),
+        Closing::Giving(0) => unreachable!(),
         Closing::Giving(_) => give(table, seat),
         Closing::Settling => settle(table, seat),
         Closing::Looking(_) => look(table, seat),
