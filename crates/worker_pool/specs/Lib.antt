@@ -2,4 +2,6 @@
 pub mod Answering
 pub mod Going
 pub mod Premises
+pub mod Rooms
 pub mod Steady
+pub mod Telling

@@ -2,5 +2,7 @@
 #![tactic(auto)]
 
 mod answering;
+pub mod desk;
+pub mod gate;
 pub mod scan;
 pub mod turns;
