@@ -109,3 +109,10 @@ given_steady p phase seat made hand b due = by seat.task refl due
 -- a task that waits for no job is what it was
 pub ready_plain : (p : PlanParts) (w : Working) (t : Task) → w.seat.task ≡ t → awaited p w.seat t ≡ None → decided p unasked t ≡ t → (ready_seat p w).task ≡ t
 ready_plain p w t is none same = ap (λ (job : Option ℕ). (seat_by p w.seat job w.answer).task) (ap (awaited p w.seat) is ∙ none) ∙ (ap (decided p unasked) is ∙ same)
+
+-- a seat that ends a node with nothing in hand
+pub ends_alone : (p : PlanParts) (n : ℕ) (status : Status) (outstanding : ℕ) (made : List (ℕ × Shelf)) (hand : Option Hand) → hand ≡ None
+    → ((m : ℕ) → ends_or_free p n status outstanding ≡ Closes m AwaitingAfter → made_of made (after_slot p m) ≡ Unmoved) → IsSteady p AtNodes (record { task = ends_or_free p n status outstanding; hand = hand }) made false
+ends_alone p n status outstanding made hand none after =
+    let so = ends_so p n status outstanding in
+    closing_steady p AtNodes (record { task = ends_or_free p n status outstanding; hand = hand }) made (λ h held. absurd (none-some h (sym none ∙ held))) so.closes (λ m e. false≢true (sym so.gives ∙ ap is_giving e)) after

@@ -3,3 +3,5 @@ pub mod Quiet
 pub mod Steps
 pub mod Endings
 pub mod Outgoing
+pub mod Asked
+pub mod Tests

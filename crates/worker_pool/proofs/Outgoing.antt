@@ -1,5 +1,5 @@
 -- A job that leaves its slot, and the answer that comes in: what the seat is then.
-use Rattle.std.proofs.Common.{◌≡◌, ◌≢◌, ◌<◌, ◌≤◌, ℕ, ◌+◌, ◌==◌, ◌⊎◌, inl, inr, Bool, true, false, cond, List, [], ◌∷◌, length, append-nil, Option, Some, None, arith, eq-eqb, ne_eqb, refl, sym, ap, ◌∙◌, subst}
+use Rattle.std.proofs.Common.{◌≡◌, ◌≢◌, ◌<◌, ◌≤◌, ℕ, ◌+◌, ◌==◌, ◌⊎◌, inl, inr, Bool, true, false, cond, List, [], ◌∷◌, length, append-nil, append_assoc, ◌++◌, Option, Some, None, arith, eq-eqb, ne_eqb, refl, sym, ap, ◌∙◌, subst}
 use Rattle.std.proofs.lemmas.Option.{none-some, same_Some}
 use Rattle.std.proofs.lemmas.Bool.{false≢true}
 use Rattle.std.specs.Option.{is_some}
@@ -204,4 +204,11 @@ pub told_goes : {B : Type 0} (old mid new : TableSeat (Slot B) (View B)) (task :
 told_goes old mid new task hand node k first second mid_is told = record {
   same = record { table = second.table ∙ first.table; id = second.id ∙ first.id; about = second.about ∙ first.about; number = second.number ∙ first.number };
   mine = record { more = []; is = ap (λ (v : Working). v.mine) told.now ∙ (ap (λ (v : Working). v.mine) mid_is ∙ sym (append-nil (worker old.me.0).mine)) };
+}
+
+-- one step after the other
+pub then_goes : {B : Type 0} (a b c : TableSeat (Slot B) (View B)) → GoesOn a b → GoesOn b c → GoesOn a c
+then_goes a b c first second = record {
+  same = record { table = second.same.table ∙ first.same.table; id = second.same.id ∙ first.same.id; about = second.same.about ∙ first.same.about; number = second.same.number ∙ first.same.number };
+  mine = record { more = first.mine.more ++ second.mine.more; is = second.mine.is ∙ (ap (λ l. l ++ second.mine.more) first.mine.is ∙ append_assoc (worker a.me.0).mine first.mine.more second.mine.more) };
 }

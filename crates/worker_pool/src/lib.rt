@@ -2,7 +2,12 @@
 #![tactic(auto)]
 
 mod answering;
-pub mod desk;
+mod desk;
 pub mod gate;
-pub mod scan;
-pub mod turns;
+mod pulling;
+mod scan;
+mod turns;
+mod working;
+
+pub use desk::{dispatch, dispatch_one};
+pub use working::work;

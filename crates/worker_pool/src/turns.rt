@@ -20,7 +20,7 @@ use run_table::{RunTable, WorkerSeat};
 use scheduling::{Closing, Opening};
 
 /// Draws the event that is due.
-pub fn draw<B: Job>(table: &RunTable<B>, seat: &mut WorkerSeat<B>)
+pub(crate) fn draw<B: Job>(table: &RunTable<B>, seat: &mut WorkerSeat<B>)
     requires table { IsSeatOf table.now.table seat.old.seat }
     requires due { event_due (worker seat.old.seat.me.0).number (ready_in seat.old.seat.me.0).seat.task ≢ None }
     ensures goes_on { GoesOn seat.old.seat seat.new.seat }
@@ -44,7 +44,7 @@ fn show<B: Job>(table: &RunTable<B>, seat: &mut WorkerSeat<B>)
 }
 
 /// Offers the node that is due.
-pub fn admit<B: Job>(table: &RunTable<B>, seat: &mut WorkerSeat<B>)
+pub(crate) fn admit<B: Job>(table: &RunTable<B>, seat: &mut WorkerSeat<B>)
     requires table { IsSeatOf table.now.table seat.old.seat }
     requires due { offer_due seat.old.seat.me.0.about.plan (worker seat.old.seat.me.0).number (ready_in seat.old.seat.me.0).seat.task ≢ None }
     ensures goes_on { GoesOn seat.old.seat seat.new.seat }
@@ -56,7 +56,7 @@ pub fn admit<B: Job>(table: &RunTable<B>, seat: &mut WorkerSeat<B>)
 }
 
 /// Gives up the guard that is due.
-pub fn give_guard<B: Job>(table: &RunTable<B>, seat: &mut WorkerSeat<B>)
+pub(crate) fn give_guard<B: Job>(table: &RunTable<B>, seat: &mut WorkerSeat<B>)
     requires table { IsSeatOf table.now.table seat.old.seat }
     requires due { (n : ℕ) × ((ready_in seat.old.seat.me.0).seat.task ≡ Opens n Guarding) }
     ensures goes_on { GoesOn seat.old.seat seat.new.seat }
@@ -176,7 +176,7 @@ fn look<B: Job>(table: &RunTable<B>, seat: &mut WorkerSeat<B>)
 }
 
 /// The step of a task that opens a node.
-pub fn go_on_opening<B: Job>(
+pub(crate) fn go_on_opening<B: Job>(
     table: &RunTable<B>,
     seat: &mut WorkerSeat<B>,
     node: NodeId,
@@ -207,7 +207,7 @@ pub fn go_on_opening<B: Job>(
 }
 
 /// The step of a task that closes a node.
-pub fn go_on_closing<B: Job>(
+pub(crate) fn go_on_closing<B: Job>(
     table: &RunTable<B>,
     seat: &mut WorkerSeat<B>,
     node: NodeId,
