@@ -1,29 +1,26 @@
 -- A worker that settles a node, counts it off, gives up a guard or takes a node stays steady.
-use Rattle.std.proofs.Common.{◌≡◌, ◌≢◌, ℕ, zero, suc, ◌+◌, ◌==◌, ◌⊎◌, inl, inr, Bool, true, false, cond, List, Option, Some, None, refl, sym, ap, ◌∙◌, subst}
+use Rattle.std.proofs.Common.{◌≡◌, ◌≢◌, ℕ, zero, suc, ◌==◌, inl, inr, Bool, true, false, cond, List, Option, Some, None, refl, sym, ap, ◌∙◌, subst}
 use Rattle.std.proofs.lemmas.Option.{none-some, same_Some}
 use Rattle.std.proofs.lemmas.Bool.{false≢true}
 use Rattle.plan_events.specs.declared.outcome.Reply.{Reply}
 use Rattle.plan_events.specs.declared.status.Status.{Status}
 use Rattle.plan_events.specs.declared.status.Status.TheVariants.{Successful}
 use Rattle.resource_locks.specs.Plans.{PlanParts}
-use Rattle.event_history.specs.Plans.{is_same}
 use Rattle.event_history.specs.Results.{Jobs, Around, jobs_of}
-use Rattle.descriptor.specs.Nodes.{is_spare_at, size}
 use Rattle.scheduling.specs.declared.seat.Hand.{Hand}
 use Rattle.scheduling.specs.declared.seat.Seat.{Seat}
-use Rattle.scheduling.specs.declared.task.Closing.{Closing}
-use Rattle.scheduling.specs.declared.task.Opening.TheVariants.{StartedAt, Awaiting, Backing, Guarding}
-use Rattle.scheduling.specs.declared.task.Closing.TheVariants.{AwaitingAfter, Ending, Giving, Settling, Looking, CountingOff}
+use Rattle.scheduling.specs.declared.task.Opening.TheVariants.{Backing, Guarding}
+use Rattle.scheduling.specs.declared.task.Closing.TheVariants.{AwaitingAfter, Giving, Settling, CountingOff}
 use Rattle.scheduling.specs.declared.task.Task.{Task}
 use Rattle.scheduling.specs.declared.task.Task.TheVariants.{Free, Opens, Closes}
-use Rattle.scheduling.specs.Choices.{awaited, decided, giving, pass_to, after_settle, ending_by, ending, first_from, is_same_sibling}
+use Rattle.scheduling.specs.Choices.{awaited, decided, giving, pass_to, after_settle, ending_by, ending}
 use Rattle.scheduling.specs.Rows.{with_task, waits_no_more, waited_out, ends_or_free}
 use Rattle.table_rule.specs.declared.view.Shelf.{Shelf}
 use Rattle.table_rule.specs.declared.view.Shelf.TheVariants.{Unmoved}
 use Rattle.table_rule.specs.Slots.{made_of, after_slot}
 use Rattle.table_rule.specs.declared.view.Working.{Working}
 use Rattle.table_rule.specs.Plays.{Guard, Back, back_due, given_seat, settled_seat, ended_seat, guard_due, ready_seat, seat_by, unasked}
-use Rattle.worker_pool.specs.Steady.{Phase, AtNodes, AtTests, opened_by, registering, HandKept, IsSteady}
+use Rattle.worker_pool.specs.Steady.{Phase, AtNodes, opened_by, registering, HandKept, IsSteady}
 use Rattle.worker_pool.proofs.Quiet.{is_quiet, steady_quiet, hand_to, quietly, quiet_giving}
 use Rattle.worker_pool.proofs.Steps.{hand_turned, closes_busy, opens_busy}
 
@@ -44,7 +41,7 @@ closes_settle p (suc n) = (refl, refl)
 pub settled_steady : (p : PlanParts) (phase : Phase) (seat : Seat) (made : List (ℕ × Shelf)) (a : Bool) → IsSteady p phase seat made a → (n : ℕ) → seat.task ≡ Closes n Settling → IsSteady p phase (settled_seat p seat n) made false
 settled_steady p phase seat made a it n is =
     steady_quiet p phase (settled_seat p seat n) made false (quiet_settle p n)
-        (hand_turned p phase seat made it.hand (λ free. closes_busy n Settling (sym is ∙ free)) (ap registering is) (waits_no_more n) refl (λ h. waited_out n h.waiting) (λ h. refl) (after_settle p n) (closes_settle p n).0 (closes_settle p n).1)
+    (hand_turned p phase seat made it.hand (λ free. closes_busy n Settling (sym is ∙ free)) (ap registering is) (waits_no_more n) refl (λ h. waited_out n h.waiting) (λ h. refl) (after_settle p n) (closes_settle p n).0 (closes_settle p n).1)
 
 -- A worker that ends a node: it may run the after-body next, whose slot it has not moved.
 closing_steady : (p : PlanParts) (phase : Phase) (seat : Seat) (made : List (ℕ × Shelf)) → HandKept p phase seat made → opened_by seat.task ≡ None → ((n : ℕ) → seat.task ≢ Closes n (Giving 0)) → ((n : ℕ) → seat.task ≡ Closes n AwaitingAfter → made_of made (after_slot p n) ≡ Unmoved) → IsSteady p phase seat made false
@@ -82,10 +79,10 @@ pub ends_steady : (p : PlanParts) (phase : Phase) (seat : Seat) (made : List (�
 ends_steady p phase seat made hand u is busy none n status outstanding after =
     let so = ends_so p n status outstanding in
     closing_steady p phase (with_task seat (ends_or_free p n status outstanding)) made
-        (hand_to p phase seat made hand (λ free. busy (sym is ∙ free)) (ends_or_free p n status outstanding) (ap registering is ∙ (none ∙ sym so.counts)) (inl so.closes))
-        so.closes
-        (λ m e. false≢true (sym so.gives ∙ ap is_giving e))
-        after
+    (hand_to p phase seat made hand (λ free. busy (sym is ∙ free)) (ends_or_free p n status outstanding) (ap registering is ∙ (none ∙ sym so.counts)) (inl so.closes))
+    so.closes
+    (λ m e. false≢true (sym so.gives ∙ ap is_giving e))
+    after
 
 -- the node's own guard
 pub guarded_steady : (p : PlanParts) (phase : Phase) (seat : Seat) (made : List (ℕ × Shelf)) → HandKept p phase seat made → (n : ℕ) → seat.task ≡ Opens n Guarding → (answer : Option Reply) (g : Guard) (outstanding : ℕ) → guard_due p answer seat seat.task ≡ Some g
@@ -94,8 +91,8 @@ guarded_steady p phase seat made hand n is answer g outstanding due after =
     let own : Guard = record { node = n; result = Successful; hand = seat.hand } in
     let same : own ≡ g = same_Some own g (sym (ap (guard_due p answer seat) is) ∙ due) in
     subst (λ (x : Guard). IsSteady p phase (ended_seat p x outstanding) made false) same
-        (ends_steady p phase seat made hand (Opens n Guarding) is (opens_busy n Guarding) refl n Successful outstanding
-            (subst (λ (x : Guard). (m : ℕ) → ends_or_free p x.node x.result outstanding ≡ Closes m AwaitingAfter → made_of made (after_slot p m) ≡ Unmoved) (sym same) after))
+    (ends_steady p phase seat made hand (Opens n Guarding) is (opens_busy n Guarding) refl n Successful outstanding
+    (subst (λ (x : Guard). (m : ℕ) → ends_or_free p x.node x.result outstanding ≡ Closes m AwaitingAfter → made_of made (after_slot p m) ≡ Unmoved) (sym same) after))
 
 -- a key is given back
 pub given_steady : (p : PlanParts) (phase : Phase) (seat : Seat) (made : List (ℕ × Shelf)) → HandKept p phase seat made → (b : Back) → back_due seat.task ≡ Some b → IsSteady p phase (given_seat seat seat.task) made false

@@ -1,27 +1,24 @@
 -- A job that leaves its slot, and the answer that comes in: what the seat is then.
-use Rattle.std.proofs.Common.{◌≡◌, ◌≢◌, ◌<◌, ◌≤◌, ℕ, ◌+◌, ◌==◌, ◌⊎◌, inl, inr, Bool, true, false, cond, List, [], ◌∷◌, length, append-nil, append_assoc, ◌++◌, Option, Some, None, arith, eq-eqb, ne_eqb, refl, sym, ap, ◌∙◌, subst}
+use Rattle.std.proofs.Common.{◌≡◌, ◌≢◌, ◌<◌, ℕ, ◌+◌, ◌⊎◌, inl, inr, Bool, true, false, cond, List, [], ◌∷◌, length, append-nil, append_assoc, ◌++◌, Option, Some, None, arith, eq-eqb, ne_eqb, refl, sym, ap, ◌∙◌, subst}
 use Rattle.std.proofs.lemmas.Option.{none-some, same_Some}
 use Rattle.std.proofs.lemmas.Bool.{false≢true}
 use Rattle.std.specs.Option.{is_some}
 use Rattle.std.specs.Prelude.{slice_get}
 use Rattle.atomic_table.specs.declared.shared.Seat.{Seat as TableSeat}
 use Rattle.atomic_table.specs.Table.{Me}
-use Rattle.descriptor.specs.Nodes.{size, body_of}
 use Rattle.plan_events.specs.Jobs.{unpulled, IsRun}
-use Rattle.plan_events.specs.declared.note.Note.{Note}
 use Rattle.plan_events.specs.declared.note.Note.TheVariants.{Own}
 use Rattle.plan_events.specs.declared.outcome.Outcome.{Outcome}
 use Rattle.plan_events.specs.declared.outcome.Reply.{Reply}
 use Rattle.plan_events.specs.declared.status.Status.{Status}
 use Rattle.resource_locks.specs.Plans.{PlanParts}
-use Rattle.event_history.specs.Results.{jobs_of}
 use Rattle.scheduling.specs.declared.seat.Hand.{Hand}
 use Rattle.scheduling.specs.declared.seat.Seat.{Seat}
 use Rattle.scheduling.specs.declared.task.Task.{Task}
 use Rattle.scheduling.specs.declared.task.Opening.TheVariants.{StartedAt, Awaiting}
 use Rattle.scheduling.specs.declared.task.Closing.TheVariants.{AwaitingAfter, Ending}
 use Rattle.scheduling.specs.declared.task.Task.TheVariants.{Free, Opens, Closes}
-use Rattle.scheduling.specs.Choices.{awaited, decided, answered, admit_next, after_job}
+use Rattle.scheduling.specs.Choices.{awaited, decided, answered, admit_next}
 use Rattle.table_rule.specs.declared.view.View.{View}
 use Rattle.table_rule.specs.declared.view.Slot.{Slot}
 use Rattle.table_rule.specs.declared.view.Shelf.{Shelf}
@@ -29,7 +26,7 @@ use Rattle.table_rule.specs.declared.view.Shelf.TheVariants.{Unmoved, Left, Out,
 use Rattle.table_rule.specs.declared.view.Working.{Working}
 use Rattle.table_rule.specs.Slots.{made_of, after_slot}
 use Rattle.table_rule.specs.Plays.{worker, makes, seat_by, ready_seat, unasked}
-use Rattle.run_table.specs.Answering.{registered_by, IsToldOwn, MayTell}
+use Rattle.run_table.specs.Answering.{registered_by, MayTell}
 use Rattle.run_table.specs.Moved.{job_slot}
 use Rattle.run_table.specs.Seats.{seated, SameSeat}
 use Rattle.event_history.specs.Plans.{pulls_job}
@@ -38,7 +35,7 @@ use Rattle.table_rule.specs.Picture.{replies_of}
 use Rattle.worker_pool.specs.Premises.{MayAnswer}
 use Rattle.worker_pool.specs.Going.{GoesOn}
 use Rattle.worker_pool.specs.Answering.{LeftAfter, IsOut, IsTold, is_decided}
-use Rattle.worker_pool.specs.Steady.{Phase, AtNodes, AtTests, opened_by, HandKept, IsPulled, IsSteady, Steady}
+use Rattle.worker_pool.specs.Steady.{Phase, AtNodes, AtTests, opened_by, HandKept, IsSteady, Steady}
 use Rattle.worker_pool.proofs.Steps.{arrives}
 
 plus_none : (a b : ℕ) → a ≡ 0 → a + b ≡ b
@@ -90,8 +87,8 @@ pub leaves_seat : {B : Type 0} (answers : B → List Reply) (left : List Reply) 
     → replies_of answers old.me.0.about number ≡ left → IsOut left (replies_of answers new.me.0.about number) new.me.0.about.plan (worker new.me.0).slots task2 hand2 node slot number
 leaves_seat {B} answers left old new task task2 hand hand2 node slot number about same_task same_hand is at waits none same =
     subst (λ (z : About B × List (ℕ × Shelf) × Task × Option Hand). IsOut left (replies_of answers z.0 number) z.0.plan z.1 z.2 z.3 node slot number)
-        (λ k. (sym about k, (sym is k).slots, sym same_task k, sym same_hand k))
-        (leaves old.me.0.about.plan ((slot, Out) ∷ (worker old.me.0).slots) task hand node slot number (replies_of answers old.me.0.about number) left at waits none same)
+    (λ k. (sym about k, (sym is k).slots, sym same_task k, sym same_hand k))
+    (leaves old.me.0.about.plan ((slot, Out) ∷ (worker old.me.0).slots) task hand node slot number (replies_of answers old.me.0.about number) left at waits none same)
 
 -- it may give a reply
 pub body_may : {B : Type 0} (answers : B → List Reply) (key about : About B) (task : Task) (hand : Option Hand) (n number : ℕ) (left : List Reply) → MayAnswer answers key → about ≡ key → task ≡ Opens n Awaiting → pulls_job about.plan n ≡ false
@@ -196,8 +193,8 @@ told_steady old mid new phase task hand node k mid_about new_about mid_is told a
     let w = worker old.me.0 in
     let same : told.slot ≡ k = same_Some told.slot k (sym told.at ∙ (ap (λ a. job_slot a.plan task hand node) mid_about ∙ at)) in
     arrives old new phase (makes told.slot (Noted told.reply) (Some told.reply) (makes told.slot Out None (makes k Left None (makes k Out None w)))) (new_about ∙ mid_about)
-        (told.now ∙ ap (λ (v : Working). makes told.slot (Noted told.reply) (Some told.reply) (makes told.slot Out None v)) mid_is)
-        (steady_out old.me.0.about.plan phase w.seat w.slots (is_some w.answer) it busy starts k told.slot ne (subst (Apart phase) (sym same) ne) (Noted told.reply) Out Left Out)
+    (told.now ∙ ap (λ (v : Working). makes told.slot (Noted told.reply) (Some told.reply) (makes told.slot Out None v)) mid_is)
+    (steady_out old.me.0.about.plan phase w.seat w.slots (is_some w.answer) it busy starts k told.slot ne (subst (Apart phase) (sym same) ne) (Noted told.reply) Out Left Out)
 
 -- and its own list is what it was
 pub told_goes : {B : Type 0} (old mid new : TableSeat (Slot B) (View B)) (task : Task) (hand : Option Hand) (node k : ℕ) → SameSeat old mid → SameSeat mid new → worker mid.me.0 ≡ makes k Left None (makes k Out None (worker old.me.0)) → IsTold mid new task hand node → GoesOn old new

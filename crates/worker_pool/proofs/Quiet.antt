@@ -1,15 +1,13 @@
 -- Tasks that wait for no job and start none; and that a worker that goes on to one stays steady.
 use Rattle.std.proofs.Common.{◌≡◌, ◌≢◌, ℕ, zero, suc, ◌+◌, ◌⊎◌, inl, inr, Bool, true, false, cond, List, Option, Some, None, refl, sym, ap, ◌∙◌, subst}
-use Rattle.std.proofs.lemmas.Option.{none-some, same_Some}
+use Rattle.std.proofs.lemmas.Option.{none-some}
 use Rattle.std.proofs.lemmas.Bool.{false≢true}
 use Rattle.plan_events.specs.declared.status.Status.{Status}
 use Rattle.resource_locks.specs.Plans.{PlanParts}
-use Rattle.scheduling.specs.declared.seat.Hand.{Hand}
 use Rattle.scheduling.specs.declared.seat.Seat.{Seat}
 use Rattle.scheduling.specs.declared.task.Opening.{Opening}
-use Rattle.scheduling.specs.declared.task.Closing.{Closing}
 use Rattle.scheduling.specs.declared.task.Opening.TheVariants.{Registering, StartedAt, Awaiting, Locking, Beginning, Weighed, Backing, Noticing}
-use Rattle.scheduling.specs.declared.task.Closing.TheVariants.{AwaitingAfter, Giving, Settling, Raising, Looking, CountingOff}
+use Rattle.scheduling.specs.declared.task.Closing.TheVariants.{AwaitingAfter, Giving, Raising}
 use Rattle.scheduling.specs.declared.task.Task.{Task}
 use Rattle.scheduling.specs.declared.task.Task.TheVariants.{Free, Opens, Closes}
 use Rattle.scheduling.specs.declared.lock_word.LockWord.{LockWord}
@@ -17,7 +15,7 @@ use Rattle.scheduling.specs.Choices.{admit_next, lock_from, begins, claims, noti
 use Rattle.descriptor.specs.Nodes.{is_disabled}
 use Rattle.scheduling.specs.Rows.{with_task, weighed}
 use Rattle.table_rule.specs.declared.view.Shelf.{Shelf}
-use Rattle.worker_pool.specs.Steady.{Phase, AtNodes, AtTests, opened_by, registering, IsTaken, IsPulled, HandKept, IsSteady}
+use Rattle.worker_pool.specs.Steady.{Phase, AtNodes, AtTests, opened_by, registering, HandKept, IsSteady}
 
 abbrev pub is_quiet : Task → Bool
 is_quiet (Opens n Registering) = false
@@ -68,7 +66,7 @@ pub quietly : (p : PlanParts) (phase : Phase) (old : Seat) (made : List (ℕ × 
     → IsSteady p phase (with_task old t) made answered
 quietly p phase old made kept u is busy none t quiet no_other answered =
     steady_quiet p phase (with_task old t) made answered quiet
-        (hand_to p phase old made kept (λ free. busy (sym is ∙ free)) t (ap registering is ∙ (none ∙ sym (none_registering t quiet))) (subst (λ (x : Task). OpensNoOther x t) (sym is) no_other))
+    (hand_to p phase old made kept (λ free. busy (sym is ∙ free)) t (ap registering is ∙ (none ∙ sym (none_registering t quiet))) (subst (λ (x : Task). OpensNoOther x t) (sym is) no_other))
 
 -- The tasks that the plan decides are quiet.
 pub quiet_admit : (n : ℕ) (c : Option ℕ) → is_quiet (Opens n (admit_next c)) ≡ true

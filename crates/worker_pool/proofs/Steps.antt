@@ -1,5 +1,5 @@
 -- Each step of a worker keeps it steady.
-use Rattle.std.proofs.Common.{◌≡◌, ◌≢◌, ℕ, zero, suc, ◌+◌, ◌==◌, ◌⊎◌, inl, inr, Bool, true, false, cond, List, Option, Some, None, arith, refl, sym, ap, ◌∙◌, subst}
+use Rattle.std.proofs.Common.{◌≡◌, ◌≢◌, ℕ, suc, ◌+◌, inl, inr, Bool, true, false, cond, List, Option, Some, None, arith, refl, sym, ap, ◌∙◌, subst}
 use Rattle.std.proofs.lemmas.Option.{none-some, same_Some}
 use Rattle.std.proofs.lemmas.Bool.{false≢true}
 use Rattle.std.specs.Option.{is_some}
@@ -7,30 +7,28 @@ use Rattle.atomic_table.specs.declared.shared.Seat.{Seat as TableSeat}
 use Rattle.plan_events.specs.declared.event.Event.{Event}
 use Rattle.plan_events.specs.declared.outcome.Reply.{Reply}
 use Rattle.plan_events.specs.declared.status.Status.{Status}
-use Rattle.plan_events.specs.declared.status.Status.TheVariants.{Successful}
 use Rattle.resource_locks.specs.Plans.{PlanParts}
 use Rattle.event_history.specs.Plans.{pulls_job, is_same}
-use Rattle.event_history.specs.Results.{Jobs, Around, jobs_of}
 use Rattle.scheduling.specs.declared.seat.Hand.{Hand}
 use Rattle.scheduling.specs.declared.seat.Seat.{Seat}
 use Rattle.scheduling.specs.declared.task.Opening.{Opening}
 use Rattle.scheduling.specs.declared.task.Closing.{Closing}
 use Rattle.scheduling.specs.declared.task.Opening.TheVariants.{Registering, RegisteredAt, Offering, StartedAt, Awaiting, Beginning, Admitting, Guarding}
-use Rattle.scheduling.specs.declared.task.Closing.TheVariants.{AwaitingAfter, Ending, FinishedAt, SkippedAt, Giving, Settling, Looking, Passing, CountingOff}
+use Rattle.scheduling.specs.declared.task.Closing.TheVariants.{AwaitingAfter, Ending, FinishedAt, SkippedAt, Settling, Passing, CountingOff}
 use Rattle.scheduling.specs.declared.task.Task.{Task}
 use Rattle.scheduling.specs.declared.task.Task.TheVariants.{Free, Opens, Closes}
-use Rattle.scheduling.specs.Choices.{admit_next, admit_from, answered, awaited, decided, pass_to, after_settle, after_finish, ending_by, ending}
-use Rattle.scheduling.specs.Rows.{with_task, one_more, waits_for, waits_no_more, ends_or_free}
+use Rattle.scheduling.specs.Choices.{admit_next, admit_from, answered, awaited, decided, after_finish}
+use Rattle.scheduling.specs.Rows.{with_task, one_more, waits_for}
 use Rattle.scheduling.specs.Shown.{named}
 use Rattle.table_rule.specs.declared.view.View.{View}
 use Rattle.table_rule.specs.declared.view.Slot.{Slot}
 use Rattle.table_rule.specs.declared.view.Shelf.{Shelf}
 use Rattle.table_rule.specs.declared.view.Shelf.TheVariants.{Unmoved}
 use Rattle.table_rule.specs.declared.view.Working.{Working}
-use Rattle.table_rule.specs.Slots.{made_of, after_slot}
-use Rattle.table_rule.specs.Plays.{Guard, worker, goes_on, ready, ready_in, seat_by, ready_seat, event_due, drawn_seat, shown_seat, offer_due, admitted_seat, settled_seat, unasked, ended_seat, guard_due, Offer}
+use Rattle.table_rule.specs.Slots.{made_of}
+use Rattle.table_rule.specs.Plays.{worker, goes_on, seat_by, ready_seat, event_due, drawn_seat, shown_seat, offer_due, admitted_seat, unasked, Offer}
 use Rattle.run_table.specs.Seats.{seated}
-use Rattle.worker_pool.specs.Steady.{Phase, AtNodes, AtTests, opened_by, registering, IsTaken, IsPulled, HandKept, IsSteady, Steady}
+use Rattle.worker_pool.specs.Steady.{Phase, AtNodes, AtTests, opened_by, registering, IsTaken, HandKept, IsSteady, Steady}
 use Rattle.worker_pool.proofs.Quiet.{is_quiet, steady_quiet, OpensNoOther, hand_to, quietly, quiet_admit, quiet_finish}
 
 pub opens_busy : (n : ℕ) (d : Opening) → Opens n d ≢ Free
@@ -57,7 +55,7 @@ moved old new phase task hand seat_is about it t is u is_u busy none quiet no_ot
     let p = old.me.0.about.plan in
     let made = (worker old.me.0).slots in
     arrives old new phase (goes_on (with_task (seated task hand) t) (worker old.me.0)) about is
-        (quietly p phase (seated task hand) made (subst (λ (s : Seat). HandKept p phase s made) seat_is it.hand) u is_u busy none t quiet no_other false)
+    (quietly p phase (seated task hand) made (subst (λ (s : Seat). HandKept p phase s made) seat_is it.hand) u is_u busy none t quiet no_other false)
 
 -- The job's answer decides the task.
 quiet_answered : (n : ℕ) (status : Status) (c : Option ℕ) (b : Bool) → is_quiet (cond b (Closes n (Ending status)) (Opens n (admit_next c))) ≡ true
@@ -158,8 +156,8 @@ start_steady : (p : PlanParts) (phase : Phase) (seat : Seat) (made : List (ℕ �
     → IsSteady p phase (cond b (record { task = Free; hand = Some (record { factory = n; registered = 0; waiting = None }) }) (with_task seat (Opens n Awaiting))) made false
 start_steady p AtNodes seat made a it n i is true pulls =
     steady_quiet p AtNodes (record { task = Free; hand = Some (record { factory = n; registered = 0; waiting = None }) }) made false refl
-        (λ h e. subst (λ (x : Hand). IsTaken p (record { task = Free; hand = Some (record { factory = n; registered = 0; waiting = None }) }) made x) (same_Some (record { factory = n; registered = 0; waiting = None }) h e)
-            (record { free = refl; idle = refl; none = refl; pulls = pulls; unmoved = it.starts n i is }))
+    (λ h e. subst (λ (x : Hand). IsTaken p (record { task = Free; hand = Some (record { factory = n; registered = 0; waiting = None }) }) made x) (same_Some (record { factory = n; registered = 0; waiting = None }) h e)
+    (record { free = refl; idle = refl; none = refl; pulls = pulls; unmoved = it.starts n i is }))
 start_steady p (AtTests factory asked) seat made a it n i is true pulls = absurd (false≢true (sym (it.hand.about n (ap opened_by is)).1 ∙ pulls))
 start_steady p phase seat made a it n i is false pulls =
     awaiting_steady p phase seat made n (hand_to p phase seat made it.hand (λ free. opens_busy n (StartedAt i) (sym is ∙ free)) (Opens n Awaiting) (ap registering is) (inr (ap opened_by (sym is)))) pulls (it.starts n i is)
@@ -201,6 +199,6 @@ admitted_steady p phase seat made a it w o due = by seat.task refl due
     by (Opens n (Admitting c)) is due = quietly p phase seat made it.hand (Opens n (Admitting c)) is (opens_busy n (Admitting c)) refl (Opens n (admit_from p n (suc c))) (quiet_admit n _) (inr refl) false
     by (Opens n Offering) is due =
         steady_quiet p phase (record { task = Free; hand = waits_for p n seat.hand }) made false refl
-            (hand_turned p phase seat made it.hand (λ free. opens_busy n Offering (sym is ∙ free)) (ap registering is) (waits_for p n) refl (λ h. cond (is_same p n) (Some n) h.waiting) (λ h. refl) Free refl refl)
+        (hand_turned p phase seat made it.hand (λ free. opens_busy n Offering (sym is ∙ free)) (ap registering is) (waits_for p n) refl (λ h. cond (is_same p n) (Some n) h.waiting) (λ h. refl) Free refl refl)
     by (Closes n (Passing m owner)) is due = quietly p phase seat made it.hand (Closes n (Passing m owner)) is (closes_busy n (Passing m owner)) refl (Closes n CountingOff) refl (inl refl) false
     by _ is due = absurd (none-some o due)

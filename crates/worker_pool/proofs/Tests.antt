@@ -1,9 +1,8 @@
 -- A worker that is about the dynamic tests of a factory stays steady.
-use Rattle.std.proofs.Common.{◌≡◌, ◌≢◌, ◌<◌, ◌≤◌, ℕ, zero, suc, ◌+◌, ◌==◌, ◌⊎◌, inl, inr, Bool, true, false, ◌&&◌, nat_lt, cond, List, ◌∷◌, length, Option, Some, None, arith, eq-eqb, eqb-true, refl, sym, ap, ◌∙◌, subst}
-use Rattle.std.proofs.lemmas.Option.{none-some, same_Some, slice_get_past, slice_get_within, slice_get-get_or}
-use Rattle.std.proofs.lemmas.Bool.{false≢true, and_parts, or_left, or_right, and_from, le-leb, lt-ltb}
+use Rattle.std.proofs.Common.{◌≡◌, ◌≢◌, ◌<◌, ◌≤◌, ℕ, ◌+◌, ◌==◌, inl, inr, Bool, true, false, ◌&&◌, nat_lt, cond, List, ◌∷◌, length, Option, Some, None, arith, eq-eqb, refl, sym, ap, ◌∙◌, subst}
+use Rattle.std.proofs.lemmas.Option.{none-some, same_Some, slice_get-get_or}
+use Rattle.std.proofs.lemmas.Bool.{false≢true, and_parts, or_left, or_right, and_from, lt-ltb}
 use Rattle.std.specs.Option.{is_some}
-use Rattle.std.specs.Prelude.{slice_get, slice_index_or}
 use Rattle.atomic_table.specs.declared.shared.Seat.{Seat as TableSeat}
 use Rattle.descriptor.specs.declared.role.Role.{Role}
 use Rattle.descriptor.specs.declared.role.Role.TheVariants.{Plain, Factory, Spare}
@@ -18,7 +17,7 @@ use Rattle.plan_events.specs.declared.status.Status.TheVariants.{Failed}
 use Rattle.plan_events.specs.declared.note.Note.TheVariants.{TooMany}
 use Rattle.scheduling.specs.declared.seat.Hand.{Hand}
 use Rattle.scheduling.specs.declared.seat.Seat.{Seat}
-use Rattle.scheduling.specs.declared.task.Opening.TheVariants.{Registering, Awaiting, StartedAt}
+use Rattle.scheduling.specs.declared.task.Opening.TheVariants.{Registering}
 use Rattle.scheduling.specs.declared.task.Task.{Task}
 use Rattle.scheduling.specs.declared.task.Task.TheVariants.{Free, Opens, Closes}
 use Rattle.scheduling.specs.Choices.{next_spare, is_spare_ranked, is_pulled, pulled_result, claims, awaited, decided}
@@ -40,9 +39,9 @@ use Rattle.worker_pool.proofs.Asked.{first_of}
 use Rattle.worker_pool.proofs.Endings.{ends_alone}
 use Rattle.plan_events.specs.declared.note.Note.{Note}
 use Rattle.run_table.specs.Seats.{seated}
-use Rattle.worker_pool.specs.Steady.{Phase, AtNodes, AtTests, opened_by, registering, IsTaken, IsPulled, HandKept, IsSteady, Steady}
+use Rattle.worker_pool.specs.Steady.{AtNodes, AtTests, opened_by, registering, IsTaken, IsPulled, IsSteady, Steady}
 use Rattle.worker_pool.proofs.Quiet.{is_quiet, steady_quiet, none_registering, quiet_claims}
-use Rattle.worker_pool.proofs.Steps.{arrives, awaits_no_start}
+use Rattle.worker_pool.proofs.Steps.{arrives}
 use Rattle.worker_pool.proofs.Outgoing.{made_last}
 
 -- a factory that has a job is a factory
@@ -97,7 +96,7 @@ owned_steady old new f asked task hand n seat_is about it tree free of inside is
     let quiet = quiet_claims p n in
     let next = pulled_to p f asked 0 (seated task hand) made kept free n (Opens n (claims p n)) refl (none_registering (Opens n (claims p n)) quiet) (child_about p f n tree (factory_of p f kept.pulls).0 child inside) in
     arrives old new (AtTests f asked) (goes_on (claimed_seat p (seated task hand) n) (worker old.me.0)) about is
-        (steady_quiet p (AtTests f asked) (claimed_seat p (seated task hand) n) made false quiet (subst (λ (k : ℕ). IsPulled p f k (with_task (seated task hand) (Opens n (claims p n))) made) (plus_zero asked) next))
+    (steady_quiet p (AtTests f asked) (claimed_seat p (seated task hand) n) made false quiet (subst (λ (k : ℕ). IsPulled p f k (with_task (seated task hand) (Opens n (claims p n))) made) (plus_zero asked) next))
 
 -- The next spare is there exactly where not all are asked for.
 pub spare_there : (p : PlanParts) (f k : ℕ) → IsTree p.tree → is_factory_at p.tree f ≡ true → k < spare_count p f → next_spare p f k ≡ None → ⊥
@@ -126,14 +125,14 @@ added_steady old new f asked task hand h n seat_is about it tree free held spare
     let same : h.factory ≡ f = ap (λ (x : Hand). x.factory) (same_Some h kept.hand (sym held ∙ kept.held)) ∙ kept.is_it in
     let about_n = child_about p f n tree (factory_of p f kept.pulls).0 (subst (λ (k : ℕ). is_child p.tree k n ≡ true) same child.0) child.1 in
     arrives old new (AtTests f (asked + 1)) (goes_on (with_task (seated task hand) (Opens n Registering)) (worker old.me.0)) about is
-        record {
-          gives = λ m e. none-some n (sym (ap opened_by e));
-          plain = λ m e. absurd (false≢true (sym (ap is_registering e)));
-          starts = λ m i e. absurd (false≢true (sym (ap is_registering e)));
-          waits = λ m e. absurd (false≢true (sym (ap is_registering e)));
-          after = λ m e. absurd (none-some n (sym (ap opened_by e)));
-          hand = pulled_to p f asked 1 (seated task hand) made kept free n (Opens n Registering) refl refl about_n;
-        }
+    record {
+      gives = λ m e. none-some n (sym (ap opened_by e));
+      plain = λ m e. absurd (false≢true (sym (ap is_registering e)));
+      starts = λ m i e. absurd (false≢true (sym (ap is_registering e)));
+      waits = λ m e. absurd (false≢true (sym (ap is_registering e)));
+      after = λ m e. absurd (none-some n (sym (ap opened_by e)));
+      hand = pulled_to p f asked 1 (seated task hand) made kept free n (Opens n Registering) refl refl about_n;
+    }
 
 -- The job of a factory that was just taken in hand leaves its slot.
 pub taken_steady : {B : Type 0} (old new : TableSeat (Slot B) (View B)) (f slot : ℕ) (task : Task) (hand : Option Hand) (h : Hand) → (worker old.me.0).seat ≡ seated task hand → new.me.0.about ≡ old.me.0.about → Steady AtNodes old
@@ -143,16 +142,16 @@ taken_steady old new f slot task hand h seat_is about it held same inside slot_i
     let w = worker old.me.0 in
     let kept = it.hand h (ap (λ (s : Seat). s.hand) seat_is ∙ held) in
     arrives old new (AtTests f 0) (makes slot Left None (makes slot Out None w)) about is
-        (steady_quiet p (AtTests f 0) w.seat ((slot, Left) ∷ (slot, Out) ∷ w.slots) false (ap is_quiet kept.free) record {
-          hand = h;
-          held = ap (λ (s : Seat). s.hand) seat_is ∙ held;
-          is_it = same;
-          inside = inside;
-          counted = ap (λ t. h.registered + registering t) kept.free ∙ (ap (λ k. k + 0) kept.none);
-          pulls = subst (λ (k : ℕ). pulls_job p k ≡ true) same kept.pulls;
-          left = subst (λ (k : ℕ). made_of ((slot, Left) ∷ (slot, Out) ∷ w.slots) k ≡ Left) slot_is (made_last ((slot, Out) ∷ w.slots) slot Left);
-          about = λ n e. absurd (none-some n (ap opened_by (sym kept.free) ∙ e));
-        })
+    (steady_quiet p (AtTests f 0) w.seat ((slot, Left) ∷ (slot, Out) ∷ w.slots) false (ap is_quiet kept.free) record {
+      hand = h;
+      held = ap (λ (s : Seat). s.hand) seat_is ∙ held;
+      is_it = same;
+      inside = inside;
+      counted = ap (λ t. h.registered + registering t) kept.free ∙ (ap (λ k. k + 0) kept.none);
+      pulls = subst (λ (k : ℕ). pulls_job p k ≡ true) same kept.pulls;
+      left = subst (λ (k : ℕ). made_of ((slot, Left) ∷ (slot, Out) ∷ w.slots) k ≡ Left) slot_is (made_last ((slot, Out) ∷ w.slots) slot Left);
+      about = λ n e. absurd (none-some n (ap opened_by (sym kept.free) ∙ e));
+    })
 
 -- a free worker about the tests of a factory
 pub some_spare : (p : PlanParts) (f asked : ℕ) (seat : Seat) (made : List (ℕ × Shelf)) → IsPulled p f asked seat made → seat.task ≡ Free → IsTree p.tree → asked < spare_count p f
@@ -233,15 +232,15 @@ pulled_due p f k None reply idle pulled none =
 
 pub is_pulled_by : (p : PlanParts) (h : Hand) (reply : Reply) (status : Status) (note : Note) (task : Task) (hand : Option Hand) → task ≡ Free → hand ≡ Some h → IsToldAs p (seated task hand) reply status note → is_pulled p h.factory h.registered reply ≡ true
 is_pulled_by p h reply status note task hand free held told = elim told [
-      inl own ↦ or_left (reply.pulls == h.registered) ((h.registered == spare_count p h.factory) && nat_lt h.registered reply.pulls) (eq-eqb reply.pulls h.registered (own.pulls ∙ (λ k. registered_by (free k) (held k))))
-    | inr many ↦ (
-        let same : many.held ≡ h = same_Some many.held h (sym many.in_hand ∙ held) in
-        or_right (reply.pulls == h.registered) ((h.registered == spare_count p h.factory) && nat_lt h.registered reply.pulls)
-            (and_from (h.registered == spare_count p h.factory) (nat_lt h.registered reply.pulls)
-                (eq-eqb h.registered (spare_count p h.factory) (subst (λ (x : Hand). x.registered ≡ spare_count p x.factory) same many.all))
-                (lt-ltb h.registered reply.pulls (subst (λ (x : Hand). x.registered < reply.pulls) same many.more)))
+  | inl own ↦ or_left (reply.pulls == h.registered) ((h.registered == spare_count p h.factory) && nat_lt h.registered reply.pulls) (eq-eqb reply.pulls h.registered (own.pulls ∙ (λ k. registered_by (free k) (held k))))
+  | inr many ↦ (
+      let same : many.held ≡ h = same_Some many.held h (sym many.in_hand ∙ held) in
+      or_right (reply.pulls == h.registered) ((h.registered == spare_count p h.factory) && nat_lt h.registered reply.pulls)
+      (and_from (h.registered == spare_count p h.factory) (nat_lt h.registered reply.pulls)
+      (eq-eqb h.registered (spare_count p h.factory) (subst (λ (x : Hand). x.registered ≡ spare_count p x.factory) same many.all))
+      (lt-ltb h.registered reply.pulls (subst (λ (x : Hand). x.registered < reply.pulls) same many.more)))
       )
-    ]
+]
 
 free_decided : (p : PlanParts) (seat : Seat) (reply : Reply) → seat.task ≡ Free → decided p reply seat.task ≡ Free
 free_decided p seat reply free = ap (decided p reply) free
@@ -266,7 +265,7 @@ pub told_due : (p : PlanParts) (w : Working) (h : Hand) (reply : Reply) → w.se
     → guard_due p w.answer (ready_seat p w) (ready_seat p w).task ≢ None
 told_due p w h reply free held answered idle pulled none =
     pulled_due p h.factory h.registered h.waiting reply idle pulled
-        (sym (ap (guard_due p w.answer (ready_seat p w)) (ready_free p w free) ∙ (λ k. hand_guard p ((ready_hand_is p w ∙ held) k) (answered k))) ∙ none)
+    (sym (ap (guard_due p w.answer (ready_seat p w)) (ready_free p w free) ∙ (λ k. hand_guard p ((ready_hand_is p w ∙ held) k) (answered k))) ∙ none)
 
 -- and then nothing is in hand
 guard_hand : (p : PlanParts) (hand : Option Hand) (answer : Option Reply) (g : Guard) → hand_guard p hand answer ≡ Some g → g.hand ≡ None
@@ -299,7 +298,7 @@ pub claimed_nodes : {B : Type 0} (old new : TableSeat (Slot B) (View B)) (task :
 claimed_nodes old new task hand n about none is =
     let p = old.me.0.about.plan in
     arrives old new AtNodes (goes_on (claimed_seat p (seated task hand) n) (worker old.me.0)) about is
-        (steady_quiet p AtNodes (claimed_seat p (seated task hand) n) (worker old.me.0).slots false (quiet_claims p n) (λ h e. absurd (none-some h (sym none ∙ e))))
+    (steady_quiet p AtNodes (claimed_seat p (seated task hand) n) (worker old.me.0).slots false (quiet_claims p n) (λ h e. absurd (none-some h (sym none ∙ e))))
 
 -- a worker that is free
 pub free_nodes : {B : Type 0} (old new : TableSeat (Slot B) (View B)) (task : Task) (hand : Option Hand) → new.me ≡ old.me → (worker old.me.0).seat ≡ seated task hand → task ≡ Free → hand ≡ None → Steady AtNodes new
@@ -307,4 +306,4 @@ free_nodes old new task hand same seat_is free none =
     let p = old.me.0.about.plan in
     let w = worker old.me.0 in
     arrives old new AtNodes w (ap (λ m. m.0.about) same) (ap (λ m. worker m.0) same)
-        (steady_quiet p AtNodes w.seat w.slots (is_some w.answer) (ap (λ (s : Seat). is_quiet s.task) seat_is ∙ ap is_quiet free) (λ h e. absurd (none-some h (sym none ∙ (ap (λ (s : Seat). s.hand) (sym seat_is) ∙ e)))))
+    (steady_quiet p AtNodes w.seat w.slots (is_some w.answer) (ap (λ (s : Seat). is_quiet s.task) seat_is ∙ ap is_quiet free) (λ h e. absurd (none-some h (sym none ∙ (ap (λ (s : Seat). s.hand) (sym seat_is) ∙ e)))))

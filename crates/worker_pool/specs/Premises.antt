@@ -1,5 +1,5 @@
 -- What is taken for granted of the jobs that are handed in.
-use Rattle.std.specs.Prelude.{◌≡◌, ◌<◌, ℕ, Bool, true, false, List, length, Some}
+use Rattle.std.specs.Prelude.{◌≡◌, ◌<◌, ℕ, true, false, List, length, Some}
 use Rattle.descriptor.specs.Nodes.{body_of}
 use Rattle.plan_events.specs.Jobs.{unpulled}
 use Rattle.plan_events.specs.declared.outcome.Reply.{Reply}

@@ -93,7 +93,11 @@ fn take<B: Job>(table: &RunTable<B>, seat: &mut WorkerSeat<B>, node: NodeId) -> 
 
 /// Takes the next node of the circle, behind the one that it took last, which is offered to any or to this worker. It answers the
 /// node's number; or None, if it went round and there was none.
-pub(crate) fn take_next<B: Job>(table: &RunTable<B>, seat: &mut WorkerSeat<B>, last: usize) -> Option<usize>
+pub(crate) fn take_next<B: Job>(
+    table: &RunTable<B>,
+    seat: &mut WorkerSeat<B>,
+    last: usize,
+) -> Option<usize>
     requires table { IsSeatOf table.now.table seat.old.seat }
     requires free { seat.old.task ≡ Free }
     requires empty { seat.old.hand ≡ None }

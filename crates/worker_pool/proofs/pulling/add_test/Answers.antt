@@ -1,4 +1,4 @@
-use Rattle.std.proofs.Common.{◌≡◌, ◌<◌, ℕ, inl, inr, Some, None, refl, sym, ap, ◌∙◌, subst}
+use Rattle.std.proofs.Common.{◌<◌, sym, subst}
 use Rattle.resource_locks.specs.Plans.{PlanParts}
 use Rattle.descriptor.specs.Nodes.{IsTree}
 use Rattle.scheduling.specs.declared.seat.Seat.{Seat}
@@ -18,8 +18,8 @@ unreachable-requires g c =
     let p = old.seat.me.0.about.plan in
     let made = (worker old.seat.me.0).slots in
     some_spare p c.args.factory c.args.asked (seated old.task old.hand) made (subst (λ (s : Seat). IsPulled p c.args.factory c.args.asked s made) old.at_work.seat_is c.requires.steady.hand) c.requires.free tree
-        (subst (λ (q : PlanParts). c.args.asked < spare_count q c.args.factory) (sym plan) c.requires.more)
-        (λ h n held spare. c.in_default.ensures.refused.1 h n c.requires.free held (c.requires.idle h held) spare)
+    (subst (λ (q : PlanParts). c.args.asked < spare_count q c.args.factory) (sym plan) c.requires.more)
+    (λ h n held spare. c.in_default.ensures.refused.1 h n c.requires.free held (c.requires.idle h held) spare)
 
 pub returns-clause-steady : goal.returns-clause-steady
 returns-clause-steady g c =

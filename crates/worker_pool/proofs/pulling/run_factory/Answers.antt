@@ -1,10 +1,6 @@
-use Rattle.std.proofs.Common.{◌≡◌, ◌≤◌, ℕ, inl, inr, Some, None, refl, sym, ap, ◌∙◌, subst}
-use Rattle.resource_locks.specs.Plans.{PlanParts}
-use Rattle.descriptor.specs.Nodes.{IsTree}
+use Rattle.std.proofs.Common.{subst}
 use Rattle.scheduling.specs.declared.seat.Seat.{Seat}
 use Rattle.table_rule.specs.Plays.{worker}
-use Rattle.run_table.proofs.Facts.{plan_is}
-use Rattle.run_table.specs.Seats.{seated}
 use Rattle.worker_pool.specs.Steady.{IsPulled}
 use Rattle.worker_pool.proofs.Tests.{factory_out}
 use Rattle.worker_pool.proofs.pulling.run_factory.Goals as goal

@@ -1,6 +1,5 @@
-use Rattle.std.proofs.Common.{◌≡◌, ◌≤◌, ℕ, inl, inr, Some, None, refl, sym, ap, ◌∙◌, subst}
+use Rattle.std.proofs.Common.{◌≤◌, sym, ap, ◌∙◌, subst}
 use Rattle.resource_locks.specs.Plans.{PlanParts}
-use Rattle.descriptor.specs.Nodes.{IsTree}
 use Rattle.scheduling.specs.declared.seat.Seat.{Seat}
 use Rattle.table_rule.specs.Plays.{worker}
 use Rattle.run_table.proofs.Facts.{plan_is}
@@ -21,7 +20,7 @@ text_in-requires-clause-answer g c = λ slot at.
     let made = (worker old.seat.me.0).slots in
     let j = c.requires.job in
     too_many_may p _ c.args.factory c.args.asked (seated old.task old.hand) made old.task old.hand j.0 slot _ (subst (λ (s : Seat). IsPulled p c.args.factory c.args.asked s made) old.at_work.seat_is c.requires.steady.hand) c.requires.free
-        (λ h held. old.within.now.spares h (ap (λ (s : Seat). s.hand) old.at_work.seat_is ∙ held)) (subst (λ (q : PlanParts). spare_count q c.args.factory ≤ c.args.asked) (sym plan) c.requires.all) j.1 j.2 c.requires.some at
+    (λ h held. old.within.now.spares h (ap (λ (s : Seat). s.hand) old.at_work.seat_is ∙ held)) (subst (λ (q : PlanParts). spare_count q c.args.factory ≤ c.args.asked) (sym plan) c.requires.all) j.1 j.2 c.requires.some at
 
 pub unreachable-requires : goal.unreachable-requires
 unreachable-requires g c =
