@@ -6,8 +6,10 @@ mod desk;
 pub mod gate;
 mod pulling;
 mod scan;
+mod serving;
 mod turns;
 mod working;
 
 pub use desk::{dispatch, dispatch_one};
+pub use serving::serve;
 pub use working::work;
