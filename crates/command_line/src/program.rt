@@ -11,7 +11,7 @@ ghost use Rattle.command_line.specs.GivenWords.{IsGivenFault};
 ghost use Rattle.command_line.specs.Runs.{Closes, IsRunBy, RefusesWords, RunsAsAsked, Tells};
 ghost use Rattle.command_line.specs.Words.{words_refusal};
 
-use crate::kept::Kept;
+use crate::kept::{Kept, nothing_kept};
 use crate::said::message_of;
 use crate::system_words::given_words;
 use crate::words::read_options;
@@ -53,7 +53,7 @@ fn run_told<R: Read, W: Write>(
 {
     let mut kept = Kept {
         reader,
-        bytes: Vec::new(alloc),
+        bytes: nothing_kept(alloc),
     };
     let answer = run_console(alloc, words, &mut kept, writer);
     if let Err(fault) = answer {
