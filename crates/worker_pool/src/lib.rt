@@ -5,11 +5,13 @@ mod answering;
 mod desk;
 pub mod gate;
 mod pulling;
+mod running;
 mod scan;
 mod serving;
 mod turns;
 mod working;
 
 pub use desk::{dispatch, dispatch_one};
+pub use running::run_in;
 pub use serving::serve;
 pub use working::work;
