@@ -5,3 +5,4 @@ pub mod Endings
 pub mod Outgoing
 pub mod Asked
 pub mod Tests
+pub mod Reported

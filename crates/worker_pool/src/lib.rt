@@ -5,6 +5,7 @@ mod answering;
 mod desk;
 pub mod gate;
 mod pulling;
+mod report;
 mod running;
 mod scan;
 mod serving;
@@ -12,6 +13,7 @@ mod turns;
 mod working;
 
 pub use desk::{dispatch, dispatch_one};
-pub use running::run_in;
+pub use report::{Report, RunCause, RunFault, run_plan};
+pub use running::{Desk, run_in};
 pub use serving::serve;
 pub use working::work;

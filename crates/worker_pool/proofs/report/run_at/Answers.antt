@@ -1,0 +1,41 @@
+use Rattle.std.proofs.Common.{◌≡◌, ◌∙◌, ◌≤◌, ℕ, List, [], length, IsPermutation, sym, ap}
+use Rattle.std.specs.List.{All}
+use Rattle.plan_events.specs.declared.event.Event.{Event}
+use Rattle.resource_locks.specs.Plans.{most_events}
+use Rattle.table_rule.specs.Picture.{about_of, replies_of}
+use Rattle.table_rule.specs.Plays.{dispatcher}
+use Rattle.run_table.specs.Ended.{HasEnded}
+use Rattle.worker_pool.specs.Telling.{left_to_read}
+use Rattle.worker_pool.proofs.Reported.{carried, fewer_left, at_most_that, reported}
+use Rattle.worker_pool.proofs.report.run_at.Goals as goal
+
+pub run_in-ran-requires-clause-told : goal.run_in-ran-requires-clause-told
+run_in-ran-requires-clause-told g c κs within =
+    let fresh = carried c.replace.ensures.value (λ a. All (λ b. (goal.Listener-dyn g (b.vtable, b.value)).got b.value ≡ []) a.listeners.items) c.staged.ensures.fresh in
+    carried (ap (λ d. d.read) c.requires.opens) (λ (r : List Event). All (λ b. (goal.Listener-dyn g (b.vtable, b.value)).got b.value ≡ r) c.replace.result.listeners.items) fresh
+
+pub run_in-ran-requires-clause-room : goal.run_in-ran-requires-clause-room
+run_in-ran-requires-clause-room g c κs within =
+    let all = carried c.replace.ensures.value (λ a. All (λ b. most_events c.plan.result.now ≤ (goal.Listener-dyn g (b.vtable, b.value)).room b.value) a.listeners.items) c.in-Ok-staged.ensures.room in
+    let v = c.args.desk.seat.me.0 in
+    let plan = ap (λ a. a.plan) c.requires.seat.about ∙ (sym c.args.table.fitting.plan ∙ sym c.plan.ensures) in
+    let low : left_to_read v ≤ most_events c.plan.result.now = fewer_left (most_events v.about.plan) (most_events c.plan.result.now) (length (dispatcher v).read) (ap most_events plan) in
+    λ k d inside. at_most_that _ _ _ low (all k d inside)
+
+pub returns-in-Ok-ran-clause-report : goal.returns-in-Ok-ran-clause-report
+returns-in-Ok-ran-clause-report g c =
+    let q = c.in-Ok-ran.ensures in
+    let d = dispatcher c.in-Ok-ran.after.seat.seat.me.0 in
+    let key = about_of c.args.table.table.shared.key in
+    reported key (replies_of g.B.Job.answers key) d c.close-plan.result.jobs.items c.in-Ok-ran.after.events.items q.noted q.over
+    (carried (sym c.new-hall.ensures) (λ t. HasEnded (replies_of g.B.Job.answers (about_of t.table.shared.key)) (about_of t.table.shared.key) d c.close-plan.result.jobs.items) c.close-plan.ensures.ends)
+
+pub returns-in-Ok-ran-clause-told : goal.returns-in-Ok-ran-clause-told
+returns-in-Ok-ran-clause-told g c = carried c.in-Ok-ran.ensures.noted (λ (r : List Event). All (λ b. (goal.Listener-dyn g (b.vtable, b.value)).got b.value ≡ r) c.in-Ok-ran.after.audience.listeners.items) c.in-Ok-ran.ensures.told
+
+pub returns-clause-jobs_back : goal.returns-clause-jobs_back
+returns-clause-jobs_back g c = carried (sym c.new-hall.ensures) (λ t. IsPermutation (about_of t.table.shared.key).jobs c.given_back-in-Err.result.jobs.items) c.given_back-in-Err.ensures.jobs
+
+pub returns-clause-untold : goal.returns-clause-untold
+returns-clause-untold g c =
+    carried (ap (λ x. x.audience) c.in-Err.ensures.back ∙ c.replace.ensures.value) (λ a. All (λ b. (goal.Listener-dyn g (b.vtable, b.value)).got b.value ≡ []) a.listeners.items) c.staged.ensures.fresh

@@ -1,0 +1,195 @@
+//! A plan is run on threads, from the plan and its jobs to what happened.
+
+ghost use Rattle.std.specs.Prelude.{◌≡◌, ◌≤◌, [], IfOk, IfErr, IsPermutation, ◌⊎◌, vec_capacity, vec_len};
+ghost use Rattle.std.specs.List.{All};
+ghost use Rattle.resource_locks.specs.Plans.{most_events};
+ghost use Rattle.table_rule.specs.Picture.{about_of, replies_of};
+ghost use Rattle.table_rule.specs.Plays.{dispatcher};
+ghost use Rattle.run_table.specs.Seats.{IsSeatOf};
+ghost use Rattle.worker_pool.specs.Premises.{MayAnswer};
+ghost use Rattle.worker_pool.specs.Reports.{run_of, IsReport, IsRefusedRun, IsLeft};
+ghost use Rattle.worker_pool.specs.Rooms.{HasTable};
+
+use crate::gate::{Gate, Hall, Room};
+use crate::running::{Desk, run_in};
+use listeners::Audience;
+use plan_events::{Event, Job};
+use resource_locks::Plan;
+use run_table::{Closed, DispatcherSeat, Jobs, Refused, RunTable, TableFault};
+use std::alloc::{AllocError, Global};
+use std::marker::Brand;
+use std::sync::Wait;
+use std::thread::Threads;
+use thiserror::Error;
+
+/// What happened in a run, in order, with its plan and the jobs that never left.
+#[derive(Drop)]
+pub struct Report<B> {
+    pub plan: Plan,
+    pub events: Vec<Event>,
+    pub unused_jobs: Jobs<B>,
+}
+
+/// Why a plan was not run.
+#[derive(Clone, Copy, PartialEq, Eq, Debug, Error)]
+pub enum RunCause {
+    /// It was not prepared: refusals 0, 60, 61 and 70.
+    #[error("{0}")]
+    Table(TableFault),
+    /// No thread could be started: refusal 90.
+    #[error("no thread could be started")]
+    NoWorker,
+}
+
+/// Why a plan was not run. The plan and the jobs come back.
+#[derive(Drop)]
+pub struct RunFault<B> {
+    pub cause: RunCause,
+    pub plan: Plan,
+    pub jobs: Jobs<B>,
+}
+
+/// What a run has memory for, but for its table and gates: room for its events, and nobody to tell.
+#[derive(Drop)]
+struct Stage {
+    events: Vec<Event>,
+    nobody: Audience,
+}
+
+/// So many gates.
+fn gates_for<B: Job, M: Room<B>>(alloc: Global, workers: u32) -> Result<Vec<Gate<B, M>>, AllocError>
+    ensures { IfOk result (λ gates. vec_len gates ≡ workers) }
+{
+    let mut gates = Vec::new(alloc);
+    for _worker in 0..workers {
+        gates.push(Gate::new())?;
+    }
+    Ok(gates)
+}
+
+/// Makes room for a run of this plan, here and with the listeners.
+fn staged(alloc: Global, plan: &Plan, audience: &mut Audience) -> Result<Stage, AllocError>
+    requires fresh { All (λ l. got (l.vtable, l.value) ≡ []) audience.old.listeners.items }
+    ensures fresh { All (λ l. got (l.vtable, l.value) ≡ []) audience.new.listeners.items }
+    ensures room { IfOk result (λ _. All (λ l. most_events plan.now ≤ room (l.vtable, l.value)) audience.new.listeners.items) }
+    ensures empty { IfOk result (λ stage. stage.events.items ≡ []) }
+    ensures enough { IfOk result (λ stage. most_events plan.now ≤ vec_capacity stage.events) }
+{
+    audience.prepare(plan)?;
+    let events = Vec::with_capacity(alloc, plan.most_events())?;
+    let Ok(nobody) = Audience::new(Vec::new(alloc)) else {
+        unreachable!()
+    };
+    Ok(Stage { events, nobody })
+}
+
+/// Takes a table apart at which nobody has worked.
+fn given_back<B: Job>(table: RunTable<B>, desk: DispatcherSeat<B>, cause: RunCause) -> RunFault<B>
+    requires seat { IsSeatOf table.table desk.seat }
+    requires undealt { (dispatcher desk.seat.me.0).dealt ≡ 0 }
+    ensures cause { result.cause ≡ cause }
+    ensures plan { result.plan ≡ (about_of table.table.shared.key).plan }
+    ensures jobs { IsPermutation (about_of table.table.shared.key).jobs result.jobs.items }
+{
+    let Closed { plan, jobs } = table.close(desk);
+    RunFault { cause, plan, jobs }
+}
+
+/// Runs the plan of this table, in a room of its own.
+fn run_at<B: Job + Send, M: Room<B> + Send + Sync, R: Threads + Wait + Sync>(
+    rt: &R,
+    alloc: Global,
+    workers: u32,
+    table: RunTable<B>,
+    desk: DispatcherSeat<B>,
+    audience: &mut Audience,
+) -> Result<Report<B>, RunFault<B>>
+    requires table { HasTable M.table M.about table }
+    requires seat { IsSeatOf table.table desk.seat }
+    requires opens { dispatcher desk.seat.me.0 ≡ record { dealt = 0; read = []; slots = [] } }
+    requires jobs { MayAnswer B.answers (about_of table.table.shared.key) }
+    requires fresh { All (λ l. got (l.vtable, l.value) ≡ []) audience.old.listeners.items }
+    ensures plan { IfOk result (λ report. report.plan ≡ (about_of table.table.shared.key).plan) }
+    ensures report { IfOk result (λ report. IsReport (about_of table.table.shared.key) (replies_of B.answers (about_of table.table.shared.key)) report.events.items) }
+    ensures left { IfOk result (λ report. IsLeft (replies_of B.answers (about_of table.table.shared.key)) (about_of table.table.shared.key) report.events.items report.unused_jobs.items) }
+    ensures told { IfOk result (λ report. All (λ l. got (l.vtable, l.value) ≡ report.events.items) audience.new.listeners.items) }
+    ensures cause { IfErr result (λ fault. (fault.cause ≡ RunCause.Table TableFault.NoMemory) ⊎ (fault.cause ≡ RunCause.NoWorker)) }
+    ensures plan_back { IfErr result (λ fault. fault.plan ≡ (about_of table.table.shared.key).plan) }
+    ensures jobs_back { IfErr result (λ fault. IsPermutation (about_of table.table.shared.key).jobs fault.jobs.items) }
+    ensures untold { IfErr result (λ _. All (λ l. got (l.vtable, l.value) ≡ []) audience.new.listeners.items) }
+{
+    let Ok(gates) = gates_for(alloc, workers) else {
+        return Err(given_back(table, desk, RunCause::Table(TableFault::NoMemory)));
+    };
+    let Ok(stage) = staged(alloc, table.plan(), audience) else {
+        return Err(given_back(table, desk, RunCause::Table(TableFault::NoMemory)));
+    };
+    let Stage { events, nobody } = stage;
+    let hall: Hall<B, M> = Hall::new(table);
+    let before = Desk {
+        seat: desk,
+        audience: std::mem::replace(audience, nobody),
+        events,
+    };
+    let ran = run_in(rt, alloc, &hall, gates.as_slice(), before);
+    let Hall { table, room: _ } = hall;
+    match ran {
+        Ok(after) => {
+            let Desk {
+                seat,
+                audience: told,
+                events,
+            } = after;
+            *audience = told;
+            let Closed { plan, jobs } = table.close(seat);
+            Ok(Report {
+                plan,
+                events,
+                unused_jobs: jobs,
+            })
+        }
+        Err(same) => {
+            let Desk {
+                seat,
+                audience: untold,
+                events: _,
+            } = same;
+            *audience = untold;
+            Err(given_back(table, seat, RunCause::NoWorker))
+        }
+    }
+}
+
+/// Runs a plan on so many threads, or on as many as can be started, and tells the listeners each event. Where it is refused
+/// nothing was told, and the plan and the jobs come back, in any order.
+pub fn run_plan<B: Job + Send, R: Threads + Wait + Sync>(
+    rt: &R,
+    alloc: Global,
+    plan: Plan,
+    jobs: Jobs<B>,
+    workers: u32,
+    audience: &mut Audience,
+) -> Result<Report<B>, RunFault<B>>
+    requires jobs { MayAnswer B.answers (run_of plan workers jobs.items) }
+    requires fresh { All (λ l. got (l.vtable, l.value) ≡ []) audience.old.listeners.items }
+    ensures plan { IfOk result (λ report. report.plan ≡ plan) }
+    ensures report { IfOk result (λ report. IsReport (run_of plan workers jobs.items) (replies_of B.answers (run_of plan workers jobs.items)) report.events.items) }
+    ensures left { IfOk result (λ report. IsLeft (replies_of B.answers (run_of plan workers jobs.items)) (run_of plan workers jobs.items) report.events.items report.unused_jobs.items) }
+    ensures told { IfOk result (λ report. All (λ l. got (l.vtable, l.value) ≡ report.events.items) audience.new.listeners.items) }
+    ensures refused { IfErr result (λ fault. IsRefusedRun plan workers jobs.items fault.cause) }
+    ensures plan_back { IfErr result (λ fault. fault.plan ≡ plan) }
+    ensures jobs_back { IfErr result (λ fault. IsPermutation jobs.items fault.jobs.items) }
+    ensures untold { IfErr result (λ _. All (λ l. got (l.vtable, l.value) ≡ []) audience.new.listeners.items) }
+{
+    match RunTable::prepare(alloc, plan, jobs, workers) {
+        Ok((table, desk)) => run_at::<B, Brand, R>(rt, alloc, workers, table, desk, audience),
+        Err(refused) => {
+            let Refused { cause, plan, jobs } = refused;
+            Err(RunFault {
+                cause: RunCause::Table(cause),
+                plan,
+                jobs,
+            })
+        }
+    }
+}
