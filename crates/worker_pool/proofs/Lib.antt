@@ -6,3 +6,4 @@ pub mod Outgoing
 pub mod Asked
 pub mod Tests
 pub mod Reported
+pub mod Shares

@@ -1,18 +1,23 @@
 -- What a run has told, which jobs are left, and why a run is refused.
-use Rattle.std.specs.Prelude.{◌≡◌, ℕ, ◌<◌, ◌≤◌, List}
+use Rattle.std.specs.Prelude.{◌≡◌, ℕ, ◌+◌, ◌<◌, ◌≤◌, List, length, Some, slice_get}
 use Rattle.plan_events.specs.declared.event.Event.{Event}
 use Rattle.plan_events.specs.declared.outcome.Reply.{Reply}
 use Rattle.resource_locks.specs.Plans.{PlanParts}
 use Rattle.event_history.specs.Exclusion.{IsExclusive}
 use Rattle.event_history.specs.History.{IsLegal, IsComplete}
 use Rattle.event_history.specs.Order.{IsInOrder}
-use Rattle.event_history.specs.Parts.{EndsInPlan}
+use Rattle.event_history.specs.Parts.{EndsInPlan, part_of}
 use Rattle.table_rule.specs.declared.view.About.{About}
 use Rattle.table_rule.specs.declared.view.Dispatching.{Dispatching}
 use Rattle.run_table.specs.Ended.{HasEnded}
 use Rattle.run_table.specs.Prepared.{HasAllJobs, IsRefused}
 use Rattle.worker_pool.specs.declared.report.RunCause.{RunCause}
 use Rattle.worker_pool.specs.declared.report.RunCause.TheVariants.{Table, NoWorker}
+
+-- a list for each worker, which is its part of the events
+pub record AreParts (workers : ℕ) (events : List Event) (lists : List (List Event)) : Type 0 where
+  pub many : length lists ≡ workers
+  pub parts : (w : ℕ) → w < workers → slice_get lists w ≡ Some (part_of (w + 1) events)
 
 module _ {B : Type 0} where
   -- a run of this plan by so many workers, with these jobs

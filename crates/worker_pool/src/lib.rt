@@ -4,6 +4,7 @@
 mod answering;
 mod desk;
 pub mod gate;
+mod parts;
 mod pulling;
 mod report;
 mod running;

@@ -1,16 +1,17 @@
 //! A plan is run on threads, from the plan and its jobs to what happened.
 
-ghost use Rattle.std.specs.Prelude.{◌≡◌, ◌≤◌, [], IfOk, IfErr, IsPermutation, ◌⊎◌, vec_capacity, vec_len};
+ghost use Rattle.std.specs.Prelude.{◌≡◌, ◌≤◌, ◌⊎◌, [], IfOk, IfErr, IsPermutation, length, map, vec_capacity, vec_len};
 ghost use Rattle.std.specs.List.{All};
 ghost use Rattle.resource_locks.specs.Plans.{most_events};
 ghost use Rattle.table_rule.specs.Picture.{about_of, replies_of};
 ghost use Rattle.table_rule.specs.Plays.{dispatcher};
 ghost use Rattle.run_table.specs.Seats.{IsSeatOf};
 ghost use Rattle.worker_pool.specs.Premises.{MayAnswer};
-ghost use Rattle.worker_pool.specs.Reports.{run_of, IsReport, IsRefusedRun, IsLeft};
+ghost use Rattle.worker_pool.specs.Reports.{run_of, AreParts, IsReport, IsRefusedRun, IsLeft};
 ghost use Rattle.worker_pool.specs.Rooms.{HasTable};
 
 use crate::gate::{Gate, Hall, Room};
+use crate::parts::{lists_for, put_parts};
 use crate::running::{Desk, run_in};
 use listeners::Audience;
 use plan_events::{Event, Job};
@@ -22,11 +23,13 @@ use std::sync::Wait;
 use std::thread::Threads;
 use thiserror::Error;
 
-/// What happened in a run, in order, with its plan and the jobs that never left.
+/// What happened in a run, in order, and of that the part of each worker, worker k's at place k - 1; with its plan and the jobs
+/// that never left.
 #[derive(Drop)]
 pub struct Report<B> {
     pub plan: Plan,
     pub events: Vec<Event>,
+    pub mine: Vec<Vec<Event>>,
     pub unused_jobs: Jobs<B>,
 }
 
@@ -49,10 +52,12 @@ pub struct RunFault<B> {
     pub jobs: Jobs<B>,
 }
 
-/// What a run has memory for, but for its table and gates: room for its events, and nobody to tell.
+/// What a run has memory for, but for its table and gates: room for its events and for each
+/// worker's part of them, and nobody to tell.
 #[derive(Drop)]
 struct Stage {
     events: Vec<Event>,
+    mine: Vec<Vec<Event>>,
     nobody: Audience,
 }
 
@@ -68,19 +73,32 @@ fn gates_for<B: Job, M: Room<B>>(alloc: Global, workers: u32) -> Result<Vec<Gate
 }
 
 /// Makes room for a run of this plan, here and with the listeners.
-fn staged(alloc: Global, plan: &Plan, audience: &mut Audience) -> Result<Stage, AllocError>
+fn staged(
+    alloc: Global,
+    plan: &Plan,
+    workers: u32,
+    audience: &mut Audience,
+) -> Result<Stage, AllocError>
     requires fresh { All (λ l. got (l.vtable, l.value) ≡ []) audience.old.listeners.items }
     ensures fresh { All (λ l. got (l.vtable, l.value) ≡ []) audience.new.listeners.items }
     ensures room { IfOk result (λ _. All (λ l. most_events plan.now ≤ room (l.vtable, l.value)) audience.new.listeners.items) }
     ensures empty { IfOk result (λ stage. stage.events.items ≡ []) }
     ensures enough { IfOk result (λ stage. most_events plan.now ≤ vec_capacity stage.events) }
+    ensures lists { IfOk result (λ stage. length stage.mine.items ≡ workers) }
+    ensures bare { IfOk result (λ stage. All (λ l. l.items ≡ []) stage.mine.items) }
+    ensures wide { IfOk result (λ stage. All (λ l. most_events plan.now ≤ vec_capacity l) stage.mine.items) }
 {
     audience.prepare(plan)?;
     let events = Vec::with_capacity(alloc, plan.most_events())?;
+    let mine = lists_for(alloc, workers, plan.most_events())?;
     let Ok(nobody) = Audience::new(Vec::new(alloc)) else {
         unreachable!()
     };
-    Ok(Stage { events, nobody })
+    Ok(Stage {
+        events,
+        mine,
+        nobody,
+    })
 }
 
 /// Takes a table apart at which nobody has worked.
@@ -111,6 +129,7 @@ fn run_at<B: Job + Send, M: Room<B> + Send + Sync, R: Threads + Wait + Sync>(
     requires fresh { All (λ l. got (l.vtable, l.value) ≡ []) audience.old.listeners.items }
     ensures plan { IfOk result (λ report. report.plan ≡ (about_of table.table.shared.key).plan) }
     ensures report { IfOk result (λ report. IsReport (about_of table.table.shared.key) (replies_of B.answers (about_of table.table.shared.key)) report.events.items) }
+    ensures mine { IfOk result (λ report. AreParts workers report.events.items (map (λ l. l.items) report.mine.items)) }
     ensures left { IfOk result (λ report. IsLeft (replies_of B.answers (about_of table.table.shared.key)) (about_of table.table.shared.key) report.events.items report.unused_jobs.items) }
     ensures told { IfOk result (λ report. All (λ l. got (l.vtable, l.value) ≡ report.events.items) audience.new.listeners.items) }
     ensures cause { IfErr result (λ fault. (fault.cause ≡ RunCause.Table TableFault.NoMemory) ⊎ (fault.cause ≡ RunCause.NoWorker)) }
@@ -121,10 +140,14 @@ fn run_at<B: Job + Send, M: Room<B> + Send + Sync, R: Threads + Wait + Sync>(
     let Ok(gates) = gates_for(alloc, workers) else {
         return Err(given_back(table, desk, RunCause::Table(TableFault::NoMemory)));
     };
-    let Ok(stage) = staged(alloc, table.plan(), audience) else {
+    let Ok(stage) = staged(alloc, table.plan(), workers, audience) else {
         return Err(given_back(table, desk, RunCause::Table(TableFault::NoMemory)));
     };
-    let Stage { events, nobody } = stage;
+    let Stage {
+        events,
+        mut mine,
+        nobody,
+    } = stage;
     let hall: Hall<B, M> = Hall::new(table);
     let before = Desk {
         seat: desk,
@@ -142,9 +165,11 @@ fn run_at<B: Job + Send, M: Room<B> + Send + Sync, R: Threads + Wait + Sync>(
             } = after;
             *audience = told;
             let Closed { plan, jobs } = table.close(seat);
+            put_parts(&mut mine, events.as_slice());
             Ok(Report {
                 plan,
                 events,
+                mine,
                 unused_jobs: jobs,
             })
         }
@@ -174,6 +199,7 @@ pub fn run_plan<B: Job + Send, R: Threads + Wait + Sync>(
     requires fresh { All (λ l. got (l.vtable, l.value) ≡ []) audience.old.listeners.items }
     ensures plan { IfOk result (λ report. report.plan ≡ plan) }
     ensures report { IfOk result (λ report. IsReport (run_of plan workers jobs.items) (replies_of B.answers (run_of plan workers jobs.items)) report.events.items) }
+    ensures mine { IfOk result (λ report. AreParts workers report.events.items (map (λ l. l.items) report.mine.items)) }
     ensures left { IfOk result (λ report. IsLeft (replies_of B.answers (run_of plan workers jobs.items)) (run_of plan workers jobs.items) report.events.items report.unused_jobs.items) }
     ensures told { IfOk result (λ report. All (λ l. got (l.vtable, l.value) ≡ report.events.items) audience.new.listeners.items) }
     ensures refused { IfErr result (λ fault. IsRefusedRun plan workers jobs.items fault.cause) }

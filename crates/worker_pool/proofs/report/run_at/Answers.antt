@@ -1,12 +1,14 @@
-use Rattle.std.proofs.Common.{◌≡◌, ◌∙◌, ◌≤◌, ℕ, List, [], length, IsPermutation, sym, ap}
+use Rattle.std.proofs.Common.{◌≡◌, ◌∙◌, ◌≤◌, ℕ, List, [], length, IsPermutation, vec_capacity, sym, ap}
 use Rattle.std.specs.List.{All}
 use Rattle.plan_events.specs.declared.event.Event.{Event}
-use Rattle.resource_locks.specs.Plans.{most_events}
+use Rattle.resource_locks.specs.Plans.{PlanParts, most_events}
+use Rattle.event_history.proofs.Few.{legal_few}
 use Rattle.table_rule.specs.Picture.{about_of, replies_of}
 use Rattle.table_rule.specs.Plays.{dispatcher}
 use Rattle.run_table.specs.Ended.{HasEnded}
 use Rattle.worker_pool.specs.Telling.{left_to_read}
 use Rattle.worker_pool.proofs.Reported.{carried, fewer_left, at_most_that, reported}
+use Rattle.worker_pool.proofs.Shares.{fits_all}
 use Rattle.worker_pool.proofs.report.run_at.Goals as goal
 
 pub run_in-ran-requires-clause-told : goal.run_in-ran-requires-clause-told
@@ -21,6 +23,21 @@ run_in-ran-requires-clause-room g c κs within =
     let plan = ap (λ a. a.plan) c.requires.seat.about ∙ (sym c.args.table.fitting.plan ∙ sym c.plan.ensures) in
     let low : left_to_read v ≤ most_events c.plan.result.now = fewer_left (most_events v.about.plan) (most_events c.plan.result.now) (length (dispatcher v).read) (ap most_events plan) in
     λ k d inside. at_most_that _ _ _ low (all k d inside)
+
+pub put_parts-requires-clause-room : goal.put_parts-requires-clause-room
+put_parts-requires-clause-room g c =
+    let q = c.in-Ok-ran.ensures in
+    let d = dispatcher c.in-Ok-ran.after.seat.seat.me.0 in
+    let key = about_of c.args.table.table.shared.key in
+    let events = c.in-Ok-ran.after.events.items in
+    let is =
+    reported key (replies_of g.B.Job.answers key) d c.close-plan.result.jobs.items events q.noted q.over
+    (carried (sym c.new-hall.ensures) (λ t. HasEnded (replies_of g.B.Job.answers (about_of t.table.shared.key)) (about_of t.table.shared.key) d c.close-plan.result.jobs.items) c.close-plan.ensures.ends) in
+    let few : length events ≤ most_events key.plan = legal_few key.plan (replies_of g.B.Job.answers key) key.workers events is.legal in
+    let plan = c.plan.ensures ∙ c.args.table.fitting.plan in
+    let most : length events ≤ most_events c.plan.result.now = carried plan (λ (p : PlanParts). length events ≤ most_events p) few in
+    let these : length c.as_slice-in-Ok-ran.result.now ≤ most_events c.plan.result.now = carried c.as_slice-in-Ok-ran.ensures.value (λ (es : List Event). length es ≤ most_events c.plan.result.now) most in
+    fits_all (λ v. vec_capacity v) (length c.as_slice-in-Ok-ran.result.now) (most_events c.plan.result.now) c.in-Ok-staged.stage.mine.items these c.in-Ok-staged.ensures.wide
 
 pub returns-in-Ok-ran-clause-report : goal.returns-in-Ok-ran-clause-report
 returns-in-Ok-ran-clause-report g c =

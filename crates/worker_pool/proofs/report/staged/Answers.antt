@@ -9,3 +9,6 @@ returns-in_err-events-clause-fresh g c = c.prepare.ensures.all_got [] c.requires
 
 pub returns-clause-fresh : goal.returns-clause-fresh
 returns-clause-fresh g c = c.prepare.ensures.all_got [] c.requires.fresh
+
+pub returns-in_err-mine-clause-fresh : goal.returns-in_err-mine-clause-fresh
+returns-in_err-mine-clause-fresh g c = c.prepare.ensures.all_got [] c.requires.fresh
