@@ -1,4 +1,4 @@
-use Rattle.std.proofs.Common.{◌≡◌, sym, IfErr, IsPermutation}
+use Rattle.std.proofs.Common.{sym, IfErr, IsPermutation}
 use Rattle.worker_pool.proofs.Reported.{carried}
 use Rattle.worker_pool.proofs.report.run_plan.Goals as goal
 
