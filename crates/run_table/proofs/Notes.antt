@@ -53,6 +53,20 @@ finish_read read n lawful q =
     let s = some_status e.kind e.status x.1.kind (and_parts (fits_status e.kind e.status) _ (and_parts _ _ (and_parts _ _ (lawful x.0 e x.1.here)).0).0).0 in
     (s.0, record { place = x.0; event = e; stands = x.1.here; kind = x.1.kind; node = x.1.node; ends = s.1 })
 
+untouched_not_taking : (reply : Reply) → Unmoved ≡ Taking reply → ⊥
+untouched_not_taking reply q = cc
+
+-- a slot that is taken and given back is no more on its way than another
+given_back : (made : List (ℕ × Shelf)) (k j : ℕ) (reply other : Reply) → (made_of made j ≡ Taking other → ⊥) → made_of ((k, Taken reply) ∷ (k, Taking reply) ∷ made) j ≡ Taking other → ⊥
+given_back made k j reply other never = by (k == j)
+  where
+    by : (b : Bool) → cond b (Taken reply) (cond b (Taking reply) (made_of made j)) ≡ Taking other → ⊥
+    by true q = taken_not_taking q
+      where
+        taken_not_taking : Taken reply ≡ Taking other → ⊥
+        taken_not_taking q = cc
+    by false q = never q
+
 -- The dispatcher has read nothing yet.
 module _ {B : Type 0} where
   pub desk_opens : (m : Me (Slot B) (View B)) (key : About B) (workers : ℕ) (ended taken : List Bool) → m ≡ (opener key, []) → key.workers ≡ workers → ended ≡ replicate 4096 false → taken ≡ moved_in []
@@ -67,6 +81,7 @@ module _ {B : Type 0} where
     ended_is = λ n low. ap (λ (l : List Bool). get_or l n false) marks ∙ get_or-replicate 4096 n false false low;
     lawful = λ i e q. absurd (none-some _ q);
     taken_is = none;
+    put_back = λ k reply q. untouched_not_taking reply q;
   })
 
 -- It has read one event more.
@@ -83,6 +98,7 @@ module _ {B : Type 0} where
     ended_is = λ n low. marks n low ∙ (ap (λ (b : Bool). b || is_of Finished n e) (desk.ended_is n low) ∙ sym (event_snoc (is_of Finished n) (dispatcher old.0).read e));
     lawful = λ i f q. elim (get_snoc (dispatcher old.0).read e f i q) [ inl was ↦ desk.lawful i f was | inr last ↦ (ap is_lawful last.1 ∙ fine) ];
     taken_is = desk.taken_is;
+    put_back = desk.put_back;
   })
 
   -- it has taken a note
@@ -98,6 +114,7 @@ module _ {B : Type 0} where
     ended_is = desk.ended_is;
     lawful = desk.lawful;
     taken_is = ap (λ (l : List Bool). set l k true) desk.taken_is ∙ sym (set_two (moved_in (dispatcher old.0).slots) k true true);
+    put_back = λ j other. given_back (dispatcher old.0).slots k j reply other (desk.put_back j other);
   })
 
 -- One note is taken: what is known of the slots then.

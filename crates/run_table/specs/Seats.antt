@@ -29,7 +29,8 @@ use Rattle.table_rule.specs.declared.view.Slot.{Slot}
 use Rattle.table_rule.specs.declared.view.Place.TheVariants.{Worker, Dispatcher}
 use Rattle.table_rule.specs.Words.{word_count}
 use Rattle.table_rule.specs.declared.view.Dispatching.{Dispatching}
-use Rattle.table_rule.specs.Slots.{slot_count, job_at, job_with, decides, IsFinished, EndsBy, IsNoteDue}
+use Rattle.table_rule.specs.declared.view.Shelf.TheVariants.{Taking}
+use Rattle.table_rule.specs.Slots.{slot_count, job_at, job_with, made_of, decides, IsFinished, EndsBy, IsNoteDue}
 use Rattle.table_rule.specs.Picture.{about_of}
 use Rattle.run_table.specs.Answering.{known_in}
 use Rattle.run_table.specs.Moved.{moved_in}
@@ -123,6 +124,8 @@ module _ {B : Type 0} where
     pub ended_is : (n : ℕ) → n < 4096 → get_or ended n false ≡ has Finished n (dispatcher m.0).read
     pub lawful : (i : ℕ) (e : Event) → slice_get (dispatcher m.0).read i ≡ Some e → is_lawful e ≡ true
     pub taken_is : taken ≡ moved_in (dispatcher m.0).slots
+    -- each slot that it has taken, it has given back
+    pub put_back : (k : ℕ) (reply : Reply) → made_of (dispatcher m.0).slots k ≡ Taking reply → ⊥
 
   -- a seat of the same table, whose view names the same plan
   pub record IsOf (old new : TableSeat (Slot B) (View B)) : Type 0 where

@@ -15,6 +15,8 @@ use Rattle.scheduling.specs.declared.task.Task.{Task}
 use Rattle.scheduling.specs.declared.task.Task.TheVariants.{Opens, Closes}
 use Rattle.scheduling.specs.declared.seat.Hand.{Hand}
 use Rattle.scheduling.specs.declared.seat.Seat.{Seat}
+use Rattle.event_history.specs.Results.{jobs_of}
+use Rattle.scheduling.specs.Choices.{after_job}
 use Rattle.scheduling.specs.State.{State, counter_at}
 use Rattle.scheduling.specs.Stages.{Gave, Stage, Unseen, Offered, OpenedBy, InHand, Waiting, ClosedBy, Over, Mark, Begun, picture, has_mark, who, is_over, is_pending}
 use Rattle.scheduling.specs.Invariant.{pending, pends_at, IsKept, TaskOk, HandOk, IsAfter, ShapeOk, Fits}
@@ -112,6 +114,19 @@ module _ (p : PlanParts) (replies : ℕ → List Reply) (s : State) (kept : IsKe
               let stage : g x.node ≡ ClosedBy w after.1.0 AwaitingAfter Gave = after.1.1 in
               let none : pending p g x.node ≡ 0 = past_none p g x.node (λ c child. subst (λ (st : Stage). Fits p (picture p x.node st).below x.node c (g c)) stage (kept.1.edges x.node c child)) in
               subst (λ (m : ℕ). counter_at s m ≡ 0) same (kept.1.counters x.node low ∙ (λ i. (picture p x.node (stage i)).guard + none i)))
+        ]
+
+    -- and its after-body is run
+    pub slot_runs : (k n : ℕ) → HasSlot p seat k → k ≡ after_slot p n → after_job (jobs_of p n) ≡ None → ⊥
+    slot_runs k n h e unrun =
+        let x = holder k h in
+        let low = x.inside in
+        elim x.place [
+          | inl here ↦ absurd (omega (arith, here, e, low))
+          | inr after ↦ (let at : k ≡ after_slot p x.node = after.0 in
+              let same : x.node ≡ n = omega (arith, at, e) in
+              let is : IsAfter p replies x.node Gave = subst (λ (st : Stage). ShapeOk p replies s.published x.node st) after.1.1 (kept.1.shapes x.node low) in
+              none-some is.after (sym unrun ∙ ap (λ (m : ℕ). after_job (jobs_of p m)) (sym same) ∙ ap after_job is.jobs))
         ]
 
     -- the node has not finished

@@ -12,6 +12,8 @@ use Rattle.plan_events.specs.declared.event.EventKind.TheVariants.{Started}
 use Rattle.plan_events.specs.declared.outcome.Reply.{Reply}
 use Rattle.resource_locks.specs.Plans.{PlanParts}
 use Rattle.event_history.specs.Places.{has}
+use Rattle.event_history.specs.Results.{jobs_of}
+use Rattle.scheduling.specs.Choices.{after_job}
 use Rattle.scheduling.specs.State.{State, counter_at}
 use Rattle.table_rule.specs.declared.view.About.{About}
 use Rattle.table_rule.specs.declared.view.View.{View}
@@ -25,7 +27,7 @@ use Rattle.table_rule.specs.Slots.{after_slot, slot_count, job_at, told_by, take
 use Rattle.table_rule.specs.Picture.{Dealt, IsAnswer, AreAmong, WorkerFits, PlaceFits, ViewFits, IsPictureOf, worker_view}
 use Rattle.table_rule.specs.Plays.{makes}
 use Rattle.table_rule.proofs.Frame.{mine}
-use Rattle.table_rule.proofs.Holders.{slot_inside, slot_started, slot_counted, one_holder}
+use Rattle.table_rule.proofs.Holders.{slot_inside, slot_started, slot_counted, slot_runs, one_holder}
 use Rattle.table_rule.proofs.Widening.{wide_kept}
 
 -- the shelves once slot k is this
@@ -40,11 +42,11 @@ moved_else shelf k new j ne = ap (λ (b : Bool). cond b new (shelf j)) (ne_eqb k
 
 -- A move of slot k, of which the seats' knowledge is shown beside.
 pub slots_moved : {B : Type 0} (told more : ℕ → List Reply) (key : About B) (c : State) (s : TableState (Slot B) (View B)) (a : AreSlots told key c s) (k : ℕ) (new : Shelf) (words : List ℕ) (views : List (View B)) → k < slot_count key.plan
-    → ((n : ℕ) → n < size key.plan.tree → has Started n c.published ≡ false → n ≢ k) → ((n : ℕ) → 0 < counter_at c n → after_slot key.plan n ≢ k)
+    → ((n : ℕ) → n < size key.plan.tree → has Started n c.published ≡ false → n ≢ k) → ((n : ℕ) → 0 < counter_at c n → after_slot key.plan n ≢ k) → ((n : ℕ) → after_job (jobs_of key.plan n) ≡ None → after_slot key.plan n ≢ k)
     → ((number : ℕ) → job_at key.plan k ≡ Some number → more number ≡ told_by new) → ((j number : ℕ) → j ≢ k → j < slot_count key.plan → job_at key.plan j ≡ Some number → more number ≡ told number)
     → ((id : ℕ) (v : View B) → get_elem? views id ≡ some v → PlaceKnows key.plan (moved a.shelf k new) v.place)
     → AreSlots more key c (record { words = words; homes = set s.homes k (home_by key k new); views = views })
-slots_moved {B} told more key c s a k new words views low begun counted here else knows = record {
+slots_moved {B} told more key c s a k new words views low begun counted run here else knows = record {
   shelf = shelf;
   many = length-set s.homes k (home_by key k new) ∙ a.many;
   homes = λ j small. dite (ℕ_discrete j k)
@@ -56,6 +58,7 @@ slots_moved {B} told more key c s a k new words views low begun counted here els
       (λ ne. else j number ne small q ∙ a.told_is j number small q ∙ ap told_by (sym (moved_else a.shelf k new j ne)));
   bodies = λ n small q. moved_else a.shelf k new n (begun n small q) ∙ a.bodies n small q;
   afters = λ n h. moved_else a.shelf k new (after_slot key.plan n) (counted n h) ∙ a.afters n h;
+  unrun = λ n q. moved_else a.shelf k new (after_slot key.plan n) (run n q) ∙ a.unrun n q;
   knows = knows;
 }
   where
@@ -98,7 +101,7 @@ module _ {B : Type 0} (told more : ℕ → List Reply) (wider : AreAmong told mo
         (λ (x : (j ≡ id) × (worker_view key after ≡ v)). subst (λ (y : ℕ × View B). ViewFits more key c dealt y.0 y.1) (λ i. (sym x.0 i, x.1 i)) own_view)
         (λ (x : (j ≢ id) × (get_elem? s.views j ≡ some v)). (let was = r.views j v x.1 in record { names = was.names; fits = wide_place j v.place was.fits }))
         (at_set s.views id j (worker_view key after) v e);
-    slots = slots_moved told more key c s r.slots k new words (set s.views id (worker_view key after)) (slot_inside p told c r.kept w.number w.seat we.seat k has_it) begun counted here else
+    slots = slots_moved told more key c s r.slots k new words (set s.views id (worker_view key after)) (slot_inside p told c r.kept w.number w.seat we.seat k has_it) begun counted run here else
         (λ j v e. ⊎_elim
         (λ (x : (j ≡ id) × (worker_view key after ≡ v)). subst (λ (y : View B). PlaceKnows p shelf y.place) x.1 own_knows)
         (λ (x : (j ≢ id) × (get_elem? s.views j ≡ some v)). others j v.place x.0 (r.views j v x.1).fits (r.slots.knows j v x.1))
@@ -119,6 +122,9 @@ module _ {B : Type 0} (told more : ℕ → List Reply) (wider : AreAmong told mo
 
       counted : (n : ℕ) → 0 < counter_at c n → after_slot p n ≢ k
       counted n h e = (let none = slot_counted p told c r.kept w.number w.seat we.seat k n has_it (sym e) in omega (arith, h, none))
+
+      run : (n : ℕ) → after_job (jobs_of p n) ≡ None → after_slot p n ≢ k
+      run n q e = slot_runs p told c r.kept w.number w.seat we.seat k n has_it (sym e) q
 
       own_knows : WorkerKnows p shelf after
       own_knows = record {

@@ -266,6 +266,7 @@ module _ {B : Type 0} (replies : ℕ → List Reply) (key : About B) (s : TableS
         slots = slots_moved told told key c s r.slots k new words (set s.views id (dispatcher_view key after)) low
             (λ n small q e. not_moved (sym (ap r.slots.shelf e) ∙ r.slots.bodies n small q))
             (λ n h e. not_moved (sym (ap r.slots.shelf e) ∙ r.slots.afters n h))
+            (λ n q e. not_moved (sym (ap r.slots.shelf e) ∙ r.slots.unrun n q))
             (λ number q. r.slots.told_is k number low q ∙ ap told_by was ∙ heard ∙ sym hears)
             (λ _ _ _ _ _. refl)
             (λ j v e. ⊎_elim

@@ -54,6 +54,7 @@ opening_holds {B} key words slots plan few is many jobs = record {
       told_is = λ k number low q. refl;
       bodies = λ n low q. refl;
       afters = λ n h. refl;
+      unrun = λ n q. refl;
       knows = knows;
     };
   };
