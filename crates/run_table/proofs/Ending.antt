@@ -49,7 +49,7 @@ all_read given rest published is i e at last =
     sym (append-nil given) ∙ (ap (λ l. given ++ l) (sym (none_left rest (omega (arith, low, long, whole, last)))) ∙ is)
 
 -- a job that has answered is in none of its slots any more
-told_one : (shelf : Shelf) (i : ℕ) (reply : Reply) → slice_get (told_by shelf) i ≡ Some reply → told_by shelf ≡ reply ∷ []
+pub told_one : (shelf : Shelf) (i : ℕ) (reply : Reply) → slice_get (told_by shelf) i ≡ Some reply → told_by shelf ≡ reply ∷ []
 told_one Unmoved i reply q = absurd (none-some reply q)
 told_one Out i reply q = absurd (none-some reply q)
 told_one Left i reply q = absurd (none-some reply q)

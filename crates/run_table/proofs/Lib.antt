@@ -10,3 +10,4 @@ pub mod Knowing
 pub mod Notes
 pub mod Replies
 pub mod Starting
+pub mod Used

@@ -1,5 +1,6 @@
 -- What clauses say of the table and of its seats.
 pub mod Answering
+pub mod Balance
 pub mod Ended
 pub mod Filling
 pub mod Moved
