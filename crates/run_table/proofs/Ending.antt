@@ -4,6 +4,7 @@ use Rattle.std.specs.List.Sorted.{IsPermutation}
 use Rattle.std.proofs.lemmas.List.{append-nil}
 use Rattle.std.proofs.lemmas.Option.{none-some, slice_get_within}
 use mathlib.Core.Option.{some}
+use lib.ListN.{get_elem?}
 use Rattle.atomic_table.specs.Table.{Final, Seen}
 use Rattle.plan_events.specs.declared.event.Event.{Event}
 use Rattle.plan_events.specs.declared.event.EventKind.TheVariants.{Finished}
@@ -58,7 +59,7 @@ told_one (Taking first) i reply q = ap (λ x. x ∷ []) (sym (only (first ∷ []
 told_one (Taken first) i reply q = ap (λ x. x ∷ []) (sym (only (first ∷ []) first reply i refl q))
 
 module _ {B : Type 0} (replies : ℕ → List Reply) (key : About B) (id : ℕ) (v : View B) (d : Dispatching) (is : v.place ≡ Dispatcher d) (words : List ℕ) (slots : List (Slot B)) (final : Final (Seen (Ruled replies key) id v) words slots) where
-  abbrev rule : Ruled replies key final.0
+  abbrev pub rule : Ruled replies key final.0
   rule = final.1.0
 
   abbrev core : State
@@ -70,10 +71,10 @@ module _ {B : Type 0} (replies : ℕ → List Reply) (key : About B) (id : ℕ) 
   right : IsRight key.plan replies key.workers core
   right = subst (λ n. IsRight key.plan replies n core) rule.picture.is.workers (kept_right key.plan (core_plan key.plan rule.picture.is.plan.tree) replies core (rule_kept replies key final.0 rule) rule.picture.is.placed)
 
-  right_by : IsRight key.plan rule.told key.workers core
+  pub right_by : IsRight key.plan rule.told key.workers core
   right_by = subst (λ n. IsRight key.plan rule.told n core) rule.picture.is.workers (kept_right key.plan (core_plan key.plan rule.picture.is.plan.tree) rule.told core rule.picture.is.kept rule.picture.is.placed)
 
-  ran : (i n body : ℕ) → StandsAt core.published i Finished n → body_of key.plan.tree n ≡ Some body → (reply : Reply) × (told_by (rule.picture.is.slots.shelf n) ≡ reply ∷ [])
+  pub ran : (i n body : ℕ) → StandsAt core.published i Finished n → body_of key.plan.tree n ≡ Some body → (reply : Reply) × (told_by (rule.picture.is.slots.shelf n) ≡ reply ∷ [])
   ran i n body stands has =
       let low : n < size key.plan.tree = subst (λ (m : ℕ). m < size key.plan.tree) stands.node (right_by.legal.nodes i stands.event stands.here) in
       let text = (right_by.legal.result i stands.event stands.here stands.kind).0 in
@@ -85,24 +86,31 @@ module _ {B : Type 0} (replies : ℕ → List Reply) (key : About B) (id : ℕ) 
   fits : DispatcherFits core rule.picture.dealt id d
   fits = subst (λ (p : Place). PlaceFits key.plan rule.told core rule.picture.dealt id p) is (rule.picture.is.views id v final.1.1).fits
 
-  knows : DispatcherKnows key.plan rule.picture.is.slots.shelf d
+  pub knows : DispatcherKnows key.plan rule.picture.is.slots.shelf d
   knows = subst (λ (p : Place). PlaceKnows key.plan rule.picture.is.slots.shelf p) is (rule.picture.is.slots.knows id v final.1.1)
 
   pub slots_many : length slots ≡ slot_count key.plan
   slots_many = many_slots
+
+  -- once the plan's finish is read, all is
+  pub whole_read : (i : ℕ) → StandsAt d.read i Finished 0 → d.read ≡ core.published
+  whole_read i stands = fits.read ∙ (let at = subst (λ (l : List Event). slice_get l i ≡ Some stands.event) fits.read stands.here in
+      all_read core.given right.given.0 core.published right.given.1 i stands.event at (right.last i (record { event = stands.event; here = subst (λ (l : List Event). slice_get l i ≡ Some stands.event) right.given.1 (at_front core.given right.given.0 i stands.event at); kind = stands.kind; node = stands.node })))
+
+  pub at_home : (k : ℕ) (y : Slot B) → k < slot_count key.plan → home_by key k (rule.picture.is.slots.shelf k) ≡ some y → get_elem? slots k ≡ some y
+  at_home k y low q = final.4 k y (rule.picture.is.slots.homes k low ∙ ap (λ o. some o) q)
 
   pub ends : (jobs : List (ℕ × B)) → jobs ≡ unused_of key ++ jobs_from key.plan 0 slots → HasEnded replies key d jobs
   ends jobs left = record {
     core = core;
     right = right;
     read = fits.read;
-    whole = λ i stands. fits.read ∙ (let at = subst (λ (l : List Event). slice_get l i ≡ Some stands.event) fits.read stands.here in
-        all_read core.given right.given.0 core.published right.given.1 i stands.event at (right.last i (record { event = stands.event; here = subst (λ (l : List Event). slice_get l i ≡ Some stands.event) right.given.1 (at_front core.given right.given.0 i stands.event at); kind = stands.kind; node = stands.node })));
+    whole = whole_read;
     slots = slots;
     many = many_slots;
     left = left;
     shelf = rule.picture.is.slots.shelf;
-    homes = λ k y low q. final.4 k y (rule.picture.is.slots.homes k low ∙ ap (λ o. some o) q);
+    homes = at_home;
     waits = rule.picture.is.slots.bodies;
     taken = knows.taken;
     undealt = knows.undealt;

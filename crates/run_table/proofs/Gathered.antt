@@ -65,7 +65,7 @@ module _ {B : Type 0} where
       go (Some job) e = refl
 
   -- The jobs in slots, by what each slot has.
-  abbrev some_of : (ℕ → List (ℕ × B)) → ℕ → ℕ → List (ℕ × B)
+  abbrev pub some_of : (ℕ → List (ℕ × B)) → ℕ → ℕ → List (ℕ × B)
   some_of w k zero = []
   some_of w k (suc many) = w k ++ some_of w (suc k) many
 
@@ -82,7 +82,7 @@ module _ {B : Type 0} where
       (λ ne. IsPermutation-trans _ _ _ (IsPermutation-sym _ _ (IsPermutation-middle (w k) x (some_of w (suc k) many)))
       (subst (λ l. IsPermutation (w k ++ x ∷ some_of w (suc k) many) (l ++ some_of v (suc k) many)) (same k ne) (IsPermutation-append_right (w k) _ _ (one_job w v x i (suc k) many (omega (arith, low, ne)) (let e : i < suc k + many = omega (arith, high) in e) none one same))))
 
-  abbrev stands_in : PlanParts → List (ℕ × B) → ℕ → List (ℕ × B)
+  abbrev pub stands_in : PlanParts → List (ℕ × B) → ℕ → List (ℕ × B)
   stands_in p before k = job_in (job_at p k) (slot_for before (job_at p k))
 
   -- one more job is in its slot, or unused
@@ -147,11 +147,15 @@ module _ {B : Type 0} where
       here : slot ≡ slot_for jobs (job_at p k)
       here = some-injective slot _ (each 0 (omega arith) ∙ ap (λ (n : ℕ). some (slot_for jobs (job_at p n))) (let e : k + 0 ≡ k = omega arith in e))
 
-  -- the jobs that are handed in are those unused and those in slots
+  -- the jobs that are handed in are those unused and those of each slot
+  pub by_slots : (p : PlanParts) → IsTree p.tree → (jobs : List (ℕ × B)) → IsPermutation jobs (unused_after p [] jobs ++ some_of (stands_in p jobs) 0 (slot_count p))
+  by_slots p tree jobs = further p tree [] jobs (subst (λ l. IsPermutation {X = ℕ × B} [] l) (sym (nothing p 0 (slot_count p))) (IsPermutation-refl []))
+
+  -- and so those unused and those in slots
   pub all_jobs : (p : PlanParts) → IsTree p.tree → (jobs : List (ℕ × B)) (slots : List (Slot B)) (unused : List (ℕ × B)) → IsFilled p jobs slots unused → IsPermutation jobs (unused ++ jobs_from p 0 slots)
   all_jobs p tree jobs slots unused filled =
       subst (IsPermutation jobs) (λ i. sym filled.unused_is i ++ (sym (from_slots p jobs 0 slots (λ j low. filled.slots_are j (subst (λ (n : ℕ). j < n) filled.many low) ∙ ap (λ (n : ℕ). some (slot_for jobs (job_at p n))) (let e : j ≡ 0 + j = omega arith in e)) ∙ ap (some_of (stands_in p jobs) 0) filled.many)) i)
-      (further p tree [] jobs (subst (λ l. IsPermutation {X = ℕ × B} [] l) (sym (nothing p 0 (slot_count p))) (IsPermutation-refl [])))
+      (by_slots p tree jobs)
 
 -- a list that was lent whole and came back as long as it was
 pub whole_back : {X : Type 0} (now old : List X) (n : ℕ) → length now ≡ length old → n ≡ length old → take n (now ++ drop (length now) old) ≡ now

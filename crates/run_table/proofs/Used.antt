@@ -39,15 +39,15 @@ module _ (p : PlanParts) (replies : ℕ → List Reply) (workers : ℕ) (h : Lis
   pub unstarted : (n : ℕ) → n < size p.tree → has Finished n h ≡ false → has Started n h ≡ false
   unstarted n low unfinished = elim (cases_bool (has Started n h)) [
     | inl started ↦ absurd (elim (whole n low) [
-        | inl settled ↦ elim settled [
-            | inl finish ↦ false≢true (sym unfinished ∙ has_at finish.stands)
-            | inr skip ↦ started_unskipped p replies workers h legal skip.place n started skip.stands
-          ]
-        | inr rest ↦ elim rest [
-            | inl barred ↦ unbarred p replies workers h legal n started barred
-            | inr never ↦ started_known p replies workers h legal n started never
-          ]
-      ])
+      | inl settled ↦ elim settled [
+        | inl finish ↦ false≢true (sym unfinished ∙ has_at finish.stands)
+        | inr skip ↦ started_unskipped p replies workers h legal skip.place n started skip.stands
+      ]
+      | inr rest ↦ elim rest [
+        | inl barred ↦ unbarred p replies workers h legal n started barred
+        | inr never ↦ started_known p replies workers h legal n started never
+      ]
+    ])
     | inr none ↦ none
   ]
 
@@ -179,9 +179,9 @@ module _ (p : PlanParts) (core : IsCorePlan p) (replies : ℕ → List Reply) (s
   stopped_counted n a low runs stopped = elim (guard_or_gone p n (is_spare_at p.tree n) (g n)) [
     | inl guard ↦ counted n low guard
     | inr gone ↦ absurd (elim gone [
-        | inl begun ↦ false≢true (sym (kept.1.flags Finished n low ∙ ap (has_mark (is_spare_at p.tree n) Finished) begun) ∙ has_at stopped.finish)
-        | inr ended ↦ below_it ended.1
-      ])
+      | inl begun ↦ false≢true (sym (kept.1.flags Finished n low ∙ ap (has_mark (is_spare_at p.tree n) Finished) begun) ∙ has_at stopped.finish)
+      | inr ended ↦ below_it ended.1
+    ])
   ]
     where
       holder : (sort_of p.tree n ≡ Holder) × (after_run p n ≡ Some a)
@@ -281,10 +281,10 @@ module _ (p : PlanParts) (tree : IsTree p.tree) (told : ℕ → List Reply) (wor
           let runs : after_job (jobs_of p n) ≡ Some number = e ∙ ap (λ (m : ℕ). Some m) same in
           elim (cases_bool (has Finished n h)) [
             | inl finished ↦ (let x = has_stands Finished n h finished in elim (stopped_cases p told workers h legal x.0 n x.1) [
-                | inl stopped ↦ stays (stopped_counted p core told s kept n number low runs stopped) (λ u. u.went_on stopped)
-                | inr went_on ↦ (let jobs = after_runs p n number runs in
-                    inr (after_told n number x.0 low is jobs.0 jobs.1 x.1 went_on, (n, inr (record { body = jobs.0; after = jobs.1; place = x.0; finish = x.1; went_on = went_on }))))
-              ])
+              | inl stopped ↦ stays (stopped_counted p core told s kept n number low runs stopped) (λ u. u.went_on stopped)
+              | inr went_on ↦ (let jobs = after_runs p n number runs in
+                  inr (after_told n number x.0 low is jobs.0 jobs.1 x.1 went_on, (n, inr (record { body = jobs.0; after = jobs.1; place = x.0; finish = x.1; went_on = went_on }))))
+            ])
             | inr unfinished ↦ stays (closed_counted p core told s kept n low (unstarted p told workers h legal whole n low unfinished)) (λ u. false≢true (sym unfinished ∙ has_at u.finish))
           ]
 

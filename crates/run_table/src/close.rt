@@ -1,10 +1,13 @@
 //! The end of a run: the table is taken apart, and the plan and what is left of the jobs come back.
 
-ghost use Rattle.std.specs.Prelude.{◌≡◌, ◌+◌, ◌≤◌, ◌++◌, IsPermutation, vec_len, vec_capacity};
+ghost use Rattle.std.specs.Prelude.{◌≡◌, ◌+◌, ◌≤◌, ◌++◌, ℕ, IsPermutation, vec_len, vec_capacity};
 ghost use Rattle.std.specs.Mem.Slots.{slots_items, slots_len, IsFull};
+ghost use Rattle.plan_events.specs.declared.event.EventKind.TheVariants.{Finished};
+ghost use Rattle.event_history.specs.Places.{StandsAt};
 ghost use Rattle.table_rule.specs.Picture.{about_of, replies_of};
 ghost use Rattle.table_rule.specs.Plays.{dispatcher};
 ghost use Rattle.table_rule.specs.Slots.{slot_count};
+ghost use Rattle.run_table.specs.Balance.{IsBalanced};
 ghost use Rattle.run_table.specs.Ended.{HasEnded};
 ghost use Rattle.run_table.specs.Prepared.{jobs_from};
 ghost use Rattle.run_table.specs.Seats.{IsSeatOf};
@@ -44,11 +47,13 @@ fn taken_out<B: Job>(
 }
 
 impl<B: Job> RunTable<B> {
-    /// Takes the table apart. It takes no memory. Where no seat was dealt, all jobs come back, in any order.
+    /// Takes the table apart. It takes no memory. Where no seat was dealt, all jobs come back, in any order; and once the plan's
+    /// finish was read, all but those used.
     pub fn close(self, desk: DispatcherSeat<B>) -> Closed<B>
         requires { IsSeatOf self.table desk.seat }
         ensures plan { result.plan ≡ (about_of self.table.shared.key).plan }
         ensures ends { HasEnded (replies_of B.answers (about_of self.table.shared.key)) (about_of self.table.shared.key) (dispatcher desk.seat.me.0) result.jobs.items }
+        ensures balanced { (i : ℕ) → StandsAt (dispatcher desk.seat.me.0).read i Finished 0 → IsBalanced (about_of self.table.shared.key).plan (about_of self.table.shared.key).jobs (dispatcher desk.seat.me.0).read result.jobs.items }
         ensures back { (dispatcher desk.seat.me.0).dealt ≡ 0 → IsPermutation (about_of self.table.shared.key).jobs result.jobs.items }
     {
         let RunTable {
