@@ -7,3 +7,4 @@ pub mod Asked
 pub mod Tests
 pub mod Reported
 pub mod Shares
+pub mod Balance

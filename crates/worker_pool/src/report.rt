@@ -5,6 +5,7 @@ ghost use Rattle.std.specs.List.{All};
 ghost use Rattle.resource_locks.specs.Plans.{most_events};
 ghost use Rattle.table_rule.specs.Picture.{about_of, replies_of};
 ghost use Rattle.table_rule.specs.Plays.{dispatcher};
+ghost use Rattle.run_table.specs.Balance.{IsBalanced};
 ghost use Rattle.run_table.specs.Seats.{IsSeatOf};
 ghost use Rattle.worker_pool.specs.Premises.{MayAnswer};
 ghost use Rattle.worker_pool.specs.Reports.{run_of, AreParts, IsReport, IsRefusedRun, IsLeft};
@@ -131,6 +132,7 @@ fn run_at<B: Job + Send, M: Room<B> + Send + Sync, R: Threads + Wait + Sync>(
     ensures report { IfOk result (λ report. IsReport (about_of table.table.shared.key) (replies_of B.answers (about_of table.table.shared.key)) report.events.items) }
     ensures mine { IfOk result (λ report. AreParts workers report.events.items (map (λ l. l.items) report.mine.items)) }
     ensures left { IfOk result (λ report. IsLeft (replies_of B.answers (about_of table.table.shared.key)) (about_of table.table.shared.key) report.events.items report.unused_jobs.items) }
+    ensures balanced { IfOk result (λ report. IsBalanced (about_of table.table.shared.key).plan (about_of table.table.shared.key).jobs report.events.items report.unused_jobs.items) }
     ensures told { IfOk result (λ report. All (λ l. got (l.vtable, l.value) ≡ report.events.items) audience.new.listeners.items) }
     ensures cause { IfErr result (λ fault. (fault.cause ≡ RunCause.Table TableFault.NoMemory) ⊎ (fault.cause ≡ RunCause.NoWorker)) }
     ensures plan_back { IfErr result (λ fault. fault.plan ≡ (about_of table.table.shared.key).plan) }
@@ -201,6 +203,7 @@ pub fn run_plan<B: Job + Send, R: Threads + Wait + Sync>(
     ensures report { IfOk result (λ report. IsReport (run_of plan workers jobs.items) (replies_of B.answers (run_of plan workers jobs.items)) report.events.items) }
     ensures mine { IfOk result (λ report. AreParts workers report.events.items (map (λ l. l.items) report.mine.items)) }
     ensures left { IfOk result (λ report. IsLeft (replies_of B.answers (run_of plan workers jobs.items)) (run_of plan workers jobs.items) report.events.items report.unused_jobs.items) }
+    ensures balanced { IfOk result (λ report. IsBalanced plan jobs.items report.events.items report.unused_jobs.items) }
     ensures told { IfOk result (λ report. All (λ l. got (l.vtable, l.value) ≡ report.events.items) audience.new.listeners.items) }
     ensures refused { IfErr result (λ fault. IsRefusedRun plan workers jobs.items fault.cause) }
     ensures plan_back { IfErr result (λ fault. fault.plan ≡ plan) }

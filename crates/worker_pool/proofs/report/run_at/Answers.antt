@@ -1,12 +1,16 @@
-use Rattle.std.proofs.Common.{◌≡◌, ◌∙◌, ◌≤◌, List, [], length, IsPermutation, vec_capacity, sym, ap}
+use Rattle.std.proofs.Common.{◌≡◌, ◌∙◌, ◌≤◌, ℕ, List, [], length, IsPermutation, vec_capacity, sym, ap}
 use Rattle.std.specs.List.{All}
 use Rattle.plan_events.specs.declared.event.Event.{Event}
+use Rattle.plan_events.specs.declared.event.EventKind.TheVariants.{Finished}
 use Rattle.resource_locks.specs.Plans.{PlanParts, most_events}
+use Rattle.event_history.specs.Places.{StandsAt}
 use Rattle.event_history.proofs.Few.{legal_few}
 use Rattle.table_rule.specs.Picture.{about_of, replies_of}
 use Rattle.table_rule.specs.Plays.{dispatcher}
+use Rattle.run_table.specs.Balance.{IsBalanced}
 use Rattle.run_table.specs.Ended.{HasEnded}
 use Rattle.worker_pool.specs.Telling.{left_to_read}
+use Rattle.worker_pool.proofs.Balance.{balance_reported}
 use Rattle.worker_pool.proofs.Reported.{carried, fewer_left, at_most_that, reported}
 use Rattle.worker_pool.proofs.Shares.{fits_all}
 use Rattle.worker_pool.proofs.report.run_at.Goals as goal
@@ -46,6 +50,14 @@ returns-in-Ok-ran-clause-report g c =
     let key = about_of c.args.table.table.shared.key in
     reported key (replies_of g.B.Job.answers key) d c.close-plan.result.jobs.items c.in-Ok-ran.after.events.items q.noted q.over
     (carried (sym c.new-hall.ensures) (λ t. HasEnded (replies_of g.B.Job.answers (about_of t.table.shared.key)) (about_of t.table.shared.key) d c.close-plan.result.jobs.items) c.close-plan.ensures.ends)
+
+pub returns-in-Ok-ran-clause-balanced : goal.returns-in-Ok-ran-clause-balanced
+returns-in-Ok-ran-clause-balanced g c =
+    let q = c.in-Ok-ran.ensures in
+    let d = dispatcher c.in-Ok-ran.after.seat.seat.me.0 in
+    let key = about_of c.args.table.table.shared.key in
+    balance_reported key.plan key.jobs c.close-plan.result.jobs.items d.read c.in-Ok-ran.after.events.items q.noted q.over
+    (carried (sym c.new-hall.ensures) (λ t. (i : ℕ) → StandsAt d.read i Finished 0 → IsBalanced (about_of t.table.shared.key).plan (about_of t.table.shared.key).jobs d.read c.close-plan.result.jobs.items) c.close-plan.ensures.balanced)
 
 pub returns-in-Ok-ran-clause-told : goal.returns-in-Ok-ran-clause-told
 returns-in-Ok-ran-clause-told g c = carried c.in-Ok-ran.ensures.noted (λ (r : List Event). All (λ b. (goal.Listener-dyn g (b.vtable, b.value)).got b.value ≡ r) c.in-Ok-ran.after.audience.listeners.items) c.in-Ok-ran.ensures.told
