@@ -27,7 +27,7 @@ use Rattle.run_table.specs.Balance.{RanBody, RanAfter, IsUsed}
 use Rattle.run_table.proofs.Ending.{told_one}
 use Rattle.scheduling.specs.Choices.{after_job}
 use Rattle.scheduling.specs.State.{State, counter_at}
-use Rattle.scheduling.specs.Stages.{How, Gave, Kept, Skips, Stage, Unseen, Offered, OpenedBy, InHand, Waiting, ClosedBy, Over, Mark, Blank, Known, Begun, Ended, Passed, Below as Part, Past, picture, has_mark, is_over}
+use Rattle.scheduling.specs.Stages.{How, Gave, Kept, Skips, Stage, Unseen, Offered, OpenedBy, InHand, Waiting, ClosedBy, Over, Mark, Blank, Known, Begun, Ended, Passed, Below as Part, Past, picture, guard_of, has_mark, is_over}
 use Rattle.scheduling.specs.Invariant.{IsCorePlan, IsKept, pending, Fits}
 use Rattle.scheduling.specs.declared.task.Opening.{Opening}
 use Rattle.scheduling.specs.declared.task.Opening.TheVariants.{Registering, RegisteredAt, Offering, Noticing, Locking, Weighed, Backing, Beginning, StartedAt, Awaiting, Admitting, Guarding}
@@ -76,33 +76,21 @@ module _ (p : PlanParts) (n : ℕ) (spare : Bool) where
   abbrev Gone : Stage → Type 0
   Gone st = ((picture p n st).mark ≡ Begun) ⊎ (((picture p n st).mark ≡ Ended) × ((picture p n st).below ≡ Past))
 
+  closing_guard : (w c : ℕ) (d : Closing) (how : How) → (picture p n (ClosedBy w c d how)).guard ≡ guard_of how
+  closing_guard w c AwaitingAfter how = refl
+  closing_guard w c (Ending status) how = refl
+  closing_guard w c (FinishedAt i status) how = refl
+  closing_guard w c (SkippedAt i) how = refl
+  closing_guard w c Raising how = refl
+  closing_guard w c (Giving i) how = refl
+  closing_guard w c Settling how = refl
+  closing_guard w c (Looking m) how = refl
+  closing_guard w c (Passing m o) how = refl
+  closing_guard w c CountingOff how = refl
+
   closing_gone : (w c : ℕ) (d : Closing) (how : How) → GuardOf p n (ClosedBy w c d how) ⊎ Gone (ClosedBy w c d how)
-  closing_gone w c d Kept = inl (kept d)
-    where
-      kept : (d : Closing) → GuardOf p n (ClosedBy w c d Kept)
-      kept AwaitingAfter = omega arith
-      kept (Ending status) = omega arith
-      kept (FinishedAt i status) = omega arith
-      kept (SkippedAt i) = omega arith
-      kept Raising = omega arith
-      kept (Giving i) = omega arith
-      kept Settling = omega arith
-      kept (Looking m) = omega arith
-      kept (Passing m o) = omega arith
-      kept CountingOff = omega arith
-  closing_gone w c d Skips = inl (skips d)
-    where
-      skips : (d : Closing) → GuardOf p n (ClosedBy w c d Skips)
-      skips AwaitingAfter = omega arith
-      skips (Ending status) = omega arith
-      skips (FinishedAt i status) = omega arith
-      skips (SkippedAt i) = omega arith
-      skips Raising = omega arith
-      skips (Giving i) = omega arith
-      skips Settling = omega arith
-      skips (Looking m) = omega arith
-      skips (Passing m o) = omega arith
-      skips CountingOff = omega arith
+  closing_gone w c d Kept = inl (let one : (picture p n (ClosedBy w c d Kept)).guard ≡ 1 = closing_guard w c d Kept in omega (arith, one))
+  closing_gone w c d Skips = inl (let one : (picture p n (ClosedBy w c d Skips)).guard ≡ 1 = closing_guard w c d Skips in omega (arith, one))
   closing_gone w c AwaitingAfter Gave = inr (inl refl)
   closing_gone w c (Ending status) Gave = inr (inl refl)
   closing_gone w c (FinishedAt i status) Gave = inr (inr (refl, refl))
