@@ -139,7 +139,7 @@ impl Audience {
 }
 
 /// What is told with an event: the reason of a skipped node, and what the job of a finished one said.
-fn text_with(texts: &Texts, event: Event) -> Option<&str>
+pub fn text_with(texts: &Texts, event: Event) -> Option<&str>
     ensures { option_map (λ t. t.now) result ≡ text_told texts.now event }
 {
     match event.kind {

@@ -18,7 +18,7 @@ mod to_writer;
 mod told;
 mod tree_drawing;
 
-pub use audience::{Audience, TooManyListeners};
+pub use audience::{Audience, TooManyListeners, text_with};
 pub use feed::feed_text;
 pub use listener::Listener;
 pub use recorder::Recorder;
