@@ -5,6 +5,7 @@ pub mod Endings
 pub mod Outgoing
 pub mod Asked
 pub mod Tests
+pub mod TextsRead
 pub mod Reported
 pub mod Shares
 pub mod Balance

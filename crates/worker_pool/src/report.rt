@@ -1,6 +1,6 @@
 //! A plan is run on threads, from the plan and its jobs to what happened.
 
-ghost use Rattle.std.specs.Prelude.{◌≡◌, ◌≤◌, ◌⊎◌, [], IfOk, IfErr, IsPermutation, length, map, vec_capacity, vec_len};
+ghost use Rattle.std.specs.Prelude.{◌≡◌, ◌≤◌, ◌⊎◌, ℕ, [], List, IfOk, IfErr, IsPermutation, length, map, vec_capacity, vec_len};
 ghost use Rattle.std.specs.List.{All};
 ghost use Rattle.resource_locks.specs.Plans.{most_events};
 ghost use Rattle.table_rule.specs.Picture.{about_of, replies_of};
@@ -8,14 +8,16 @@ ghost use Rattle.table_rule.specs.Plays.{dispatcher};
 ghost use Rattle.run_table.specs.Balance.{IsBalanced};
 ghost use Rattle.run_table.specs.Seats.{IsSeatOf};
 ghost use Rattle.worker_pool.specs.Premises.{MayAnswer};
-ghost use Rattle.worker_pool.specs.Reports.{run_of, AreParts, IsReport, IsRefusedRun, IsLeft};
+ghost use Rattle.worker_pool.specs.Reports.{run_of, AreParts, AreTexts, IsReport, IsRefusedRun, IsLeft};
 ghost use Rattle.worker_pool.specs.Rooms.{HasTable};
+ghost use Rattle.worker_pool.specs.Telling.{AreTextsRead};
+ghost use Rattle.plan_events.specs.declared.outcome.Reply.{Reply};
 
 use crate::gate::{Gate, Hall, Room};
 use crate::parts::{lists_for, put_parts};
 use crate::running::{Desk, run_in};
 use listeners::Audience;
-use plan_events::{Event, Job};
+use plan_events::{Event, Job, Texts};
 use resource_locks::Plan;
 use run_table::{Closed, DispatcherSeat, Jobs, Refused, RunTable, TableFault};
 use std::alloc::{AllocError, Global};
@@ -24,13 +26,14 @@ use std::sync::Wait;
 use std::thread::Threads;
 use thiserror::Error;
 
-/// What happened in a run, in order, and of that the part of each worker, worker k's at place k - 1; with its plan and the jobs
-/// that never left.
+/// What happened in a run, in order, and of that the part of each worker, worker k's at place k - 1; with the texts of the
+/// nodes, its plan and the jobs that never left.
 #[derive(Drop)]
 pub struct Report<B> {
     pub plan: Plan,
     pub events: Vec<Event>,
     pub mine: Vec<Vec<Event>>,
+    pub texts: Texts,
     pub unused_jobs: Jobs<B>,
 }
 
@@ -53,12 +56,13 @@ pub struct RunFault<B> {
     pub jobs: Jobs<B>,
 }
 
-/// What a run has memory for, but for its table and gates: room for its events and for each
-/// worker's part of them, and nobody to tell.
+/// What a run has memory for, but for its table and gates: room for its events, for each
+/// worker's part of them and for the texts, and nobody to tell.
 #[derive(Drop)]
 struct Stage {
     events: Vec<Event>,
     mine: Vec<Vec<Event>>,
+    texts: Texts,
     nobody: Audience,
 }
 
@@ -87,17 +91,20 @@ fn staged(
     ensures enough { IfOk result (λ stage. most_events plan.now ≤ vec_capacity stage.events) }
     ensures lists { IfOk result (λ stage. length stage.mine.items ≡ workers) }
     ensures bare { IfOk result (λ stage. All (λ l. l.items ≡ []) stage.mine.items) }
+    ensures texts { IfOk result (λ stage. (replies : ℕ → List Reply) → AreTextsRead plan.now replies [] stage.texts) }
     ensures wide { IfOk result (λ stage. All (λ l. most_events plan.now ≤ vec_capacity l) stage.mine.items) }
 {
     audience.prepare(plan)?;
     let events = Vec::with_capacity(alloc, plan.most_events())?;
     let mine = lists_for(alloc, workers, plan.most_events())?;
+    let texts = Texts::new(alloc, plan.tree())?;
     let Ok(nobody) = Audience::new(Vec::new(alloc)) else {
         unreachable!()
     };
     Ok(Stage {
         events,
         mine,
+        texts,
         nobody,
     })
 }
@@ -131,6 +138,7 @@ fn run_at<B: Job + Send, M: Room<B> + Send + Sync, R: Threads + Wait + Sync>(
     ensures plan { IfOk result (λ report. report.plan ≡ (about_of table.table.shared.key).plan) }
     ensures report { IfOk result (λ report. IsReport (about_of table.table.shared.key) (replies_of B.answers (about_of table.table.shared.key)) report.events.items) }
     ensures mine { IfOk result (λ report. AreParts workers report.events.items (map (λ l. l.items) report.mine.items)) }
+    ensures texts { IfOk result (λ report. AreTexts (about_of table.table.shared.key).plan (replies_of B.answers (about_of table.table.shared.key)) report.events.items report.texts) }
     ensures left { IfOk result (λ report. IsLeft (replies_of B.answers (about_of table.table.shared.key)) (about_of table.table.shared.key) report.events.items report.unused_jobs.items) }
     ensures balanced { IfOk result (λ report. IsBalanced (about_of table.table.shared.key).plan (about_of table.table.shared.key).jobs report.events.items report.unused_jobs.items) }
     ensures told { IfOk result (λ report. All (λ l. got (l.vtable, l.value) ≡ report.events.items) audience.new.listeners.items) }
@@ -148,12 +156,14 @@ fn run_at<B: Job + Send, M: Room<B> + Send + Sync, R: Threads + Wait + Sync>(
     let Stage {
         events,
         mut mine,
+        texts,
         nobody,
     } = stage;
     let hall: Hall<B, M> = Hall::new(table);
     let before = Desk {
         seat: desk,
         audience: std::mem::replace(audience, nobody),
+        texts,
         events,
     };
     let ran = run_in(rt, alloc, &hall, gates.as_slice(), before);
@@ -163,6 +173,7 @@ fn run_at<B: Job + Send, M: Room<B> + Send + Sync, R: Threads + Wait + Sync>(
             let Desk {
                 seat,
                 audience: told,
+                texts,
                 events,
             } = after;
             *audience = told;
@@ -172,6 +183,7 @@ fn run_at<B: Job + Send, M: Room<B> + Send + Sync, R: Threads + Wait + Sync>(
                 plan,
                 events,
                 mine,
+                texts,
                 unused_jobs: jobs,
             })
         }
@@ -179,6 +191,7 @@ fn run_at<B: Job + Send, M: Room<B> + Send + Sync, R: Threads + Wait + Sync>(
             let Desk {
                 seat,
                 audience: untold,
+                texts: _,
                 events: _,
             } = same;
             *audience = untold;
@@ -202,6 +215,7 @@ pub fn run_plan<B: Job + Send, R: Threads + Wait + Sync>(
     ensures plan { IfOk result (λ report. report.plan ≡ plan) }
     ensures report { IfOk result (λ report. IsReport (run_of plan workers jobs.items) (replies_of B.answers (run_of plan workers jobs.items)) report.events.items) }
     ensures mine { IfOk result (λ report. AreParts workers report.events.items (map (λ l. l.items) report.mine.items)) }
+    ensures texts { IfOk result (λ report. AreTexts plan (replies_of B.answers (run_of plan workers jobs.items)) report.events.items report.texts) }
     ensures left { IfOk result (λ report. IsLeft (replies_of B.answers (run_of plan workers jobs.items)) (run_of plan workers jobs.items) report.events.items report.unused_jobs.items) }
     ensures balanced { IfOk result (λ report. IsBalanced plan jobs.items report.events.items report.unused_jobs.items) }
     ensures told { IfOk result (λ report. All (λ l. got (l.vtable, l.value) ≡ report.events.items) audience.new.listeners.items) }

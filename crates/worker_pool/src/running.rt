@@ -6,24 +6,25 @@ ghost use Rattle.table_rule.specs.Picture.{about_of};
 ghost use Rattle.table_rule.specs.Plays.{dispatcher};
 ghost use Rattle.run_table.specs.Seats.{IsSeatOf, IsOf};
 ghost use Rattle.worker_pool.specs.Premises.{MayAnswer};
-ghost use Rattle.worker_pool.specs.Telling.{IsNoted, IsOver, left_to_read};
+ghost use Rattle.worker_pool.specs.Telling.{IsNoted, IsOver, KeepsTexts, left_to_read};
 
-use crate::desk::dispatch_into;
+use crate::desk::dispatch;
 use crate::gate::{Gate, Hall, Idle, Room};
 use crate::serving::serve;
 use listeners::Audience;
-use plan_events::{Event, Job};
+use plan_events::{Event, Job, Texts};
 use run_table::DispatcherSeat;
 use std::alloc::Global;
 use std::sync::Wait;
 use std::thread;
 use std::thread::Threads;
 
-/// The dispatcher's seat, those whom it tells of events, and what it has read, with room for all events.
+/// The dispatcher's seat, those whom it tells of events, the texts of the nodes, and what it has read, with room for all events.
 #[derive(Drop)]
 pub struct Desk<B> {
     pub seat: DispatcherSeat<B>,
     pub audience: Audience,
+    pub texts: Texts,
     pub events: Vec<Event>,
 }
 
@@ -40,10 +41,12 @@ pub fn run_in<B: Job + Send, M: Room<B> + Send + Sync, R: Threads + Wait + Sync>
     requires jobs { MayAnswer B.answers (about_of hall.now.table.table.shared.key) }
     requires told { All (λ l. got (l.vtable, l.value) ≡ (dispatcher desk.seat.seat.me.0).read) desk.audience.listeners.items }
     requires room { All (λ l. left_to_read desk.seat.seat.me.0 ≤ room (l.vtable, l.value)) desk.audience.listeners.items }
+    requires texts { KeepsTexts B.answers desk.seat.seat.me.0 desk.texts }
     requires noted { IsNoted desk.seat.seat.me.0 desk.events.items (vec_capacity desk.events) }
     ensures same { IfOk result (λ d. IsOf desk.seat.seat d.seat.seat) }
     ensures noted { IfOk result (λ d. d.events.items ≡ (dispatcher d.seat.seat.me.0).read) }
     ensures told { IfOk result (λ d. All (λ l. got (l.vtable, l.value) ≡ (dispatcher d.seat.seat.me.0).read) d.audience.listeners.items) }
+    ensures texts { IfOk result (λ d. KeepsTexts B.answers d.seat.seat.me.0 d.texts) }
     ensures over { IfOk result (λ d. IsOver (dispatcher d.seat.seat.me.0).read) }
     ensures back { IfErr result (λ d. d ≡ desk) }
 {
@@ -55,10 +58,12 @@ pub fn run_in<B: Job + Send, M: Room<B> + Send + Sync, R: Threads + Wait + Sync>
             requires jobs { MayAnswer B.answers (about_of hall.now.table.table.shared.key) }
             requires told { All (λ l. got (l.vtable, l.value) ≡ (dispatcher desk.seat.seat.me.0).read) desk.audience.listeners.items }
             requires room { All (λ l. left_to_read desk.seat.seat.me.0 ≤ room (l.vtable, l.value)) desk.audience.listeners.items }
+            requires texts { KeepsTexts B.answers desk.seat.seat.me.0 desk.texts }
             requires noted { IsNoted desk.seat.seat.me.0 desk.events.items (vec_capacity desk.events) }
             ensures same { IfOk result (λ d. IsOf desk.seat.seat d.seat.seat) }
             ensures noted { IfOk result (λ d. d.events.items ≡ (dispatcher d.seat.seat.me.0).read) }
             ensures told { IfOk result (λ d. All (λ l. got (l.vtable, l.value) ≡ (dispatcher d.seat.seat.me.0).read) d.audience.listeners.items) }
+            ensures texts { IfOk result (λ d. KeepsTexts B.answers d.seat.seat.me.0 d.texts) }
             ensures over { IfOk result (λ d. IsOver (dispatcher d.seat.seat.me.0).read) }
             ensures back { IfErr result (λ d. d ≡ desk) }
         {
@@ -81,6 +86,7 @@ pub fn run_in<B: Job + Send, M: Room<B> + Send + Sync, R: Threads + Wait + Sync>
             let Desk {
                 mut seat,
                 mut audience,
+                mut texts,
                 mut events,
             } = desk;
             for (_, gate) in started.iter() {
@@ -90,7 +96,14 @@ pub fn run_in<B: Job + Send, M: Room<B> + Send + Sync, R: Threads + Wait + Sync>
                 };
                 gate.open(rt, idle);
             }
-            dispatch_into(rt, &hall.table, &mut seat, &mut audience, &mut events);
+            dispatch(
+                rt,
+                &hall.table,
+                &mut seat,
+                &mut audience,
+                &mut texts,
+                &mut events,
+            );
             for (handle, _) in started {
                 if let Some(idle) = handle.join(rt) {
                     let Idle {
@@ -103,6 +116,7 @@ pub fn run_in<B: Job + Send, M: Room<B> + Send + Sync, R: Threads + Wait + Sync>
             Ok(Desk {
                 seat,
                 audience,
+                texts,
                 events,
             })
         },

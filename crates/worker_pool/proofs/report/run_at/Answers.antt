@@ -9,8 +9,9 @@ use Rattle.table_rule.specs.Picture.{about_of, replies_of}
 use Rattle.table_rule.specs.Plays.{dispatcher}
 use Rattle.run_table.specs.Balance.{IsBalanced}
 use Rattle.run_table.specs.Ended.{HasEnded}
-use Rattle.worker_pool.specs.Telling.{left_to_read}
+use Rattle.worker_pool.specs.Telling.{AreTextsRead, left_to_read}
 use Rattle.worker_pool.proofs.Balance.{balance_reported}
+use Rattle.worker_pool.proofs.TextsRead.{texts_reported}
 use Rattle.worker_pool.proofs.Reported.{carried, fewer_left, at_most_that, reported}
 use Rattle.worker_pool.proofs.Shares.{fits_all}
 use Rattle.worker_pool.proofs.report.run_at.Goals as goal
@@ -27,6 +28,14 @@ run_in-ran-requires-clause-room g c κs within =
     let plan = ap (λ a. a.plan) c.requires.seat.about ∙ (sym c.args.table.fitting.plan ∙ sym c.plan.ensures) in
     let low : left_to_read v ≤ most_events c.plan.result.now = fewer_left (most_events v.about.plan) (most_events c.plan.result.now) (length (dispatcher v).read) (ap most_events plan) in
     λ k d inside. at_most_that _ _ _ low (all k d inside)
+
+pub run_in-ran-requires-clause-texts : goal.run_in-ran-requires-clause-texts
+run_in-ran-requires-clause-texts g c κs within =
+    let v = c.args.desk.seat.me.0 in
+    let replies = replies_of g.B.Job.answers v.about in
+    let plan = ap (λ a. a.plan) c.requires.seat.about ∙ (sym c.args.table.fitting.plan ∙ sym c.plan.ensures) in
+    let read = ap (λ d. d.read) c.requires.opens in
+    carried (λ k. (plan k, read k)) (λ (z : PlanParts × List Event). AreTextsRead z.0 replies z.1 c.in-Ok-staged.stage.texts) (c.in-Ok-staged.ensures.texts replies)
 
 pub put_parts-requires-clause-room : goal.put_parts-requires-clause-room
 put_parts-requires-clause-room g c =
@@ -58,6 +67,18 @@ returns-in-Ok-ran-clause-balanced g c =
     let key = about_of c.args.table.table.shared.key in
     balance_reported key.plan key.jobs c.close-plan.result.jobs.items d.read c.in-Ok-ran.after.events.items q.noted q.over
     (carried (sym c.new-hall.ensures) (λ t. (i : ℕ) → StandsAt d.read i Finished 0 → IsBalanced (about_of t.table.shared.key).plan (about_of t.table.shared.key).jobs d.read c.close-plan.result.jobs.items) c.close-plan.ensures.balanced)
+
+pub returns-in-Ok-ran-clause-texts : goal.returns-in-Ok-ran-clause-texts
+returns-in-Ok-ran-clause-texts g c =
+    let q = c.in-Ok-ran.ensures in
+    let after = c.in-Ok-ran.after in
+    let d = dispatcher after.seat.seat.me.0 in
+    let key = about_of c.args.table.table.shared.key in
+    let is =
+    reported key (replies_of g.B.Job.answers key) d c.close-plan.result.jobs.items after.events.items q.noted q.over
+    (carried (sym c.new-hall.ensures) (λ t. HasEnded (replies_of g.B.Job.answers (about_of t.table.shared.key)) (about_of t.table.shared.key) d c.close-plan.result.jobs.items) c.close-plan.ensures.ends) in
+    texts_reported key.plan (replies_of g.B.Job.answers key) key.workers d.read after.events.items after.texts q.noted is.legal
+    (carried (sym (q.same.about ∙ c.requires.seat.about)) (λ a. AreTextsRead a.plan (replies_of g.B.Job.answers a) d.read after.texts) q.texts)
 
 pub returns-in-Ok-ran-clause-told : goal.returns-in-Ok-ran-clause-told
 returns-in-Ok-ran-clause-told g c = carried c.in-Ok-ran.ensures.noted (λ (r : List Event). All (λ b. (goal.Listener-dyn g (b.vtable, b.value)).got b.value ≡ r) c.in-Ok-ran.after.audience.listeners.items) c.in-Ok-ran.ensures.told

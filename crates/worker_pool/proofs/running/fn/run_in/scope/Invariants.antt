@@ -3,7 +3,7 @@ use Rattle.std.specs.Prelude.{vec_capacity}
 use Rattle.std.specs.List.{All}
 use Rattle.table_rule.specs.Plays.{dispatcher}
 use Rattle.run_table.specs.Seats.{IsSeatOf, IsOf}
-use Rattle.worker_pool.specs.Telling.{IsNoted, IsOver, left_to_read}
+use Rattle.worker_pool.specs.Telling.{IsNoted, IsOver, KeepsTexts, left_to_read}
 use Rattle.worker_pool.proofs.running.fn.run_in.scope.Given as goal
 
 abbrev pub invariant-loop-gate : goal.invariant-loop-gate
@@ -15,6 +15,7 @@ invariant-loop-gate-2 g l = record {
   same : IsOf l.initial.seat.seat l.seat.seat;
   told : All (λ b. (goal.Listener-dyn g (b.vtable, b.value)).got b.value ≡ (dispatcher l.seat.seat.me.0).read) l.audience.listeners.items;
   room : All (λ b. left_to_read l.seat.seat.me.0 ≤ (goal.Listener-dyn g (b.vtable, b.value)).room b.value) l.audience.listeners.items;
+  texts : KeepsTexts g.B.Job.answers l.seat.seat.me.0 l.texts;
   noted : IsNoted l.seat.seat.me.0 l.events.items (vec_capacity l.events);
 }
 
@@ -26,5 +27,6 @@ invariant-loop-handle g l = record {
   same : IsOf l.initial.seat.seat l.seat.seat;
   noted : l.events.items ≡ (dispatcher l.seat.seat.me.0).read;
   told : All (λ b. (goal.Listener-dyn g (b.vtable, b.value)).got b.value ≡ (dispatcher l.seat.seat.me.0).read) l.audience.listeners.items;
+  texts : KeepsTexts g.B.Job.answers l.seat.seat.me.0 l.texts;
   over : IsOver (dispatcher l.seat.seat.me.0).read;
 }
