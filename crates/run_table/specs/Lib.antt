@@ -7,4 +7,5 @@ pub mod Moved
 pub mod Notes
 pub mod Prepared
 pub mod Reading
+pub mod Refusals
 pub mod Seats

@@ -48,7 +48,9 @@ fn taken_out<B: Job>(
 
 impl<B: Job> RunTable<B> {
     /// Takes the table apart. It takes no memory. Where no seat was dealt, all jobs come back, in any order; and once the plan's
-    /// finish was read, all but those used.
+    /// finish was read, all but those used. A note that still stands in a slot goes with the table: a dispatcher that asks for the
+    /// text of each finish that it reads (`text_out`) has taken all that are due, so it is the note of a node whose finish was never
+    /// told.
     pub fn close(self, desk: DispatcherSeat<B>) -> Closed<B>
         requires { IsSeatOf self.table desk.seat }
         ensures plan { result.plan ≡ (about_of self.table.shared.key).plan }

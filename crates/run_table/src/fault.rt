@@ -1,5 +1,7 @@
 //! Why a step is not taken.
 
+ghost use Rattle.std.specs.Prelude.{◌≡◌};
+
 use descriptor::BodyId;
 use thiserror::Error;
 
@@ -7,6 +9,15 @@ use thiserror::Error;
 #[derive(Clone, Copy, PartialEq, Eq, Debug, Error)]
 #[error("not enabled")]
 pub struct NotEnabled;
+
+impl NotEnabled {
+    /// The number of the refusal.
+    pub fn number(self) -> u8
+        ensures { result ≡ 62 }
+    {
+        62
+    }
+}
 
 /// Why a run is not prepared.
 #[derive(Clone, Copy, PartialEq, Eq, Debug, Error)]
@@ -23,4 +34,20 @@ pub enum TableFault {
     /// There is no job for this body, the least such of the plan: refusal 70.
     #[error("a body has no job")]
     JobsMissing(BodyId),
+}
+
+impl TableFault {
+    ghost use Rattle.run_table.specs.Refusals.{number_of};
+
+    /// The number of the refusal, or 0 for want of memory.
+    pub fn number(self) -> u8
+        ensures { result ≡ number_of self }
+    {
+        match self {
+            TableFault::NoMemory => 0,
+            TableFault::NoWorkers => 60,
+            TableFault::TooManyWorkers => 61,
+            TableFault::JobsMissing(_) => 70,
+        }
+    }
 }
