@@ -2,6 +2,7 @@
 pub mod Answering
 pub mod Going
 pub mod Premises
+pub mod Refusals
 pub mod Reports
 pub mod Rooms
 pub mod Steady

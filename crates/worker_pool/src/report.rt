@@ -48,6 +48,20 @@ pub enum RunCause {
     NoWorker,
 }
 
+impl RunCause {
+    ghost use Rattle.worker_pool.specs.Refusals.{number_of};
+
+    /// The number of the refusal, or 0 for want of memory.
+    pub fn number(self) -> u8
+        ensures { result ≡ number_of self }
+    {
+        match self {
+            RunCause::Table(fault) => fault.number(),
+            RunCause::NoWorker => 90,
+        }
+    }
+}
+
 /// Why a plan was not run. The plan and the jobs come back.
 #[derive(Drop)]
 pub struct RunFault<B> {
