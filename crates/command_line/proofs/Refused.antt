@@ -5,7 +5,7 @@ use Rattle.std.proofs.KnownBytes.{Consumes-nil}
 use Rattle.std.proofs.lemmas.Option.{none-some}
 use Rattle.clap.specs.Words.{Text}
 use Rattle.launcher.specs.declared.fault.LaunchFault.{LaunchFault}
-use Rattle.launcher.specs.declared.fault.LaunchFault.TheVariants.{NoMemory, Suite, BadWords, BadStep, BadSelector, BadTags, BadPair, BadSettings, NothingMatches, TooManyKeys, TooManyWorkers, Reading, Writing}
+use Rattle.launcher.specs.declared.fault.LaunchFault.TheVariants.{NoMemory, Suite, BadWords, BadStep, BadSelector, BadTags, BadPair, BadSettings, NothingMatches, TooManyKeys, TooManyWorkers, NoWorker, Reading, Writing}
 use Rattle.suite_text.specs.declared.suite.fault.SuiteFault.{SuiteFault}
 use Rattle.suite_text.specs.Reading.Parts.{SuiteParts}
 use Rattle.suite_text.specs.Reading.Bytes.{suite_read}
@@ -32,6 +32,7 @@ module _ (words : List Text) (read : Result SuiteParts SuiteFault) (old new : Op
   refused_by refusal (NothingMatches n) is = rw (is (λ same. cc)) (inr refl)
   refused_by refusal TooManyKeys is = rw (is (λ same. cc)) (inr refl)
   refused_by refusal TooManyWorkers is = rw (is (λ same. cc)) (inr refl)
+  refused_by refusal NoWorker is = rw (is (λ same. cc)) (inr refl)
   refused_by refusal Reading is = rw (is (λ same. cc)) (inr refl)
   refused_by refusal (Writing f) is = rw (is (λ same. cc)) (inr refl)
 
@@ -52,6 +53,7 @@ module _ (words : List Text) (read : Result SuiteParts SuiteFault) (old new : Op
   as_asked asked (Err (NothingMatches n)) are run = record { asked = asked; are = are; run = run }
   as_asked asked (Err TooManyKeys) are run = record { asked = asked; are = are; run = run }
   as_asked asked (Err TooManyWorkers) are run = record { asked = asked; are = are; run = run }
+  as_asked asked (Err NoWorker) are run = record { asked = asked; are = are; run = run }
   as_asked asked (Err Reading) are run = record { asked = asked; are = are; run = run }
   as_asked asked (Err (Writing f)) are run = record { asked = asked; are = are; run = run }
 
@@ -82,6 +84,7 @@ only_memory words (BadSettings f) is none = absurd (none-some _ (sym none ∙ is
 only_memory words (NothingMatches n) is none = absurd (none-some _ (sym none ∙ is (λ same. cc)))
 only_memory words TooManyKeys is none = absurd (none-some _ (sym none ∙ is (λ same. cc)))
 only_memory words TooManyWorkers is none = absurd (none-some _ (sym none ∙ is (λ same. cc)))
+only_memory words NoWorker is none = absurd (none-some _ (sym none ∙ is (λ same. cc)))
 only_memory words Reading is none = absurd (none-some _ (sym none ∙ is (λ same. cc)))
 only_memory words (Writing f) is none = absurd (none-some _ (sym none ∙ is (λ same. cc)))
 

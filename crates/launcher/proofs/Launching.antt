@@ -18,7 +18,7 @@ use Rattle.launcher.specs.declared.bytes.ReadFault.{ReadFault}
 use Rattle.launcher.specs.declared.bytes.ReadFault.TheVariants as reads
 use Rattle.launcher.specs.declared.exit_status.ExitStatus.{ExitStatus}
 use Rattle.launcher.specs.declared.fault.LaunchFault.{LaunchFault}
-use Rattle.launcher.specs.declared.fault.LaunchFault.TheVariants.{NoMemory, Suite as OfSuite, BadWords, BadStep, BadSelector, BadTags, BadPair, BadSettings, NothingMatches, TooManyKeys, TooManyWorkers, Reading, Writing}
+use Rattle.launcher.specs.declared.fault.LaunchFault.TheVariants.{NoMemory, Suite as OfSuite, BadWords, BadStep, BadSelector, BadTags, BadPair, BadSettings, NothingMatches, TooManyKeys, TooManyWorkers, NoWorker, Reading, Writing}
 
 module _ (asked : Asked) (old new : Option (List ℕ)) where
   -- a suite was read, and this is the answer of its run
@@ -35,6 +35,7 @@ module _ (asked : Asked) (old new : Option (List ℕ)) where
   run_read suite read (Err (NothingMatches n)) is run = record { suite = suite; is_read = is; run = run }
   run_read suite read (Err TooManyKeys) is run = record { suite = suite; is_read = is; run = run }
   run_read suite read (Err TooManyWorkers) is run = record { suite = suite; is_read = is; run = run }
+  run_read suite read (Err NoWorker) is run = record { suite = suite; is_read = is; run = run }
   run_read suite read (Err Reading) is run = absurd run
   run_read suite read (Err (Writing f)) is run = record { suite = suite; is_read = is; run = run }
 
@@ -50,6 +51,7 @@ module _ (asked : Asked) (old new : Option (List ℕ)) where
   unread read (NothingMatches n) fails = absurd fails
   unread read TooManyKeys fails = absurd fails
   unread read TooManyWorkers fails = absurd fails
+  unread read NoWorker fails = absurd fails
   unread read Reading fails = tt
   unread read (Writing f) fails = absurd fails
 
@@ -72,6 +74,7 @@ ends_whole (Some (BadSettings f)) count new other few end = end
 ends_whole (Some (NothingMatches n)) count new other few end = end
 ends_whole (Some TooManyKeys) count new other few end = end
 ends_whole (Some TooManyWorkers) count new other few end = end
+ends_whole (Some NoWorker) count new other few end = end
 ends_whole (Some Reading) count new other few end = absurd (other refl)
 ends_whole (Some (Writing f)) count new other few end = end
 
@@ -146,6 +149,7 @@ module _ (old new : Option (List ℕ)) where
   ends_run asked suite was is (Err (NothingMatches n)) run same = cc
   ends_run asked suite was is (Err TooManyKeys) run same = cc
   ends_run asked suite was is (Err TooManyWorkers) run same = cc
+  ends_run asked suite was is (Err NoWorker) run same = cc
   ends_run asked suite was is (Err Reading) run same = absurd run
   ends_run asked suite was is (Err (Writing f)) run same = cc
 

@@ -4,3 +4,4 @@ pub mod Planning
 pub mod Reading
 pub mod Requesting
 pub mod Reporting
+pub mod Scripting

@@ -1,6 +1,6 @@
 -- From the refusals of each part of a run to the first one of all, and to the plan that is run.
-use Rattle.std.proofs.Common.{◌≡◌, ◌≢◌, ℕ, ◌<◌, ◌≤◌, List, length, Bool, true, false, Option, Some, None, option_map, Result, Ok, Err, IfErr, refl, sym, ap, subst, ◌∙◌, arith}
-use Rattle.std.specs.Prelude.{nat_lt, if◌then◌else◌, unwrap_or}
+use Rattle.std.proofs.Common.{◌≡◌, ◌≢◌, ℕ, ◌<◌, ◌≤◌, List, length, Bool, true, false, Option, Some, None, option_map, Result, Ok, Err, IfErr, refl, sym, ap, subst, ◌∙◌, arith, inl, inr}
+use Rattle.std.specs.Prelude.{IfOk, string_bytes, nat_lt, if◌then◌else◌, unwrap_or}
 use Rattle.std.specs.Option.{option_or}
 use Rattle.std.specs.Result.{IsErrAnd}
 use Rattle.std.proofs.lemmas.Bool.{lt-ltb}
@@ -25,10 +25,11 @@ use Rattle.suite_text.specs.Reading.Parts.{SuiteParts}
 use Rattle.launcher.specs.Asked.{Asked}
 use Rattle.launcher.specs.Faults.{IsPlanFault, IsSelectFault}
 use Rattle.launcher.specs.Reports.{IsOutput}
-use Rattle.launcher.specs.Runs.{FailsSuite, IsSuiteOutput, TakesMemory, answers_of, crowd_refusal, keys_refusal, plan_of, plan_refusal, run_refusal, selection_fault, selection_refusal, settings_in, settings_refusal, workers_refusal}
+use Rattle.launcher.specs.Runs.{FailsSuite, IsSuiteOutput, IsUnrun, TakesMemory, answers_of, crowd_refusal, keys_refusal, plan_of, plan_refusal, run_refusal, selection_fault, selection_refusal, settings_in, settings_refusal, workers_refusal}
 use Rattle.launcher.specs.declared.exit_status.ExitStatus.{ExitStatus}
+use Rattle.launcher.specs.declared.report.Report.{Report}
 use Rattle.launcher.specs.declared.fault.LaunchFault.{LaunchFault}
-use Rattle.launcher.specs.declared.fault.LaunchFault.TheVariants.{NoMemory, Suite as OfSuite, BadWords, BadStep, BadSelector, BadTags, BadPair, BadSettings, NothingMatches, TooManyKeys, TooManyWorkers, Reading, Writing}
+use Rattle.launcher.specs.declared.fault.LaunchFault.TheVariants.{NoMemory, Suite as OfSuite, BadWords, BadStep, BadSelector, BadTags, BadPair, BadSettings, NothingMatches, TooManyKeys, TooManyWorkers, NoWorker, Reading, Writing}
 
 or_none : {A : Type 0} (a b : Option A) → option_or a b ≡ None → a ≡ None
 or_none None b is = refl
@@ -117,6 +118,7 @@ module _ (asked : Asked) (suite : SuiteParts) where
   fails_by (NothingMatches n) refused memory = refused (λ same. cc)
   fails_by TooManyKeys refused memory = refused (λ same. cc)
   fails_by TooManyWorkers refused memory = refused (λ same. cc)
+  fails_by NoWorker refused memory = absurd (run_kind NoWorker (refused (λ same. cc)))
   fails_by Reading refused memory = absurd (run_kind Reading (refused (λ same. cc)))
   fails_by (Writing f) refused memory = absurd (run_kind (Writing f) (refused (λ same. cc)))
 
@@ -153,6 +155,14 @@ module _ (asked : Asked) (suite : SuiteParts) where
       memory_fails (Ok x) same = absurd same
       memory_fails (Err e) same = rw same (takes (or_none _ _ accepted))
 
+      -- a run that is not begun
+      unrun_fails : (fault : LaunchFault) → workers_refusal settings.workers ≡ None → IsUnrun asked fault → FailsSuite asked suite fault
+      unrun_fails fault few why = elim why [ inl memory ↦ rw memory (takes (or_none _ _ accepted)) | inr none ↦ rw none.0 (run_left ∙ few, none.1) ]
+
+      pub ends_unrun : {X : Type 0} (result : Result X LaunchFault) → workers_refusal settings.workers ≡ None → IfErr result (IsUnrun asked) → IfErr result (FailsSuite asked suite)
+      ends_unrun (Ok x) few why = why
+      ends_unrun (Err fault) few why = unrun_fails fault few why
+
       -- the output of the plan is the suite's
       pub is_output : (plan : PlanParts) (answers : List (ℕ × Reply)) (text : List ℕ) (status : ExitStatus) → workers_refusal settings.workers ≡ None → plan ≡ plan_of asked.fail_fast settings (answer suite.tree asked.request) → answers ≡ answers_of suite.scripts
           → IsOutput asked settings plan answers text status → IsSuiteOutput asked suite text status
@@ -162,3 +172,8 @@ module _ (asked : Asked) (suite : SuiteParts) where
         are = sym are;
         output = subst (λ (p : PlanParts). IsOutput asked settings p (answers_of suite.scripts) text status) same (subst (λ (a : List (ℕ × Reply)). IsOutput asked settings plan a text status) replies output);
       }
+
+      pub outputs : {E : Type 0} (result : Result Report E) (plan : PlanParts) (answers : List (ℕ × Reply)) → workers_refusal settings.workers ≡ None → plan ≡ plan_of asked.fail_fast settings (answer suite.tree asked.request) → answers ≡ answers_of suite.scripts
+          → IfOk result (λ report. IsOutput asked settings plan answers (string_bytes report.text) report.status) → IfOk result (λ report. IsSuiteOutput asked suite (string_bytes report.text) report.status)
+      outputs (Ok report) plan answers few same replies output = is_output plan answers (string_bytes report.text) report.status few same replies output
+      outputs (Err e) plan answers few same replies output = tt

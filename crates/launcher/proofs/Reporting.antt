@@ -1,30 +1,66 @@
--- What a run of the fixed schedule prints, from what each of its parts says.
-use Rattle.std.proofs.Common.{◌≡◌, ◌∙◌, ℕ, List, ◌++◌, Result, Ok, Err, IfOk, refl}
-use Rattle.std.specs.Prelude.{string_bytes}
-use Rattle.config_params.specs.declared.warnings.Warnings.{Warnings}
+-- What a run prints, from what each of its parts says.
+use Rattle.std.proofs.Common.{◌≡◌, ◌∙◌, ◌≤◌, ℕ, arith, List, ◌++◌, refl, sym, ap, subst, inl, inr}
+use Rattle.std.specs.Prelude.{◌⊎◌}
+use Rattle.config_params.specs.declared.settings.Settings.{Settings}
+use Rattle.descriptor.specs.Nodes.{IsTree}
 use Rattle.plan_events.specs.declared.event.Event.{Event}
 use Rattle.plan_events.specs.declared.outcome.Reply.{Reply}
 use Rattle.plan_events.specs.Texts.{TextParts}
 use Rattle.resource_locks.specs.Plans.{PlanParts}
+use Rattle.event_history.specs.History.{IsLegal, IsComplete}
+use Rattle.event_history.specs.Order.{IsInOrder}
 use Rattle.listeners.specs.Results.{tests_found, has_failed}
-use Rattle.sched_core.specs.declared.trace.Trace.{Trace}
+use Rattle.scheduling.proofs.OnlyHistory.{only_history, as_expected}
+use Rattle.sched_core.specs.Replies.{reply_of, replies_of as replies_by}
 use Rattle.sched_core.specs.Texts.{AreTexts}
-use Rattle.sched_core.specs.Traces.{IsDriven}
-use Rattle.launcher.specs.declared.report.Report.{Report}
+use Rattle.table_rule.specs.Picture.{replies_of}
+use Rattle.table_rule.specs.Slots.{slot_count}
+use Rattle.worker_pool.specs.Reports.{run_of, IsReport, IsRefusedRun}
+use Rattle.worker_pool.specs.declared.report.RunCause.{RunCause}
+use Rattle.worker_pool.specs.declared.report.RunCause.TheVariants.{Table, NoWorker}
+use Rattle.run_table.specs.Prepared.{HasAllJobs}
+use Rattle.run_table.specs.declared.fault.TableFault.TheVariants.{NoMemory, NoWorkers, TooManyWorkers, JobsMissing}
+use Rattle.launcher.specs.declared.exit_status.ExitStatus.{ExitStatus}
+use Rattle.launcher.specs.declared.scripted.ScriptedJob.{ScriptedJob}
 use Rattle.launcher.specs.Asked.{Asked}
 use Rattle.launcher.specs.ExitStatuses.{status_of_run}
-use Rattle.launcher.specs.Reports.{details_of, IsRunOutput}
+use Rattle.launcher.specs.Reports.{details_of, IsHistory, IsRunOutput}
+use Rattle.launcher.specs.Scripted.{replies_left, AreScripted}
 use Rattle.launcher.specs.WarningTexts.{warning_lines}
+use Rattle.launcher.proofs.Scripting.{all_there, legal_as_said}
 
-pub ran : {E : Type 0} (r : Result Report E) (asked : Asked) (warnings : Warnings) (p : PlanParts) (answers : List (ℕ × Reply)) (trace : Trace) (history : List Event) (texts : TextParts) → history ≡ trace.published.items → IsDriven p answers trace → AreTexts p answers history texts
-    → IfOk r (λ report. string_bytes report.text ≡ warning_lines warnings ++ details_of asked.details asked.theme p texts history) → IfOk r (λ report. report.status ≡ status_of_run asked.fail_if_no_tests (tests_found p history) (has_failed p history))
-    → IfOk r (λ report. IsRunOutput asked warnings p answers (string_bytes report.text) report.status)
-ran (Ok report) asked warnings p answers trace history texts here driven are printed exits = record {
+-- what the threads report of the suite's jobs is a history of what the suite says
+pub history_of : (p : PlanParts) → IsTree p.tree → (answers : List (ℕ × Reply)) (jobs : List (ℕ × ScriptedJob)) → AreScripted p answers (slot_count p) jobs → (workers : ℕ) (history : List Event)
+    → IsReport (run_of p workers jobs) (replies_of replies_left (run_of p workers jobs)) history → IsHistory workers p answers history
+history_of p tree answers jobs are workers history report =
+    let legal : IsLegal p (replies_by answers) workers history = legal_as_said p tree answers jobs are workers history report.legal in
+    record {
+      legal = legal;
+      order = report.order;
+      exclusive = report.exclusive;
+      complete = report.complete;
+      ends = report.ends;
+      only = λ one same h other order complete.
+          only_history p tree (reply_of answers) (replies_by answers) (λ job. refl) same h history other order complete (subst (λ (w : ℕ). IsLegal p (replies_by answers) w history) one legal) report.order report.complete;
+      as_expected = λ calm. as_expected p tree (reply_of answers) (replies_by answers) (λ job. refl) calm workers history legal report.complete;
+    }
+
+-- with as many workers as there may be, and all its jobs, a run is refused for want of memory or of threads alone
+pub unrun : (p : PlanParts) (workers : ℕ) (jobs : List (ℕ × ScriptedJob)) (cause : RunCause) → IsRefusedRun p workers jobs cause → 1 ≤ workers → workers ≤ 64 → HasAllJobs p jobs → (cause ≡ Table NoMemory) ⊎ (cause ≡ NoWorker)
+unrun p workers jobs (Table NoMemory) is some few all = inl refl
+unrun p workers jobs (Table NoWorkers) is some few all = absurd (omega (arith, is, some))
+unrun p workers jobs (Table TooManyWorkers) is some few all = absurd (omega (arith, is, few))
+unrun p workers jobs (Table (JobsMissing number)) is some few all = absurd (all number is.2.missing)
+unrun p workers jobs NoWorker is some few all = inr refl
+
+-- what is printed of a history is what is printed of the run
+pub ran : (text : List ℕ) (status : ExitStatus) (asked : Asked) (settings : Settings) (p : PlanParts) (answers : List (ℕ × Reply)) (history : List Event) (texts : TextParts) → IsHistory settings.workers p answers history → AreTexts p answers history texts
+    → text ≡ warning_lines settings.warnings ++ details_of asked.details asked.theme p texts history → status ≡ status_of_run asked.fail_if_no_tests (tests_found p history) (has_failed p history) → IsRunOutput asked settings p answers text status
+ran text status asked settings p answers history texts published are printed exits = record {
   history = history;
-  published = record { final = driven.final; drives = driven.drives; published = here ∙ driven.trace.published };
+  published = published;
   details = details_of asked.details asked.theme p texts history;
   printed = record { texts = texts; are = are; printed = refl };
   behind_warnings = printed;
   exits = exits;
 }
-ran (Err e) asked warnings p answers trace history texts here driven are printed exits = tt

@@ -18,7 +18,7 @@ use Rattle.tag_expr.specs.Faults as tag_faults
 use Rattle.tag_expr.specs.declared.fault.TagFault.{TagFault}
 use Rattle.tag_expr.specs.declared.fault.TagFault.TheVariants as tags
 use Rattle.launcher.specs.declared.fault.LaunchFault.{LaunchFault}
-use Rattle.launcher.specs.declared.fault.LaunchFault.TheVariants.{NoMemory, Suite, BadWords, BadStep, BadSelector, BadTags, BadPair, BadSettings, NothingMatches, TooManyKeys, TooManyWorkers, Reading, Writing}
+use Rattle.launcher.specs.declared.fault.LaunchFault.TheVariants.{NoMemory, Suite, BadWords, BadStep, BadSelector, BadTags, BadPair, BadSettings, NothingMatches, TooManyKeys, TooManyWorkers, NoWorker, Reading, Writing}
 
 -- the number that is printed behind `error`
 abbrev pub number_of : LaunchFault → ℕ
@@ -33,6 +33,7 @@ number_of (BadSettings fault) = settings_faults.number fault
 number_of (NothingMatches number) = 41
 number_of TooManyKeys = 50
 number_of TooManyWorkers = 61
+number_of NoWorker = 90
 number_of Reading = 106
 number_of (Writing fault) = 81
 

@@ -8,4 +8,5 @@ pub mod Parameters
 pub mod ReplayTexts
 pub mod Reports
 pub mod Runs
+pub mod Scripted
 pub mod WarningTexts

@@ -1,16 +1,22 @@
 -- What is printed of a run or of a replay, and its status.
-use Rattle.std.specs.Prelude.{◌≡◌, ℕ, List, [], ◌++◌, length, Option, Some, None}
+use Rattle.std.specs.Prelude.{◌≡◌, ℕ, ◌<◌, Bool, true, false, List, [], ◌++◌, length, Option, Some, None}
 use Rattle.config_params.specs.declared.settings.Settings.{Settings}
-use Rattle.config_params.specs.declared.warnings.Warnings.{Warnings}
+use Rattle.descriptor.specs.Nodes.{size}
 use Rattle.plan_events.specs.declared.event.Event.{Event}
 use Rattle.plan_events.specs.declared.outcome.Reply.{Reply}
 use Rattle.plan_events.specs.Texts.{TextParts}
 use Rattle.resource_locks.specs.Plans.{PlanParts}
+use Rattle.event_history.specs.Exclusion.{IsExclusive}
+use Rattle.event_history.specs.Expected.{expected, IsAsExpected}
+use Rattle.event_history.specs.History.{IsLegal, IsComplete}
+use Rattle.event_history.specs.Order.{IsInOrder}
+use Rattle.event_history.specs.Parts.{EndsInPlan}
+use Rattle.event_history.specs.Plans.{is_same}
 use Rattle.scheduling.specs.declared.step.Step.{Step}
 use Rattle.scheduling.specs.Runs.{opening}
 use Rattle.scheduling.specs.State.{State}
+use Rattle.sched_core.specs.Replies.{reply_of, replies_of}
 use Rattle.sched_core.specs.Runs.{run, passed_over}
-use Rattle.sched_core.specs.Drives.{Drives}
 use Rattle.sched_core.specs.Texts.{AreTexts}
 use Rattle.listeners.specs.declared.theme.Theme.{Theme}
 use Rattle.listeners.specs.Counts.{counts_of as node_counts}
@@ -28,11 +34,18 @@ use Rattle.launcher.specs.ReplayTexts.{replay_line}
 use Rattle.launcher.specs.WarningTexts.{warning_lines}
 use Rattle.launcher.specs.Asked.{Asked}
 
--- the history is what the fixed schedule of one worker publishes
-pub record IsHistory (p : PlanParts) (answers : List (ℕ × Reply)) (history : List Event) : Type 0 where
-  pub final : State
-  pub drives : Drives p answers (opening p 1) final
-  pub published : history ≡ final.published
+-- A history of a run of the plan by so many workers, whatever these do first: it is legal for what the suite has its bodies answer,
+-- in same-thread order, nodes that hold conflicting locks stand apart in it, it is complete, and the plan's finish stands last.
+pub record IsHistory (workers : ℕ) (p : PlanParts) (answers : List (ℕ × Reply)) (history : List Event) : Type 0 where
+  pub legal : IsLegal p (replies_of answers) workers history
+  pub order : IsInOrder p history
+  pub exclusive : IsExclusive p history
+  pub complete : IsComplete p history
+  pub ends : EndsInPlan history
+  -- one worker has no other where every node runs in the thread of its parent
+  pub only : workers ≡ 1 → ((n : ℕ) → n < size p.tree → is_same p n ≡ true) → (h : List Event) → IsLegal p (replies_of answers) 1 h → IsInOrder p h → IsComplete p h → h ≡ history
+  -- and unless the plan fails fast each node ends as it is expected to, whatever the number of workers
+  pub as_expected : p.fail_fast ≡ false → (n : ℕ) → n < size p.tree → IsAsExpected p (replies_of answers) history n (expected p (reply_of answers) n)
 
 -- what is printed of these events with these texts: nothing; the summary; the tree, and then the summary; or the feed
 abbrev pub details_of : Details → Theme → PlanParts → TextParts → List Event → List ℕ
@@ -47,14 +60,14 @@ pub record ArePrinted (details : Details) (theme : Theme) (p : PlanParts) (answe
   pub are : AreTexts p answers history texts
   pub printed : text ≡ details_of details theme p texts history
 
--- the fixed schedule runs the plan: a line for each warning, then its history as the options say, and its failures make the
+-- the settings' workers run the plan: a line for each warning, then its history as the options say, and its failures make the
 -- status
-pub record IsRunOutput (asked : Asked) (warnings : Warnings) (p : PlanParts) (answers : List (ℕ × Reply)) (text : List ℕ) (status : ExitStatus) : Type 0 where
+pub record IsRunOutput (asked : Asked) (settings : Settings) (p : PlanParts) (answers : List (ℕ × Reply)) (text : List ℕ) (status : ExitStatus) : Type 0 where
   pub history : List Event
-  pub published : IsHistory p answers history
+  pub published : IsHistory settings.workers p answers history
   pub details : List ℕ
   pub printed : ArePrinted asked.details asked.theme p answers history details
-  pub behind_warnings : text ≡ warning_lines warnings ++ details
+  pub behind_warnings : text ≡ warning_lines settings.warnings ++ details
   pub exits : status ≡ status_of_run asked.fail_if_no_tests (tests_found p history) (has_failed p history)
 
 -- the state in which a replay of these steps by so many workers ends
@@ -79,7 +92,7 @@ pub record IsReplayOutput (steps : List Step) (workers : ℕ) (p : PlanParts) (a
 -- what is printed of a plan, and the status: where there are steps to be replayed the settings' workers take them, and
 -- nothing else counts
 abbrev pub IsOutputWith : Option (List Step) → Asked → Settings → PlanParts → List (ℕ × Reply) → List ℕ → ExitStatus → Type 0
-IsOutputWith None asked settings p answers text status = IsRunOutput asked settings.warnings p answers text status
+IsOutputWith None asked settings p answers text status = IsRunOutput asked settings p answers text status
 IsOutputWith (Some steps) asked settings p answers text status = IsReplayOutput steps settings.workers p answers text status
 
 abbrev pub IsOutput : Asked → Settings → PlanParts → List (ℕ × Reply) → List ℕ → ExitStatus → Type 0

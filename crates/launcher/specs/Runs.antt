@@ -1,5 +1,5 @@
 -- What a run reads and what it writes.
-use Rattle.std.specs.Prelude.{◌≡◌, ℕ, ◌<◌, ◌≤◌, nat_lt, List, length, take, map, Bool, true, false, if◌then◌else◌, Option, Some, None, option_map, Result, Ok, Err}
+use Rattle.std.specs.Prelude.{◌≡◌, ℕ, ◌<◌, ◌≤◌, ◌⊎◌, nat_lt, List, length, take, map, Bool, true, false, if◌then◌else◌, Option, Some, None, option_map, Result, Ok, Err}
 use Rattle.std.specs.Option.{option_or}
 use Rattle.std.specs.Io.KnownBytes.{Appends, Consumes, IsAtEnd}
 use Rattle.config_params.specs.Parameters.{answer_over}
@@ -15,7 +15,7 @@ use Rattle.resource_locks.specs.Keys.{keys_of}
 use Rattle.resource_locks.specs.Plans.{PlanParts}
 use Rattle.launcher.specs.declared.exit_status.ExitStatus.{ExitStatus}
 use Rattle.launcher.specs.declared.fault.LaunchFault.{LaunchFault}
-use Rattle.launcher.specs.declared.fault.LaunchFault.TheVariants.{NoMemory, Suite, BadWords, BadStep, BadSelector, BadTags, BadPair, BadSettings, NothingMatches, TooManyKeys, TooManyWorkers, Reading, Writing}
+use Rattle.launcher.specs.declared.fault.LaunchFault.TheVariants.{NoMemory, Suite, BadWords, BadStep, BadSelector, BadTags, BadPair, BadSettings, NothingMatches, TooManyKeys, TooManyWorkers, NoWorker, Reading, Writing}
 use Rattle.selectors.specs.declared.request.Request.{Request}
 use Rattle.selectors.specs.declared.select_fault.SelectFault.{SelectFault}
 use Rattle.selectors.specs.declared.select_fault.SelectFault.TheVariants as selections
@@ -92,14 +92,20 @@ pub record IsSuiteOutput (asked : Asked) (suite : SuiteParts) (text : List ℕ) 
   pub are : settings_in asked suite ≡ Ok settings
   pub output : IsOutput asked settings (plan_of asked.fail_fast settings (answer suite.tree asked.request)) (answers_of suite.scripts) text status
 
--- the output of a suite is refused by its first refusal, and want of memory stands in place of none that is judged before
+-- the output of a suite is refused by its first refusal, and want of memory stands in place of none that is judged before; where
+-- nothing refuses the suite there may be no thread to run it
 abbrev pub FailsSuite : Asked → SuiteParts → LaunchFault → Type 0
 FailsSuite asked suite NoMemory = TakesMemory asked suite
 FailsSuite asked suite (BadSettings fault) = run_refusal asked suite ≡ Some (BadSettings fault)
 FailsSuite asked suite (NothingMatches number) = run_refusal asked suite ≡ Some (NothingMatches number)
 FailsSuite asked suite TooManyKeys = run_refusal asked suite ≡ Some TooManyKeys
 FailsSuite asked suite TooManyWorkers = run_refusal asked suite ≡ Some TooManyWorkers
+FailsSuite asked suite NoWorker = (run_refusal asked suite ≡ None) × (asked.replay ≡ None)
 FailsSuite asked suite _ = ⊥
+
+-- why a plan is not run that nothing refuses: for want of memory; or, where there is no replay, no thread could be started
+abbrev pub IsUnrun : Asked → LaunchFault → Type 0
+IsUnrun asked fault = (fault ≡ NoMemory) ⊎ ((fault ≡ NoWorker) × (asked.replay ≡ None))
 
 -- the writer took all of a suite's output
 pub record IsWhole (asked : Asked) (suite : SuiteParts) (old new : Option (List ℕ)) (status : ExitStatus) : Type 0 where
@@ -140,6 +146,7 @@ FailsToRead read (BadSettings fault) = ⊥
 FailsToRead read (NothingMatches number) = ⊥
 FailsToRead read TooManyKeys = ⊥
 FailsToRead read TooManyWorkers = ⊥
+FailsToRead read NoWorker = ⊥
 FailsToRead read Reading = Unit {0}
 FailsToRead read (Writing fault) = ⊥
 
@@ -156,6 +163,7 @@ IsRun asked read old new (Err (BadSettings fault)) = IsReadAndRun asked read old
 IsRun asked read old new (Err (NothingMatches number)) = IsReadAndRun asked read old new (Err (NothingMatches number))
 IsRun asked read old new (Err TooManyKeys) = IsReadAndRun asked read old new (Err TooManyKeys)
 IsRun asked read old new (Err TooManyWorkers) = IsReadAndRun asked read old new (Err TooManyWorkers)
+IsRun asked read old new (Err NoWorker) = IsReadAndRun asked read old new (Err NoWorker)
 IsRun asked read old new (Err (Writing fault)) = IsReadAndRun asked read old new (Err (Writing fault))
 IsRun asked read old new (Err fault) = FailsToRead read fault
 

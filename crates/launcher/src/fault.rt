@@ -43,6 +43,8 @@ pub enum LaunchFault {
     TooManyKeys,
     /// Refusal 61: the configuration asks for more than 64 workers.
     TooManyWorkers,
+    /// Refusal 90: no thread could be started.
+    NoWorker,
     /// Refusal 106: the reader failed.
     Reading,
     /// Refusal 81, at the number of bytes that the writer took.
@@ -181,6 +183,7 @@ impl LaunchFault {
             LaunchFault::NothingMatches(_) => 41,
             LaunchFault::TooManyKeys => 50,
             LaunchFault::TooManyWorkers => 61,
+            LaunchFault::NoWorker => 90,
             LaunchFault::Reading => 106,
             LaunchFault::Writing(_) => 81,
         }

@@ -13,6 +13,7 @@ mod parameters;
 mod replay;
 mod report;
 mod run;
+mod scripted;
 mod warning_lines;
 
 pub use bytes::{ReadFault, read_front};

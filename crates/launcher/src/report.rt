@@ -1,25 +1,31 @@
 //! What is printed of a run or of a replay, and its status.
 
-ghost use Rattle.std.specs.Prelude.{◌≡◌, ◌≤◌, ◌++◌, IfOk, length, string_bytes};
+ghost use Rattle.std.specs.Prelude.{◌≡◌, ◌≤◌, ◌++◌, ◌⊎◌, IfOk, IfErr, string_bytes};
 ghost use Rattle.listeners.specs.Results.{tests_found, has_failed};
-ghost use Rattle.resource_locks.specs.Plans.{most_events};
 ghost use Rattle.launcher.specs.Asked.{asked_by};
 ghost use Rattle.launcher.specs.ExitStatuses.{status_of_run};
 ghost use Rattle.launcher.specs.Reports.{details_of, ArePrinted, IsRunOutput, IsReplayOutput, IsOutput};
+ghost use Rattle.launcher.specs.Runs.{IsUnrun};
 ghost use Rattle.launcher.specs.WarningTexts.{warning_lines};
 
 use crate::details::Details;
 use crate::exit_status::ExitStatus;
+use crate::fault::LaunchFault;
 use crate::options::Options;
 use crate::replay::{ReplayCounts, push_replay_line};
+use crate::scripted::scripted_jobs;
 use crate::warning_lines::push_warnings;
 use config_params::{Settings, Warnings};
-use listeners::{Audience, Listener, Recorder, Results, Theme, feed_text};
+use listeners::{Audience, Results, Theme, feed_text};
 use plan_events::{Event, Texts};
 use resource_locks::Plan;
-use sched_core::{Answers, drive, run_steps, texts_of};
+use run_table::TableFault;
+use sched_core::{Answers, run_steps, texts_of};
 use scheduling::Step;
 use std::alloc::{AllocError, Global};
+use std::sync::Wait;
+use std::thread::Threads;
+use worker_pool::{RunCause, run_plan};
 
 /// What is printed, and the status.
 #[derive(Debug, Drop)]
@@ -68,8 +74,8 @@ fn run_text(
     Ok(text)
 }
 
-/// The report of what a recorder was told of this history.
-fn told_report(
+/// The report of this history.
+fn history_report(
     alloc: Global,
     options: &Options,
     warnings: Warnings,
@@ -77,22 +83,10 @@ fn told_report(
     texts: &Texts,
     history: &[Event],
 ) -> Result<Report, AllocError>
-    requires { length history.now ≤ most_events plan.now }
     ensures text { IfOk result (λ report. string_bytes report.text ≡ warning_lines warnings ++ details_of options.now.details options.now.theme plan.now texts.now history.now) }
     ensures status { IfOk result (λ report. report.status ≡ status_of_run options.now.fail_if_no_tests (tests_found plan.now history.now) (has_failed plan.now history.now)) }
 {
-    let recorder: Box<dyn Listener> = Box::new(alloc, Recorder::new(alloc))?;
-    let mut listeners = Vec::new(alloc);
-    listeners.push(recorder)?;
-    let Ok(mut audience) = Audience::new(listeners) else {
-        unreachable!()
-    };
-    audience.prepare(plan)?;
-    audience.tell_all(texts, history);
-    let Some(events) = audience.got(0) else {
-        unreachable!()
-    };
-    let results = Results::of(alloc, plan, events)?;
+    let results = Results::of(alloc, plan, history)?;
     let text = run_text(alloc, options, warnings, &results, texts)?;
     let needs_tests = options.fail_if_no_tests;
     // a pass over the nodes, which is spared where the number says nothing
@@ -105,20 +99,51 @@ fn told_report(
     Ok(Report { text, status })
 }
 
-/// The report of the fixed schedule.
-fn run_report(
+/// The refusal of a run that was not begun.
+fn unrun(cause: RunCause) -> LaunchFault
+    requires { (cause ≡ RunCause.Table TableFault.NoMemory) ⊎ (cause ≡ RunCause.NoWorker) }
+    ensures { (result ≡ LaunchFault.NoMemory) ⊎ (result ≡ LaunchFault.NoWorker) }
+{
+    match cause {
+        RunCause::Table(_) => LaunchFault::NoMemory,
+        RunCause::NoWorker => LaunchFault::NoWorker,
+    }
+}
+
+/// The report of a run by the settings' workers, on threads of their own.
+fn run_report<T: Threads + Wait + Sync>(
+    rt: &T,
     alloc: Global,
     options: &Options,
-    warnings: Warnings,
-    plan: &Plan,
+    settings: &Settings,
+    plan: Plan,
     answers: &Answers,
-) -> Result<Report, AllocError>
-    ensures { IfOk result (λ report. IsRunOutput (asked_by options.now) warnings plan.now answers.now (string_bytes report.text) report.status) }
+    spins: &[u32],
+) -> Result<Report, LaunchFault>
+    requires some { 1 ≤ settings.now.workers }
+    requires few { settings.now.workers ≤ 64 }
+    ensures output { IfOk result (λ report. IsRunOutput (asked_by options.now) settings.now plan answers.now (string_bytes report.text) report.status) }
+    ensures refused { IfErr result (λ fault. (fault ≡ LaunchFault.NoMemory) ⊎ (fault ≡ LaunchFault.NoWorker)) }
 {
-    let trace = drive(alloc, plan, answers)?;
-    let history = trace.published.as_slice();
-    let texts = texts_of(alloc, plan, answers, history)?;
-    told_report(alloc, options, warnings, plan, &texts, history)
+    let jobs = scripted_jobs(alloc, &plan, answers, spins)?;
+    let Ok(mut nobody) = Audience::new(Vec::new(alloc)) else {
+        unreachable!()
+    };
+    match run_plan(rt, alloc, plan, jobs, settings.workers, &mut nobody) {
+        Ok(ran) => {
+            let history = ran.events.as_slice();
+            let texts = texts_of(alloc, &ran.plan, answers, history)?;
+            Ok(history_report(
+                alloc,
+                options,
+                settings.warnings,
+                &ran.plan,
+                &texts,
+                history,
+            )?)
+        }
+        Err(fault) => Err(unrun(fault.cause)),
+    }
 }
 
 /// The report of these steps, taken by so many workers.
@@ -151,18 +176,30 @@ fn replay_report(
     })
 }
 
-/// What these options print of a plan with these answers under these settings, and the status.
-pub(crate) fn report_of(
+/// What these options print of a plan with these answers under these settings, and the status. Want of memory is refused, and
+/// where there are no steps to be replayed that no thread could be started.
+pub(crate) fn report_of<T: Threads + Wait + Sync>(
+    rt: &T,
     alloc: Global,
     options: &Options,
     settings: &Settings,
-    plan: &Plan,
+    plan: Plan,
     answers: &Answers,
-) -> Result<Report, AllocError>
-    ensures { IfOk result (λ report. IsOutput (asked_by options.now) settings.now plan.now answers.now (string_bytes report.text) report.status) }
+    spins: &[u32],
+) -> Result<Report, LaunchFault>
+    requires some { 1 ≤ settings.now.workers }
+    requires few { settings.now.workers ≤ 64 }
+    ensures output { IfOk result (λ report. IsOutput (asked_by options.now) settings.now plan answers.now (string_bytes report.text) report.status) }
+    ensures refused { IfErr result (IsUnrun (asked_by options.now)) }
 {
     match &options.replay {
-        Some(steps) => replay_report(alloc, steps.as_slice(), settings.workers, plan, answers),
-        None => run_report(alloc, options, settings.warnings, plan, answers),
+        Some(steps) => Ok(replay_report(
+            alloc,
+            steps.as_slice(),
+            settings.workers,
+            &plan,
+            answers,
+        )?),
+        None => run_report(rt, alloc, options, settings, plan, answers, spins),
     }
 }

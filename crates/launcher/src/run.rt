@@ -1,6 +1,6 @@
 //! A run: from the bytes of a reader to the bytes of a writer.
 
-ghost use Rattle.std.specs.Prelude.{◌≡◌, ◌≢◌, None, Some, IfOk, IfErr, IfSome, false, take, string_bytes};
+ghost use Rattle.std.specs.Prelude.{◌≡◌, ◌≢◌, ◌≤◌, None, Some, IfOk, IfErr, IfSome, false, take, string_bytes};
 ghost use Rattle.std.specs.Io.KnownBytes.{Keeps};
 ghost use Rattle.suite_text.specs.Reading.Bytes.{suite_read};
 ghost use Rattle.suite_text.specs.Suites.{suite_parts};
@@ -13,6 +13,7 @@ use crate::exit_status::ExitStatus;
 use crate::fault::LaunchFault;
 use crate::options::Options;
 use crate::report::{Report, report_of};
+use crate::scripted::spins_of;
 use config_params::Settings;
 use descriptor::Tree;
 use exec_mode::modes;
@@ -22,6 +23,8 @@ use sched_core::Answers;
 use selectors::discover;
 use std::alloc::{AllocError, Global};
 use std::io::{Read, Write};
+use std::sync::Wait;
+use std::thread::Threads;
 use suite_text::{Script, Suite};
 
 /// How many bytes are read at most: one more than a suite may have tells that there are too many.
@@ -71,9 +74,10 @@ fn plan_of(
     Ok(plan.with_fail_fast(options.fail_fast))
 }
 
-/// Refused are more than 64 workers (61), also where the fixed schedule runs one of them.
+/// Refused are more than 64 workers (61).
 fn judge_workers(workers: u32) -> Result<(), LaunchFault>
     ensures accepted { IfOk result (λ _. workers_refusal workers ≡ None) }
+    ensures few { IfOk result (λ _. workers ≤ 64) }
     ensures refused { IfErr result (λ fault. (fault ≡ LaunchFault.TooManyWorkers) × (workers_refusal workers ≡ Some fault)) }
 {
     if workers > MOST_WORKERS {
@@ -83,23 +87,39 @@ fn judge_workers(workers: u32) -> Result<(), LaunchFault>
 }
 
 /// What the options print of a suite, and the program's status.
-fn suite_report(alloc: Global, options: &Options, suite: Suite) -> Result<Report, LaunchFault>
+fn suite_report<T: Threads + Wait + Sync>(
+    rt: &T,
+    alloc: Global,
+    options: &Options,
+    suite: Suite,
+) -> Result<Report, LaunchFault>
     ensures report { IfOk result (λ report. IsSuiteOutput (asked_by options.now) (suite_parts suite) (string_bytes report.text) report.status) }
     ensures refused { IfErr result (λ fault. FailsSuite (asked_by options.now) (suite_parts suite) fault) }
 {
     let settings = Settings::read_over(&options.params, &suite.properties, options.processors)?;
     let plan = plan_of(alloc, options, &settings, suite.tree)?;
     judge_workers(settings.workers)?;
+    let spins = spins_of(alloc, suite.scripts.as_slice())?;
     let answers = answers_of(alloc, suite.scripts)?;
-    Ok(report_of(alloc, options, &settings, &plan, &answers)?)
+    report_of(
+        rt,
+        alloc,
+        options,
+        &settings,
+        plan,
+        &answers,
+        spins.as_slice(),
+    )
 }
 
-/// Runs what the request selects of a suite with its settings, by the fixed schedule or by the steps
-/// of a replay, and writes what the options ask for. Refused are, in this order, what gives no settings
-/// (34, 32, 33) and a selector that covers nothing (41), which are judged before any memory is taken;
-/// more than 256 keys (50), more than 64 workers (61), and a writer that fails (81, when the first
-/// bytes of the output are written). On any refusal but 81 nothing is written.
-pub fn run_suite<W: Write>(
+/// Runs what the request selects of a suite with its settings, on as many threads as these have
+/// workers, or by the steps of a replay, and writes what the options ask for. Refused are, in this
+/// order, what gives no settings (34, 32, 33) and a selector that covers nothing (41), which are
+/// judged before any memory is taken; more than 256 keys (50), more than 64 workers (61), that no
+/// thread could be started (90), and a writer that fails (81, when the first bytes of the output are
+/// written). On any refusal but 81 nothing is written.
+pub fn run_suite<T: Threads + Wait + Sync, W: Write>(
+    rt: &T,
     alloc: Global,
     options: &Options,
     suite: Suite,
@@ -109,7 +129,7 @@ pub fn run_suite<W: Write>(
     ensures no_memory { IfErr result (λ fault. fault ≡ LaunchFault.NoMemory → TakesMemory (asked_by options.now) (suite_parts suite)) }
     ensures quiet { IfErr result (λ fault. is_writing fault ≡ false → Keeps (W.contents writer.old) (W.contents writer.new)) }
 {
-    let report = suite_report(alloc, options, suite)?;
+    let report = suite_report(rt, alloc, options, suite)?;
     print_to(writer, report.text.as_bytes())?;
     Ok(report.status)
 }
@@ -118,7 +138,8 @@ pub fn run_suite<W: Write>(
 /// anything is judged, but want of memory never stands in place of a suite that is too large, nor,
 /// once the suite was read, of settings that are none or of a selector that covers nothing. On any
 /// refusal but 81 nothing is written.
-pub fn run_options<R: Read, W: Write>(
+pub fn run_options<T: Threads + Wait + Sync, R: Read, W: Write>(
+    rt: &T,
     alloc: Global,
     options: &Options,
     reader: &mut R,
@@ -130,5 +151,5 @@ pub fn run_options<R: Read, W: Write>(
     ensures quiet { IfErr result (λ fault. is_writing fault ≡ false → Keeps (W.contents writer.old) (W.contents writer.new)) }
 {
     let suite = read_suite(alloc, reader)?;
-    run_suite(alloc, options, suite, writer)
+    run_suite(rt, alloc, options, suite, writer)
 }

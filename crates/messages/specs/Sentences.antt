@@ -72,5 +72,6 @@ sentence_of (launches.BadSettings fault) = of_settings fault
 sentence_of (launches.NothingMatches place) = codes "a selector covers nothing of the suite"
 sentence_of launches.TooManyKeys = codes "the nodes that are to run declare too many keys of locks"
 sentence_of launches.TooManyWorkers = codes "the configuration asks for too many workers"
+sentence_of launches.NoWorker = codes "no thread could be started"
 sentence_of launches.Reading = codes "standard input could not be read"
 sentence_of (launches.Writing place) = codes "standard output did not take all that was written"

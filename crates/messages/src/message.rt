@@ -67,6 +67,9 @@ fn push_details(
             "A run has 256 keys at most, of which one is its own: let the nodes that run declare 255 different ones at most.\n",
         ),
         LaunchFault::TooManyWorkers => push_settings(alloc, text, None, given, suite),
+        LaunchFault::NoWorker => text.push_str(
+            "A run needs one thread at least: let the system give this program more of them.\n",
+        ),
         LaunchFault::Reading => {
             text.push_str("The suite is read from there: give it as in `console < FILE`.\n")
         }

@@ -92,6 +92,7 @@ pub(crate) fn sentence_of(fault: LaunchFault) -> &'static str
         LaunchFault::NothingMatches(_) => "a selector covers nothing of the suite",
         LaunchFault::TooManyKeys => "the nodes that are to run declare too many keys of locks",
         LaunchFault::TooManyWorkers => "the configuration asks for too many workers",
+        LaunchFault::NoWorker => "no thread could be started",
         LaunchFault::Reading => "standard input could not be read",
         LaunchFault::Writing(_) => "standard output did not take all that was written",
     }

@@ -1,6 +1,6 @@
 //! A text that contracts see as its bytes.
 
-ghost use Rattle.std.specs.Prelude.{◌≡◌, IfOk};
+ghost use Rattle.std.specs.Prelude.{◌≡◌, [], IfOk};
 
 use arrayvec::ArrayString;
 use std::alloc::{AllocError, Global};
@@ -44,6 +44,15 @@ impl Text {
             Err(_) => Bytes::Shared(Arc::new(alloc, String::from_str(alloc, text)?)?),
         };
         Ok(Text { bytes })
+    }
+
+    /// No text. It takes no memory.
+    pub fn empty() -> Text
+        ensures { result ≡ [] }
+    {
+        Text {
+            bytes: Bytes::Inline(ArrayString::new()),
+        }
     }
 
     /// The text as it is.

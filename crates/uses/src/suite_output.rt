@@ -7,9 +7,12 @@ ghost use Rattle.suite_text.specs.Reading.Bytes.{suite_read};
 
 use launcher::{ExitStatus, LaunchFault, Options, run_options};
 use std::alloc::Global;
+use std::sync::Wait;
+use std::thread::Threads;
 
 /// Appends to `output` what the options print of a suite.
-pub fn run_text(
+pub fn run_text<T: Threads + Wait + Sync>(
+    rt: &T,
     alloc: Global,
     options: &Options,
     suite: &[u8],
@@ -18,5 +21,5 @@ pub fn run_text(
     ensures { IsRun (asked_by options.now) (suite_read (take 1048577 suite.now)) (Some output.old.items) (Some output.new.items) result }
 {
     let mut left = suite;
-    run_options(alloc, options, &mut left, output)
+    run_options(rt, alloc, options, &mut left, output)
 }

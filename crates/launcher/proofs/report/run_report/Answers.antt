@@ -1,9 +1,37 @@
--- The report is that of the fixed schedule's history.
+-- The jobs are those that a run asks for, and what it reports is a history of what the suite says.
+use Rattle.std.proofs.Common.{◌≡◌, List, sym, subst}
+use Rattle.std.specs.Prelude.{string_bytes}
+use Rattle.descriptor.specs.Nodes.{IsTree}
+use Rattle.plan_events.specs.declared.event.Event.{Event}
+use Rattle.resource_locks.specs.Plans.{PlanParts}
 use Rattle.launcher.specs.Asked.{asked_by}
-use Rattle.launcher.proofs.Reporting.{ran}
+use Rattle.launcher.specs.Reports.{IsHistory, IsRunOutput}
+use Rattle.launcher.proofs.Reporting.{history_of, ran, unrun}
+use Rattle.launcher.proofs.Scripting.{all_there, may_answer}
 use Rattle.launcher.proofs.report.run_report.Goals as goal
 
-pub returns : goal.returns
-returns c =
-    ran c.told_report.result (asked_by c.args.options.now) c.args.warnings c.args.plan.now c.args.answers.now c.in_ok-trace.trace c.as_slice-history.result.now _ c.as_slice-history.ensures.value c.in_ok-trace.ensures.driven c.in_ok-texts.ensures.texts
-    c.told_report.ensures.text c.told_report.ensures.status
+plan_is_tree : {inside p : PlanParts} → inside ≡ p → IsTree inside.tree → IsTree p.tree
+plan_is_tree is tree = subst (λ (q : PlanParts). IsTree q.tree) is tree
+
+pub run_plan-requires-clause-jobs : goal.run_plan-requires-clause-jobs
+run_plan-requires-clause-jobs g c κs within = may_answer c.args.plan (plan_is_tree c.plan.view_is c.plan.invariant.plan.tree) c.args.answers.now c.in_ok-jobs.jobs.items c.in_ok-jobs.ensures c.args.settings.now.workers
+
+pub returns-in-Ok-run_plan-clause-output : goal.returns-in-Ok-run_plan-clause-output
+returns-in-Ok-run_plan-clause-output g c =
+    let p = c.args.plan in
+    let answers = c.args.answers.now in
+    let settings = c.args.settings.now in
+    let asked = asked_by c.args.options.now in
+    let history = c.in-Ok-run_plan.ran.events.items in
+    let report = c.in_ok-history_report-in-Ok-run_plan.field-0 in
+    let same : c.in-Ok-run_plan.ran.plan ≡ p = c.in-Ok-run_plan.ensures.plan in
+    let shown : history ≡ c.as_slice-history.result.now = sym c.as_slice-history.ensures.value in
+    let published : IsHistory settings.workers p answers history = history_of p (plan_is_tree c.plan.view_is c.plan.invariant.plan.tree) answers c.in_ok-jobs.jobs.items c.in_ok-jobs.ensures settings.workers history c.in-Ok-run_plan.ensures.report in
+    subst (λ (q : PlanParts). IsRunOutput asked settings q answers (string_bytes report.text) report.status) same
+    (ran (string_bytes report.text) report.status asked settings c.in-Ok-run_plan.ran.plan answers c.as_slice-history.result.now c.in_ok-texts-in-Ok-run_plan.texts
+    (subst (λ (h : List Event). IsHistory settings.workers c.in-Ok-run_plan.ran.plan answers h) shown (subst (λ (q : PlanParts). IsHistory settings.workers q answers history) (sym same) published))
+    c.in_ok-texts-in-Ok-run_plan.ensures.texts c.in_ok-history_report-in-Ok-run_plan.ensures.text c.in_ok-history_report-in-Ok-run_plan.ensures.status)
+
+pub unrun-requires : goal.unrun-requires
+unrun-requires g c =
+    unrun c.args.plan c.args.settings.now.workers c.in_ok-jobs.jobs.items c.in-Err.fault.cause c.in-Err.ensures.refused c.requires.some c.requires.few (all_there c.args.plan (plan_is_tree c.plan.view_is c.plan.invariant.plan.tree) c.args.answers.now c.in_ok-jobs.jobs.items c.in_ok-jobs.ensures)

@@ -1,0 +1,270 @@
+-- The jobs of a suite are those that a run asks for, and what is legal by their replies is legal by what the suite says.
+use Rattle.std.proofs.Common.{◌≡◌, ◌∙◌, ℕ, zero, suc, ◌+◌, ◌<◌, ◌==◌, ◌&&◌, ◌≢◌, not, nat_lt, cond, Bool, true, false, List, [], ◌∷◌, ◌++◌, length, Option, Some, None, slice_get, refl, sym, ap, subst, arith, inl, inr}
+use Rattle.std.specs.List.{All}
+use Rattle.std.proofs.lemmas.Bool.{eqb-true}
+use Rattle.std.proofs.lemmas.List.Elements.{All-append, All-cons, All-head, All-nil, All-tail}
+use mathlib.Core.Logic.{dite}
+use native.Mathlib.Decide.{ℕ_discrete}
+use Rattle.std.proofs.lemmas.Option.{none-some, same_Some, slice_get_within}
+use Rattle.std.specs.Option.{is_some}
+use Rattle.descriptor.specs.Nodes.{Nodes, IsTree, size, node_at, body_of, after_of, body_or, after_or, kind_of, role_of}
+use Rattle.descriptor.specs.declared.node.Node.{Node}
+use Rattle.descriptor.specs.Roles.{is_factory}
+use Rattle.descriptor.specs.declared.kind.Kind.{Kind}
+use Rattle.descriptor.specs.declared.kind.Kind.TheVariants.{Test, Container, ContainerAndTest}
+use Rattle.descriptor.specs.declared.role.Role.{Role}
+use Rattle.descriptor.specs.declared.role.Role.TheVariants.{Plain, Factory, Spare}
+use Rattle.plan_events.specs.Jobs.{unpulled, HasOutcome}
+use Rattle.plan_events.specs.declared.event.Event.{Event}
+use Rattle.plan_events.specs.declared.outcome.Reply.{Reply}
+use Rattle.plan_events.specs.declared.status.Status.{Status}
+use Rattle.plan_events.specs.declared.status.Status.TheVariants.{Successful}
+use Rattle.resource_locks.specs.Plans.{PlanParts}
+use Rattle.event_history.specs.History.{HasResult, IsLegal}
+use Rattle.event_history.specs.Plans.{Sort, Leaf, Holder, Maker, pulls_job, sort_by, sort_of, spare_count}
+use Rattle.event_history.specs.Results.{Jobs, NoJob, Alone, Pulled, Around, jobs_by, jobs_of, after_run, HasReply, HasPulls, HasTooMany, HasAnswer, EndsAfter, Ends}
+use Rattle.scheduling.specs.Choices.{after_job}
+use Rattle.sched_core.specs.Replies.{reply_of, replies_of as replies_by}
+use Rattle.table_rule.specs.Picture.{replies_in}
+use Rattle.table_rule.specs.Slots.{slot_count, is_body_slot, after_slot, job_at, job_with}
+use Rattle.table_rule.proofs.Jobs.{body_job, after_job_at, after_is, one_slot_each, far}
+use Rattle.run_table.specs.Prepared.{IsMissing, HasAllJobs}
+use Rattle.run_table.proofs.Filled.{first_counts, one_more}
+use Rattle.worker_pool.specs.Premises.{MayAnswer}
+use Rattle.worker_pool.specs.Reports.{run_of}
+use Rattle.launcher.specs.declared.scripted.ScriptedJob.{ScriptedJob}
+use Rattle.launcher.specs.Scripted.{reply_left, replies_left, asked_reply, is_pulled_slot, IsScripted, AreScripted}
+
+-- the job that was found with a number
+module _ {B : Type 0} where
+  pub found_is : (P : ℕ × B → Type 0) (jobs : List (ℕ × B)) → All P jobs → (number : ℕ) (job : B) → job_with jobs number ≡ Some job → P (number, job)
+  found_is P [] each number job q = absurd (none-some job q)
+  found_is P (x ∷ jobs) each number job q = go (found_is P jobs (All-tail P x jobs each) number job) (x.0 == number) refl q
+    where
+      go : (job_with jobs number ≡ Some job → P (number, job)) → (b : Bool) → (x.0 == number) ≡ b → cond b (Some x.1) (job_with jobs number) ≡ Some job → P (number, job)
+      go rest true e h = subst (λ (n : ℕ). P (n, job)) (eqb-true x.0 number e) (subst (λ (j : B). P (x.0, j)) (same_Some x.1 job h) (All-head P x jobs each))
+      go rest false e h = rest h
+
+  pub replies_found : (answers : B → List Reply) (jobs : List (ℕ × B)) (number : ℕ) (job : B) → job_with jobs number ≡ Some job → replies_in answers jobs number ≡ answers job
+  replies_found answers [] number job q = absurd (none-some job q)
+  replies_found answers (x ∷ jobs) number job q = go (replies_found answers jobs number job) (x.0 == number) q
+    where
+      go : (job_with jobs number ≡ Some job → replies_in answers jobs number ≡ answers job) → (b : Bool) → cond b (Some x.1) (job_with jobs number) ≡ Some job → cond b (answers x.1) (replies_in answers jobs number) ≡ answers job
+      go rest true h = ap answers (same_Some x.1 job h)
+      go rest false h = rest h
+
+  pub no_replies : (answers : B → List Reply) (jobs : List (ℕ × B)) (number : ℕ) → job_with jobs number ≡ None → replies_in answers jobs number ≡ []
+  no_replies answers [] number q = refl
+  no_replies answers (x ∷ jobs) number q = go (no_replies answers jobs number) (x.0 == number) q
+    where
+      go : (job_with jobs number ≡ None → replies_in answers jobs number ≡ []) → (b : Bool) → cond b (Some x.1) (job_with jobs number) ≡ None → cond b (answers x.1) (replies_in answers jobs number) ≡ []
+      go rest true h = absurd (none-some x.1 (sym h))
+      go rest false h = rest h
+
+  still_there : (jobs : List (ℕ × B)) (x : ℕ × B) (number : ℕ) → (job : B) × (job_with jobs number ≡ Some job) → (job : B) × (job_with (jobs ++ x ∷ []) number ≡ Some job)
+  still_there jobs x number found = (found.0, first_counts jobs (x ∷ []) number found.0 found.1)
+
+  now_there : (jobs : List (ℕ × B)) (number : ℕ) (job : B) → (other : B) × (job_with (jobs ++ (number, job) ∷ []) number ≡ Some other)
+  now_there jobs number job = go (job_with jobs number) refl
+    where
+      go : (found : Option B) → job_with jobs number ≡ found → (other : B) × (job_with (jobs ++ (number, job) ∷ []) number ≡ Some other)
+      go None q = (job, one_more jobs number job q)
+      go (Some other) q = (other, first_counts jobs ((number, job) ∷ []) number other q)
+
+-- the outcome of a job that was not asked for dynamic tests, or was asked for all of them
+pub ran_out : (o : Option Reply) (reply : Reply) → o ≡ Some reply → 0 < length (unpulled (reply_left o)) → HasOutcome (reply_left o) reply.outcome
+ran_out None reply is some = absurd (none-some reply is)
+ran_out (Some r) reply is some = record { place = 0; reply = r; stands = refl; no_pulls = none r.pulls (nat_lt 0 r.pulls) refl some; is = ap (λ (x : Reply). x.outcome) (sym (same_Some r reply is)) }
+  where
+    none : (pulls : ℕ) (b : Bool) → nat_lt 0 pulls ≡ b → 0 < length {A = Reply} (cond (not b) (r ∷ []) []) → pulls ≡ 0
+    none pulls true q low = absurd (omega (arith, low))
+    none pulls false q low = grind (arith, q)
+
+-- slot by slot
+module _ (p : PlanParts) (answers : List (ℕ × Reply)) where
+  pub none_scripted : (jobs : List (ℕ × ScriptedJob)) → jobs ≡ [] → AreScripted p answers 0 jobs
+  none_scripted jobs is = record { each = subst (All (IsScripted p answers)) (sym is) (All-nil (IsScripted p answers)); all = λ slot number low at. absurd (omega (arith, low)) }
+
+  pub slot_without : (i : ℕ) (jobs : List (ℕ × ScriptedJob)) → AreScripted p answers i jobs → job_at p i ≡ None → AreScripted p answers (i + 1) jobs
+  slot_without i jobs so_far none = record {
+    each = so_far.each;
+    all = λ slot number low at. dite (ℕ_discrete slot i) (λ e. absurd (none-some number (sym none ∙ ap (job_at p) (sym e) ∙ at))) (λ ne. so_far.all slot number (omega (arith, low, ne)) at);
+  }
+
+  pub slot_with_job : (i number : ℕ) (job : ScriptedJob) (jobs : List (ℕ × ScriptedJob)) → AreScripted p answers i jobs → i < slot_count p → job_at p i ≡ Some number
+      → replies_left job ≡ asked_reply (is_pulled_slot p i) (reply_of answers number) ∷ [] → AreScripted p answers (i + 1) (jobs ++ (number, job) ∷ [])
+  slot_with_job i number job jobs so_far inside is answer = record {
+    each = All-append (IsScripted p answers) jobs ((number, job) ∷ []) so_far.each (All-cons (IsScripted p answers) (number, job) [] (record { slot = i; inside = inside; is = is; answer = answer }) (All-nil (IsScripted p answers)));
+    all = λ slot other low at. dite (ℕ_discrete slot i)
+        (λ e. subst (λ (n : ℕ). (found : ScriptedJob) × (job_with (jobs ++ (number, job) ∷ []) n ≡ Some found)) (same_Some number other (sym is ∙ ap (job_at p) (sym e) ∙ at)) (now_there jobs number job))
+        (λ ne. still_there jobs (number, job) other (so_far.all slot other (omega (arith, low, ne)) at));
+  }
+
+-- a node with a body, or an after-body, is one of the tree
+module _ (t : Nodes) (tree : IsTree t) where
+  at_inside : (m : ℕ) (node : Node) → node_at t m ≡ Some node → m < size t
+  at_inside zero node q = absurd (none-some node q)
+  at_inside (suc m) node q = (let low : m < length t.nodes = slice_get_within t.nodes m node q in let many : length t.nodes + 1 ≡ size t = tree.nodes_len in omega (arith, low, many))
+
+  node_inside : (n : ℕ) (o : Option ℕ) (b : ℕ) → ((node_at t n ≡ None) → o ≡ None) → o ≡ Some b → n < size t
+  node_inside n o b silent is = go (node_at t n) refl
+    where
+      go : (found : Option Node) → node_at t n ≡ found → n < size t
+      go None q = absurd (none-some b (sym (silent q) ∙ is))
+      go (Some node) q = at_inside n node q
+
+  pub body_inside : (n b : ℕ) → body_of t n ≡ Some b → n < size t
+  body_inside n b is = node_inside n (body_of t n) b (λ q. ap body_or q) is
+
+  pub after_inside : (n b : ℕ) → after_of t n ≡ Some b → n < size t
+  after_inside n b is = node_inside n (after_of t n) b (λ q. ap after_or q) is
+
+-- what a factory's body is run for alone is pulled
+maker_factory : (kind : Kind) (role : Role) → sort_by kind role ≡ Maker → is_factory role ≡ true
+maker_factory kind Factory q = refl
+maker_factory Test Plain q = absurd (let h : Leaf ≡ Maker = q in cc)
+maker_factory Container Plain q = absurd (let h : Holder ≡ Maker = q in cc)
+maker_factory ContainerAndTest Plain q = absurd (let h : Holder ≡ Maker = q in cc)
+maker_factory Test Spare q = absurd (let h : Leaf ≡ Maker = q in cc)
+maker_factory Container Spare q = absurd (let h : Holder ≡ Maker = q in cc)
+maker_factory ContainerAndTest Spare q = absurd (let h : Holder ≡ Maker = q in cc)
+
+abbrev body_in : Jobs → ℕ
+body_in (Pulled body spares) = body
+body_in _ = 0
+
+maker_only : (sort : Sort) (body after : Option ℕ) (spares b m : ℕ) → jobs_by sort body after spares ≡ Pulled b m → (sort ≡ Maker) × (body ≡ Some b)
+maker_only Leaf None after spares b m q = absurd (let h : NoJob ≡ Pulled b m = q in cc)
+maker_only Leaf (Some x) after spares b m q = absurd (let h : Alone x ≡ Pulled b m = q in cc)
+maker_only Maker None after spares b m q = absurd (let h : NoJob ≡ Pulled b m = q in cc)
+maker_only Maker (Some x) after spares b m q = (refl, ap (λ (j : Jobs). Some (body_in j)) q)
+maker_only Holder body after spares b m q = absurd (let h : Around body after ≡ Pulled b m = q in cc)
+
+pub pulled_only : (p : PlanParts) (n body spares : ℕ) → jobs_of p n ≡ Pulled body spares → (pulls_job p n ≡ true) × (body_of p.tree n ≡ Some body)
+pulled_only p n body spares q =
+    let x = maker_only (sort_of p.tree n) (body_of p.tree n) (after_run p n) (spare_count p n) body spares q in
+    ((λ i. maker_factory (kind_of p.tree n) (role_of p.tree n) x.0 i && is_some (x.1 i)), x.1)
+
+-- what a factory's body is asked for
+module _ (p : PlanParts) (tree : IsTree p.tree) (answers : List (ℕ × Reply)) (jobs : List (ℕ × ScriptedJob)) (are : AreScripted p answers (slot_count p) jobs) where
+  pub all_there : HasAllJobs p jobs
+  all_there number missing = (let found = are.all missing.slot number missing.inside missing.is in none-some found.0 (sym missing.none ∙ found.1))
+
+  -- the one reply of the job in a slot
+  answered : (k number : ℕ) → k < slot_count p → job_at p k ≡ Some number → replies_in replies_left jobs number ≡ asked_reply (is_pulled_slot p k) (reply_of answers number) ∷ []
+  answered k number low at =
+      let found = are.all k number low at in
+      let of : IsScripted p answers (number, found.0) = found_is (IsScripted p answers) jobs are.each number found.0 found.1 in
+      replies_found replies_left jobs number found.0 found.1 ∙ of.answer ∙ ap (λ (s : ℕ). asked_reply (is_pulled_slot p s) (reply_of answers number) ∷ []) (one_slot_each p tree of.slot k number of.is at)
+
+  body_low : (n number : ℕ) → body_of p.tree n ≡ Some number → n < slot_count p
+  body_low n number is = (let low : n < size p.tree = body_inside p.tree tree n number is in omega (arith, low))
+
+  body_is_at : (n number : ℕ) → body_of p.tree n ≡ Some number → job_at p n ≡ Some number
+  body_is_at n number is = body_job p n (body_inside p.tree tree n number is) ∙ is
+
+  body_answers : (n number : ℕ) → body_of p.tree n ≡ Some number → replies_in replies_left jobs number ≡ asked_reply (is_pulled_slot p n) (reply_of answers number) ∷ []
+  body_answers n number is = answered n number (body_low n number is) (body_is_at n number is)
+
+  slot_pulled : (n number : ℕ) → body_of p.tree n ≡ Some number → is_pulled_slot p n ≡ pulls_job p n
+  slot_pulled n number is = ap (λ (b : Bool). b && pulls_job p n) (lt_body n (body_inside p.tree tree n number is))
+    where
+      lt_body : (m : ℕ) → m < size p.tree → is_body_slot p m ≡ true
+      lt_body m low = grind (arith, low)
+
+  pub factory_answers : (n number : ℕ) → pulls_job p n ≡ true → body_of p.tree n ≡ Some number → replies_in replies_left jobs number ≡ reply_of answers number ∷ []
+  factory_answers n number pulls is = body_answers n number is ∙ ap (λ (b : Bool). asked_reply b (reply_of answers number) ∷ []) (slot_pulled n number is ∙ pulls)
+
+  plain_answers : (n number : ℕ) → pulls_job p n ≡ false → body_of p.tree n ≡ Some number → replies_in replies_left jobs number ≡ asked_reply false (reply_of answers number) ∷ []
+  plain_answers n number pulls is = body_answers n number is ∙ ap (λ (b : Bool). asked_reply b (reply_of answers number) ∷ []) (slot_pulled n number is ∙ pulls)
+
+  after_answers : (n number : ℕ) → after_of p.tree n ≡ Some number → replies_in replies_left jobs number ≡ asked_reply false (reply_of answers number) ∷ []
+  after_answers n number is =
+      let low : n < size p.tree = after_inside p.tree tree n number is in
+      answered (after_slot p n) number (omega (arith, low)) (after_job_at p n ∙ is) ∙ ap (λ (b : Bool). asked_reply (b && pulls_job p (after_slot p n)) (reply_of answers number) ∷ []) (far (size p.tree) n)
+
+  one_is_some : (xs : List Reply) (x : Reply) → xs ≡ x ∷ [] → 0 < length xs
+  one_is_some xs x is = subst (λ (l : List Reply). 0 < length l) (sym is) (omega arith)
+
+  pub may_answer : (workers : ℕ) → MayAnswer replies_left (run_of p workers jobs)
+  may_answer workers = record {
+    factories = λ n job pulls is. one_is_some _ (reply_of answers job) (factory_answers n job pulls is);
+    bodies = λ n job pulls is. one_is_some _ (asked_reply false (reply_of answers job)) (ap unpulled (plain_answers n job pulls is));
+    after_bodies = λ n job is. one_is_some _ (asked_reply false (reply_of answers job)) (ap unpulled (after_answers n job (after_is p n job is)));
+  }
+
+  -- each reply of a job has the outcome that the suite says
+  said : (number place : ℕ) (reply : Reply) → slice_get (replies_in replies_left jobs number) place ≡ Some reply → reply.outcome ≡ (reply_of answers number).outcome
+  said number place reply stands = go (job_with jobs number) refl
+    where
+      only : (b : Bool) (i : ℕ) → slice_get (asked_reply b (reply_of answers number) ∷ []) i ≡ Some reply → reply.outcome ≡ (reply_of answers number).outcome
+      only true zero q = ap (λ (r : Reply). r.outcome) (sym (same_Some _ reply q))
+      only false zero q = ap (λ (r : Reply). r.outcome) (sym (same_Some _ reply q))
+      only b (suc i) q = absurd (none-some reply q)
+
+      go : (found : Option ScriptedJob) → job_with jobs number ≡ found → reply.outcome ≡ (reply_of answers number).outcome
+      go None q = absurd (none-some reply (ap (λ (l : List Reply). slice_get l place) (sym (no_replies replies_left jobs number q)) ∙ stands))
+      go (Some job) q =
+          let of : IsScripted p answers (number, job) = found_is (IsScripted p answers) jobs are.each number job q in
+          only (is_pulled_slot p of.slot) place (ap (λ (l : List Reply). slice_get l place) (sym (replies_found replies_left jobs number job q ∙ of.answer)) ∙ stands)
+
+  abbrev pub told : ℕ → List Reply
+  told number = replies_in replies_left jobs number
+
+  by_reply : (job : ℕ) (status : Status) (text : Option (List ℕ)) → HasReply told job status text → HasReply (replies_by answers) job status text
+  by_reply job status text x = (let same = said job x.place x.reply x.stands in record { place = 0; reply = reply_of answers job; stands = refl; status_is = x.status_is ∙ ap (λ o. o.status) same; text_is = x.text_is ∙ ap (λ o. Some o.text) same })
+
+  by_answer : (job : Option ℕ) (status : Status) (text : Option (List ℕ)) → HasAnswer told job status text → HasAnswer (replies_by answers) job status text
+  by_answer None status text x = x
+  by_answer (Some job) status text x = by_reply job status text x
+
+  by_after : (body after : Option ℕ) (status : Status) (text : Option (List ℕ)) → EndsAfter told body after status text → EndsAfter (replies_by answers) body after status text
+  by_after body None status text x = (x.0, by_answer body Successful text x.1)
+  by_after body (Some after) status text x = ((x.0.0, by_answer body Successful x.0.0 x.0.1), by_reply after status text x.1)
+
+  -- a factory's body gives its whole reply
+  abbrev IsWhole : Jobs → Type 0
+  IsWhole jobs = (body spares : ℕ) → jobs ≡ Pulled body spares → told body ≡ replies_by answers body
+
+  by_ends : (jobs : Jobs) → IsWhole jobs → (stopped : Bool) (registered : ℕ) (status : Status) (text : Option (List ℕ)) → Ends told jobs stopped registered status text → Ends (replies_by answers) jobs stopped registered status text
+  by_ends (Around (Some body) after) whole true registered status text x = record { answer = by_reply body status text x.answer; unsuccessful = x.unsuccessful }
+  by_ends (Around None after) whole true registered status text x = x
+  by_ends NoJob whole true registered status text x = x
+  by_ends (Alone body) whole true registered status text x = x
+  by_ends (Pulled body spares) whole true registered status text x = x
+  by_ends NoJob whole false registered status text x = x
+  by_ends (Alone body) whole false registered status text x = by_reply body status text x
+  by_ends (Pulled body spares) whole false registered status text x =
+      let same : told body ≡ replies_by answers body = whole body spares refl in
+      elim x [
+        | inl a ↦ inl (record { place = a.place; reply = a.reply; stands = ap (λ (l : List Reply). slice_get l a.place) (sym same) ∙ a.stands; pulls = a.pulls; status_is = a.status_is; text_is = a.text_is })
+        | inr b ↦ inr (record { all = b.all; place = b.place; reply = b.reply; stands = ap (λ (l : List Reply). slice_get l b.place) (sym same) ∙ b.stands; more = b.more; status_is = b.status_is; text_is = b.text_is })
+      ]
+  by_ends (Around body after) whole false registered status text x = by_after body after status text x
+
+  whole_at : (n : ℕ) → IsWhole (jobs_of p n)
+  whole_at n body spares q = (let x = pulled_only p n body spares q in factory_answers n body x.0 x.1)
+
+  by_result : (h : List Event) (i : ℕ) (e : Event) (text : Option (List ℕ)) → HasResult p told h i e text → HasResult p (replies_by answers) h i e text
+  by_result h i e text x = record { status = x.status; here = x.here; stopped = x.stopped; stops = x.stops; lawful = by_ends (jobs_of p e.node) (whole_at e.node) x.stopped _ x.status text x.lawful }
+
+  pub legal_as_said : (workers : ℕ) (h : List Event) → IsLegal p told workers h → IsLegal p (replies_by answers) workers h
+  legal_as_said workers h x = record {
+    lawful = x.lawful;
+    nodes = x.nodes;
+    by_workers = x.by_workers;
+    once = x.once;
+    apart = x.apart;
+    after_start = x.after_start;
+    registered = x.registered;
+    after_registered = x.after_registered;
+    elder_registered = x.elder_registered;
+    start_above = x.start_above;
+    open_above = x.open_above;
+    skipped = x.skipped;
+    unstarted = x.unstarted;
+    below_skipped = x.below_skipped;
+    quits = x.quits;
+    settled = x.settled;
+    result = λ i e q finish. (let y = x.result i e q finish in (y.0, by_result h i e y.0 y.1));
+  }

@@ -1,0 +1,162 @@
+//! The jobs of a plan, as the scripts of a suite have them answer.
+
+ghost use Rattle.std.specs.Prelude.{◌≡◌, ◌<◌, ◌∷◌, [], ℕ, Some, IfOk};
+ghost use Rattle.resource_locks.specs.Plans.{PlanParts};
+ghost use Rattle.event_history.specs.Plans.{pulls_job};
+ghost use Rattle.sched_core.specs.Replies.{reply_of};
+ghost use Rattle.table_rule.specs.Slots.{slot_count, job_at};
+ghost use Rattle.run_table.specs.Prepared.{HasAllJobs};
+ghost use Rattle.worker_pool.specs.Premises.{MayAnswer};
+ghost use Rattle.worker_pool.specs.Reports.{run_of};
+ghost use Rattle.launcher.specs.Scripted.{replies_left, asked_reply, is_pulled_slot, AreScripted};
+
+use descriptor::{BodyId, NodeId, Role};
+use plan_events::{Job, Outcome, Pull, Reply, Status};
+use resource_locks::Plan;
+use run_table::Jobs;
+use sched_core::Answers;
+use std::alloc::{AllocError, Global};
+use std::hint::spin_loop;
+use suite_text::Script;
+use unique_id::Text;
+
+/// A body or an after-body, which counts, and then ends as its line of the suite says.
+#[derive(Drop)]
+pub(crate) struct ScriptedJob {
+    spin: u32,
+    // none once it was run
+    reply: Option<Reply>,
+}
+
+/// Counts so far. The processor is told that it waits, so no compiler drops the loop.
+fn count_to(spin: u32) {
+    for _turn in 0..spin {
+        spin_loop();
+    }
+}
+
+impl Job for ScriptedJob {
+    ghost answers = { replies_left };
+
+    fn next(&mut self) -> Pull {
+        let Some(reply) = &mut self.reply else {
+            return Pull::End;
+        };
+        if reply.pulls == 0 {
+            return Pull::End;
+        }
+        reply.pulls -= 1;
+        Pull::More
+    }
+
+    fn run(&mut self) -> Outcome {
+        count_to(self.spin);
+        match self.reply.take() {
+            Some(reply) => reply.outcome,
+            None => Outcome {
+                status: Status::Successful,
+                text: Text::empty(),
+            },
+        }
+    }
+}
+
+/// How far each body counts, at the place of its number.
+pub(crate) fn spins_of(alloc: Global, scripts: &[Script]) -> Result<Vec<u32>, AllocError> {
+    let mut spins = Vec::new(alloc);
+    for script in scripts {
+        let place = script.body.index();
+        if place >= spins.len() {
+            spins.resize_with(place + 1, || 0)?;
+        }
+        spins[place] = script.spin;
+    }
+    Ok(spins)
+}
+
+/// The reply of a body, as the suite says it; without one it is successful, and says nothing.
+fn reply_to(answers: &Answers, body: BodyId) -> Result<Reply, AllocError>
+    ensures { IfOk result (λ reply. reply ≡ reply_of answers.now body) }
+{
+    let Some(reply) = answers.reply(body) else {
+        return Ok(Reply {
+            pulls: 0,
+            outcome: Outcome {
+                status: Status::Successful,
+                text: Text::empty(),
+            },
+        });
+    };
+    Ok(Reply {
+        pulls: reply.pulls,
+        outcome: reply.outcome.copy()?,
+    })
+}
+
+/// The job in a slot of the plan, if it has one: the body of a node, or behind these the after-body of one.
+fn number_at(plan: &Plan, slot: usize) -> Option<BodyId>
+    requires { slot < slot_count plan.now }
+    ensures { result ≡ job_at plan.now slot }
+{
+    let tree = plan.tree();
+    let nodes = tree.len();
+    if slot < nodes {
+        tree.body(NodeId::new(slot as u16))
+    } else {
+        tree.after(NodeId::new((slot - nodes) as u16))
+    }
+}
+
+/// Whether the body of a factory stands in a slot that has a job.
+fn is_pulled(plan: &Plan, slot: usize) -> bool
+    requires inside { slot < slot_count plan.now }
+    requires job { (number : ℕ) × (job_at plan.now slot ≡ Some number) }
+    ensures { result ≡ is_pulled_slot plan.now slot }
+{
+    let tree = plan.tree();
+    slot < tree.len() && tree.role(NodeId::new(slot as u16)) == Role::Factory
+}
+
+/// The job of this number in this slot.
+fn job_for(
+    plan: &Plan,
+    answers: &Answers,
+    spins: &[u32],
+    slot: usize,
+    number: BodyId,
+) -> Result<ScriptedJob, AllocError>
+    requires inside { slot < slot_count plan.now }
+    requires is { job_at plan.now slot ≡ Some number }
+    ensures { IfOk result (λ job. replies_left job ≡ asked_reply (is_pulled_slot plan.now slot) (reply_of answers.now number) ∷ []) }
+{
+    let mut reply = reply_to(answers, number)?;
+    if !is_pulled(plan, slot) {
+        reply.pulls = 0;
+    }
+    let spin = match spins.get(number.index()) {
+        Some(spin) => *spin,
+        None => 0,
+    };
+    Ok(ScriptedJob {
+        spin,
+        reply: Some(reply),
+    })
+}
+
+/// The jobs of a plan, which answer what the suite says, and count so far before that.
+pub(crate) fn scripted_jobs(
+    alloc: Global,
+    plan: &Plan,
+    answers: &Answers,
+    spins: &[u32],
+) -> Result<Jobs<ScriptedJob>, AllocError>
+    ensures { IfOk result (λ jobs. AreScripted plan.now answers.now (slot_count plan.now) jobs.items) }
+{
+    let mut jobs = Vec::with_capacity(alloc, plan.tree().len())?;
+    for slot in 0..2 * plan.tree().len() {
+        if let Some(number) = number_at(plan, slot) {
+            jobs.push((number, job_for(plan, answers, spins, slot, number)?))?;
+        }
+    }
+    Ok(jobs)
+}
