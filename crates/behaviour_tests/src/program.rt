@@ -7,7 +7,9 @@ use listeners::Theme;
 use selectors::Request;
 use std::alloc::Global;
 use std::io::{Error, ErrorKind, Read, Result as IoResult};
+use std::sync::Wait;
 use std::test::Fail;
+use std::thread::Threads;
 
 /// A suite of one passing test.
 const SUITE: &str = "engine e\n  class a.B\n    test t() pass\n";
@@ -90,31 +92,31 @@ fn a_reader_that_fails_later_gives_its_front(rt: HostRuntime) {
 }
 
 /// Whether a suite whose reader fails is refused, and nothing is written.
-fn is_refused_unread(alloc: Global) -> bool {
+fn is_refused_unread<T: Threads + Wait + Sync>(rt: &T, alloc: Global) -> bool {
     let mut reader = Broken {
         text: SUITE.as_bytes(),
         step: 9,
     };
     let mut written = Vec::new(alloc);
-    let answer = run_options(alloc, &feed_options(alloc), &mut reader, &mut written);
+    let answer = run_options(rt, alloc, &feed_options(alloc), &mut reader, &mut written);
     answer == Err(LaunchFault::Reading) && written.is_empty()
 }
 
 #[test]
 fn a_suite_that_is_not_read_is_refused(rt: HostRuntime) {
-    assert!(rt; is_refused_unread(rt.alloc()));
+    assert!(rt; is_refused_unread(&rt, rt.alloc()));
 }
 
 /// Whether a run that writes the feed to a writer which takes so many bytes is refused at that place, when the first bytes
 /// of it are written.
-fn is_cut_at(alloc: Global, room: usize) -> bool {
+fn is_cut_at<T: Threads + Wait + Sync>(rt: &T, alloc: Global, room: usize) -> bool {
     let mut reader = SUITE.as_bytes();
     let mut writer = Failing {
         taken: Vec::new(alloc),
         room,
         step: 7,
     };
-    let Err(fault) = run_options(alloc, &feed_options(alloc), &mut reader, &mut writer) else {
+    let Err(fault) = run_options(rt, alloc, &feed_options(alloc), &mut reader, &mut writer) else {
         return false;
     };
     fault.number() == 81
@@ -124,16 +126,16 @@ fn is_cut_at(alloc: Global, room: usize) -> bool {
 }
 
 /// Whether an output is cut at its beginning, behind its first line, and before its last byte.
-fn is_cut_anywhere(alloc: Global) -> bool {
-    is_cut_at(alloc, 0) && is_cut_at(alloc, 16) && is_cut_at(alloc, FEED.len() - 1)
+fn is_cut_anywhere<T: Threads + Wait + Sync>(rt: &T, alloc: Global) -> bool {
+    is_cut_at(rt, alloc, 0) && is_cut_at(rt, alloc, 16) && is_cut_at(rt, alloc, FEED.len() - 1)
 }
 
 #[test]
 fn an_output_that_is_cut_short_is_refused(rt: HostRuntime) {
-    assert!(rt; is_cut_anywhere(rt.alloc()));
+    assert!(rt; is_cut_anywhere(&rt, rt.alloc()));
 }
 
 #[test]
 fn an_output_that_is_taken_is_no_refusal(rt: HostRuntime) {
-    assert!(rt; !is_cut_at(rt.alloc(), FEED.len()));
+    assert!(rt; !is_cut_at(&rt, rt.alloc(), FEED.len()));
 }

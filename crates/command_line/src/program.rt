@@ -20,11 +20,14 @@ use messages::Message;
 use std::alloc::Global;
 use std::env::Args;
 use std::io::{self, Read, Write};
+use std::sync::Wait;
+use std::thread::Threads;
 
 /// Runs the suite that the reader holds, with the options that the words give; the first word is
 /// the program's name. Words that give no options are refused as `read_options` says, and then
 /// nothing is read and nothing is written. Everything else is as `run_options` says.
-pub fn run_console<R: Read, W: Write>(
+pub fn run_console<T: Threads + Wait + Sync, R: Read, W: Write>(
+    rt: &T,
     alloc: Global,
     words: &[String],
     reader: &mut R,
@@ -37,11 +40,12 @@ pub fn run_console<R: Read, W: Write>(
     ensures quiet { IfErr result (λ fault. is_writing fault ≡ false → Keeps (W.contents writer.old) (W.contents writer.new)) }
 {
     let options = read_options(alloc, words)?;
-    run_options(alloc, &options, reader, writer)
+    run_options(rt, alloc, &options, reader, writer)
 }
 
 /// Runs what `run_console` runs, and where that is refused puts in its message.
-fn run_told<R: Read, W: Write>(
+fn run_told<T: Threads + Wait + Sync, R: Read, W: Write>(
+    rt: &T,
     alloc: Global,
     words: &[String],
     reader: &mut R,
@@ -55,7 +59,7 @@ fn run_told<R: Read, W: Write>(
         reader,
         bytes: nothing_kept(alloc),
     };
-    let answer = run_console(alloc, words, &mut kept, writer);
+    let answer = run_console(rt, alloc, words, &mut kept, writer);
     if let Err(fault) = answer {
         *message = Some(message_of(alloc, fault, words, kept.bytes.as_slice()));
     }
@@ -64,7 +68,8 @@ fn run_told<R: Read, W: Write>(
 
 /// What the program answers to the words that the system gave: as `run_console` says, or, where it
 /// gave none, as `given_words` says.
-fn answer_to<R: Read, W: Write>(
+fn answer_to<T: Threads + Wait + Sync, R: Read, W: Write>(
+    rt: &T,
     alloc: Global,
     words: io::Result<Args>,
     reader: &mut R,
@@ -76,7 +81,7 @@ fn answer_to<R: Read, W: Write>(
     ensures told { Tells message.old result message.new }
 {
     match given_words(alloc, words) {
-        Ok(words) => run_told(alloc, words.as_slice(), reader, writer, message),
+        Ok(words) => run_told(rt, alloc, words.as_slice(), reader, writer, message),
         Err(fault) => {
             *message = Some(Message::with_details(fault, String::new(alloc)));
             Err(fault)
@@ -86,7 +91,8 @@ fn answer_to<R: Read, W: Write>(
 
 /// The program: all that is left to do is to print the line of the closing, if there is one, and the
 /// message, which a refusal alone puts in, and to end with the status.
-pub fn run_program<R: Read, W: Write>(
+pub fn run_program<T: Threads + Wait + Sync, R: Read, W: Write>(
+    rt: &T,
     alloc: Global,
     words: io::Result<Args>,
     reader: &mut R,
@@ -98,5 +104,5 @@ pub fn run_program<R: Read, W: Write>(
     // Where nothing is refused no message is put in, and that of a refusal is its own.
     ensures told { Closes result (λ answer. Tells message.old answer message.new) }
 {
-    Closing::after(answer_to(alloc, words, reader, writer, message))
+    Closing::after(answer_to(rt, alloc, words, reader, writer, message))
 }

@@ -8,6 +8,7 @@ use std::process::ExitCode;
 fn main(rt: HostRuntime) -> io::Result<ExitCode> {
     let mut message = None;
     let closing = run_program(
+        &rt,
         rt.alloc(),
         std::env::args(&rt),
         &mut rt.reader(),

@@ -4,15 +4,18 @@ use crate::rows::push_line;
 use command_line::{message_of, run_console};
 use launcher::{ExitStatus, LaunchFault};
 use std::alloc::{AllocError, Global};
+use std::sync::Wait;
+use std::thread::Threads;
 
 /// Runs the program with these words on a suite, and appends what it writes.
-fn run(
+fn run<T: Threads + Wait + Sync>(
+    rt: &T,
     alloc: Global,
     answers: &mut Vec<u8>,
     words: &[String],
     mut suite: &[u8],
 ) -> Result<ExitStatus, LaunchFault> {
-    run_console(alloc, words, &mut suite, answers)
+    run_console(rt, alloc, words, &mut suite, answers)
 }
 
 /// The line that says how a run ended: its status or its refusal.
@@ -39,14 +42,15 @@ fn push_message(
 }
 
 /// Appends what the program writes, and how it ends; where `tells`, what stands on standard error too.
-fn push_run(
+fn push_run<T: Threads + Wait + Sync>(
+    rt: &T,
     alloc: Global,
     answers: &mut Vec<u8>,
     words: &[String],
     suite: &[u8],
     tells: bool,
 ) -> Result<(), AllocError> {
-    let end = run(alloc, answers, words, suite);
+    let end = run(rt, alloc, answers, words, suite);
     answers.extend_from_slice(end_line(alloc, end)?.as_bytes())?;
     if tells {
         push_message(alloc, answers, words, suite, end)?;
@@ -55,7 +59,8 @@ fn push_run(
 }
 
 /// Appends the words of a row, what the program writes, and how it ends; where `tells`, what stands on standard error too.
-pub(crate) fn push_answer(
+pub(crate) fn push_answer<T: Threads + Wait + Sync>(
+    rt: &T,
     alloc: Global,
     answers: &mut Vec<u8>,
     line: &str,
@@ -67,5 +72,5 @@ pub(crate) fn push_answer(
     answers.push(b'\n')?;
     let mut words = Vec::new(alloc);
     push_line(alloc, &mut words, line)?;
-    push_run(alloc, answers, words.as_slice(), suite, tells)
+    push_run(rt, alloc, answers, words.as_slice(), suite, tells)
 }

@@ -14,8 +14,8 @@ fn main(rt: HostRuntime) -> io::Result<()> {
     let alloc = rt.alloc();
     let mut table = Table::new(alloc);
     for line in rt.lines(alloc) {
-        table.take(alloc, line?.as_str())?;
+        table.take(&rt, alloc, line?.as_str())?;
     }
-    table.run(alloc)?;
+    table.run(&rt, alloc)?;
     io::Write::write_all(&mut io::writer(&rt), table.answers())
 }

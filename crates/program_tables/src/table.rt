@@ -3,6 +3,8 @@
 use crate::answers::push_answer;
 use crate::rows::push_suite_line;
 use std::alloc::{AllocError, Global};
+use std::sync::Wait;
+use std::thread::Threads;
 
 /// The words of a row, its suite as far as it was read, and the answers to the rows above.
 #[derive(Drop)]
@@ -26,17 +28,27 @@ impl Table {
     }
 
     /// Runs the program on the row, if there is one.
-    pub(crate) fn run(&mut self, alloc: Global) -> Result<(), AllocError> {
+    pub(crate) fn run<T: Threads + Wait + Sync>(
+        &mut self,
+        rt: &T,
+        alloc: Global,
+    ) -> Result<(), AllocError> {
         if self.words.is_empty() {
             return Ok(());
         }
         let (words, suite) = (self.words.as_str(), self.suite.as_slice());
-        push_answer(alloc, &mut self.answers, words, suite, self.tells)
+        push_answer(rt, alloc, &mut self.answers, words, suite, self.tells)
     }
 
     /// Runs the program on the row that was read, and begins the next with these words.
-    fn begin(&mut self, alloc: Global, words: &str, tells: bool) -> Result<(), AllocError> {
-        self.run(alloc)?;
+    fn begin<T: Threads + Wait + Sync>(
+        &mut self,
+        rt: &T,
+        alloc: Global,
+        words: &str,
+        tells: bool,
+    ) -> Result<(), AllocError> {
+        self.run(rt, alloc)?;
         self.suite.clear();
         self.words.clear();
         self.tells = tells;
@@ -44,12 +56,17 @@ impl Table {
     }
 
     /// Reads a line: the words of the next row, or one of the row's suite.
-    pub(crate) fn take(&mut self, alloc: Global, line: &str) -> Result<(), AllocError> {
+    pub(crate) fn take<T: Threads + Wait + Sync>(
+        &mut self,
+        rt: &T,
+        alloc: Global,
+        line: &str,
+    ) -> Result<(), AllocError> {
         if let Some(words) = line.strip_prefix("== ") {
-            return self.begin(alloc, words, false);
+            return self.begin(rt, alloc, words, false);
         }
         if let Some(words) = line.strip_prefix("=? ") {
-            return self.begin(alloc, words, true);
+            return self.begin(rt, alloc, words, true);
         }
         push_suite_line(alloc, &mut self.suite, line)
     }
