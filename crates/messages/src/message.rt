@@ -68,7 +68,7 @@ fn push_details(
         ),
         LaunchFault::TooManyWorkers => push_settings(alloc, text, None, given, suite),
         LaunchFault::NoWorker => text.push_str(
-            "A run needs one thread at least: let the system give this program more of them.\n",
+            "A run needs one thread besides the program's own: let other programs end, or raise the limits of processes and of memory.\n",
         ),
         LaunchFault::Reading => {
             text.push_str("The suite is read from there: give it as in `console < FILE`.\n")
