@@ -1,18 +1,18 @@
 -- What has become of each job once the plan's finish stands: it was never moved, and is not used; or it has answered, and is used.
-use Rattle.std.proofs.Common.{◌≡◌, ◌⊎◌, inl, inr, ℕ, ◌+◌, ◌-◌, ◌<◌, ◌≤◌, nat_lt, cond, Bool, true, false, List, ◌∷◌, [], length, Option, Some, None, slice_get, sym, refl, ap, ◌∙◌, subst, arith}
-use Rattle.std.proofs.lemmas.Bool.{true≢false, false≢true, ltb-true}
+use Rattle.std.proofs.Common.{◌≡◌, ◌⊎◌, inl, inr, ℕ, ◌+◌, ◌-◌, ◌<◌, ◌≤◌, cond, Bool, true, false, List, ◌∷◌, [], Option, Some, None, slice_get, sym, refl, ap, ◌∙◌, subst, arith}
+use Rattle.std.proofs.lemmas.Bool.{false≢true, ltb-true}
 use Rattle.std.proofs.lemmas.Option.{none-some, same_Some}
-use Rattle.descriptor.specs.Nodes.{IsTree, size, parent_of, IsChild, Below, child, body_of, after_of, is_spare_at}
+use Rattle.descriptor.specs.Nodes.{IsTree, size, IsChild, Below, child, body_of, after_of, is_spare_at}
 use Rattle.descriptor.proofs.Counts.{cases_bool}
 use Rattle.plan_events.specs.declared.event.Event.{Event}
 use Rattle.plan_events.specs.declared.event.EventKind.{EventKind}
-use Rattle.plan_events.specs.declared.event.EventKind.TheVariants.{Started, Finished, Skipped, Registered}
+use Rattle.plan_events.specs.declared.event.EventKind.TheVariants.{Started, Finished, Skipped}
 use Rattle.plan_events.specs.declared.outcome.Reply.{Reply}
 use Rattle.plan_events.specs.declared.status.Status.{Status}
 use Rattle.resource_locks.specs.Plans.{PlanParts}
-use Rattle.event_history.specs.Places.{StandsAt, IsSettledAt, has}
-use Rattle.event_history.specs.History.{IsStopped, IsUnregistered, HasResult, IsLegal, IsBarred, IsComplete}
-use Rattle.event_history.specs.Plans.{Sort, Leaf, Holder, Maker, has_child, spare_count, sort_of, IsPlanTree}
+use Rattle.event_history.specs.Places.{StandsAt, has}
+use Rattle.event_history.specs.History.{IsStopped, HasResult, IsLegal, IsComplete}
+use Rattle.event_history.specs.Plans.{Sort, Leaf, Holder, Maker, has_child, spare_count, sort_of}
 use Rattle.event_history.specs.Results.{Jobs, NoJob, Alone, Pulled, Around, jobs_by, jobs_of, after_run, HasReply, Ends}
 use Rattle.event_history.proofs.Histories.{started_unskipped, unbarred, started_known, stopped_cases}
 use Rattle.event_history.proofs.Places.{has_stands, has_at}
@@ -23,11 +23,11 @@ use Rattle.table_rule.specs.declared.view.Shelf.{Shelf}
 use Rattle.table_rule.specs.declared.view.Shelf.TheVariants.{Unmoved}
 use Rattle.table_rule.specs.Slots.{after_slot, slot_count, is_body_slot, job_at, told_by}
 use Rattle.table_rule.proofs.Jobs.{after_is, after_job_at, body_job}
-use Rattle.run_table.specs.Balance.{RanBody, RanAfter, IsUsed}
+use Rattle.run_table.specs.Balance.{RanAfter, IsUsed}
 use Rattle.run_table.proofs.Ending.{told_one}
 use Rattle.scheduling.specs.Choices.{after_job}
 use Rattle.scheduling.specs.State.{State, counter_at}
-use Rattle.scheduling.specs.Stages.{How, Gave, Kept, Skips, Stage, Unseen, Offered, OpenedBy, InHand, Waiting, ClosedBy, Over, Mark, Blank, Known, Begun, Ended, Passed, Below as Part, Past, picture, guard_of, has_mark, is_over}
+use Rattle.scheduling.specs.Stages.{How, Gave, Kept, Skips, Stage, Unseen, Offered, OpenedBy, InHand, Waiting, ClosedBy, Over, Begun, Ended, Below as Part, Past, picture, guard_of, has_mark, is_over}
 use Rattle.scheduling.specs.Invariant.{IsCorePlan, IsKept, pending, Fits}
 use Rattle.scheduling.specs.declared.task.Opening.{Opening}
 use Rattle.scheduling.specs.declared.task.Opening.TheVariants.{Registering, RegisteredAt, Offering, Noticing, Locking, Weighed, Backing, Beginning, StartedAt, Awaiting, Admitting, Guarding}
