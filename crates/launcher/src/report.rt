@@ -193,13 +193,10 @@ pub(crate) fn report_of<T: Threads + Wait + Sync>(
     ensures refused { IfErr result (IsUnrun (asked_by options.now)) }
 {
     match &options.replay {
-        Some(steps) => Ok(replay_report(
-            alloc,
-            steps.as_slice(),
-            settings.workers,
-            &plan,
-            answers,
-        )?),
+        Some(steps) => {
+            let report = replay_report(alloc, steps.as_slice(), settings.workers, &plan, answers)?;
+            Ok(report)
+        }
         None => run_report(rt, alloc, options, settings, plan, answers, spins),
     }
 }
