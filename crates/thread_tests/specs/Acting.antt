@@ -1,0 +1,31 @@
+-- The replies of the jobs that tests hand in, and that each body and after-body of a plan has one.
+use Rattle.std.specs.Prelude.{◌≡◌, ℕ, ◌<◌, Bool, true, false, List, [], ◌∷◌, length, Option, Some, None}
+use Rattle.plan_events.specs.Jobs.{unpulled}
+use Rattle.plan_events.specs.declared.outcome.Outcome.{Outcome}
+use Rattle.plan_events.specs.declared.outcome.Reply.{Reply}
+use Rattle.resource_locks.specs.Plans.{PlanParts}
+use Rattle.table_rule.specs.Slots.{job_at, job_with}
+use Rattle.thread_tests.specs.declared.acting.Ends.{Ends}
+use Rattle.thread_tests.specs.declared.acting.Actor.{Actor}
+
+abbrev pub reply : ℕ → Outcome → Reply
+reply pulls outcome = record { pulls = pulls; outcome = outcome }
+
+-- one that has not been asked may end in either way, or ask for its dynamic tests and then end well
+abbrev pub left_of : Option Ends → Bool → ℕ → List Reply
+left_of None fresh pulls = []
+left_of (Some ends) true pulls = reply 0 ends.well ∷ reply 0 ends.badly ∷ reply pulls ends.well ∷ []
+left_of (Some ends) false pulls = reply pulls ends.well ∷ []
+
+abbrev pub replies_left : Actor → List Reply
+replies_left job = left_of job.ends job.fresh job.pulls
+
+-- each may end without being asked
+abbrev pub AreFresh : List (ℕ × Actor) → Type 0
+AreFresh [] = Unit {0}
+AreFresh (job ∷ jobs) = (0 < length (unpulled (replies_left job.1))) × AreFresh jobs
+
+-- each may end so, and each of the first so many slots that has a job has one of these
+pub record AreCast (p : PlanParts) (slots : ℕ) (jobs : List (ℕ × Actor)) : Type 0 where
+  pub each : AreFresh jobs
+  pub all : (slot number : ℕ) → slot < slots → job_at p slot ≡ Some number → (job : Actor) × (job_with jobs number ≡ Some job)

@@ -1,0 +1,2 @@
+-- What clauses say of the jobs that tests hand in.
+pub mod Acting

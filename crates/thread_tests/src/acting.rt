@@ -1,0 +1,114 @@
+//! Jobs that end as they are told, or by what they see of others.
+
+ghost use Rattle.std.specs.Prelude.{◌≡◌};
+ghost use Rattle.thread_tests.specs.Acting.{replies_left};
+
+use crate::board::Board;
+use plan_events::{Job, Outcome, Pull, Status};
+use std::hint::spin_loop;
+use std::sync::Arc;
+use unique_id::Text;
+
+/// How often a job looks for what it waits for.
+const MOST_TURNS: u64 = 200_000_000;
+
+/// What a job does when it is run.
+#[derive(Clone, Copy)]
+pub enum Act {
+    /// It ends as it is told.
+    Ends,
+    /// It sets its own flag, and ends well if it sees those of the nodes from the first to the last.
+    Meets(usize, usize),
+    /// It ends well if it sees its own flag, and is the only job at work.
+    Waits,
+}
+
+/// How a job ends: well, or not.
+#[derive(Drop)]
+pub struct Ends {
+    pub well: Outcome,
+    pub badly: Outcome,
+}
+
+/// A job of a node.
+#[derive(Drop)]
+pub struct Actor {
+    pub(crate) act: Act,
+    pub(crate) node: usize,
+    pub(crate) board: Arc<Board>,
+    pub(crate) pulls: u16,
+    // whether it has not said yet that there is a dynamic test
+    pub(crate) fresh: bool,
+    // none once it was run
+    pub(crate) ends: Option<Ends>,
+}
+
+/// Whether the flags of the nodes from the first to the last are set.
+fn are_set(board: &Board, first: usize, last: usize) -> bool {
+    for node in first..=last {
+        if !board.is_set(node) {
+            return false;
+        }
+    }
+    true
+}
+
+/// Looks for the flags of these nodes, and says whether it saw all of them set.
+fn sees(board: &Board, first: usize, last: usize) -> bool {
+    for _turn in 0..MOST_TURNS {
+        if are_set(board, first, last) {
+            return true;
+        }
+        spin_loop();
+    }
+    false
+}
+
+impl Actor {
+    /// Does what it is to do, and says whether it went well.
+    fn does(&self) -> bool {
+        match self.act {
+            Act::Ends => true,
+            Act::Meets(first, last) => {
+                self.board.set(self.node);
+                sees(&self.board, first, last)
+            }
+            Act::Waits => {
+                let is_first = self.board.begin() == 0;
+                let has_seen = sees(&self.board, self.node, self.node);
+                self.board.end();
+                is_first && has_seen
+            }
+        }
+    }
+}
+
+impl Job for Actor {
+    ghost answers = { replies_left };
+
+    fn next(&mut self) -> Pull {
+        self.board.ask();
+        if self.pulls == 0 {
+            return Pull::End;
+        }
+        self.pulls -= 1;
+        self.fresh = false;
+        Pull::More
+    }
+
+    #[tactic(auto, using(crate::proofs::Replying::ends_well, crate::proofs::Replying::ends_badly))]
+    fn run(&mut self) -> Outcome {
+        let is_fresh = self.fresh;
+        let fails = is_fresh && !self.does();
+        match self.ends.take() {
+            Some(ends) => {
+                let Ends { well, badly } = ends;
+                if fails { badly } else { well }
+            }
+            None => Outcome {
+                status: Status::Failed,
+                text: Text::empty(),
+            },
+        }
+    }
+}

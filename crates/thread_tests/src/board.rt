@@ -1,0 +1,62 @@
+//! What the jobs and the listener of a run share.
+
+use std::alloc::{AllocError, Global};
+use std::sync::atomic::{AtomicBool, AtomicU64, Ordering};
+
+/// A flag for each of the first nodes, how many jobs are at work, and how often a job was asked for a dynamic test.
+#[derive(Drop)]
+pub struct Board {
+    flags: Vec<AtomicBool>,
+    at_work: AtomicU64,
+    asked: AtomicU64,
+}
+
+impl Board {
+    /// A board with so many flags, none of which is set.
+    pub fn new(alloc: Global, flags: usize) -> Result<Board, AllocError> {
+        let mut board = Board {
+            flags: Vec::new(alloc),
+            at_work: AtomicU64::new(0),
+            asked: AtomicU64::new(0),
+        };
+        for _flag in 0..flags {
+            board.flags.push(AtomicBool::new(false))?;
+        }
+        Ok(board)
+    }
+
+    /// Sets the flag of a node, if it has one.
+    pub fn set(&self, node: usize) {
+        if let Some(flag) = self.flags.get(node) {
+            flag.store(true, Ordering::SeqCst);
+        }
+    }
+
+    /// Whether the flag of a node is set.
+    pub fn is_set(&self, node: usize) -> bool {
+        match self.flags.get(node) {
+            Some(flag) => flag.load(Ordering::SeqCst),
+            None => false,
+        }
+    }
+
+    /// One job more is at work; how many there were before.
+    pub(crate) fn begin(&self) -> u64 {
+        self.at_work.fetch_add(1, Ordering::SeqCst)
+    }
+
+    /// One job less is at work.
+    pub(crate) fn end(&self) {
+        self.at_work.fetch_sub(1, Ordering::SeqCst);
+    }
+
+    /// A job was asked for a dynamic test once more.
+    pub(crate) fn ask(&self) {
+        self.asked.fetch_add(1, Ordering::SeqCst);
+    }
+
+    /// How often jobs were asked for a dynamic test.
+    pub fn asked(&self) -> u64 {
+        self.asked.load(Ordering::SeqCst)
+    }
+}

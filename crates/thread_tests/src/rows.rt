@@ -1,0 +1,127 @@
+//! Runs whose events stand in one order, whoever takes the nodes.
+
+use crate::acting::Act;
+use crate::running::run_of_suite;
+use std::alloc::Global;
+use std::sync::Wait;
+use std::test::Fail;
+use std::thread::Threads;
+
+/// What is to happen, and below it the suite: nothing; a test; a class whose body fails, and the same before an after-body; a
+/// disabled class; a test that fails; a factory, one that asks for too many dynamic tests, and one that does so without end;
+/// nodes below one that writes; a run that fails fast; an after-body that fails.
+const ROWS: &str = "+0 -0 unused asked 0
+==
++0 +1 +2 +3 -3 -2 -1 -0 unused asked 0
+engine e
+  class a.B
+    test t() pass
+==
++0 +1 +2 -2! -1 -0 unused 3 4 asked 0
+engine e
+  class a.B fail boom
+    test t() pass
+    test u() pass
+==
++0 +1 +2 -2! -1 -0 unused 3 4 8194 asked 0
+engine e
+  class a.B fail boom
+    test t() pass
+    test u() pass
+    after pass
+==
++0 +1 ~2 -1 -0 unused 3 asked 0
+engine e
+  class a.B disabled later
+    test t() fail x
+==
++0 +1 +2 +3 -3 +4 -4! -2 -1 -0 unused asked 0
+engine e
+  class a.B
+    test t() pass
+    test u() fail no
+==
++0 +1 +2 +3 *4 +4 -4 *5 +5 -5 -3 -2 -1 -0 unused 6 asked 3
+engine e
+  class a.B
+    factory f() pulls=2 pass
+      dyn one pass
+      dyn two pass
+      dyn three pass
+==
++0 +1 +2 +3 *4 +4 -4 *5 +5 -5 *6 +6 -6 -3! -2 -1 -0 unused asked 4
+engine e
+  class a.B
+    factory f() pulls=4 pass
+      dyn one pass
+      dyn two pass
+      dyn three pass
+==
++0 +1 +2 +3 *4 +4 -4 *5 +5 -5 *6 +6 -6 -3! -2 -1 -0 unused asked 4
+engine e
+  class a.B
+    factory f() pulls=4096 pass
+      dyn one pass
+      dyn two pass
+      dyn three pass
+==
++0 +1 +2 +3 -3 +4 -4 -2 -1 -0 unused asked 0
+property junit.jupiter.execution.parallel.enabled=true
+property junit.jupiter.execution.parallel.mode.default=concurrent
+engine e
+  class a.B lock=log:r lock=db:r
+    test t() lock=db:rw pass
+    test u() pass
+==
+fail-fast +0 +1 +2 +3 -3! ~4 -2 -1 -0 unused 4 asked 0
+engine e
+  class a.B
+    test t() fail x
+    test u() pass
+==
++0 +1 +2 +3 -3 -2! -1 -0 unused asked 0
+engine e
+  class a.B
+    test t() pass
+    after fail late
+";
+
+/// Whether this row's suite, run by so many workers, does what stands in its first line.
+fn goes_as_wanted<R: Threads + Wait + Sync>(
+    rt: &R,
+    alloc: Global,
+    row: &str,
+    workers: u32,
+) -> Result<bool, Fail> {
+    let (wanted, suite) = row.split_once('\n').unwrap_or((row, ""));
+    let (fail_fast, wanted) = match wanted.strip_prefix("fail-fast ") {
+        Some(rest) => (true, rest),
+        None => (false, wanted),
+    };
+    let said = run_of_suite(rt, alloc, suite, fail_fast, Act::Ends, workers)?;
+    Ok(said.as_str() == wanted)
+}
+
+/// Whether all rows do so, by so many workers.
+fn all_go_as_wanted<R: Threads + Wait + Sync>(
+    rt: &R,
+    alloc: Global,
+    workers: u32,
+) -> Result<bool, Fail> {
+    for row in ROWS.split("==\n") {
+        if !goes_as_wanted(rt, alloc, row, workers)? {
+            return Ok(false);
+        }
+    }
+    Ok(true)
+}
+
+#[test]
+fn runs_go_alike_whatever_the_number_of_workers(rt: HostRuntime) -> Result<(), Fail> {
+    for _round in 0..2 {
+        assert!(rt; all_go_as_wanted(&rt, rt.alloc(), 1)?);
+        assert!(rt; all_go_as_wanted(&rt, rt.alloc(), 2)?);
+        assert!(rt; all_go_as_wanted(&rt, rt.alloc(), 4)?);
+    }
+    Ok(())
+}

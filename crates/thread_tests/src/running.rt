@@ -1,0 +1,210 @@
+//! Suites are run on threads, and what happened is said in one line.
+
+ghost use Rattle.std.specs.Prelude.{◌+◌, ◌≤◌, length, vec_capacity};
+ghost use Rattle.thread_tests.specs.Acting.{replies_left};
+ghost use Rattle.worker_pool.specs.Premises.{MayAnswer};
+ghost use Rattle.worker_pool.specs.Reports.{run_of};
+
+use crate::acting::{Act, Actor};
+use crate::board::Board;
+use crate::casting::cast;
+use config_params::Settings;
+use exec_mode::modes;
+use listeners::{Audience, Listener};
+use plan_events::{Event, EventKind, Status};
+use resource_locks::Plan;
+use run_table::Jobs;
+use std::alloc::{AllocError, Global};
+use std::sync::{Arc, Wait};
+use std::test::Fail;
+use std::thread::Threads;
+use suite_text::{Script, Suite};
+use worker_pool::{Report, RunFault, run_plan};
+
+/// More nodes than a plan of these tests has.
+const FLAGS: usize = 16;
+
+/// Keeps events, and sets the flag of each node that starts.
+#[derive(Drop)]
+pub(crate) struct Watcher {
+    pub(crate) events: Vec<Event>,
+    pub(crate) room: usize,
+    pub(crate) board: Arc<Board>,
+    pub(crate) ghost has_room: { length events.items + room ≤ vec_capacity events },
+}
+
+impl Listener for Watcher {
+    ghost got = { λ w. w.events.items };
+
+    ghost room = { λ w. w.room };
+
+    fn prepare(&mut self, plan: &Plan) -> Result<(), AllocError> {
+        self.events.reserve(plan.most_events())?;
+        self.room = self.room.max(plan.most_events());
+        Ok(())
+    }
+
+    fn told(&mut self, event: Event, _text: Option<&str>) {
+        self.events.push(event).unwrap();
+        self.room -= 1;
+        if event.kind == EventKind::Started {
+            self.board.set(event.node.index());
+        }
+    }
+
+    fn got(&self) -> &[Event] {
+        self.events.as_slice()
+    }
+
+    fn room(&self) -> usize {
+        self.room
+    }
+}
+
+/// A suite's plan, and the scripts of its bodies. A factory that asks for as many dynamic tests as a suite can say asks for as
+/// many as there are numbers.
+pub(crate) fn staged(
+    alloc: Global,
+    text: &str,
+    fail_fast: bool,
+) -> Result<(Plan, Vec<Script>), Fail> {
+    let Suite {
+        tree,
+        mut scripts,
+        properties,
+    } = Suite::parse(alloc, text)?;
+    for script in scripts.iter_mut() {
+        if script.reply.pulls == 4096 {
+            script.reply.pulls = u16::MAX;
+        }
+    }
+    let settings = Settings::read(&properties, 4)?;
+    let modes = modes(alloc, &tree, &settings)?;
+    let plan = Plan::of(alloc, tree, modes)?;
+    Ok((plan.with_fail_fast(fail_fast), scripts))
+}
+
+/// An event by its sign and its node, with a mark where that did not end well.
+fn push_event(text: &mut String, event: &Event) -> Result<(), AllocError> {
+    let sign = match event.kind {
+        EventKind::Started => '+',
+        EventKind::Finished => '-',
+        EventKind::Skipped => '~',
+        EventKind::Registered => '*',
+    };
+    let mark = match event.status {
+        Some(Status::Failed) => "!",
+        Some(Status::Aborted) => "?",
+        _ => "",
+    };
+    write!(text, "{sign}{}{mark} ", event.node.index())
+}
+
+/// The events, whoever published them.
+pub(crate) fn push_events(text: &mut String, events: &[Event]) -> Result<(), AllocError> {
+    for event in events {
+        push_event(text, event)?;
+    }
+    Ok(())
+}
+
+/// The numbers of these jobs, from the least.
+fn push_jobs(alloc: Global, text: &mut String, jobs: &Jobs<Actor>) -> Result<(), AllocError> {
+    let mut numbers = Vec::new(alloc);
+    for (number, _) in jobs.iter() {
+        numbers.push(number.index())?;
+    }
+    numbers.sort()?;
+    for number in numbers.iter() {
+        write!(text, "{number} ")?;
+    }
+    Ok(())
+}
+
+/// What was reported, and how often jobs were asked for a dynamic test.
+fn said(
+    alloc: Global,
+    ran: &Result<Report<Actor>, RunFault<Actor>>,
+    board: &Board,
+) -> Result<String, AllocError> {
+    let mut text = String::new(alloc);
+    match ran {
+        Ok(report) => {
+            push_events(&mut text, report.events.as_slice())?;
+            text.push_str("unused ")?;
+            push_jobs(alloc, &mut text, &report.unused_jobs)?;
+            write!(text, "asked {}", board.asked())?;
+        }
+        Err(_) => text.push_str("refused")?,
+    }
+    Ok(text)
+}
+
+/// Runs a plan before this audience.
+fn run_before<R: Threads + Wait + Sync>(
+    rt: &R,
+    alloc: Global,
+    plan: Plan,
+    jobs: Jobs<Actor>,
+    workers: u32,
+    mut audience: Audience,
+    board: &Board,
+) -> Result<String, AllocError>
+    requires { MayAnswer replies_left (run_of plan workers jobs.items) }
+{
+    if !audience.fresh() {
+        return Ok(String::new(alloc));
+    }
+    let ran = run_plan(rt, alloc, plan, jobs, workers, &mut audience);
+    said(alloc, &ran, board)
+}
+
+/// Runs a plan before this watcher.
+fn run_watched<R: Threads + Wait + Sync>(
+    rt: &R,
+    alloc: Global,
+    plan: Plan,
+    jobs: Jobs<Actor>,
+    workers: u32,
+    watcher: Watcher,
+    board: &Board,
+) -> Result<String, AllocError>
+    requires { MayAnswer replies_left (run_of plan workers jobs.items) }
+{
+    let mut listeners: Vec<Box<dyn Listener>> = Vec::new(alloc);
+    listeners.push(Box::new(alloc, watcher)?)?;
+    match Audience::new(listeners) {
+        Ok(audience) => run_before(rt, alloc, plan, jobs, workers, audience, board),
+        Err(_) => Ok(String::new(alloc)),
+    }
+}
+
+/// The watcher of a run. The flags of jobs that meet are set by themselves alone.
+pub(crate) fn watcher(alloc: Global, act: Act, board: &Arc<Board>) -> Result<Watcher, AllocError> {
+    let board = match act {
+        Act::Waits => Arc::try_clone(board)?,
+        Act::Ends | Act::Meets(_, _) => Arc::new(alloc, Board::new(alloc, FLAGS)?)?,
+    };
+    Ok(Watcher {
+        events: Vec::new(alloc),
+        room: 0,
+        board,
+    })
+}
+
+/// What happens in a run of this suite by so many workers, all jobs of which do this: the events, the numbers of the jobs that
+/// were not used, and how often jobs were asked for a dynamic test.
+pub(crate) fn run_of_suite<R: Threads + Wait + Sync>(
+    rt: &R,
+    alloc: Global,
+    text: &str,
+    fail_fast: bool,
+    act: Act,
+    workers: u32,
+) -> Result<String, Fail> {
+    let (plan, scripts) = staged(alloc, text, fail_fast)?;
+    let board = Arc::new(alloc, Board::new(alloc, FLAGS)?)?;
+    let watcher = watcher(alloc, act, &board)?;
+    let jobs = cast(alloc, &plan, scripts.as_slice(), act, &board)?;
+    Ok(run_watched(rt, alloc, plan, jobs, workers, watcher, &board)?)
+}
