@@ -180,7 +180,11 @@ fn run_watched<R: Threads + Wait + Sync>(
 }
 
 /// The watcher of a run. The flags of jobs that meet are set by themselves alone.
-pub(crate) fn watcher(alloc: Global, act: Act, board: &Arc<Board>) -> Result<Watcher, AllocError> {
+pub(crate) fn one_watcher(
+    alloc: Global,
+    act: Act,
+    board: &Arc<Board>,
+) -> Result<Watcher, AllocError> {
     let board = match act {
         Act::Waits => Arc::try_clone(board)?,
         Act::Ends | Act::Meets(_, _) => Arc::new(alloc, Board::new(alloc, FLAGS)?)?,
@@ -204,7 +208,7 @@ pub(crate) fn run_of_suite<R: Threads + Wait + Sync>(
 ) -> Result<String, Fail> {
     let (plan, scripts) = staged(alloc, text, fail_fast)?;
     let board = Arc::new(alloc, Board::new(alloc, FLAGS)?)?;
-    let watcher = watcher(alloc, act, &board)?;
+    let watcher = one_watcher(alloc, act, &board)?;
     let jobs = cast(alloc, &plan, scripts.as_slice(), act, &board)?;
     Ok(run_watched(rt, alloc, plan, jobs, workers, watcher, &board)?)
 }
