@@ -62,6 +62,7 @@ impl<B: Job> RunTable<B> {
             table,
             plan,
             turns: _,
+            most: _,
         } = self;
         let DispatcherSeat {
             seat,

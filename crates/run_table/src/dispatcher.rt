@@ -69,7 +69,7 @@ impl<B: Job> DispatcherSeat<B> {
         ensures untaken { IfSome result (λ e. e.kind ≡ Finished → (made_of (dispatcher self.old.seat.me.0).slots e.node ≡ Unmoved) × (made_of (dispatcher self.old.seat.me.0).slots (after_slot self.old.seat.me.0.about.plan e.node) ≡ Unmoved)) }
         ensures none { IfNone result (self.new.seat.me ≡ self.old.seat.me) }
     {
-        if self.next >= table.plan.most_events() {
+        if self.next >= table.most {
             return None;
         }
         let word = table

@@ -113,9 +113,15 @@ fn opened<B: Job>(
     ensures jobs { IfErr result (λ refused. IsPermutation told.jobs.value.items refused.jobs.items) }
 {
     let workers = told.workers as u8;
+    let most = plan.most_events();
     match Table::new(alloc, words.as_slice(), slots, &told) {
         Ok((table, seat)) => Ok((
-            RunTable { table, plan, turns },
+            RunTable {
+                table,
+                plan,
+                turns,
+                most,
+            },
             DispatcherSeat {
                 seat,
                 dealt: 0,

@@ -20,7 +20,10 @@ pub struct RunTable<B: Job> {
     pub(crate) table: Table<Slot<B>, View<B>, Told<B>, Law, Global>,
     pub(crate) plan: Plan,
     pub(crate) turns: Turns,
+    /// The most events that a run of the plan has: asked for at each event, and dear to count.
+    pub(crate) most: usize,
     pub ghost fitting: { IsFitting table plan turns },
+    pub ghost most_is: { most ≡ most_events plan },
 }
 
 impl<B: Job> RunTable<B> {

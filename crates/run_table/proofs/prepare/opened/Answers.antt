@@ -25,6 +25,7 @@ invariant_of-result g c =
         are_turns = c.requires.turns;
         jobs = λ k number low at. ap (λ x. is_some (job_with (about_of x).jobs number)) ok.5 ∙ has_job c.args.plan c.args.told.jobs.value.items c.requires.all k number low at;
       };
+      most_is = c.most_events-most.ensures;
     }
 
 pub invariant_of-result-in-Ok-clause-at_desk : goal.invariant_of-result-in-Ok-clause-at_desk

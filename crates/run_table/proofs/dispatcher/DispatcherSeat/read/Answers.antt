@@ -19,7 +19,7 @@ load-word-requires g c =
     let desk = c.args.self.now.at_desk in
     let fit = c.args.table.now.fitting in (
       c.requires.same,
-      omega (arith, fit.words, c.event_at.ensures, c.if-self-most_events.false, c.most_events.ensures),
+      omega (arith, fit.words, c.event_at.ensures, c.if-self-table.false, c.args.table.now.most_is),
       plain_asks _ _ _ _ _ read_tells _ _ (c.event_at.ensures ∙ (λ k. event_place (fit.plan k) (sym desk.next_is k)))
           (λ told. read_allows told _ _ _ _ _ desk.place desk.no_slot),
     )
