@@ -63,13 +63,13 @@ of_settings settings.BadFactor = codes "the factor of workers for a processor is
 abbrev pub sentence_of : LaunchFault → List ℕ
 sentence_of launches.NoMemory = codes "there was not enough memory"
 sentence_of (launches.Suite fault) = of_suite fault
-sentence_of launches.BadWords = codes "the words of the command line ask for no run"
+sentence_of launches.BadWords = codes "nothing was run"
 sentence_of (launches.BadStep place) = codes "a word of the replay names no step"
 sentence_of (launches.BadSelector place) = codes "a selector cannot be read"
 sentence_of (launches.BadTags fault) = of_tags fault
 sentence_of (launches.BadPair fault) = of_params fault
 sentence_of (launches.BadSettings fault) = of_settings fault
-sentence_of (launches.NothingMatches place) = codes "a selector covers nothing of the suite"
+sentence_of (launches.NothingMatches place) = codes "a selector matches nothing in the suite"
 sentence_of launches.TooManyKeys = codes "the nodes that are to run declare too many keys of locks"
 sentence_of launches.TooManyWorkers = codes "the configuration asks for too many workers"
 sentence_of launches.NoWorker = codes "no thread could be started"

@@ -104,8 +104,13 @@ fn trouble_of(alloc: Global, front: &str, word: &str) -> Option<&'static str> {
         };
     }
     match key_of(word) {
-        "spin" => trouble_of_number(front, word, 1_000_000, "spin=N has an N from 0 to 1000000"),
-        "pulls" => trouble_of_number(front, word, 4_096, "pulls=N has an N from 0 to 4096"),
+        "spin" => trouble_of_number(
+            front,
+            word,
+            1_000_000,
+            "spin=N has an N from 0 to 1,000,000",
+        ),
+        "pulls" => trouble_of_number(front, word, 4_096, "pulls=N has an N from 0 to 4,096"),
         "lock" => trouble_of_lock(value_of(word)),
         "@concurrent" | "@same_thread" => {
             if is_among(front, "@concurrent") || is_among(front, "@same_thread") {

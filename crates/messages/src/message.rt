@@ -71,7 +71,7 @@ fn push_details(
             "A run needs one thread besides the program's own: let other programs end, or raise the limits of processes and of memory.\n",
         ),
         LaunchFault::Reading => {
-            text.push_str("The suite is read from there: give it as in `console < FILE`.\n")
+            text.push_str("The suite is read from there: give it as in `./console < FILE`.\n")
         }
         LaunchFault::Writing(fault) => {
             let sent = fault.sent;

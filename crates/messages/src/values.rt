@@ -63,7 +63,7 @@ pub(crate) fn push_words(
     let Some(number) = given.processors else {
         return Ok(());
     };
-    text.push_str("--processors is a number from 1 to 1024\n")?;
+    text.push_str("--processors is a number from 1 to 1,024\n")?;
     push_option(alloc, text, "--processors", number, 0)
 }
 
