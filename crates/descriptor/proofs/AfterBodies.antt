@@ -9,7 +9,7 @@ use Rattle.unique_id.specs.Spelling.{spelling}
 use Rattle.descriptor.specs.declared.node.Node.{Node}
 use Rattle.descriptor.specs.Bodies.{is_body, takes_after, may_get_after_or, may_get_after_at, given_after, given_after_at, with_after}
 use Rattle.descriptor.specs.Declarations.{DeclaresNothing}
-use Rattle.descriptor.specs.Fields.{IsKept}
+use Rattle.descriptor.specs.Inside.Fields.{IsKept}
 use Rattle.descriptor.specs.Kinds.{is_container}
 use Rattle.descriptor.specs.Limits.{is_over_limit}
 use Rattle.descriptor.specs.Nodes.{Nodes, IsTree, IsChild, Below, child, under, MayTake, size, node_at, kind_or, role_or, mode_or, locks_or, isolated_or, body_or, after_or, text_or, body_of, after_of, mode_of, locks_of, is_isolated_at, is_leaf_at, is_factory_at}

@@ -5,7 +5,7 @@ use Rattle.std.proofs.lemmas.List.{map-set, map-append}
 use Rattle.std.proofs.lemmas.Grind.{common_steps}
 use Rattle.descriptor.specs.declared.node.Node.{Node}
 use Rattle.descriptor.specs.Nodes.{Nodes, IsTree, size, children_of, depth_of, numbers_where, steps_up, appended}
-use Rattle.descriptor.specs.Fields.{IsKept}
+use Rattle.descriptor.specs.Inside.Fields.{IsKept}
 
 module _ {X : Type 0} where
   pub length_more : (xs : List X) (x : X) → length (xs ++ x ∷ []) ≡ suc (length xs)

@@ -1,9 +1,7 @@
 -- The definitions that contracts cite.
 pub mod Bodies
-pub mod BuilderFields
 pub mod Children
 pub mod Declarations
-pub mod Fields
 pub mod Kinds
 pub mod Limits
 pub mod Locks
@@ -12,3 +10,4 @@ pub mod PlainNodes
 pub mod Pruned
 pub mod Refusals
 pub mod Roles
+pub mod Inside

@@ -10,7 +10,7 @@ use Rattle.plan_events.specs.declared.event.Event.{Event}
 use Rattle.plan_events.specs.declared.outcome.Reply.{Reply}
 use Rattle.resource_locks.specs.Plans.{PlanParts}
 use Rattle.event_history.specs.Plans.{IsElder, is_spare_of, spare_count, rank}
-use Rattle.event_history.specs.Following.{registered_in}
+use Rattle.event_history.specs.Inside.Following.{registered_in}
 use Rattle.event_history.specs.Places.{StandsBefore, has}
 use Rattle.event_history.specs.History.{IsLegal, registered_before}
 use Rattle.event_history.proofs.Places.{has_stands, stands_has, before_more}

@@ -16,7 +16,7 @@ use Rattle.event_history.specs.Plans.{IsElder, pulls_job, IsPlanTree}
 use Rattle.event_history.specs.Places.{has}
 use Rattle.event_history.specs.Results.{Jobs, NoJob, Alone, Pulled, Around, jobs_of, HasReply, HasAnswer, EndsEarly, EndsLast, Ends, too_many}
 use Rattle.event_history.specs.History.{IsLegal}
-use Rattle.event_history.specs.Following.{has_failed, has_failed_by, registered_in, IsParentOpen, IsUnopened, MayFinish, ChildrenOk, ByKind, MayFollow}
+use Rattle.event_history.specs.Inside.Following.{has_failed, has_failed_by, registered_in, IsParentOpen, IsUnopened, MayFinish, ChildrenOk, ByKind, MayFollow}
 use Rattle.event_history.proofs.Trees.{is_child_test, test_is_child}
 use Rattle.event_history.proofs.Snoc.{legal_snoc, legal_nil}
 use Rattle.event_history.proofs.Front.{legal_front}

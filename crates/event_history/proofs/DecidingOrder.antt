@@ -11,7 +11,7 @@ use Rattle.event_history.specs.Plans.{is_same, IsPlanTree}
 use Rattle.event_history.specs.Places.{StandsBefore, is_of, has}
 use Rattle.event_history.specs.History.{IsLegal}
 use Rattle.event_history.specs.Order.{goes_first, is_opening, IsInOrder}
-use Rattle.event_history.specs.Following.{started_by, MayFollow, MayGoNext}
+use Rattle.event_history.specs.Inside.Following.{started_by, MayFollow, MayGoNext}
 use Rattle.event_history.proofs.Places.{get_next, get_back, has_at, before_front, found, is_of-from}
 use Rattle.event_history.proofs.Snoc.{legal_snoc, legal_nil}
 use Rattle.event_history.proofs.OrderSnoc.{order_snoc, order_nil}

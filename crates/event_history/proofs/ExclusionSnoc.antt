@@ -7,7 +7,7 @@ use Rattle.plan_events.specs.declared.event.EventKind.TheVariants.{Started, Fini
 use Rattle.plan_events.specs.declared.event.Event.{Event}
 use Rattle.resource_locks.specs.Plans.{PlanParts}
 use Rattle.event_history.specs.Places.{StandsAt, StandsBefore, has}
-use Rattle.event_history.specs.Following.{MayHold}
+use Rattle.event_history.specs.Inside.Following.{MayHold}
 use Rattle.event_history.specs.Exclusion.{Excludes, HeldConflict, IsExclusive}
 use Rattle.event_history.proofs.Places.{has_at, has_before, before_later, before_front, stands_later, stands_within, stands_snoc}
 

@@ -10,7 +10,7 @@ use Rattle.resource_locks.specs.Plans.{PlanParts}
 use Rattle.event_history.specs.Plans.{IsPlanTree}
 use Rattle.event_history.specs.Places.{StandsAt, StandsBefore, IsSettledAt, has}
 use Rattle.event_history.specs.History.{IsStopped, StoppedIs, IsUnregistered, IsLegal, IsBarred}
-use Rattle.event_history.specs.Following.{IsParentOpen}
+use Rattle.event_history.specs.Inside.Following.{IsParentOpen}
 use Rattle.event_history.proofs.Places.{has_stands, has_at, has_before, stands_within, before_more, settled_more}
 
 module _ (p : PlanParts) (replies : ℕ → List Reply) (workers : ℕ) (h : List Event) (legal : IsLegal p replies workers h) where

@@ -9,7 +9,7 @@ use Rattle.resource_locks.specs.Plans.{PlanParts}
 use Rattle.event_history.specs.Plans.{IsElder, is_same}
 use Rattle.event_history.specs.Places.{StandsAt, IsSettledAt, has}
 use Rattle.event_history.specs.Order.{goes_first, is_opening, IsInOrder}
-use Rattle.event_history.specs.Following.{started_by, MayGoNext}
+use Rattle.event_history.specs.Inside.Following.{started_by, MayGoNext}
 use Rattle.event_history.proofs.Places.{has_stands, has_at}
 use Rattle.event_history.proofs.Trees.{is_child_test, test_is_child}
 

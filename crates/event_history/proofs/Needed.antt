@@ -13,7 +13,7 @@ use Rattle.resource_locks.specs.Plans.{PlanParts}
 use Rattle.event_history.specs.Plans.{is_spare_of}
 use Rattle.event_history.specs.Results.{jobs_of, Ends}
 use Rattle.event_history.specs.History.{StoppedIs, registered_before, IsLegal}
-use Rattle.event_history.specs.Following.{has_failed_by, registered_in, IsParentOpen, MayFinish, ChildrenOk, ByKind, MayFollow}
+use Rattle.event_history.specs.Inside.Following.{has_failed_by, registered_in, IsParentOpen, MayFinish, ChildrenOk, ByKind, MayFollow}
 use Rattle.event_history.proofs.Places.{get_front, get_next, get_back, has_stands, has_at, stands_within, stands_later, before_front, finds, found}
 use Rattle.event_history.proofs.Snoc.{registered_front}
 

@@ -12,7 +12,7 @@ use Rattle.event_history.specs.Plans.{IsElder, is_same, IsPlanTree}
 use Rattle.event_history.specs.Places.{IsSettledAt, is_of, has}
 use Rattle.event_history.specs.History.{IsLegal}
 use Rattle.event_history.specs.Order.{goes_first, is_opening, IsInOrder}
-use Rattle.event_history.specs.Following.{MayFollow, MayFinish, ByKind, MayGoNext}
+use Rattle.event_history.specs.Inside.Following.{MayFollow, MayFinish, ByKind, MayGoNext}
 use Rattle.event_history.proofs.Places.{get_snoc, has_stands, has_at, has_before, settled_later, settled_more, finds, is_of-true}
 use Rattle.event_history.proofs.Snoc.{may_fresh}
 

@@ -4,7 +4,7 @@ use Rattle.plan_events.specs.declared.event.Event.{Event}
 use Rattle.plan_events.specs.declared.outcome.Reply.{Reply}
 use Rattle.resource_locks.specs.Plans.{PlanParts}
 use Rattle.event_history.specs.Plans.{IsPlanTree}
-use Rattle.event_history.specs.Following.{MayBeDrawn}
+use Rattle.event_history.specs.Inside.Following.{MayBeDrawn}
 use Rattle.event_history.specs.Published.{IsPublished}
 use Rattle.event_history.proofs.Snoc.{legal_snoc, legal_nil}
 use Rattle.event_history.proofs.OrderSnoc.{order_snoc, order_nil}

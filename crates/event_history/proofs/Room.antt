@@ -5,7 +5,7 @@ use Rattle.plan_events.specs.declared.outcome.Reply.{Reply}
 use Rattle.resource_locks.specs.Plans.{PlanParts, most_events}
 use Rattle.event_history.specs.Plans.{IsPlanTree}
 use Rattle.event_history.specs.History.{IsLegal}
-use Rattle.event_history.specs.Following.{MayFollow}
+use Rattle.event_history.specs.Inside.Following.{MayFollow}
 use Rattle.event_history.proofs.Snoc.{legal_snoc}
 use Rattle.event_history.proofs.Few.{legal_few}
 

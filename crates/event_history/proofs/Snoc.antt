@@ -16,7 +16,7 @@ use Rattle.resource_locks.specs.Plans.{PlanParts}
 use Rattle.event_history.specs.Plans.{IsElder, is_spare_of, pulls_job, Holder, Maker, sort_of, IsPlanTree}
 use Rattle.event_history.specs.Results.{jobs_of, Ends}
 use Rattle.event_history.specs.History.{IsStopped, StoppedIs, IsUnregistered, registered_before, HasResult, IsLegal}
-use Rattle.event_history.specs.Following.{has_failed, has_failed_by, registered_in, MayStart, MaySkip, MayRegister, MayFinish, ChildrenOk, ByKind, MayFollow}
+use Rattle.event_history.specs.Inside.Following.{has_failed, has_failed_by, registered_in, MayStart, MaySkip, MayRegister, MayFinish, ChildrenOk, ByKind, MayFollow}
 use Rattle.event_history.proofs.Places.{get_snoc, get_front, get_next, has_stands, has_at, has_before, stands_within, before_later, settled_later, fails_later, before_front, stands_snoc, finds, found}
 use Rattle.event_history.proofs.Trees.{some_child}
 use Rattle.event_history.proofs.Ends.{early, last_has_child}

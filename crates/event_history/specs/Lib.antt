@@ -9,4 +9,4 @@ pub mod Apart
 pub mod Published
 pub mod Parts
 pub mod Expected
-pub mod Following
+pub mod Inside

@@ -15,7 +15,7 @@ use Rattle.listeners.specs.declared.node_places.Place.{Place}
 use Rattle.listeners.specs.declared.told.Told.{Told}
 use Rattle.listeners.specs.Counts.{place_of, outline_of, place_in, is_counted, is_found, was_found}
 use Rattle.listeners.specs.Results.{is_failure, has_failed, HasFailed}
-use Rattle.listeners.specs.Tallies.{TellsFailure}
+use Rattle.listeners.specs.Inside.Tallies.{TellsFailure}
 use Rattle.listeners.specs.Told.{status_of, all_told, told_at, ended}
 use Rattle.listeners.proofs.Places.{places_len}
 use Rattle.listeners.proofs.ToldMore.{told_get, told_each}

@@ -10,7 +10,7 @@ use Rattle.plan_events.specs.Texts.{TextParts}
 use Rattle.plan_events.specs.declared.event.Event.{Event}
 use Rattle.listeners.specs.declared.theme.Theme.{Theme}
 use Rattle.listeners.specs.declared.told.Told.{Told}
-use Rattle.listeners.specs.Drawings.{drawn_from}
+use Rattle.listeners.specs.Inside.Drawings.{drawn_from}
 use Rattle.listeners.specs.Told.{told_of, told_at, all_told, has_line}
 use Rattle.listeners.specs.TreeTexts.{Drawn, each_sibling, drawn_of, lines_below}
 use Rattle.listeners.specs.TreeSigns.{item}

@@ -29,7 +29,7 @@ pub struct Results<'a> {
 
 impl<'a> Model for Results<'a> {
     ghost use Rattle.listeners.specs.Results.{ResultParts};
-    ghost use Rattle.listeners.specs.ResultFields.{results_of, AreSound};
+    ghost use Rattle.listeners.specs.Inside.ResultFields.{results_of, AreSound};
 
     ghost Value = { ResultParts };
 

@@ -23,7 +23,7 @@ impl Model for Summary {
 
     ghost Value = { SummaryParts };
 
-    ghost use Rattle.listeners.specs.SummaryFields.{parts_of, IsSound};
+    ghost use Rattle.listeners.specs.Inside.SummaryFields.{parts_of, IsSound};
 
     ghost view = { parts_of };
 

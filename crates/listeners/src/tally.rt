@@ -23,7 +23,7 @@ pub(crate) struct Tally {
 }
 
 impl Model for Tally {
-    ghost use Rattle.listeners.specs.Tallies.{TallyParts, tally_of, IsTally};
+    ghost use Rattle.listeners.specs.Inside.Tallies.{TallyParts, tally_of, IsTally};
 
     ghost Value = { TallyParts };
 

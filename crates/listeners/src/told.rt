@@ -5,7 +5,7 @@ ghost use Rattle.std.specs.Option.{option_or};
 ghost use Rattle.plan_events.specs.declared.event.Event.{Event};
 ghost use Rattle.plan_events.specs.Statuses.{is_failed};
 ghost use Rattle.listeners.specs.Told.{all_told, is_start, is_skip, is_registration, status_by, has_line, ended};
-ghost use Rattle.listeners.specs.Tallies.{TellsFailure};
+ghost use Rattle.listeners.specs.Inside.Tallies.{TellsFailure};
 
 use plan_events::{Event, EventKind, Status};
 use std::alloc::{AllocError, Global};

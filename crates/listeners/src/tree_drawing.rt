@@ -5,7 +5,7 @@ ghost use Rattle.descriptor.specs.Nodes.{size, IsTree};
 ghost use Rattle.plan_events.specs.Texts.{text_at};
 ghost use Rattle.listeners.specs.Feed.{text_or};
 ghost use Rattle.listeners.specs.Told.{told_at};
-ghost use Rattle.listeners.specs.Drawings.{drawn_by, drawn_from};
+ghost use Rattle.listeners.specs.Inside.Drawings.{drawn_by, drawn_from};
 ghost use Rattle.listeners.specs.TreeTexts.{end_of, ending, name_at, line, children_drawn, lines_below};
 
 use crate::feed::text_of;

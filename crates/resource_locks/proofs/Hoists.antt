@@ -13,7 +13,7 @@ use Rattle.resource_locks.specs.Hoisted.{IsHoisted, IsHeldFor, IsGuarded}
 use Rattle.resource_locks.specs.Held.{table, held, hoisted_mode, plan_of}
 use Rattle.resource_locks.specs.Keys.{keys_of}
 use Rattle.resource_locks.specs.Plans.{PlanParts, number_of, numbers_of}
-use Rattle.resource_locks.specs.PlanFields.{IsSound}
+use Rattle.resource_locks.specs.Inside.PlanFields.{IsSound}
 use Rattle.resource_locks.proofs.Walks.{table_len, table_at, table_past}
 use Rattle.resource_locks.proofs.Gathering.{gathered_set}
 use Rattle.resource_locks.proofs.Hoisted.{hoisted}

@@ -14,7 +14,7 @@ use Rattle.descriptor.specs.declared.lock.Lock.{Lock}
 use Rattle.descriptor.specs.declared.lock_mode.LockMode.{LockMode}
 use Rattle.resource_locks.specs.Wants.{mode_for, HasLock}
 use Rattle.resource_locks.specs.LockSets.{key_cmp, IsLockSet}
-use Rattle.resource_locks.specs.Places.{IsHere, IsBefore}
+use Rattle.resource_locks.specs.Inside.Places.{IsHere, IsBefore}
 use Rattle.resource_locks.proofs.SetLaws.{wants_exactly, not_less, not_greater}
 use Rattle.resource_locks.proofs.Wants.{has_wanted}
 

@@ -11,7 +11,7 @@ use Rattle.descriptor.specs.declared.mode.Mode.TheVariants.{Concurrent}
 use Rattle.resource_locks.specs.Wants.{HasLock}
 use Rattle.resource_locks.specs.LockSets.{IsLockSet}
 use Rattle.resource_locks.specs.Plans.{PlanParts, IsPlan, held_of, number_of, numbers_of, key_number, plain}
-use Rattle.resource_locks.specs.PlanFields.{IsSound}
+use Rattle.resource_locks.specs.Inside.PlanFields.{IsSound}
 
 -- one more set of nothing
 pub nothing_next : (n : ℕ) (v w : List (List Lock)) → v ≡ replicate n [] → w ≡ v ++ [] ∷ [] → w ≡ replicate (n + 1) []

@@ -9,7 +9,7 @@ use Rattle.descriptor.specs.declared.lock.Lock.{Lock}
 use Rattle.descriptor.specs.declared.lock_mode.LockMode.{LockMode}
 use Rattle.resource_locks.specs.Wants.{stronger}
 use Rattle.resource_locks.specs.LockSets.{key_cmp, put_by, put, join, IsLockSet}
-use Rattle.resource_locks.specs.Places.{IsEarlier, IsHere, IsBefore}
+use Rattle.resource_locks.specs.Inside.Places.{IsEarlier, IsHere, IsBefore}
 use Rattle.resource_locks.proofs.SetLaws.{put_set}
 
 later_earlier : (y : Lock) (s : List Lock) (key : List ℕ) (n : ℕ) → IsEarlier (y ∷ s) key (suc n) → IsEarlier s key n

@@ -4,7 +4,7 @@ ghost use Rattle.std.specs.Prelude.{◌≡◌, ◌↔◌, ◌||◌, [], List, Is
 ghost use Rattle.descriptor.specs.declared.lock.Lock.{Lock as LockValue};
 ghost use Rattle.resource_locks.specs.Conflicts.{AreInConflict};
 ghost use Rattle.resource_locks.specs.LockSets.{IsLockSet, put, join, of};
-ghost use Rattle.resource_locks.specs.Places.{IsHere, IsBefore};
+ghost use Rattle.resource_locks.specs.Inside.Places.{IsHere, IsBefore};
 ghost use Rattle.resource_locks.specs.Wants.{is_write, stronger, mode_for, writes, WantsBoth, WantSame};
 
 use descriptor::{Lock, LockMode};

@@ -35,7 +35,7 @@ pub struct Plan {
 
 impl Model for Plan {
     ghost use Rattle.std.specs.Prelude.{map};
-    ghost use Rattle.resource_locks.specs.PlanFields.{IsSound};
+    ghost use Rattle.resource_locks.specs.Inside.PlanFields.{IsSound};
     ghost use Rattle.resource_locks.specs.Plans.{PlanParts};
 
     ghost Value = { PlanParts };

@@ -22,7 +22,7 @@ use Rattle.table_rule.specs.Picture.{Ruled, opener}
 use Rattle.table_rule.specs.Words.{words_of}
 use Rattle.table_rule.proofs.Ruled.{rule_opens}
 use Rattle.run_table.specs.Prepared.{slot_of, goes_in, unused_after, job_in, jobs_from, IsMissing, IsLeastMissing, HasAllJobs}
-use Rattle.run_table.specs.Filling.{IsFilled, IsBare, IsLeastBare}
+use Rattle.run_table.specs.Inside.Filling.{IsFilled, IsBare, IsLeastBare}
 use Rattle.run_table.proofs.Filled.{slot_is, slot_found, no_job, one_more, other_slot, first_counts, others_same, unused_more}
 
 module _ {B : Type 0} where

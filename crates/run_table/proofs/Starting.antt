@@ -8,7 +8,7 @@ use Rattle.resource_locks.specs.Held.{table}
 use Rattle.resource_locks.specs.Plans.{PlanParts, most_events}
 use Rattle.scheduling.specs.declared.lock_word.LockWord.TheVariants.{Readers}
 use Rattle.scheduling.specs.Runs.{opening, first_status, first_counter}
-use Rattle.scheduling.specs.Start.{guard_and_children}
+use Rattle.scheduling.specs.Inside.Start.{guard_and_children}
 use Rattle.scheduling.proofs.Counters.{counters_are}
 use Rattle.scheduling.proofs.FirstState.{each_length}
 use Rattle.table_rule.specs.Words.{status_word, counter_word, lock_word, words_of, word_count}

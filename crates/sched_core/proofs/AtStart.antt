@@ -22,12 +22,12 @@ use Rattle.scheduling.proofs.FirstState.{opening_is}
 use Rattle.scheduling.proofs.Headline.{core_plan}
 use Rattle.scheduling.proofs.Placing.{opening_placed}
 use Rattle.scheduling.proofs.Counters.{counters_are}
-use Rattle.scheduling.specs.Invariant.{IsKept}
+use Rattle.scheduling.specs.Inside.Invariant.{IsKept}
 use Rattle.scheduling.specs.Shown.{IsPlaced}
 use Rattle.sched_core.specs.declared.machine.Machine.{Machine}
 use Rattle.sched_core.specs.Replies.{replies_of}
-use Rattle.sched_core.specs.Fields.{state_of, HasRoom, IsSound}
-use Rattle.scheduling.specs.Start.{guard_and_children, free_seat}
+use Rattle.sched_core.specs.Inside.Fields.{state_of, HasRoom, IsSound}
+use Rattle.scheduling.specs.Inside.Start.{guard_and_children, free_seat}
 
 statuses_are : (n : ℕ) → 0 < n → set (replicate n Hidden) 0 (Ready None) ≡ table first_status n
 statuses_are n above =

@@ -15,14 +15,14 @@ use Rattle.scheduling.specs.declared.task.Task.{Task}
 use Rattle.scheduling.specs.declared.task.Task.TheVariants.{Opens, Closes}
 use Rattle.scheduling.specs.declared.seat.Seat.{Seat}
 use Rattle.scheduling.specs.Choices.{event_of}
-use Rattle.scheduling.specs.Ranges.{InRange}
+use Rattle.scheduling.specs.Inside.Ranges.{InRange}
 use Rattle.scheduling.specs.Rows.{decided_seat, draw_row}
 use Rattle.scheduling.specs.Shown.{named}
 use Rattle.scheduling.specs.State.{State, subject}
 use Rattle.scheduling.proofs.Ranges.{ranges, ranges_decided, draw_room}
 use Rattle.sched_core.specs.declared.machine.Machine.{Machine}
-use Rattle.sched_core.specs.Bounds.{opening_place, closing_place, draws, HasPlace, InBounds}
-use Rattle.sched_core.specs.Fields.{state_of, IsSound}
+use Rattle.sched_core.specs.Inside.Bounds.{opening_place, closing_place, draws, HasPlace, InBounds}
+use Rattle.sched_core.specs.Inside.Fields.{state_of, IsSound}
 use Rattle.sched_core.specs.Replies.{replies_of}
 use Rattle.sched_core.specs.Steps.{reply_for}
 use Rattle.sched_core.proofs.Sound.{replied}

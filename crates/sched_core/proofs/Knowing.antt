@@ -16,7 +16,7 @@ use Rattle.scheduling.specs.Choices.{awaited, admit_from, answered, is_leaf, sta
 use Rattle.scheduling.specs.Rows.{row, decided_seat, add_by_hand, add_child_hand, add_child_row, done_by_hand, done_hand, done_row}
 use Rattle.scheduling.specs.Schedule.{action_waiting, IsNextBy, IsNext}
 use Rattle.scheduling.specs.State.{State}
-use Rattle.sched_core.specs.Fields.{seated}
+use Rattle.sched_core.specs.Inside.Fields.{seated}
 use Rattle.sched_core.specs.Steps.{reply_awaited, reply_for}
 use Rattle.descriptor.specs.Nodes.{body_of}
 use Rattle.event_history.specs.Plans.{sort_of}

@@ -16,13 +16,13 @@ use Rattle.scheduling.specs.declared.task.Task.TheVariants.{Free, Opens, Closes}
 use Rattle.scheduling.specs.declared.seat.Hand.{Hand}
 use Rattle.scheduling.specs.declared.seat.Seat.{Seat}
 use Rattle.scheduling.specs.Choices.{awaited, decided}
-use Rattle.scheduling.specs.Going.{IsGoing}
-use Rattle.scheduling.specs.Lowest.{NoneOpenBelow, lowest_after}
+use Rattle.scheduling.specs.Inside.Going.{IsGoing}
+use Rattle.scheduling.specs.Inside.Lowest.{NoneOpenBelow, lowest_after}
 use Rattle.scheduling.specs.Rows.{Works, after, row, goes_to, decided_seat, read_row}
 use Rattle.scheduling.specs.Schedule.{is_open, IsFirstOpen, IsNextBy, IsNext}
-use Rattle.scheduling.specs.Stages.{Stage}
+use Rattle.scheduling.specs.Inside.Stages.{Stage}
 use Rattle.scheduling.specs.State.{State, status_at}
-use Rattle.scheduling.specs.Work.{work_left, IsClear}
+use Rattle.scheduling.specs.Inside.Work.{work_left, IsClear}
 use Rattle.scheduling.proofs.Direct.{after_direct}
 use Rattle.scheduling.proofs.Going.{going_open, going_locking, going_weighed, going_backing, going_next}
 use Rattle.scheduling.proofs.Headline.{core_plan}
@@ -31,7 +31,7 @@ use Rattle.scheduling.proofs.Steps.{decided_free}
 use Rattle.scheduling.proofs.Scheduled.{next_falls, first_open_one, leads_read, leads_work}
 use Rattle.sched_core.specs.declared.machine.Machine.{Machine}
 use Rattle.sched_core.specs.Drives.{reply_given, LeadsTo, IsOnSchedule}
-use Rattle.sched_core.specs.Fields.{state_of, seated, IsSound, IsAnswered}
+use Rattle.sched_core.specs.Inside.Fields.{state_of, seated, IsSound, IsAnswered}
 use Rattle.sched_core.specs.Replies.{reply_of, replies_of}
 use Rattle.sched_core.specs.Steps.{reply_awaited, reply_for, after_step}
 use Rattle.scheduling.specs.declared.answer.Answer.{Answer}

@@ -11,7 +11,7 @@ use Rattle.scheduling.specs.Rows.{read_event, read_row}
 use Rattle.scheduling.specs.Shown.{IsPlaced, IsShown}
 use Rattle.scheduling.proofs.Steps.{shown_at}
 use Rattle.sched_core.specs.declared.machine.Machine.{Machine}
-use Rattle.sched_core.specs.Fields.{state_of, IsAnswered}
+use Rattle.sched_core.specs.Inside.Fields.{state_of, IsAnswered}
 
 -- what is given is as long as the number says
 pub given_length : (m : Machine) → m.given ≤ length m.published.items → length (take m.given m.published.items) ≡ m.given

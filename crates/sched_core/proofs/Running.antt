@@ -6,7 +6,7 @@ use Rattle.scheduling.specs.declared.step.Step.{Step}
 use Rattle.scheduling.specs.State.{State}
 use Rattle.sched_core.specs.declared.machine.Machine.{Machine}
 use Rattle.sched_core.specs.Steps.{after_step}
-use Rattle.sched_core.specs.Fields.{state_of, IsAnswered}
+use Rattle.sched_core.specs.Inside.Fields.{state_of, IsAnswered}
 use Rattle.sched_core.specs.Runs.{run, passed_over, missed, state_or}
 
 -- an answer is not both

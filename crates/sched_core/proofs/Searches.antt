@@ -10,7 +10,7 @@ use Rattle.std.proofs.lemmas.List.{get_or_default}
 use Rattle.std.proofs.lemmas.List.Sorted.{IsNonDecreasingBy-from_all_adjacent}
 use Rattle.plan_events.specs.declared.outcome.Reply.{Reply}
 use Rattle.sched_core.specs.Replies.{reply_to}
-use Rattle.sched_core.specs.AnswerFields.{IsInOrder}
+use Rattle.sched_core.specs.Inside.AnswerFields.{IsInOrder}
 
 -- where each body is below the next, the bodies rise
 rises : (l : List (ℕ × Reply)) → AllAdjacentBelow (λ x y. true ≡ ltb x.0 y.0) l (length l) → IsInOrder l

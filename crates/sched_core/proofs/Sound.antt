@@ -14,7 +14,7 @@ use Rattle.scheduling.specs.Rows.{Works, Dispatches, after, after_seat}
 use Rattle.scheduling.specs.Rows.{Step as Move}
 use Rattle.scheduling.specs.Runs.{IsReplied}
 use Rattle.scheduling.specs.State.{State}
-use Rattle.scheduling.specs.Invariant.{IsKept}
+use Rattle.scheduling.specs.Inside.Invariant.{IsKept}
 use Rattle.scheduling.specs.Shown.{IsPlaced}
 use Rattle.scheduling.proofs.Crew.{Crew, after_crew}
 use Rattle.scheduling.proofs.Headline.{core_plan}
@@ -23,7 +23,7 @@ use Rattle.scheduling.proofs.Steps.{after_keeps}
 use Rattle.sched_core.specs.declared.machine.Machine.{Machine}
 use Rattle.sched_core.specs.Replies.{replies_of}
 use Rattle.sched_core.specs.Steps.{reply_awaited, reply_for, worker_step, after_step}
-use Rattle.sched_core.specs.Fields.{state_of, IsSound, IsAnswered, KeepsRoom, HasRoom}
+use Rattle.sched_core.specs.Inside.Fields.{state_of, IsSound, IsAnswered, KeepsRoom, HasRoom}
 
 -- the reply of a step of this worker is that of the job that it awaits
 pub replied : (p : PlanParts) (answers : List (ℕ × Reply)) (s : State) (w : ℕ) (a : Action) (seat : Seat) → slice_get s.seats w ≡ Some seat → IsReplied p (replies_of answers) s (Works w a (reply_for p answers seat))

@@ -24,7 +24,7 @@ use Rattle.scheduling.proofs.Headline.{core_plan, kept_right}
 use Rattle.sched_core.specs.declared.machine.Machine.{Machine}
 use Rattle.sched_core.specs.declared.trace.Trace.{Trace}
 use Rattle.sched_core.specs.Replies.{reply_of, replies_of}
-use Rattle.sched_core.specs.Fields.{state_of, parts_upto, IsSound}
+use Rattle.sched_core.specs.Inside.Fields.{state_of, parts_upto, IsSound}
 use Rattle.sched_core.specs.Drives.{Drives, reply_given, IsOnSchedule}
 use Rattle.sched_core.specs.Runs.{IsRight}
 use Rattle.sched_core.specs.Traces.{lists_of, IsTraceOf, IsRightTrace, IsDriven, IsOnlyDriven, IsShownAtEnd, IsWhole, KeepsApart, HasExpected, IsOnlyHistory}

@@ -4,9 +4,9 @@ use Rattle.std.specs.Prelude.{ℕ, List}
 use Rattle.plan_events.specs.declared.outcome.Reply.{Reply}
 use Rattle.resource_locks.specs.Plans.{PlanParts}
 use Rattle.scheduling.specs.declared.seat.Seat.{Seat}
-use Rattle.scheduling.specs.Going.{IsGoing}
+use Rattle.scheduling.specs.Inside.Going.{IsGoing}
 use Rattle.scheduling.specs.Schedule.{Drives as DrivesBy, LeadsTo as LeadsBy}
-use Rattle.scheduling.specs.Stages.{Stage}
+use Rattle.scheduling.specs.Inside.Stages.{Stage}
 use Rattle.scheduling.specs.State.{State}
 use Rattle.sched_core.specs.Replies.{replies_of}
 use Rattle.sched_core.specs.Steps.{reply_for}

@@ -6,7 +6,4 @@ pub mod Drives
 pub mod Snapshot
 pub mod Traces
 pub mod Texts
-pub mod Fields
-pub mod Bounds
-pub mod AnswerFields
-pub mod CoreFields
+pub mod Inside

@@ -4,7 +4,7 @@ ghost use Rattle.std.specs.Prelude.{◌≡◌, IsTrue, None, Some, MatchOption};
 ghost use Rattle.scheduling.specs.Answers.{answer_of};
 ghost use Rattle.sched_core.specs.Replies.{reply_to};
 ghost use Rattle.sched_core.specs.Steps.{reply_awaited};
-ghost use Rattle.sched_core.specs.AnswerFields.{IsInOrder};
+ghost use Rattle.sched_core.specs.Inside.AnswerFields.{IsInOrder};
 
 use descriptor::BodyId;
 use plan_events::{Reply, Status};
@@ -31,7 +31,7 @@ impl Model for Answers {
 
     ghost Value = { List (ℕ × Reply) };
 
-    ghost use Rattle.sched_core.specs.AnswerFields.{IsOrderKnown};
+    ghost use Rattle.sched_core.specs.Inside.AnswerFields.{IsOrderKnown};
 
     ghost view = { λ a. a.replies.items };
 

@@ -13,8 +13,8 @@ ghost use Rattle.scheduling.specs.declared.task.Opening.TheVariants.{Admitting};
 ghost use Rattle.scheduling.specs.declared.task.Closing.{Closing as ClosingValue};
 ghost use Rattle.scheduling.specs.declared.task.Closing.TheVariants.{Looking, Passing, CountingOff};
 ghost use Rattle.scheduling.specs.declared.task.Task.TheVariants.{Opens, Closes};
-ghost use Rattle.sched_core.specs.Bounds.{IsFactory, HasParent};
-ghost use Rattle.sched_core.specs.Fields.{state_of, seated, IsAnswered, KeepsRoom};
+ghost use Rattle.sched_core.specs.Inside.Bounds.{IsFactory, HasParent};
+ghost use Rattle.sched_core.specs.Inside.Fields.{state_of, seated, IsAnswered, KeepsRoom};
 
 use crate::fault::NotEnabled;
 use crate::machine::Machine;

@@ -43,7 +43,7 @@ impl Model for Core {
 
     ghost Value = { Snapshot };
 
-    ghost use Rattle.sched_core.specs.CoreFields.{snapshot_of, IsSoundInside};
+    ghost use Rattle.sched_core.specs.Inside.CoreFields.{snapshot_of, IsSoundInside};
 
     ghost view = { snapshot_of };
 

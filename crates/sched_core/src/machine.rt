@@ -9,8 +9,8 @@ ghost use Rattle.scheduling.specs.Rows.{row, goes, read_row};
 ghost use Rattle.scheduling.specs.Runs.{opening};
 ghost use Rattle.scheduling.specs.Shown.{IsPlaced, IsShown};
 ghost use Rattle.scheduling.specs.State.{lock_at};
-ghost use Rattle.sched_core.specs.Bounds.{InBounds};
-ghost use Rattle.sched_core.specs.Fields.{state_of, seated, IsSound, IsAnswered, KeepsRoom};
+ghost use Rattle.sched_core.specs.Inside.Bounds.{InBounds};
+ghost use Rattle.sched_core.specs.Inside.Fields.{state_of, seated, IsSound, IsAnswered, KeepsRoom};
 ghost use Rattle.sched_core.specs.Steps.{after_step, worker_step};
 
 use crate::answers::Answers;

@@ -7,7 +7,7 @@ ghost use Rattle.scheduling.specs.Shown.{IsShown};
 ghost use Rattle.sched_core.specs.Snapshot.{workers_refusal};
 ghost use Rattle.sched_core.specs.Runs.{run, passed_over};
 ghost use Rattle.sched_core.specs.Traces.{IsTraceOf, IsRightTrace, IsDriven, IsOnlyDriven, IsShownAtEnd, IsWhole, KeepsApart, HasExpected, IsOnlyHistory};
-ghost use Rattle.sched_core.specs.Fields.{state_of, IsSound};
+ghost use Rattle.sched_core.specs.Inside.Fields.{state_of, IsSound};
 
 use crate::answers::Answers;
 use crate::core_steps::worker_count;

@@ -3,16 +3,16 @@
 ghost use Rattle.std.specs.Prelude.{◌≡◌, ◌≢◌, ◌<◌, ◌≤◌, ℕ, true, false, Some, None, IsTrue, IsNone, IfSome, ◌↔◌, length};
 ghost use Rattle.scheduling.specs.Answers.{reply_by};
 ghost use Rattle.scheduling.specs.LinkLists.{AreTurns};
-ghost use Rattle.scheduling.specs.Lowest.{NoneOpenBelow, lowest_after as lowest_then};
+ghost use Rattle.scheduling.specs.Inside.Lowest.{NoneOpenBelow, lowest_after as lowest_then};
 ghost use Rattle.scheduling.specs.Rows.{read_row};
 ghost use Rattle.scheduling.specs.Schedule.{is_open as is_open_of, taking as taking_of, IsFirstOpen, IsNext};
 ghost use Rattle.scheduling.specs.State.{State, status_at};
-ghost use Rattle.scheduling.specs.Work.{work_left};
+ghost use Rattle.scheduling.specs.Inside.Work.{work_left};
 ghost use Rattle.scheduling.specs.declared.status.NodeStatus.TheVariants.{Settled};
 ghost use Rattle.scheduling.specs.declared.seat.Hand.{Hand as HandValue};
-ghost use Rattle.sched_core.specs.Bounds.{IsFactory};
+ghost use Rattle.sched_core.specs.Inside.Bounds.{IsFactory};
 ghost use Rattle.sched_core.specs.Drives.{Drives, LeadsTo, IsOnSchedule};
-ghost use Rattle.sched_core.specs.Fields.{state_of, seated, IsSound};
+ghost use Rattle.sched_core.specs.Inside.Fields.{state_of, seated, IsSound};
 
 use crate::answers::Answers;
 use crate::machine::Machine;

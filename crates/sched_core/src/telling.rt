@@ -8,8 +8,8 @@ ghost use Rattle.scheduling.specs.declared.task.Opening.{Opening as OpeningValue
 ghost use Rattle.scheduling.specs.declared.task.Closing.{Closing as ClosingValue};
 ghost use Rattle.scheduling.specs.declared.task.Task.TheVariants.{Opens, Closes};
 ghost use Rattle.scheduling.specs.declared.seat.Hand.{Hand as HandValue};
-ghost use Rattle.sched_core.specs.Bounds.{HasPlace, draws, opening_place, closing_place};
-ghost use Rattle.sched_core.specs.Fields.{state_of, seated, IsAnswered, KeepsRoom};
+ghost use Rattle.sched_core.specs.Inside.Bounds.{HasPlace, draws, opening_place, closing_place};
+ghost use Rattle.sched_core.specs.Inside.Fields.{state_of, seated, IsAnswered, KeepsRoom};
 
 use crate::fault::NotEnabled;
 use crate::machine::Machine;

@@ -2,7 +2,7 @@
 
 ghost use Rattle.std.specs.Prelude.{◌≡◌, ◌≤◌, ◌++◌, ◌∷◌, [], ℕ, IfOk, OnOk, List, length};
 ghost use Rattle.plan_events.specs.declared.event.Event.{Event};
-ghost use Rattle.sched_core.specs.Fields.{state_of, parts_upto};
+ghost use Rattle.sched_core.specs.Inside.Fields.{state_of, parts_upto};
 ghost use Rattle.sched_core.specs.Traces.{IsTraceOf, lists_of};
 
 use crate::machine::Machine;

@@ -5,9 +5,9 @@ use Rattle.std.proofs.lemmas.Bool.{eq-eqb, ne_eqb, cases_eq, cond-true, cond-fal
 use Rattle.descriptor.specs.Nodes.{bit, count_below}
 use Rattle.plan_events.specs.declared.event.Event.{Event}
 use Rattle.event_history.specs.Places.{has_event}
-use Rattle.scheduling.specs.Stages.{Stage}
+use Rattle.scheduling.specs.Inside.Stages.{Stage}
 use Rattle.scheduling.specs.Choices.{find, first_from}
-use Rattle.scheduling.specs.Invariant.{sum_below}
+use Rattle.scheduling.specs.Inside.Invariant.{sum_below}
 
 -- the stages, with that of node x changed
 pub upd : (ℕ → Stage) → ℕ → Stage → ℕ → Stage

@@ -8,7 +8,7 @@ use Rattle.resource_locks.specs.Plans.{PlanParts}
 use Rattle.resource_locks.proofs.Turns.{table_is}
 use Rattle.event_history.proofs.Trees.{is_child_test}
 use Rattle.scheduling.specs.Runs.{first_counter}
-use Rattle.scheduling.specs.Start.{guard_and_children}
+use Rattle.scheduling.specs.Inside.Start.{guard_and_children}
 use Rattle.scheduling.proofs.Basics.{count_same}
 use Rattle.scheduling.proofs.Spares.{count_zero}
 use Rattle.scheduling.proofs.FirstState.{each_length, each_at}

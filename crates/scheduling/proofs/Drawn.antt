@@ -19,7 +19,7 @@ use Rattle.event_history.specs.Places.{has}
 use Rattle.event_history.specs.Results.{jobs_of, Ends, EndsAfter}
 use Rattle.event_history.specs.Order.{goes_first}
 use Rattle.event_history.specs.Exclusion.{HeldConflict}
-use Rattle.event_history.specs.Following.{has_failed_by, started_by, registered_in, IsParentOpen, IsUnopened, ChildrenOk, MayHold, MayBeDrawn}
+use Rattle.event_history.specs.Inside.Following.{has_failed_by, started_by, registered_in, IsParentOpen, IsUnopened, ChildrenOk, MayHold, MayBeDrawn}
 use Rattle.event_history.proofs.Spares.{pulls_sort}
 use Rattle.event_history.proofs.Places.{has_stands}
 use Rattle.scheduling.specs.declared.lock_word.LockWord.{LockWord}
@@ -32,8 +32,8 @@ use Rattle.scheduling.specs.declared.task.Task.TheVariants.{Opens}
 use Rattle.scheduling.specs.declared.seat.Seat.{Seat}
 use Rattle.scheduling.specs.State.{State, lock_at}
 use Rattle.scheduling.specs.Choices.{key_place, key_at, mode_at, lock_of, keys_count, event_of}
-use Rattle.scheduling.specs.Stages.{How, Gave, Kept, Skips, Stage, Unseen, OpenedBy, InHand, Waiting, ClosedBy, Over, Runs, Mark, Blank, Known, Begun, Ended, Passed, has_mark, picture, closing_picture, mark_of, runner_of, starter_by, is_unseen, is_live, is_past, is_over, raises, is_bold}
-use Rattle.scheduling.specs.Invariant.{IsCorePlan, same_mode, is_key, keys_in, holders, holders_by, EndsSo, IsEnding, OpeningOk, ShapeOk, RunsSo, Fits, HandOk, IsInHand, IsBrought, SeatOk, Holds}
+use Rattle.scheduling.specs.Inside.Stages.{How, Gave, Kept, Skips, Stage, Unseen, OpenedBy, InHand, Waiting, ClosedBy, Over, Runs, Mark, Blank, Known, Begun, Ended, Passed, has_mark, picture, closing_picture, mark_of, runner_of, starter_by, is_unseen, is_live, is_past, is_over, raises, is_bold}
+use Rattle.scheduling.specs.Inside.Invariant.{IsCorePlan, same_mode, is_key, keys_in, holders, holders_by, EndsSo, IsEnding, OpeningOk, ShapeOk, RunsSo, Fits, HandOk, IsInHand, IsBrought, SeatOk, Holds}
 use Rattle.scheduling.proofs.Basics.{count_some, sum_one, sum_two}
 use Rattle.scheduling.proofs.Parts.{fits_runs}
 use Rattle.scheduling.proofs.RowsOne.{parent_inside, runs_is}

@@ -31,9 +31,9 @@ use Rattle.scheduling.specs.Choices.{next_spare, admit_from, after_settle, offer
 use Rattle.scheduling.specs.declared.step.Action.{Action}
 use Rattle.scheduling.specs.declared.step.Action.TheVariants.{Claim, Own, Notice, Weigh, Take, Give, GiveUp, Draw, Show, Admit, AddChild, Done, Settle, Look, Raise}
 use Rattle.scheduling.specs.Rows.{with_task, goes, claimed, is_free, is_ready_for, is_empty, is_of_hand, notice_row, weighed, weigh_row, puts_word, take_found, take_row, gives_key, give_row, give_up_row, drawn, one_more, draw_row, after_start, show_row, offers, waits_for, admit_row, child_added, add_by_hand, add_child_hand, add_child_row, ends_or_free, guard_given, done_by_hand, done_hand, done_row, waits_no_more, settle_row, look_found, look_row, raise_row, row}
-use Rattle.scheduling.specs.Stages.{How, Stage, Unseen, OpenedBy, InHand, ClosedBy, picture, is_unseen, is_past, is_over}
-use Rattle.scheduling.specs.Invariant.{IsCorePlan, IsNextSame, OpeningOk, ShapeOk, RunsSo, Fits, TaskOk, HandOk, IsInHand, SeatOk, Holds, pending}
-use Rattle.scheduling.specs.Work.{status_rank, weight, opening_rank, task_rank, seat_rank, work_left, IsClear}
+use Rattle.scheduling.specs.Inside.Stages.{How, Stage, Unseen, OpenedBy, InHand, ClosedBy, picture, is_unseen, is_past, is_over}
+use Rattle.scheduling.specs.Inside.Invariant.{IsCorePlan, IsNextSame, OpeningOk, ShapeOk, RunsSo, Fits, TaskOk, HandOk, IsInHand, SeatOk, Holds, pending}
+use Rattle.scheduling.specs.Inside.Work.{status_rank, weight, opening_rank, task_rank, seat_rank, work_left, IsClear}
 use Rattle.scheduling.proofs.Parts.{pending_none}
 use Rattle.scheduling.proofs.RowsOne.{by_cond, parent_inside}
 use Rattle.scheduling.proofs.RowsTwo.{unseen_is}

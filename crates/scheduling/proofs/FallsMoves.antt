@@ -13,7 +13,7 @@ use Rattle.scheduling.specs.declared.lock_word.LockWord.{LockWord}
 use Rattle.scheduling.specs.declared.seat.Seat.{Seat}
 use Rattle.scheduling.specs.State.{State, status_at, counter_at}
 use Rattle.scheduling.specs.Choices.{keys_count}
-use Rattle.scheduling.specs.Work.{status_rank, changes_left, weight, seat_rank, work_left}
+use Rattle.scheduling.specs.Inside.Work.{status_rank, changes_left, weight, seat_rank, work_left}
 use Rattle.scheduling.proofs.Basics.{sum_one}
 
 -- on plain numbers: a changes of weight w, ranks b, and c events that are not given

@@ -24,9 +24,9 @@ use Rattle.scheduling.specs.declared.step.Action.{Action}
 use Rattle.scheduling.specs.declared.step.Action.TheVariants.{Claim, Own, AddChild, Done, Look}
 use Rattle.scheduling.specs.Rows.{goes_to, row, read_event, read_row, decided_seat, after_seat, Works}
 use Rattle.scheduling.specs.Runs.{IsReplied}
-use Rattle.scheduling.specs.Invariant.{IsCorePlan, IsKept}
+use Rattle.scheduling.specs.Inside.Invariant.{IsCorePlan, IsKept}
 use Rattle.scheduling.specs.Schedule.{taking, may_add, action_waiting, IsNextBy, IsNext}
-use Rattle.scheduling.specs.Work.{work_left, IsClear}
+use Rattle.scheduling.specs.Inside.Work.{work_left, IsClear}
 use Rattle.scheduling.proofs.Basics.{get_set_same}
 use Rattle.scheduling.proofs.RowsOne.{by_cond}
 use Rattle.scheduling.proofs.RowsBelow.{decide_keeps}

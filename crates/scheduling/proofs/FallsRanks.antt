@@ -17,7 +17,7 @@ use Rattle.scheduling.specs.declared.task.Task.TheVariants.{Free, Opens, Closes}
 use Rattle.scheduling.specs.declared.seat.Seat.{Seat}
 use Rattle.scheduling.specs.Choices.{in_batch, is_same_sibling, first_from, admit_next, admit_from, pass_to, after_settle, keys_count, lock_from, begins, notices, claims, giving, after_finish, is_leaf, status_by, decided, ending}
 use Rattle.scheduling.specs.Rows.{with_task, after_start, ends_or_free}
-use Rattle.scheduling.specs.Work.{weight, opening_rank, closing_rank, task_rank, seat_rank}
+use Rattle.scheduling.specs.Inside.Work.{weight, opening_rank, closing_rank, task_rank, seat_rank}
 use Rattle.scheduling.proofs.RowsOne.{by_cond}
 use Rattle.scheduling.proofs.RowsBelow.{ending_is}
 use Rattle.scheduling.proofs.FallsMoves.{weight_least}

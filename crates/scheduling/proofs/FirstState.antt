@@ -19,8 +19,8 @@ use Rattle.scheduling.specs.declared.lock_word.LockWord.TheVariants.{Readers}
 use Rattle.scheduling.specs.declared.task.Task.TheVariants.{Free}
 use Rattle.scheduling.specs.declared.seat.Seat.{Seat}
 use Rattle.scheduling.specs.Runs.{first_status, first_counter, opening}
-use Rattle.scheduling.specs.Stages.{Stage, Unseen, Offered, Waiting, Mark, Blank, Known, has_mark, picture, is_unseen, is_pending}
-use Rattle.scheduling.specs.Invariant.{IsCorePlan, pends_at, pending, keys_in, sum_below, holders, holders_by, SeatOk, Holds, IsKept}
+use Rattle.scheduling.specs.Inside.Stages.{Stage, Unseen, Offered, Waiting, Mark, Blank, Known, has_mark, picture, is_unseen, is_pending}
+use Rattle.scheduling.specs.Inside.Invariant.{IsCorePlan, pends_at, pending, keys_in, sum_below, holders, holders_by, SeatOk, Holds, IsKept}
 use Rattle.scheduling.proofs.Basics.{count_same}
 use Rattle.scheduling.proofs.Drawn.{blank_none}
 
@@ -135,15 +135,15 @@ opening_is p core replies workers few = (
     none_waits zero c r q = cc
     none_waits (suc n) c r q = cc
 
-    none_started : (n c : ℕ) → Rattle.scheduling.specs.Stages.starter_of (picture p n (first_stage n)) ≡ Some c → ⊥
+    none_started : (n c : ℕ) → Rattle.scheduling.specs.Inside.Stages.starter_of (picture p n (first_stage n)) ≡ Some c → ⊥
     none_started zero c q = none-some c q
     none_started (suc n) c q = none-some c q
 
-    shape : (n : ℕ) → Rattle.scheduling.specs.Invariant.ShapeOk p replies [] n (first_stage n)
+    shape : (n : ℕ) → Rattle.scheduling.specs.Inside.Invariant.ShapeOk p replies [] n (first_stage n)
     shape zero = tt
     shape (suc n) = tt
 
-    edge : (a c : ℕ) → 0 < c → Rattle.scheduling.specs.Invariant.Fits p (picture p a (first_stage a)).below a c (first_stage c)
+    edge : (a c : ℕ) → 0 < c → Rattle.scheduling.specs.Inside.Invariant.Fits p (picture p a (first_stage a)).below a c (first_stage c)
     edge a zero pos = absurd (omega (arith, pos))
     edge zero (suc c) pos = refl
     edge (suc a) (suc c) pos = refl
@@ -152,6 +152,6 @@ opening_is p core replies workers few = (
     unseen_above zero pos q = omega (arith, pos)
     unseen_above (suc b) pos q = false≢true (sym q)
 
-    held : (n : ℕ) → Rattle.scheduling.specs.Invariant.HeldBy (replicate workers (record { task = Free; hand = None })) n (first_stage n)
+    held : (n : ℕ) → Rattle.scheduling.specs.Inside.Invariant.HeldBy (replicate workers (record { task = Free; hand = None })) n (first_stage n)
     held zero = tt
     held (suc n) = tt

@@ -8,15 +8,15 @@ use Rattle.plan_events.specs.declared.outcome.Reply.{Reply}
 use Rattle.resource_locks.specs.Plans.{PlanParts}
 use Rattle.event_history.specs.Plans.{IsPlanTree, IsElder, is_same}
 use Rattle.event_history.specs.Order.{goes_first}
-use Rattle.event_history.specs.Following.{has_failed, has_failed_by, registered_in}
+use Rattle.event_history.specs.Inside.Following.{has_failed, has_failed_by, registered_in}
 use Rattle.event_history.specs.Published.{IsPublished}
 use Rattle.scheduling.specs.declared.task.Task.{Task}
 use Rattle.scheduling.specs.declared.task.Task.TheVariants.{Free, Opens, Closes}
 use Rattle.scheduling.specs.declared.seat.Hand.{Hand}
 use Rattle.scheduling.specs.declared.seat.Seat.{Seat}
 use Rattle.scheduling.specs.State.{State, subject}
-use Rattle.scheduling.specs.Stages.{Stage, Unseen, Offered, OpenedBy, InHand, Waiting, ClosedBy, Over, picture, who, is_unseen, is_past, is_unsettled}
-use Rattle.scheduling.specs.Invariant.{WordsOk, CountersOk, ResultsOk, LocksOk, FlagsOk, StartersOk, ShapeOk, Fits, EdgesOk, EldersOk, TaskOk, HandOk, SeatOk, HeldBy, IsGiven, Holds}
+use Rattle.scheduling.specs.Inside.Stages.{Stage, Unseen, Offered, OpenedBy, InHand, Waiting, ClosedBy, Over, picture, who, is_unseen, is_past, is_unsettled}
+use Rattle.scheduling.specs.Inside.Invariant.{WordsOk, CountersOk, ResultsOk, LocksOk, FlagsOk, StartersOk, ShapeOk, Fits, EdgesOk, EldersOk, TaskOk, HandOk, SeatOk, HeldBy, IsGiven, Holds}
 use Rattle.scheduling.proofs.Basics.{upd, upd_same, upd_other, upd_all, get_set, get_set_same, get_set_other}
 
 pub record Move (p : PlanParts) (replies : ℕ → List Reply) (s t : State) (g : ℕ → Stage) (w x : ℕ) (b : Stage) (seat seat2 : Seat) : Type 0 where

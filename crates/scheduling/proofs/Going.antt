@@ -38,9 +38,9 @@ use Rattle.scheduling.specs.Rows.{goes_to, decided_seat, after_seat, after, Work
 use Rattle.scheduling.specs.Runs.{first_status, opening}
 use Rattle.scheduling.specs.Schedule.{is_open, IsNextBy, IsNext}
 use Rattle.scheduling.specs.Shown.{named}
-use Rattle.scheduling.specs.Stages.{How, Gave, Kept, Skips, Stage, Unseen, Offered, OpenedBy, InHand, Waiting, ClosedBy, Over, picture, has_mark, is_live}
-use Rattle.scheduling.specs.Invariant.{IsCorePlan, ShapeOk, TaskOk}
-use Rattle.scheduling.specs.Going.{is_begun, word_of, OpeningTo, Goes, IsGoing}
+use Rattle.scheduling.specs.Inside.Stages.{How, Gave, Kept, Skips, Stage, Unseen, Offered, OpenedBy, InHand, Waiting, ClosedBy, Over, picture, has_mark, is_live}
+use Rattle.scheduling.specs.Inside.Invariant.{IsCorePlan, ShapeOk, TaskOk}
+use Rattle.scheduling.specs.Inside.Going.{is_begun, word_of, OpeningTo, Goes, IsGoing}
 use Rattle.scheduling.proofs.Basics.{first_some, first_none}
 use Rattle.scheduling.proofs.RowsOne.{by_cond}
 use Rattle.scheduling.proofs.RowsBelow.{ReplyIs, decide_keeps}

@@ -15,9 +15,9 @@ use Rattle.scheduling.specs.declared.task.Task.{Task}
 use Rattle.scheduling.specs.declared.task.Task.TheVariants.{Free, Opens, Closes}
 use Rattle.scheduling.specs.declared.seat.Seat.{Seat}
 use Rattle.scheduling.specs.State.{State, status_at, subject}
-use Rattle.scheduling.specs.Going.{is_about, IsFresh, owed, owes}
-use Rattle.scheduling.specs.Stages.{How, Stage, Unseen, Offered, OpenedBy, InHand, Waiting, ClosedBy, Over, picture, is_pending, who}
-use Rattle.scheduling.specs.Invariant.{pends_at, pending, TaskOk, SeatOk, HeldBy, Holds}
+use Rattle.scheduling.specs.Inside.Going.{is_about, IsFresh, owed, owes}
+use Rattle.scheduling.specs.Inside.Stages.{How, Stage, Unseen, Offered, OpenedBy, InHand, Waiting, ClosedBy, Over, picture, is_pending, who}
+use Rattle.scheduling.specs.Inside.Invariant.{pends_at, pending, TaskOk, SeatOk, HeldBy, Holds}
 use Rattle.scheduling.proofs.Basics.{count_same}
 use Rattle.scheduling.proofs.RowsOne.{claim_number}
 

@@ -19,8 +19,8 @@ use Rattle.scheduling.specs.declared.task.Task.TheVariants.{Free, Opens, Closes}
 use Rattle.scheduling.specs.declared.seat.Hand.{Hand}
 use Rattle.scheduling.specs.Choices.{ending}
 use Rattle.scheduling.specs.Rows.{ends_or_free}
-use Rattle.scheduling.specs.Invariant.{IsCorePlan}
-use Rattle.scheduling.specs.Going.{is_about, is_in_hand, word_of, TurnsGo, owed, owes, IsOwed, KeysGo, IsAtWork, HandGo, Goes}
+use Rattle.scheduling.specs.Inside.Invariant.{IsCorePlan}
+use Rattle.scheduling.specs.Inside.Going.{is_about, is_in_hand, word_of, TurnsGo, owed, owes, IsOwed, KeysGo, IsAtWork, HandGo, Goes}
 use Rattle.scheduling.proofs.Basics.{count_same, count_change}
 use Rattle.scheduling.proofs.RowsOne.{by_cond}
 use Rattle.scheduling.proofs.RowsBelow.{ending_is}

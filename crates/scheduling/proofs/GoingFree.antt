@@ -9,7 +9,7 @@ use Rattle.plan_events.specs.declared.event.Event.{Event}
 use Rattle.plan_events.specs.declared.event.EventKind.TheVariants.{Registered}
 use Rattle.resource_locks.specs.Plans.{PlanParts}
 use Rattle.event_history.specs.Expected.{HasOneReply}
-use Rattle.event_history.specs.Following.{registered_in}
+use Rattle.event_history.specs.Inside.Following.{registered_in}
 use Rattle.event_history.specs.Places.{has}
 use Rattle.event_history.specs.Plans.{sort_of, is_spare_of, spare_count, rank}
 use Rattle.event_history.proofs.Counting.{count_le}
@@ -27,9 +27,9 @@ use Rattle.scheduling.specs.declared.step.Action.{Action}
 use Rattle.scheduling.specs.declared.step.Action.TheVariants.{Own, AddChild, Done}
 use Rattle.scheduling.specs.Rows.{with_task, goes_to, is_free, is_empty, is_of_hand, is_ready_for, claimed, guard_given, done_by_hand, done_hand, done_row, ends_or_free, child_added, add_by_hand, add_child_hand, add_child_row}
 use Rattle.scheduling.specs.Schedule.{is_open, IsFirstOpen, taking, may_add, action_waiting, IsNextFree}
-use Rattle.scheduling.specs.Stages.{Stage, Unseen, Offered, OpenedBy, InHand, Waiting, ClosedBy, Over, picture, is_live}
-use Rattle.scheduling.specs.Invariant.{IsCorePlan, ShapeOk, HandOk, IsInHand, Holds}
-use Rattle.scheduling.specs.Going.{IsAtWork, Goes}
+use Rattle.scheduling.specs.Inside.Stages.{Stage, Unseen, Offered, OpenedBy, InHand, Waiting, ClosedBy, Over, picture, is_live}
+use Rattle.scheduling.specs.Inside.Invariant.{IsCorePlan, ShapeOk, HandOk, IsInHand, Holds}
+use Rattle.scheduling.specs.Inside.Going.{IsAtWork, Goes}
 use Rattle.scheduling.proofs.Basics.{first_some, first_none}
 use Rattle.scheduling.proofs.RowsOne.{by_cond}
 use Rattle.scheduling.proofs.GoingBasics.{hidden_ready, ready_settled, seat_ok}

@@ -22,9 +22,9 @@ use Rattle.scheduling.specs.declared.seat.Hand.{Hand}
 use Rattle.scheduling.specs.declared.seat.Seat.{Seat}
 use Rattle.scheduling.specs.State.{State, status_at, lock_at}
 use Rattle.scheduling.specs.Choices.{key_at, mode_at, keys_count, admits}
-use Rattle.scheduling.specs.Stages.{Stage, Unseen, Offered, OpenedBy, InHand, Waiting, ClosedBy, Over, Shut, Runs, picture, is_live, runner_of}
-use Rattle.scheduling.specs.Invariant.{IsCorePlan, same_mode, is_key, keys_in, sum_below, holders, holders_by, ShapeOk, HandOk, TaskOk, Holds}
-use Rattle.scheduling.specs.Going.{is_about, is_in_hand, is_begun, owes, Goes}
+use Rattle.scheduling.specs.Inside.Stages.{Stage, Unseen, Offered, OpenedBy, InHand, Waiting, ClosedBy, Over, Shut, Runs, picture, is_live, runner_of}
+use Rattle.scheduling.specs.Inside.Invariant.{IsCorePlan, same_mode, is_key, keys_in, sum_below, holders, holders_by, ShapeOk, HandOk, TaskOk, Holds}
+use Rattle.scheduling.specs.Inside.Going.{is_about, is_in_hand, is_begun, owes, Goes}
 use Rattle.scheduling.proofs.Parts.{fits_runs}
 use Rattle.scheduling.proofs.RowsOne.{runs_is}
 use Rattle.scheduling.proofs.RowsUp.{maker_is}

@@ -14,8 +14,8 @@ use Rattle.scheduling.specs.declared.task.Task.{Task}
 use Rattle.scheduling.specs.declared.seat.Hand.{Hand}
 use Rattle.scheduling.specs.Choices.{in_batch}
 use Rattle.scheduling.specs.Rows.{is_free}
-use Rattle.scheduling.specs.Invariant.{IsNextSame}
-use Rattle.scheduling.specs.Going.{is_about, is_in_hand, is_begun, word_of, IsFresh, WordsGo, StillTo, IsPassing, TurnsGo, owed, owes, IsOwed, CountsGo, KeysGo, is_registering, HandGo, Goes}
+use Rattle.scheduling.specs.Inside.Invariant.{IsNextSame}
+use Rattle.scheduling.specs.Inside.Going.{is_about, is_in_hand, is_begun, word_of, IsFresh, WordsGo, StillTo, IsPassing, TurnsGo, owed, owes, IsOwed, CountsGo, KeysGo, is_registering, HandGo, Goes}
 use Rattle.scheduling.proofs.Basics.{count_same}
 
 -- the words after one change

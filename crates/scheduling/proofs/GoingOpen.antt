@@ -11,8 +11,8 @@ use Rattle.scheduling.specs.declared.status.NodeStatus.TheVariants.{Hidden, Read
 use Rattle.scheduling.specs.declared.task.Task.TheVariants.{Free}
 use Rattle.scheduling.specs.Choices.{in_batch}
 use Rattle.scheduling.specs.Schedule.{is_open}
-use Rattle.scheduling.specs.Going.{word_of, WordsGo, TurnsGo, CountsGo, owed, owes}
-use Rattle.scheduling.specs.Invariant.{IsCorePlan, IsNextSame}
+use Rattle.scheduling.specs.Inside.Going.{word_of, WordsGo, TurnsGo, CountsGo, owed, owes}
+use Rattle.scheduling.specs.Inside.Invariant.{IsCorePlan, IsNextSame}
 
 -- the last number that passes
 pub last_one : (q : ℕ → Bool) (n : ℕ) → 0 < count_below q n → (d : ℕ) × (d < n) × (q d ≡ true) × ((x : ℕ) → d < x → x < n → q x ≡ false)

@@ -24,9 +24,9 @@ use Rattle.scheduling.specs.Choices.{is_same_sibling, first_from, pass_to, after
 use Rattle.scheduling.specs.declared.step.Action.TheVariants.{Admit, Done, Settle, Show}
 use Rattle.scheduling.specs.Rows.{with_task, goes_to, offers, admit_row, waits_for, waits_no_more, settle_row, guard_given, counted_off, done_row, ends_or_free, shows, after_start, show_row}
 use Rattle.scheduling.specs.Schedule.{opening_action, closing_action}
-use Rattle.scheduling.specs.Stages.{How, Stage, Unseen, OpenedBy, InHand, ClosedBy, Below, Runs, picture, is_live, is_unseen, is_past}
-use Rattle.scheduling.specs.Invariant.{IsCorePlan, IsNextSame, pending, RunsSo, ShapeOk, Fits, TaskOk, HandOk, SeatOk, Holds}
-use Rattle.scheduling.specs.Going.{is_about, owed, owes, ClosingPasses, KeysGo, HandGo, Goes}
+use Rattle.scheduling.specs.Inside.Stages.{How, Stage, Unseen, OpenedBy, InHand, ClosedBy, Below, Runs, picture, is_live, is_unseen, is_past}
+use Rattle.scheduling.specs.Inside.Invariant.{IsCorePlan, IsNextSame, pending, RunsSo, ShapeOk, Fits, TaskOk, HandOk, SeatOk, Holds}
+use Rattle.scheduling.specs.Inside.Going.{is_about, owed, owes, ClosingPasses, KeysGo, HandGo, Goes}
 use Rattle.scheduling.proofs.Basics.{count_some, first_none}
 use Rattle.scheduling.proofs.RowsOne.{by_cond, parent_inside}
 use Rattle.scheduling.proofs.RowsTwo.{unseen_is}

@@ -24,7 +24,7 @@ use Rattle.scheduling.specs.Choices.{in_batch, key_at, mode_at, keys_count, admi
 use Rattle.scheduling.specs.declared.step.Action.{Action}
 use Rattle.scheduling.specs.declared.step.Action.TheVariants.{Notice, Weigh, Take, Give, Draw, Show, Look, Raise}
 use Rattle.scheduling.specs.Rows.{row, with_task, goes, goes_to, notice_row, weighed, weigh_row, take_found, take_row, puts_word, gives_key, give_row, raised, raise_row, drawn, one_more, draw_row, shows, show_row, look_found, look_row}
-use Rattle.scheduling.specs.Going.{is_in_hand, OpeningTo, ClosingPasses, KeysGo, is_registering, HandGo, Goes}
+use Rattle.scheduling.specs.Inside.Going.{is_in_hand, OpeningTo, ClosingPasses, KeysGo, is_registering, HandGo, Goes}
 use Rattle.scheduling.proofs.RowsOne.{by_cond}
 use Rattle.scheduling.proofs.GoingMoves.{turn_goes, turn_same}
 

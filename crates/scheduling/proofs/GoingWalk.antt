@@ -11,8 +11,8 @@ use Rattle.scheduling.specs.declared.status.NodeStatus.{NodeStatus}
 use Rattle.scheduling.specs.declared.status.NodeStatus.TheVariants.{Hidden, Ready, Claimed, Settled}
 use Rattle.scheduling.specs.declared.task.Task.TheVariants.{Free}
 use Rattle.scheduling.specs.Schedule.{is_open}
-use Rattle.scheduling.specs.Going.{word_of, WordsGo, TurnsGo, CountsGo}
-use Rattle.scheduling.specs.Invariant.{IsCorePlan}
+use Rattle.scheduling.specs.Inside.Going.{word_of, WordsGo, TurnsGo, CountsGo}
+use Rattle.scheduling.specs.Inside.Invariant.{IsCorePlan}
 use Rattle.scheduling.proofs.GoingOpen.{ready_open, waits_elder, open_below}
 
 module _ (p : PlanParts) (core : IsCorePlan p) where

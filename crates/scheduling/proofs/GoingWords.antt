@@ -18,8 +18,8 @@ use Rattle.scheduling.specs.declared.task.Task.TheVariants.{Free, Opens, Closes}
 use Rattle.scheduling.specs.declared.seat.Hand.{Hand}
 use Rattle.scheduling.specs.Choices.{in_batch, first_from, admit_next, admit_from, offered_to, claims}
 use Rattle.scheduling.specs.Rows.{waited_out, waits_no_more, waits_for}
-use Rattle.scheduling.specs.Invariant.{IsCorePlan, IsNextSame}
-use Rattle.scheduling.specs.Going.{is_about, is_in_hand, is_begun, word_of, IsFresh, WordsGo, OpeningTo, IsPassing, owed, KeysGo, is_registering, IsAtWork, HandGo, Goes}
+use Rattle.scheduling.specs.Inside.Invariant.{IsCorePlan, IsNextSame}
+use Rattle.scheduling.specs.Inside.Going.{is_about, is_in_hand, is_begun, word_of, IsFresh, WordsGo, OpeningTo, IsPassing, owed, KeysGo, is_registering, IsAtWork, HandGo, Goes}
 use Rattle.scheduling.proofs.Basics.{first_some, first_none}
 use Rattle.scheduling.proofs.RowsEnd.{not_true}
 use Rattle.scheduling.proofs.RowsOne.{claim_number}

@@ -9,7 +9,7 @@ use Rattle.event_history.proofs.Spares.{plan_tree, maker_spares}
 use Rattle.scheduling.specs.State.{State}
 use Rattle.scheduling.specs.Rows.{Step, after}
 use Rattle.scheduling.specs.Runs.{opening, IsReplied, AllReplied, or_stays, next, run, IsRight}
-use Rattle.scheduling.specs.Invariant.{IsCorePlan, IsKept}
+use Rattle.scheduling.specs.Inside.Invariant.{IsCorePlan, IsKept}
 use Rattle.scheduling.specs.Shown.{IsPlaced}
 use Rattle.scheduling.proofs.Crew.{all_workers}
 use Rattle.scheduling.proofs.Steps.{after_keeps}

@@ -23,8 +23,8 @@ use Rattle.scheduling.specs.declared.task.Closing.{Closing}
 use Rattle.scheduling.specs.declared.task.Closing.TheVariants.{AwaitingAfter, Ending, FinishedAt, SkippedAt, Raising, Giving, Settling, Looking, Passing, CountingOff}
 use Rattle.scheduling.specs.State.{State, lock_at}
 use Rattle.scheduling.specs.Choices.{lock_of, key_place, key_at, mode_at, keys_count}
-use Rattle.scheduling.specs.Stages.{How, Stage, Unseen, Offered, OpenedBy, InHand, Waiting, ClosedBy, Over, picture}
-use Rattle.scheduling.specs.Invariant.{same_mode, is_key, keys_in, sum_below, holders, holders_by, OpeningOk, ClosingOk, ShapeOk, Holds}
+use Rattle.scheduling.specs.Inside.Stages.{How, Stage, Unseen, Offered, OpenedBy, InHand, Waiting, ClosedBy, Over, picture}
+use Rattle.scheduling.specs.Inside.Invariant.{same_mode, is_key, keys_in, sum_below, holders, holders_by, OpeningOk, ClosingOk, ShapeOk, Holds}
 use Rattle.scheduling.proofs.Spares.{count_zero}
 
 -- keys of one number are one key

@@ -10,7 +10,7 @@ use Rattle.plan_events.specs.declared.event.Event.{Event}
 use Rattle.plan_events.specs.declared.status.Status.{Status}
 use Rattle.resource_locks.specs.Plans.{PlanParts}
 use Rattle.event_history.specs.Plans.{IsPlanTree, is_same}
-use Rattle.event_history.specs.Following.{has_failed_by}
+use Rattle.event_history.specs.Inside.Following.{has_failed_by}
 use Rattle.scheduling.specs.declared.status.NodeStatus.{NodeStatus}
 use Rattle.scheduling.specs.declared.status.NodeStatus.TheVariants.{Hidden}
 use Rattle.scheduling.specs.declared.lock_word.LockWord.{LockWord}
@@ -19,8 +19,8 @@ use Rattle.scheduling.specs.declared.task.Task.{Task}
 use Rattle.scheduling.specs.declared.seat.Hand.{Hand}
 use Rattle.scheduling.specs.State.{State}
 use Rattle.scheduling.specs.Choices.{admits, taken, given_back, key_at, mode_at}
-use Rattle.scheduling.specs.Stages.{Stage, Unseen, Offered, OpenedBy, InHand, Waiting, ClosedBy, Over, Below, Shut, Runs, Past, picture, is_unseen, is_live, is_owned, is_pending, is_over, is_unsettled, raises, is_bold}
-use Rattle.scheduling.specs.Invariant.{pends_at, pending, same_mode, is_key, keys_in, holders, holders_by, ResultsOk, Fits, HandOk}
+use Rattle.scheduling.specs.Inside.Stages.{Stage, Unseen, Offered, OpenedBy, InHand, Waiting, ClosedBy, Over, Below, Shut, Runs, Past, picture, is_unseen, is_live, is_owned, is_pending, is_over, is_unsettled, raises, is_bold}
+use Rattle.scheduling.specs.Inside.Invariant.{pends_at, pending, same_mode, is_key, keys_in, holders, holders_by, ResultsOk, Fits, HandOk}
 use Rattle.scheduling.proofs.Basics.{upd, upd_same, upd_other, upd_all, count_same, count_change, count_none, sum_change}
 
 -- Statuses

@@ -11,7 +11,7 @@ use Rattle.plan_events.specs.declared.outcome.Reply.{Reply}
 use Rattle.resource_locks.specs.Plans.{PlanParts, most_events, IsPlan}
 use Rattle.event_history.specs.Plans.{is_spare_of, pulls_job}
 use Rattle.event_history.specs.Places.{has}
-use Rattle.event_history.specs.Following.{registered_in}
+use Rattle.event_history.specs.Inside.Following.{registered_in}
 use Rattle.event_history.proofs.Few.{legal_few}
 use Rattle.event_history.proofs.Trees.{is_child_test}
 use Rattle.scheduling.specs.declared.task.Opening.{Opening}
@@ -28,9 +28,9 @@ use Rattle.scheduling.specs.Choices.{keys_count, event_of}
 use Rattle.scheduling.specs.Rows.{with_task, goes_to, drawn, one_more, draw_row, decided_seat, Works}
 use Rattle.scheduling.specs.Runs.{IsReplied}
 use Rattle.scheduling.specs.Shown.{IsPlaced}
-use Rattle.scheduling.specs.Ranges.{InRange}
-use Rattle.scheduling.specs.Stages.{How, Stage, picture}
-use Rattle.scheduling.specs.Invariant.{IsCorePlan, IsNextSame, pends_at, pending, OpeningOk, ClosingOk, ShapeOk, TaskOk, HandOk, IsInHand, SeatOk, Holds, IsKept}
+use Rattle.scheduling.specs.Inside.Ranges.{InRange}
+use Rattle.scheduling.specs.Inside.Stages.{How, Stage, picture}
+use Rattle.scheduling.specs.Inside.Invariant.{IsCorePlan, IsNextSame, pends_at, pending, OpeningOk, ClosingOk, ShapeOk, TaskOk, HandOk, IsInHand, SeatOk, Holds, IsKept}
 use Rattle.scheduling.proofs.Basics.{get_set_same}
 use Rattle.scheduling.proofs.RowsBelow.{decide_keeps}
 use Rattle.scheduling.proofs.RowsDraw.{draw_keeps}

@@ -12,7 +12,7 @@ use Rattle.plan_events.specs.Statuses.{is_successful}
 use Rattle.resource_locks.specs.Plans.{PlanParts}
 use Rattle.event_history.specs.Plans.{IsPlanTree, Sort, Leaf, Holder, Maker, sort_of, pulls_job, spare_count}
 use Rattle.event_history.specs.Results.{Jobs, NoJob, Alone, Pulled, Around, jobs_of, jobs_by, after_run, HasReply, Ends, EndsLast}
-use Rattle.event_history.specs.Following.{has_failed_by, registered_in}
+use Rattle.event_history.specs.Inside.Following.{has_failed_by, registered_in}
 use Rattle.event_history.proofs.Spares.{is_maker, pulls_sort}
 use Rattle.scheduling.specs.declared.status.NodeStatus.TheVariants.{Claimed}
 use Rattle.scheduling.specs.declared.task.Opening.{Opening}
@@ -25,8 +25,8 @@ use Rattle.scheduling.specs.declared.seat.Seat.{Seat}
 use Rattle.scheduling.specs.State.{State, subject}
 use Rattle.scheduling.specs.Choices.{keys_count, in_batch, first_from, admit_next, admit_from, is_leaf, status_by, answered, decided, awaited, ending_by, after_job}
 use Rattle.scheduling.specs.Rows.{with_task, goes_to, decided_seat}
-use Rattle.scheduling.specs.Stages.{How, Gave, Kept, Stage, Unseen, OpenedBy, InHand, Waiting, ClosedBy, Begun, has_mark, picture, starter_of, starter_by, who, is_unseen, is_live, is_owned, is_past, is_unsettled, opening_offered, raises, is_bold, brings}
-use Rattle.scheduling.specs.Invariant.{IsCorePlan, GoesOn, EndsSo, IsEnding, IsAfter, OpeningOk, ClosingOk, ShapeOk, RunsSo, Fits, TaskOk, SeatOk, HeldBy, Holds, IsKept}
+use Rattle.scheduling.specs.Inside.Stages.{How, Gave, Kept, Stage, Unseen, OpenedBy, InHand, Waiting, ClosedBy, Begun, has_mark, picture, starter_of, starter_by, who, is_unseen, is_live, is_owned, is_past, is_unsettled, opening_offered, raises, is_bold, brings}
+use Rattle.scheduling.specs.Inside.Invariant.{IsCorePlan, GoesOn, EndsSo, IsEnding, IsAfter, OpeningOk, ClosingOk, ShapeOk, RunsSo, Fits, TaskOk, SeatOk, HeldBy, Holds, IsKept}
 use Rattle.scheduling.proofs.Basics.{upd, upd_same, upd_all, get_set_same, set_get, first_some}
 use Rattle.scheduling.proofs.Parts.{CounterList, words_keep, locks_keep, counters_keep, fits_live, live_seen, QuitStep, quit_calm}
 use Rattle.scheduling.proofs.Silent.{ResultList, ShownOk, silent, seat_goes}

@@ -11,7 +11,7 @@ use Rattle.plan_events.specs.declared.status.Status.{Status}
 use Rattle.event_history.specs.Places.{is_failure, is_failed_or, same_kind, has, is_of, has_event}
 use Rattle.resource_locks.specs.Plans.{PlanParts}
 use Rattle.event_history.specs.Plans.{is_spare_of, pulls_job}
-use Rattle.event_history.specs.Following.{has_failed_by, started_by, registered_in, MayBeDrawn}
+use Rattle.event_history.specs.Inside.Following.{has_failed_by, started_by, registered_in, MayBeDrawn}
 use Rattle.event_history.specs.Results.{Ends, jobs_of}
 use Rattle.event_history.proofs.Places.{get_front}
 use Rattle.event_history.proofs.Published.{published_snoc}
@@ -27,8 +27,8 @@ use Rattle.scheduling.specs.declared.seat.Seat.{Seat}
 use Rattle.scheduling.specs.State.{State, subject}
 use Rattle.scheduling.specs.Choices.{ending, event_of}
 use Rattle.scheduling.specs.Rows.{with_task, drawn, one_more, draw_row}
-use Rattle.scheduling.specs.Stages.{How, Gave, Kept, Skips, Stage, Unseen, Offered, OpenedBy, InHand, Waiting, ClosedBy, Over, Below, Mark, has_mark, mark_of, picture, starter_of, who, is_unseen, is_live, is_owned, is_pending, is_past, is_unsettled, raises, is_bold}
-use Rattle.scheduling.specs.Invariant.{IsCorePlan, IsEnding, OpeningOk, ClosingOk, ShapeOk, Fits, TaskOk, HandOk, IsInHand, IsBrought, BringsOk, SeatOk, HeldBy, Holds, IsKept}
+use Rattle.scheduling.specs.Inside.Stages.{How, Gave, Kept, Skips, Stage, Unseen, Offered, OpenedBy, InHand, Waiting, ClosedBy, Over, Below, Mark, has_mark, mark_of, picture, starter_of, who, is_unseen, is_live, is_owned, is_pending, is_past, is_unsettled, raises, is_bold}
+use Rattle.scheduling.specs.Inside.Invariant.{IsCorePlan, IsEnding, OpeningOk, ClosingOk, ShapeOk, Fits, TaskOk, HandOk, IsInHand, IsBrought, BringsOk, SeatOk, HeldBy, Holds, IsKept}
 use Rattle.scheduling.proofs.Basics.{upd, upd_same, upd_other, upd_all, get_set_same, count_same, count_change, event_snoc, event_same}
 use Rattle.scheduling.proofs.Frame.{moved}
 use Rattle.scheduling.proofs.Parts.{words_keep, counters_keep, locks_keep, fits_live, live_seen}

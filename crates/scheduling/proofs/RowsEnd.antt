@@ -12,7 +12,7 @@ use Rattle.resource_locks.specs.Plans.{PlanParts}
 use Rattle.event_history.specs.Plans.{Sort, Leaf, Holder, Maker, IsElder, is_same, sort_of, pulls_job, spare_count}
 use Rattle.event_history.specs.Results.{Pulled, jobs_of, jobs_by, after_run, EndsLast, too_many}
 use Rattle.event_history.specs.Order.{goes_first}
-use Rattle.event_history.specs.Following.{registered_in}
+use Rattle.event_history.specs.Inside.Following.{registered_in}
 use Rattle.event_history.proofs.Spares.{is_maker, pulls_sort}
 use Rattle.event_history.proofs.Trees.{is_child_test}
 use Rattle.scheduling.specs.declared.status.NodeStatus.TheVariants.{Ready}
@@ -27,8 +27,8 @@ use Rattle.scheduling.specs.declared.seat.Seat.{Seat}
 use Rattle.scheduling.specs.State.{State, counter_at, subject}
 use Rattle.scheduling.specs.Choices.{in_batch, first_from, admit_next, admit_from, offered_to, ending_by, ending, is_pulled, pulled_result}
 use Rattle.scheduling.specs.Rows.{with_task, goes_to, offers, admit_row, waits_for, guard_given}
-use Rattle.scheduling.specs.Stages.{How, Gave, Kept, Skips, Stage, Unseen, Offered, OpenedBy, InHand, Waiting, ClosedBy, Over, picture, closing_picture, below_of, runner_of, is_unseen, is_offer_to, is_past}
-use Rattle.scheduling.specs.Invariant.{IsCorePlan, GoesOn, IsNextSame, OpeningOk, ClosingOk, ShapeOk, RunsSo, Fits, TaskOk, SeatOk, Holds, IsKept}
+use Rattle.scheduling.specs.Inside.Stages.{How, Gave, Kept, Skips, Stage, Unseen, Offered, OpenedBy, InHand, Waiting, ClosedBy, Over, picture, closing_picture, below_of, runner_of, is_unseen, is_offer_to, is_past}
+use Rattle.scheduling.specs.Inside.Invariant.{IsCorePlan, GoesOn, IsNextSame, OpeningOk, ClosingOk, ShapeOk, RunsSo, Fits, TaskOk, SeatOk, Holds, IsKept}
 use Rattle.scheduling.proofs.Basics.{upd, upd_same, upd_other, upd_all, get_set_same, set_twice, first_some}
 use Rattle.scheduling.proofs.Parts.{locks_keep, fits_runs, own_hand, quit_calm}
 use Rattle.scheduling.proofs.RowsOne.{by_cond, kept_some, same_shown, turn_closing_at}

@@ -11,7 +11,7 @@ use Rattle.plan_events.specs.declared.status.Status.{Status}
 use Rattle.event_history.specs.Places.{is_failed_or, is_failure}
 use Rattle.resource_locks.specs.Plans.{PlanParts}
 use Rattle.event_history.specs.Plans.{IsPlanTree, pulls_job}
-use Rattle.event_history.specs.Following.{has_failed, has_failed_by}
+use Rattle.event_history.specs.Inside.Following.{has_failed, has_failed_by}
 use Rattle.scheduling.specs.declared.status.NodeStatus.{NodeStatus}
 use Rattle.scheduling.specs.declared.status.NodeStatus.TheVariants.{Hidden, Ready, Claimed, Settled}
 use Rattle.scheduling.specs.declared.lock_word.LockWord.{LockWord}
@@ -26,8 +26,8 @@ use Rattle.scheduling.specs.declared.seat.Seat.{Seat}
 use Rattle.scheduling.specs.State.{State, status_at, lock_at, subject}
 use Rattle.scheduling.specs.Choices.{key_at, mode_at, keys_count, admits, taken, given_back, same_word, lock_from, begins, giving, after_finish}
 use Rattle.scheduling.specs.Rows.{with_task, goes, goes_to, notice_row, weighed, weigh_row, take_found, take_row, puts_word, gives_key, give_row, raised, raise_row, shows, look_found, look_row}
-use Rattle.scheduling.specs.Stages.{How, Gave, Kept, Skips, Stage, OpenedBy, InHand, Waiting, ClosedBy, Over, Shut, Runs, picture, closing_picture, runner_of, starter_by, below_of, Begun, passes_to, closing_past, closing_passed, opening_offered, raises, is_bold, brings}
-use Rattle.scheduling.specs.Invariant.{IsCorePlan, OpeningOk, ClosingOk, ShapeOk, TaskOk, BringsOk, SeatOk, Holds, IsKept}
+use Rattle.scheduling.specs.Inside.Stages.{How, Gave, Kept, Skips, Stage, OpenedBy, InHand, Waiting, ClosedBy, Over, Shut, Runs, picture, closing_picture, runner_of, starter_by, below_of, Begun, passes_to, closing_past, closing_passed, opening_offered, raises, is_bold, brings}
+use Rattle.scheduling.specs.Inside.Invariant.{IsCorePlan, OpeningOk, ClosingOk, ShapeOk, TaskOk, BringsOk, SeatOk, Holds, IsKept}
 use Rattle.scheduling.proofs.Basics.{upd, upd_same, get_set_same}
 use Rattle.scheduling.proofs.Parts.{LockList, words_keep, locks_keep, locks_take, locks_give, QuitStep, quit_calm, quit_same}
 use Rattle.scheduling.proofs.Silent.{ShownOk, alike, seat_goes}

@@ -25,8 +25,8 @@ use Rattle.scheduling.specs.declared.seat.Seat.{Seat}
 use Rattle.scheduling.specs.State.{State, counter_at, subject}
 use Rattle.scheduling.specs.Choices.{keys_count, in_batch, ending}
 use Rattle.scheduling.specs.Rows.{with_task, goes_to, shows}
-use Rattle.scheduling.specs.Stages.{How, Gave, Stage, Unseen, Offered, OpenedBy, InHand, Waiting, ClosedBy, Over, Runs, Past, Blank, Known, Begun, has_mark, picture, who, is_unseen, is_live, is_pending, is_owned, passes_to, is_past, is_unsettled, raises, is_bold}
-use Rattle.scheduling.specs.Invariant.{IsCorePlan, ClosingOk, ShapeOk, Fits, TaskOk, HandOk, SeatOk, Holds, IsKept}
+use Rattle.scheduling.specs.Inside.Stages.{How, Gave, Stage, Unseen, Offered, OpenedBy, InHand, Waiting, ClosedBy, Over, Runs, Past, Blank, Known, Begun, has_mark, picture, who, is_unseen, is_live, is_pending, is_owned, passes_to, is_past, is_unsettled, raises, is_bold}
+use Rattle.scheduling.specs.Inside.Invariant.{IsCorePlan, ClosingOk, ShapeOk, Fits, TaskOk, HandOk, SeatOk, Holds, IsKept}
 use Rattle.scheduling.proofs.Basics.{upd, upd_same, upd_other, get_set_same, count_some}
 use Rattle.scheduling.proofs.Frame.{task_keeps}
 use Rattle.scheduling.proofs.Parts.{words_set, locks_keep, counters_keep, counters_give, pending_none, QuitStep, quit_calm}

@@ -15,7 +15,7 @@ use Rattle.resource_locks.specs.Plans.{PlanParts}
 use Rattle.event_history.specs.Plans.{Sort, Leaf, Holder, Maker, IsElder, is_same, is_spare_of, sort_of, pulls_job, rank}
 use Rattle.event_history.specs.Places.{has}
 use Rattle.event_history.specs.Order.{goes_first}
-use Rattle.event_history.specs.Following.{registered_in}
+use Rattle.event_history.specs.Inside.Following.{registered_in}
 use Rattle.event_history.specs.History.{registered_before}
 use Rattle.event_history.proofs.Spares.{is_maker, pulls_sort}
 use Rattle.event_history.proofs.Trees.{is_child_test}
@@ -33,8 +33,8 @@ use Rattle.scheduling.specs.declared.seat.Seat.{Seat}
 use Rattle.scheduling.specs.State.{State, counter_at, result_at, subject}
 use Rattle.scheduling.specs.Choices.{ending, is_pulled, pulled_result, is_spare_ranked, next_spare}
 use Rattle.scheduling.specs.Rows.{with_task, goes_to, child_added, add_by_hand, add_child_hand, add_child_row, guard_given, counted_off, done_by_hand, done_hand, done_row}
-use Rattle.scheduling.specs.Stages.{How, Gave, Kept, Skips, Stage, Unseen, Offered, OpenedBy, InHand, Waiting, ClosedBy, Over, has_mark, picture, closing_picture, mark_of, runner_of, is_unseen, is_pending, is_past, is_unsettled, brings}
-use Rattle.scheduling.specs.Invariant.{IsCorePlan, IsNextSame, ShapeOk, Fits, TaskOk, HandOk, IsInHand, IsBrought, BringsOk, SeatOk, HeldBy, Holds, IsKept}
+use Rattle.scheduling.specs.Inside.Stages.{How, Gave, Kept, Skips, Stage, Unseen, Offered, OpenedBy, InHand, Waiting, ClosedBy, Over, has_mark, picture, closing_picture, mark_of, runner_of, is_unseen, is_pending, is_past, is_unsettled, brings}
+use Rattle.scheduling.specs.Inside.Invariant.{IsCorePlan, IsNextSame, ShapeOk, Fits, TaskOk, HandOk, IsInHand, IsBrought, BringsOk, SeatOk, HeldBy, Holds, IsKept}
 use Rattle.scheduling.proofs.Basics.{upd, upd_same, upd_other, get_set_same, set_twice, IsFirst, first_some}
 use Rattle.scheduling.proofs.Frame.{hand_apart}
 use Rattle.scheduling.proofs.Parts.{words_keep, locks_keep, counters_child, pending_change, fits_live, fits_runs, QuitStep, quit_calm}

@@ -12,7 +12,7 @@ use Rattle.event_history.specs.Places.{is_failure, same_kind, is_failed_or, has}
 use Rattle.resource_locks.specs.Plans.{PlanParts}
 use Rattle.event_history.specs.Plans.{IsPlanTree, IsElder, is_same, sort_of}
 use Rattle.event_history.specs.History.{IsLegal}
-use Rattle.event_history.specs.Following.{has_failed_by}
+use Rattle.event_history.specs.Inside.Following.{has_failed_by}
 use Rattle.event_history.proofs.Places.{finds, same_kind-true, has_at}
 use Rattle.event_history.proofs.Branches.{below_root}
 use Rattle.event_history.proofs.Trees.{is_child_test}
@@ -29,8 +29,8 @@ use Rattle.scheduling.specs.declared.seat.Seat.{Seat}
 use Rattle.scheduling.specs.State.{State, status_at, subject}
 use Rattle.scheduling.specs.Choices.{keys_count, lock_from, begins, notices, offered_to, after_settle, pass_to, first_from, is_same_sibling}
 use Rattle.scheduling.specs.Rows.{with_task, goes_to, is_free, is_empty, is_of_hand, same_offer, is_ready_for, claimed, given_up, give_up_row, waits_for, waited_out, waits_no_more, settle_row, offers}
-use Rattle.scheduling.specs.Stages.{How, Gave, Kept, Skips, Stage, Offered, OpenedBy, InHand, Waiting, ClosedBy, Over, Shut, Known, has_mark, picture, closing_picture, starter_by, mark_of, is_owned, is_offer_to, closing_past, is_unsettled, raises, is_bold, brings}
-use Rattle.scheduling.specs.Invariant.{IsCorePlan, OpeningOk, ClosingOk, IsNextSame, Fits, TaskOk, HandOk, IsInHand, IsBrought, BringsOk, SeatOk, Holds, IsKept}
+use Rattle.scheduling.specs.Inside.Stages.{How, Gave, Kept, Skips, Stage, Offered, OpenedBy, InHand, Waiting, ClosedBy, Over, Shut, Known, has_mark, picture, closing_picture, starter_by, mark_of, is_owned, is_offer_to, closing_past, is_unsettled, raises, is_bold, brings}
+use Rattle.scheduling.specs.Inside.Invariant.{IsCorePlan, OpeningOk, ClosingOk, IsNextSame, Fits, TaskOk, HandOk, IsInHand, IsBrought, BringsOk, SeatOk, Holds, IsKept}
 use Rattle.scheduling.proofs.Basics.{upd, upd_same, upd_other, upd_all, get_set_same, IsFirst, first_some}
 use Rattle.scheduling.proofs.Parts.{StatusList, words_set, locks_keep, pending_elsewhere, QuitStep, quit_calm}
 use Rattle.scheduling.proofs.Silent.{silent, alike, seat_goes}

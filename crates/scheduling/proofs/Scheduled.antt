@@ -13,9 +13,9 @@ use Rattle.scheduling.specs.State.{State, status_at}
 use Rattle.scheduling.specs.declared.step.Action.{Action}
 use Rattle.scheduling.specs.Rows.{row, read_row, decided_seat, after, Works}
 use Rattle.scheduling.specs.Runs.{IsReplied}
-use Rattle.scheduling.specs.Invariant.{IsCorePlan, IsKept}
+use Rattle.scheduling.specs.Inside.Invariant.{IsCorePlan, IsKept}
 use Rattle.scheduling.specs.Schedule.{is_open, IsFirstOpen, taking, IsNextBy, IsNext, Drives, finished, reads, works, LeadsTo}
-use Rattle.scheduling.specs.Work.{work_left, IsClear}
+use Rattle.scheduling.specs.Inside.Work.{work_left, IsClear}
 use Rattle.scheduling.proofs.Direct.{after_direct}
 use Rattle.scheduling.proofs.FallsNext.{step_falls}
 

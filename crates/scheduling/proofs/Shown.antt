@@ -10,7 +10,7 @@ use Rattle.scheduling.specs.declared.task.Task.{Task}
 use Rattle.scheduling.specs.declared.task.Task.TheVariants.{Opens, Closes}
 use Rattle.scheduling.specs.declared.seat.Seat.{Seat}
 use Rattle.scheduling.specs.State.{State}
-use Rattle.scheduling.specs.Invariant.{IsGiven}
+use Rattle.scheduling.specs.Inside.Invariant.{IsGiven}
 use Rattle.scheduling.specs.Shown.{named, IsNamed, IsShown, IsPlaced}
 use Rattle.scheduling.proofs.Basics.{get_set, get_set_same, get_set_other}
 

@@ -10,15 +10,15 @@ use Rattle.resource_locks.specs.Plans.{PlanParts}
 use Rattle.event_history.specs.Plans.{IsPlanTree, IsElder, is_same}
 use Rattle.event_history.specs.Order.{goes_first}
 use Rattle.event_history.specs.Places.{has}
-use Rattle.event_history.specs.Following.{has_failed, started_by}
+use Rattle.event_history.specs.Inside.Following.{has_failed, started_by}
 use Rattle.scheduling.specs.declared.status.NodeStatus.{NodeStatus}
 use Rattle.scheduling.specs.declared.lock_word.LockWord.{LockWord}
 use Rattle.scheduling.specs.declared.task.Task.{Task}
 use Rattle.scheduling.specs.declared.seat.Seat.{Seat}
 use Rattle.scheduling.specs.State.{State, subject}
 use Rattle.scheduling.specs.Rows.{with_task}
-use Rattle.scheduling.specs.Stages.{Stage, InHand, Waiting, Below, Runs, picture, has_mark, starter_of, who, is_unseen, is_live, is_owned, is_pending, is_past, is_unsettled, raises}
-use Rattle.scheduling.specs.Invariant.{ShapeOk, Fits, TaskOk, BringsOk, SeatOk, HeldBy, Holds}
+use Rattle.scheduling.specs.Inside.Stages.{Stage, InHand, Waiting, Below, Runs, picture, has_mark, starter_of, who, is_unseen, is_live, is_owned, is_pending, is_past, is_unsettled, raises}
+use Rattle.scheduling.specs.Inside.Invariant.{ShapeOk, Fits, TaskOk, BringsOk, SeatOk, HeldBy, Holds}
 use Rattle.scheduling.proofs.Basics.{upd, upd_all}
 use Rattle.scheduling.proofs.Frame.{moved}
 use Rattle.scheduling.proofs.Parts.{StatusList, CounterList, LockList, counters_keep, fits_live, live_seen, own_hand, QuitStep}

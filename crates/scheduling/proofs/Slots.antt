@@ -8,8 +8,8 @@ use Rattle.scheduling.specs.declared.task.Task.TheVariants.{Free, Opens, Closes}
 use Rattle.scheduling.specs.declared.seat.Hand.{Hand}
 use Rattle.scheduling.specs.declared.seat.Seat.{Seat}
 use Rattle.scheduling.specs.State.{State, subject, opening_slot, closing_slot, if_slot, slot_node}
-use Rattle.scheduling.specs.Stages.{Stage, who}
-use Rattle.scheduling.specs.Invariant.{TaskOk, HandOk, IsInHand, Holds}
+use Rattle.scheduling.specs.Inside.Stages.{Stage, who}
+use Rattle.scheduling.specs.Inside.Invariant.{TaskOk, HandOk, IsInHand, Holds}
 
 slot_subject : (t : Task) (n : ℕ) → slot_node t ≡ Some n → subject t ≡ Some n
 slot_subject Free n q = absurd (none-some n q)

@@ -11,7 +11,7 @@ use Rattle.resource_locks.specs.Plans.{PlanParts}
 use Rattle.event_history.specs.Plans.{is_spare_of, rank}
 use Rattle.event_history.specs.Places.{has}
 use Rattle.event_history.specs.History.{IsLegal, registered_before}
-use Rattle.event_history.specs.Following.{registered_in}
+use Rattle.event_history.specs.Inside.Following.{registered_in}
 use Rattle.event_history.proofs.Places.{has_at}
 use Rattle.event_history.proofs.Trees.{test_is_child, is_child_test}
 use Rattle.event_history.proofs.Counting.{rank_most}

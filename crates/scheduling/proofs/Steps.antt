@@ -24,8 +24,8 @@ use Rattle.scheduling.specs.declared.step.Action.{Action}
 use Rattle.scheduling.specs.declared.step.Action.TheVariants.{Claim, Own, Notice, Weigh, Take, Give, GiveUp, Draw, Show, Admit, AddChild, Done, Settle, Look, Raise}
 use Rattle.scheduling.specs.Rows.{row, with_task, goes_to, shows, after_start, show_row, decided_seat, after_seat, after, Step, Works, Dispatches, read_event, read_row}
 use Rattle.scheduling.specs.Runs.{IsReplied}
-use Rattle.scheduling.specs.Stages.{Stage}
-use Rattle.scheduling.specs.Invariant.{IsCorePlan, Holds, IsKept}
+use Rattle.scheduling.specs.Inside.Stages.{Stage}
+use Rattle.scheduling.specs.Inside.Invariant.{IsCorePlan, Holds, IsKept}
 use Rattle.scheduling.proofs.Basics.{get_set_same}
 use Rattle.scheduling.proofs.RowsOne.{by_cond, kept_some, notice_keeps, weigh_keeps, take_keeps, give_keeps, raise_keeps, look_keeps, show_registered_keeps, show_started_keeps, show_skipped_keeps, show_closing_keeps}
 use Rattle.scheduling.proofs.RowsWord.{claim_keeps, own_keeps, give_up_keeps, settle_keeps}

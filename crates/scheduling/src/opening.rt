@@ -3,7 +3,7 @@
 ghost use Rattle.std.specs.Prelude.{◌≡◌, ◌<◌, IfOk, replicate};
 ghost use Rattle.descriptor.specs.Nodes.{size};
 ghost use Rattle.resource_locks.specs.Held.{table};
-ghost use Rattle.scheduling.specs.Start.{guard_and_children, free_seat};
+ghost use Rattle.scheduling.specs.Inside.Start.{guard_and_children, free_seat};
 
 use crate::seat::Seat;
 use crate::task::Task;

@@ -3,7 +3,7 @@
 ghost use Rattle.std.specs.Prelude.{◌≡◌, ◌<◌, true};
 ghost use Rattle.descriptor.specs.Nodes.{size, is_factory_at};
 ghost use Rattle.scheduling.specs.Answers.{reply_by};
-ghost use Rattle.scheduling.specs.Lowest.{lowest_after as lowest_then, lower as lower_then, offered_closing};
+ghost use Rattle.scheduling.specs.Inside.Lowest.{lowest_after as lowest_then, lower as lower_then, offered_closing};
 ghost use Rattle.scheduling.specs.declared.task.Task.{Task};
 ghost use Rattle.scheduling.specs.Schedule.{is_open as is_open_of, taking as taking_of, hand_action as hand_action_of, opening_action as opening_action_of, closing_action as closing_action_of};
 

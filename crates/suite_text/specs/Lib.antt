@@ -3,3 +3,4 @@ pub mod Suites
 pub mod Words
 pub mod Reading
 pub mod Writing
+pub mod Inside

@@ -8,7 +8,6 @@ pub mod Lines
 pub mod Locks
 pub mod Nodes
 pub mod Parts
-pub mod Paths
 pub mod Properties
 pub mod Pulls
 pub mod Scripts

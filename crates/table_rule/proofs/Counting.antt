@@ -19,8 +19,8 @@ use Rattle.scheduling.specs.declared.task.Task.TheVariants.{Free, Closes}
 use Rattle.scheduling.specs.declared.step.Action.TheVariants.{Done}
 use Rattle.scheduling.specs.State.{State, counter_at, result_at}
 use Rattle.scheduling.specs.Rows.{with_task, ends_or_free, counted_off, done_row}
-use Rattle.scheduling.specs.Stages.{How, Gave, Kept, Skips, Stage, OpenedBy, ClosedBy, Over, guard_of, opening_picture, closing_picture, picture, is_pending}
-use Rattle.scheduling.specs.Invariant.{pends_at, pending, ClosingOk, ShapeOk, TaskOk}
+use Rattle.scheduling.specs.Inside.Stages.{How, Gave, Kept, Skips, Stage, OpenedBy, ClosedBy, Over, guard_of, opening_picture, closing_picture, picture, is_pending}
+use Rattle.scheduling.specs.Inside.Invariant.{pends_at, pending, ClosingOk, ShapeOk, TaskOk}
 use Rattle.scheduling.proofs.Basics.{count_some}
 use Rattle.scheduling.proofs.RowsUp.{done_keeps}
 use Rattle.table_rule.specs.declared.view.About.{About}

@@ -20,7 +20,7 @@ use Rattle.scheduling.specs.declared.seat.Seat.{Seat}
 use Rattle.scheduling.specs.declared.step.Action.TheVariants.{Draw, Admit}
 use Rattle.scheduling.specs.State.{State, subject}
 use Rattle.scheduling.specs.Rows.{drawn, draw_row, offers, admit_row}
-use Rattle.scheduling.specs.Invariant.{ClosingOk, ShapeOk, TaskOk, BringsOk}
+use Rattle.scheduling.specs.Inside.Invariant.{ClosingOk, ShapeOk, TaskOk, BringsOk}
 use Rattle.scheduling.proofs.Frames.{part_mine}
 use Rattle.scheduling.proofs.Ranges.{ranges}
 use Rattle.scheduling.proofs.RowsDraw.{draw_keeps}

@@ -12,7 +12,7 @@ use Rattle.scheduling.specs.declared.status.NodeStatus.{NodeStatus}
 use Rattle.scheduling.specs.declared.status.NodeStatus.TheVariants.{Hidden, Settled}
 use Rattle.scheduling.specs.declared.seat.Seat.{Seat}
 use Rattle.scheduling.specs.State.{State, status_at}
-use Rattle.scheduling.specs.Invariant.{IsCorePlan, IsKept}
+use Rattle.scheduling.specs.Inside.Invariant.{IsCorePlan, IsKept}
 use Rattle.scheduling.proofs.Frames.{IsFrame}
 use Rattle.scheduling.proofs.Headline.{core_plan}
 use Rattle.table_rule.specs.declared.view.About.{About}

@@ -18,8 +18,8 @@ use Rattle.scheduling.specs.declared.step.Action.TheVariants.{Done}
 use Rattle.scheduling.specs.State.{State, counter_at, result_at}
 use Rattle.scheduling.specs.Choices.{hand_job, awaited, decided, is_pulled, pulled_result}
 use Rattle.scheduling.specs.Rows.{guard_given, done_by_hand, done_hand, done_row}
-use Rattle.scheduling.specs.Stages.{Stage, picture}
-use Rattle.scheduling.specs.Invariant.{TaskOk, HandOk, pending}
+use Rattle.scheduling.specs.Inside.Stages.{Stage, picture}
+use Rattle.scheduling.specs.Inside.Invariant.{TaskOk, HandOk, pending}
 use Rattle.scheduling.proofs.RowsOne.{by_cond}
 use Rattle.scheduling.proofs.RowsUp.{done_keeps}
 use Rattle.table_rule.specs.declared.view.About.{About}

@@ -20,7 +20,7 @@ use Rattle.scheduling.specs.declared.seat.Seat.{Seat}
 use Rattle.scheduling.specs.declared.step.Action.TheVariants.{Weigh, Take}
 use Rattle.scheduling.specs.State.{State, lock_at}
 use Rattle.scheduling.specs.Choices.{key_at, mode_at, taken, given_back, same_word, less_one, lock_from, giving}
-use Rattle.scheduling.specs.Ranges.{InRange}
+use Rattle.scheduling.specs.Inside.Ranges.{InRange}
 use Rattle.scheduling.specs.Rows.{with_task, goes, puts_word, weighed, weigh_row, take_found, take_row, gives_key, give_row}
 use Rattle.scheduling.proofs.KeysOnce.{key_placed}
 use Rattle.scheduling.proofs.Ranges.{ranges}

@@ -19,7 +19,7 @@ use Rattle.scheduling.specs.State.{State}
 use Rattle.scheduling.specs.Choices.{awaited, decided, first_from, in_batch, is_leaf, status_by, admit_next, admit_from}
 use Rattle.scheduling.specs.Rows.{decided_seat, goes_to}
 use Rattle.scheduling.specs.Shown.{named}
-use Rattle.scheduling.specs.Invariant.{IsKept}
+use Rattle.scheduling.specs.Inside.Invariant.{IsKept}
 use Rattle.scheduling.proofs.Basics.{get_set_same, get_set_other, set_get, set_twice}
 use Rattle.scheduling.proofs.RowsOne.{by_cond}
 use Rattle.scheduling.proofs.RowsBelow.{decide_keeps}

@@ -20,9 +20,9 @@ use Rattle.scheduling.specs.declared.step.Action.TheVariants.{Give, GiveUp}
 use Rattle.scheduling.specs.State.{State, status_at, lock_at}
 use Rattle.scheduling.specs.Choices.{keys_count, key_at, mode_at, given_back}
 use Rattle.scheduling.specs.Rows.{with_task, puts_word, give_row, back_to, given_up, give_up_row}
-use Rattle.scheduling.specs.Stages.{Stage, picture}
-use Rattle.scheduling.specs.Invariant.{same_mode, is_key, keys_in, holders, holders_by, TaskOk}
-use Rattle.scheduling.specs.Ranges.{InRange}
+use Rattle.scheduling.specs.Inside.Stages.{Stage, picture}
+use Rattle.scheduling.specs.Inside.Invariant.{same_mode, is_key, keys_in, holders, holders_by, TaskOk}
+use Rattle.scheduling.specs.Inside.Ranges.{InRange}
 use Rattle.scheduling.proofs.Basics.{sum_one, count_some}
 use Rattle.scheduling.proofs.KeysOnce.{key_placed}
 use Rattle.scheduling.proofs.Ranges.{ranges}

@@ -7,7 +7,7 @@ use Rattle.atomic_table.specs.Table.{State as TableState, Me, Allows, Splits, Jo
 use Rattle.plan_events.specs.declared.outcome.Reply.{Reply}
 use Rattle.resource_locks.specs.Plans.{IsPlan}
 use Rattle.scheduling.specs.Choices.{awaited}
-use Rattle.scheduling.specs.Invariant.{IsKept}
+use Rattle.scheduling.specs.Inside.Invariant.{IsKept}
 use Rattle.scheduling.specs.Runs.{opening}
 use Rattle.table_rule.specs.declared.view.About.{About}
 use Rattle.table_rule.specs.declared.view.View.{View}

@@ -26,7 +26,7 @@ use Rattle.scheduling.specs.declared.step.Action.TheVariants.{Claim, Own, Show, 
 use Rattle.scheduling.specs.State.{State, status_at, subject}
 use Rattle.scheduling.specs.Rows.{row, is_free, is_empty, is_of_hand, is_ready_for, claimed, shows, show_row, settle_row, goes_to}
 use Rattle.scheduling.specs.Shown.{named}
-use Rattle.scheduling.specs.Invariant.{IsKept}
+use Rattle.scheduling.specs.Inside.Invariant.{IsKept}
 use Rattle.scheduling.proofs.Basics.{get_set_same}
 use Rattle.scheduling.proofs.Frames.{row_frame}
 use Rattle.scheduling.proofs.Ranges.{ranges}

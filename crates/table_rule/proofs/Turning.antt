@@ -14,7 +14,7 @@ use Rattle.plan_events.specs.declared.status.Status.{Status}
 use Rattle.plan_events.specs.declared.status.Status.TheVariants.{Successful, Aborted, Failed}
 use Rattle.resource_locks.specs.Plans.{PlanParts}
 use Rattle.event_history.specs.Places.{is_of}
-use Rattle.event_history.specs.Following.{started_by}
+use Rattle.event_history.specs.Inside.Following.{started_by}
 use Rattle.event_history.proofs.Places.{finds}
 use Rattle.scheduling.specs.declared.status.NodeStatus.TheVariants.{Claimed}
 use Rattle.scheduling.specs.declared.task.Opening.TheVariants.{Registering, Noticing}
@@ -26,8 +26,8 @@ use Rattle.scheduling.specs.declared.step.Action.TheVariants.{Notice, Raise, Loo
 use Rattle.scheduling.specs.State.{State, status_at, counter_at, result_at}
 use Rattle.scheduling.specs.Choices.{keys_count, begins, giving, next_spare}
 use Rattle.scheduling.specs.Rows.{with_task, goes, goes_to, raised, notice_row, raise_row, look_found, look_row, child_added, add_by_hand, add_child_hand, add_child_row}
-use Rattle.scheduling.specs.Stages.{Stage, Below, Shut, Runs, Past, picture, starter_by, starter_of, runner_of, is_unseen, is_over}
-use Rattle.scheduling.specs.Invariant.{ClosingOk, ShapeOk, Fits, TaskOk}
+use Rattle.scheduling.specs.Inside.Stages.{Stage, Below, Shut, Runs, Past, picture, starter_by, starter_of, runner_of, is_unseen, is_over}
+use Rattle.scheduling.specs.Inside.Invariant.{ClosingOk, ShapeOk, Fits, TaskOk}
 use Rattle.scheduling.proofs.Ranges.{ranges}
 use Rattle.scheduling.proofs.RowsOne.{runs_is, notice_keeps, raise_keeps, look_keeps}
 use Rattle.scheduling.proofs.RowsUp.{add_child_keeps}

@@ -13,8 +13,8 @@ use Rattle.scheduling.specs.declared.task.Closing.{Closing}
 use Rattle.scheduling.specs.declared.task.Closing.TheVariants.{AwaitingAfter, Ending, FinishedAt, SkippedAt, Raising, Giving, Settling, Looking, Passing, CountingOff}
 use Rattle.scheduling.specs.State.{State}
 use Rattle.scheduling.specs.Choices.{ending}
-use Rattle.scheduling.specs.Stages.{How, Gave, Stage, Unseen, Offered, OpenedBy, InHand, Waiting, ClosedBy, Over}
-use Rattle.scheduling.specs.Invariant.{GoesOn, OpeningOk, ClosingOk, ShapeOk, IsKept}
+use Rattle.scheduling.specs.Inside.Stages.{How, Gave, Stage, Unseen, Offered, OpenedBy, InHand, Waiting, ClosedBy, Over}
+use Rattle.scheduling.specs.Inside.Invariant.{GoesOn, OpeningOk, ClosingOk, ShapeOk, IsKept}
 use Rattle.table_rule.specs.Picture.{AreAmong}
 
 module _ (few more : ℕ → List Reply) (among : AreAmong few more) where

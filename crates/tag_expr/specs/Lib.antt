@@ -7,8 +7,8 @@ pub mod Faults
 pub mod Grammar
 pub mod Nodes
 pub mod Parsing
-pub mod TagSetFields
 pub mod TagSets
 pub mod Tags
 pub mod TokenTexts
 pub mod Tokens
+pub mod Inside

@@ -18,7 +18,7 @@ pub struct TagSet {
 
 impl Model for TagSet {
     ghost use Rattle.std.specs.Prelude.{List, ℕ};
-    ghost use Rattle.tag_expr.specs.TagSetFields.{HasTexts};
+    ghost use Rattle.tag_expr.specs.Inside.TagSetFields.{HasTexts};
 
     ghost Value = { List (List ℕ) };
 

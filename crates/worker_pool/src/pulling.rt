@@ -9,10 +9,10 @@ ghost use Rattle.scheduling.specs.declared.task.Task.TheVariants.{Free};
 ghost use Rattle.table_rule.specs.Picture.{about_of, replies_of};
 ghost use Rattle.table_rule.specs.Plays.{ready_in, guard_due};
 ghost use Rattle.run_table.specs.Seats.{IsSeatOf, SameSeat};
-ghost use Rattle.worker_pool.specs.Answering.{IsTold, LeftAfter};
+ghost use Rattle.worker_pool.specs.Inside.Answering.{IsTold, LeftAfter};
 ghost use Rattle.worker_pool.specs.Going.{GoesOn};
 ghost use Rattle.worker_pool.specs.Premises.{MayAnswer};
-ghost use Rattle.worker_pool.specs.Steady.{Steady, AtNodes, AtTests};
+ghost use Rattle.worker_pool.specs.Inside.Steady.{Steady, AtNodes, AtTests};
 
 use crate::answering::run;
 use crate::working::run_tasks;

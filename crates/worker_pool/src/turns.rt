@@ -11,7 +11,7 @@ ghost use Rattle.run_table.specs.Seats.{IsSeatOf};
 ghost use Rattle.table_rule.specs.Picture.{about_of};
 ghost use Rattle.worker_pool.specs.Going.{GoesOn};
 ghost use Rattle.worker_pool.specs.Premises.{MayAnswer};
-ghost use Rattle.worker_pool.specs.Steady.{Phase, Steady};
+ghost use Rattle.worker_pool.specs.Inside.Steady.{Phase, Steady};
 
 use crate::answering::{answer_after, answer_body};
 use descriptor::NodeId;

@@ -7,7 +7,7 @@ ghost use Rattle.table_rule.specs.Plays.{worker};
 ghost use Rattle.run_table.specs.Seats.{IsSeatOf, SameSeat};
 ghost use Rattle.worker_pool.specs.Going.{Continues, GoesOn};
 ghost use Rattle.worker_pool.specs.Premises.{MayAnswer};
-ghost use Rattle.worker_pool.specs.Steady.{Phase, Steady, AtNodes};
+ghost use Rattle.worker_pool.specs.Inside.Steady.{Phase, Steady, AtNodes};
 
 use crate::pulling::pull_tests;
 use crate::scan::{is_over, take_next};

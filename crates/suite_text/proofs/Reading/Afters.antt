@@ -20,7 +20,7 @@ use Rattle.suite_text.specs.Reading.After.{after_body, with_after_body}
 use Rattle.suite_text.specs.Reading.Ids.{IsNamed, IdsFollow, place_among, value_at}
 use Rattle.suite_text.specs.Reading.Nodes.{id_at, id_or_none, value_of_dyn}
 use Rattle.suite_text.specs.Reading.Parts.{LinesRead, bodies_of, afters_of, bodies_answered}
-use Rattle.suite_text.specs.Reading.Paths.{IsPath, IsSound}
+use Rattle.suite_text.specs.Inside.Paths.{IsPath, IsSound}
 use Rattle.suite_text.specs.Reading.Scripts.{ending}
 
 bodies_same : (b i : ℕ) (xs : List Node) → bodies_of (given_after_at b i xs) ≡ bodies_of xs

@@ -11,7 +11,7 @@ use Rattle.descriptor.specs.Nodes.{size, IsTree}
 use Rattle.suite_text.specs.Reading.Attributes.{spin_said, pulls_said}
 use Rattle.suite_text.specs.Reading.Nodes.{body_declared, counts_lines, script_declared, parent_on, word_on, segment_kind, node_on, grown}
 use Rattle.suite_text.specs.Reading.Parts.{LinesRead, bodies_of, afters_of, bodies_answered}
-use Rattle.suite_text.specs.Reading.Paths.{IsSound, bodies_pending}
+use Rattle.suite_text.specs.Inside.Paths.{IsSound, bodies_pending}
 use Rattle.suite_text.specs.Reading.Scripts.{ending}
 use Rattle.suite_text.specs.Suites.{with_properties}
 use Rattle.suite_text.specs.Reading.Verdicts.{status_declared}

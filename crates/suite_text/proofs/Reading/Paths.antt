@@ -5,7 +5,7 @@ use Rattle.descriptor.specs.declared.node.Node.{Node}
 use Rattle.descriptor.specs.Nodes.{Nodes, IsChild, Below, child, under, MayTake, size, appended}
 use Rattle.suite_text.specs.declared.suite.builder.Opened.{Opened}
 use Rattle.suite_text.specs.Reading.Parts.{above, node_of_opened}
-use Rattle.suite_text.specs.Reading.Paths.{IsPath}
+use Rattle.suite_text.specs.Inside.Paths.{IsPath}
 
 below_next : (t : Nodes) (a x : ℕ) → IsChild t a x → (d : ℕ) → Below t x d → Below t a d
 below_next t a x e d (child f) = under (child e) f

@@ -7,7 +7,7 @@ use Rattle.descriptor.proofs.Grown.{numbers_none}
 use Rattle.suite_text.specs.declared.script.Script.{Script}
 use Rattle.suite_text.specs.declared.suite.pulls.Pending.{Pending}
 use Rattle.suite_text.specs.Reading.Parts.{LinesRead, AreBodiesOf, bodies_answered, parts_of}
-use Rattle.suite_text.specs.Reading.Paths.{IsSound, bodies_pending}
+use Rattle.suite_text.specs.Inside.Paths.{IsSound, bodies_pending}
 use Rattle.suite_text.specs.Reading.Pulls.{with_pulls, settled}
 
 one_at_most : (b : Bool) (n : ℕ) → length (cond b (n ∷ []) []) ≤ 1

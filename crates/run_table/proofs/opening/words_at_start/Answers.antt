@@ -2,7 +2,7 @@
 use Rattle.std.proofs.Common.{◌∷◌, ◌++◌, [], ap, ◌∙◌}
 use Rattle.descriptor.specs.Nodes.{Nodes, size}
 use Rattle.resource_locks.specs.Held.{table}
-use Rattle.scheduling.specs.Start.{guard_and_children}
+use Rattle.scheduling.specs.Inside.Start.{guard_and_children}
 use Rattle.run_table.proofs.Starting.{words_pushed}
 use Rattle.run_table.proofs.opening.words_at_start.Goals as goal
 

@@ -2,7 +2,7 @@
 use Rattle.std.proofs.Common.{[], ◌++◌, length, IfErr, sym, ap, ◌∙◌, subst}
 use lib.ListN.{take, drop}
 use Rattle.std.specs.List.Sorted.{IsPermutation}
-use Rattle.run_table.specs.Filling.{IsIndex, IsFilled}
+use Rattle.run_table.specs.Inside.Filling.{IsIndex, IsFilled}
 use Rattle.run_table.specs.Prepared.{HasAllJobs}
 use Rattle.run_table.proofs.Gathered.{whole_back, ok_always, least_missing, all_there, all_jobs}
 use Rattle.run_table.proofs.prepare.filled.Goals as goal

@@ -4,7 +4,7 @@ use Rattle.scheduling.proofs.Going.{going_opening}
 use Rattle.scheduling.proofs.Headline.{core_plan}
 use Rattle.scheduling.specs.State.{State}
 use Rattle.sched_core.specs.Drives.{Drives, IsOnSchedule}
-use Rattle.sched_core.specs.Fields.{state_of}
+use Rattle.sched_core.specs.Inside.Fields.{state_of}
 use Rattle.sched_core.specs.Replies.{replies_of}
 use Rattle.sched_core.proofs.Tracing.{only_driven, right_trace, shown_trace, shown_at_end, whole_trace, right_apart, right_expected, right_only, if_ok, both_ok}
 use Rattle.sched_core.proofs.run.drive.Goals as goal

@@ -1,6 +1,6 @@
 -- The lists so far are those of a history without events.
 use Rattle.std.proofs.Common.{◌≡◌, []}
-use Rattle.sched_core.specs.Fields.{parts_upto}
+use Rattle.sched_core.specs.Inside.Fields.{parts_upto}
 use Rattle.sched_core.specs.Traces.{lists_of}
 use Rattle.sched_core.proofs.trace.empty_lists.Given as goal
 

@@ -2,7 +2,7 @@
 use Rattle.std.proofs.Common.{◌≡◌, ◌<◌, ◌+◌, ◌++◌, ◌∷◌, [], ◌∙◌, arith, ap, sym, List, take, length, subst}
 use Rattle.std.proofs.lemmas.List.{take_more}
 use Rattle.plan_events.specs.declared.event.Event.{Event}
-use Rattle.sched_core.specs.Fields.{parts_upto}
+use Rattle.sched_core.specs.Inside.Fields.{parts_upto}
 use Rattle.sched_core.specs.Traces.{lists_of}
 use Rattle.sched_core.proofs.trace.parts.Goals as goal
 

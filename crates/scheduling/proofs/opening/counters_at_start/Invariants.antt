@@ -1,7 +1,7 @@
 -- The counters so far are those of the nodes so far.
 use Rattle.std.proofs.Common.{◌≡◌}
 use Rattle.resource_locks.specs.Held.{table}
-use Rattle.scheduling.specs.Start.{guard_and_children}
+use Rattle.scheduling.specs.Inside.Start.{guard_and_children}
 use Rattle.scheduling.proofs.opening.counters_at_start.Given as goal
 
 abbrev pub invariant-loop-index : goal.invariant-loop-index

@@ -1,5 +1,5 @@
 use Rattle.std.proofs.Common.{rules}
-use Rattle.worker_pool.specs.Steady.{AtTests}
+use Rattle.worker_pool.specs.Inside.Steady.{AtTests}
 use Rattle.worker_pool.proofs.Outgoing.{then_goes}
 use Rattle.worker_pool.proofs.pulling.see_tests_through.Goals as goal
 

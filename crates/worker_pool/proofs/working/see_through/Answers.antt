@@ -1,4 +1,4 @@
-use Rattle.worker_pool.specs.Steady.{AtNodes}
+use Rattle.worker_pool.specs.Inside.Steady.{AtNodes}
 use Rattle.worker_pool.proofs.working.see_through.Goals as goal
 
 pub pull_tests-requires-clause-steady : goal.pull_tests-requires-clause-steady

@@ -3,7 +3,7 @@ use Rattle.std.proofs.Common.{◌≡◌, ◌∙◌, true, sym, arith}
 use Rattle.std.proofs.Math.ListN.{replicate}
 use Rattle.std.proofs.lemmas.Grind.{common_steps}
 use Rattle.descriptor.specs.Nodes.{size}
-use Rattle.descriptor.specs.Fields.{nodes_of}
+use Rattle.descriptor.specs.Inside.Fields.{nodes_of}
 use Rattle.descriptor.proofs.AllKept.{all_closed, all_of_them, all_same, as_many, if_same}
 use Rattle.descriptor.proofs.tree.Tree.copy.Goals as goal
 

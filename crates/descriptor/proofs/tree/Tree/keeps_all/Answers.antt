@@ -1,7 +1,7 @@
 -- Where all are kept the pruned tree is the same tree.
 use Rattle.std.proofs.Common.{◌∙◌, ap, sym}
 use Rattle.descriptor.specs.Nodes.{size}
-use Rattle.descriptor.specs.Fields.{nodes_of}
+use Rattle.descriptor.specs.Inside.Fields.{nodes_of}
 use Rattle.descriptor.proofs.AllKept.{all_same}
 use Rattle.descriptor.proofs.tree.Tree.keeps_all.Goals as goal
 

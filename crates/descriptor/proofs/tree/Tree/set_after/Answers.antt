@@ -2,7 +2,7 @@
 use Rattle.std.proofs.Common.{◌≡◌, suc, ◌<◌, ◌-◌, get_or, arith, refl, ap, sym, ◌∙◌, None}
 use Rattle.std.proofs.lemmas.Grind.{common_steps}
 use Rattle.descriptor.specs.Bodies.{with_after}
-use Rattle.descriptor.specs.Fields.{nodes_of}
+use Rattle.descriptor.specs.Inside.Fields.{nodes_of}
 use Rattle.descriptor.specs.Nodes.{Nodes, size}
 use Rattle.descriptor.specs.Refusals.{after_refusal}
 use Rattle.descriptor.proofs.AfterBodies.{kept_with_after, with_after_is}

@@ -2,7 +2,7 @@
 use Rattle.std.proofs.Common.{◌≡◌, ◌∙◌, ◌<◌, ◌++◌, [], ◌∷◌, ap, sym, arith, string_bytes}
 use Rattle.std.proofs.lemmas.Grind.{common_steps}
 use Rattle.descriptor.specs.Nodes.{IsTree, size}
-use Rattle.listeners.specs.Drawings.{drawn_by}
+use Rattle.listeners.specs.Inside.Drawings.{drawn_by}
 use Rattle.listeners.specs.TreeSigns.{item}
 use Rattle.listeners.specs.TreeTexts.{children_drawn, line}
 use Rattle.listeners.proofs.Siblings.{grows_first, grows_more, grows_all, nothing_below}

@@ -1,7 +1,7 @@
 -- Numbers grow from parent to child; with what the siblings that are left give, the text is whole.
 use Rattle.std.proofs.Common.{◌-◌, ◌++◌, length, string_bytes}
 use Rattle.descriptor.specs.Nodes.{size}
-use Rattle.listeners.specs.Drawings.{drawn_by}
+use Rattle.listeners.specs.Inside.Drawings.{drawn_by}
 use Rattle.listeners.proofs.Siblings.{Grows}
 use Rattle.listeners.proofs.tree_drawing.Drawing.+push_below.Given as goal
 

@@ -2,7 +2,7 @@
 use Rattle.std.proofs.Common.{◌≡◌, ◌∙◌, ℕ, List, arith, get_or, subst}
 use Rattle.std.proofs.lemmas.Grind.{common_steps}
 use Rattle.std.specs.List.{insert}
-use Rattle.resource_locks.specs.Places.{IsHere, IsBefore}
+use Rattle.resource_locks.specs.Inside.Places.{IsHere, IsBefore}
 use Rattle.resource_locks.proofs.Puts.{put_here, set_here, put_before}
 use Rattle.resource_locks.proofs.lock_set.LockSet.put_copy.Goals as goal
 

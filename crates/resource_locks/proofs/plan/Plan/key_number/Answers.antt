@@ -2,7 +2,7 @@
 use Rattle.std.proofs.Common.{◌≡◌, ◌<◌, ◌∙◌, ap, sym, subst, arith, get_or, length, map, List, ℕ}
 use Rattle.std.proofs.lemmas.Grind.{common_steps}
 use Rattle.resource_locks.specs.Plans.{PlanParts}
-use Rattle.resource_locks.specs.PlanFields.{IsSound}
+use Rattle.resource_locks.specs.Inside.PlanFields.{IsSound}
 use Rattle.resource_locks.proofs.Plans.{at_node, as_many_at, number_inside}
 use Rattle.resource_locks.proofs.plan.Plan.key_number.Goals as goal
 

@@ -7,7 +7,7 @@ use Rattle.resource_locks.specs.Declarations.{declared_of}
 use Rattle.resource_locks.specs.Hoisted.{IsHoisted, IsGuarded}
 use Rattle.resource_locks.specs.Keys.{keys_of}
 use Rattle.resource_locks.specs.Plans.{PlanParts, number_of, numbers_of}
-use Rattle.resource_locks.specs.PlanFields.{IsSound}
+use Rattle.resource_locks.specs.Inside.PlanFields.{IsSound}
 use Rattle.resource_locks.proofs.Engines.{engines_keep}
 use Rattle.resource_locks.proofs.Hoists.{plan_is, plan_hoisted, plan_guarded, plan_numbered, plan_sound}
 use Rattle.resource_locks.proofs.plan.Plan.of.Goals as goal

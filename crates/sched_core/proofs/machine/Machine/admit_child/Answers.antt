@@ -4,7 +4,7 @@ use Rattle.scheduling.specs.declared.task.Opening.{Opening}
 use Rattle.scheduling.specs.declared.task.Task.TheVariants.{Opens}
 use Rattle.scheduling.specs.Choices.{admit_from}
 use Rattle.scheduling.specs.Rows.{offers}
-use Rattle.sched_core.specs.Fields.{state_of, seated}
+use Rattle.sched_core.specs.Inside.Fields.{state_of, seated}
 use Rattle.sched_core.proofs.Turning.{after_child}
 use Rattle.sched_core.proofs.machine.Machine.admit_child.Goals as goal
 

@@ -2,8 +2,8 @@
 use Rattle.std.proofs.Common.{◌∙◌, sym, subst}
 use Rattle.scheduling.specs.declared.step.Action.TheVariants.{Look}
 use Rattle.scheduling.specs.declared.task.Task.{Task}
-use Rattle.sched_core.specs.Bounds.{InBounds}
-use Rattle.sched_core.specs.Fields.{seated}
+use Rattle.sched_core.specs.Inside.Bounds.{InBounds}
+use Rattle.sched_core.specs.Inside.Fields.{seated}
 use Rattle.sched_core.specs.Steps.{reply_for}
 use Rattle.sched_core.proofs.InRange.{bounds, undecided}
 use Rattle.sched_core.proofs.Knowing.{told_answer, told_task}

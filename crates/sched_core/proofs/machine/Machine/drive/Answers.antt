@@ -2,7 +2,7 @@
 use Rattle.std.proofs.Common.{refl}
 use Rattle.scheduling.proofs.Scheduled.{leads_end}
 use Rattle.sched_core.specs.Drives.{reply_given}
-use Rattle.sched_core.specs.Fields.{state_of}
+use Rattle.sched_core.specs.Inside.Fields.{state_of}
 use Rattle.sched_core.proofs.machine.Machine.drive.Goals as goal
 
 pub returns-clause-drives : goal.returns-clause-drives

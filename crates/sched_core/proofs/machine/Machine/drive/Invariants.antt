@@ -1,9 +1,9 @@
 -- No node below the number is open; wherever the schedule ends from here, it ends from the start; and what is left to do falls.
 use Rattle.std.proofs.Common.{◌≡◌}
-use Rattle.scheduling.specs.Lowest.{NoneOpenBelow}
-use Rattle.scheduling.specs.Work.{work_left}
+use Rattle.scheduling.specs.Inside.Lowest.{NoneOpenBelow}
+use Rattle.scheduling.specs.Inside.Work.{work_left}
 use Rattle.sched_core.specs.Drives.{LeadsTo, IsOnSchedule}
-use Rattle.sched_core.specs.Fields.{state_of, IsSound}
+use Rattle.sched_core.specs.Inside.Fields.{state_of, IsSound}
 use Rattle.sched_core.proofs.machine.Machine.drive.Given as goal
 
 abbrev pub invariant-schedule : goal.invariant-schedule

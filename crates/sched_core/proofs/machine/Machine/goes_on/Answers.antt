@@ -3,7 +3,7 @@ use Rattle.std.proofs.Common.{sym, subst}
 use Rattle.scheduling.proofs.FallsNext.{read_falls}
 use Rattle.sched_core.specs.declared.machine.Machine.{Machine}
 use Rattle.sched_core.specs.Drives.{LeadsTo}
-use Rattle.sched_core.specs.Fields.{state_of}
+use Rattle.sched_core.specs.Inside.Fields.{state_of}
 use Rattle.sched_core.proofs.OneWorker.{read_leads}
 use Rattle.sched_core.proofs.machine.Machine.goes_on.Goals as goal
 

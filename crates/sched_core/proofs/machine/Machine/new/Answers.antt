@@ -6,7 +6,7 @@ use Rattle.plan_events.specs.declared.status.Status.TheVariants.{Successful}
 use Rattle.resource_locks.specs.Held.{table}
 use Rattle.scheduling.specs.declared.lock_word.LockWord.TheVariants.{Readers}
 use Rattle.scheduling.specs.declared.status.NodeStatus.TheVariants.{Hidden, Ready}
-use Rattle.scheduling.specs.Start.{guard_and_children}
+use Rattle.scheduling.specs.Inside.Start.{guard_and_children}
 use Rattle.sched_core.proofs.AtStart.{starts, sound_start}
 use Rattle.sched_core.proofs.machine.Machine.new.Goals as goal
 

@@ -1,7 +1,7 @@
 -- The factory in hand is one, and a task that closes a node offers at most a sibling.
 use Rattle.std.proofs.Common.{◌∙◌, ap, sym}
 use Rattle.scheduling.specs.declared.task.Task.{Task}
-use Rattle.scheduling.specs.Lowest.{lowest_after}
+use Rattle.scheduling.specs.Inside.Lowest.{lowest_after}
 use Rattle.sched_core.proofs.machine.Machine.next.Goals as goal
 
 pub hand_action-requires-clause-inside : goal.hand_action-requires-clause-inside

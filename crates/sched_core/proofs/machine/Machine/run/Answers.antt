@@ -2,7 +2,7 @@
 use Rattle.std.proofs.Common.{◌≡◌, ◌∙◌, ◌<◌, ◌+◌, List, ◌∷◌, arith, sym, ap, length, drop}
 use Rattle.std.proofs.lemmas.List.{drop_more}
 use Rattle.scheduling.specs.declared.step.Step.{Step}
-use Rattle.sched_core.specs.Fields.{state_of}
+use Rattle.sched_core.specs.Inside.Fields.{state_of}
 use Rattle.sched_core.specs.Runs.{run, passed_over}
 use Rattle.sched_core.proofs.Running.{run_step, passed_ok, passed_err}
 use Rattle.sched_core.proofs.machine.Machine.run.Goals as goal

@@ -1,6 +1,6 @@
 -- The steps left lead from here to where all steps lead from the start, and pass over what is not counted yet.
 use Rattle.std.proofs.Common.{◌≡◌, ◌+◌, ◌≤◌, drop}
-use Rattle.sched_core.specs.Fields.{state_of, IsSound}
+use Rattle.sched_core.specs.Inside.Fields.{state_of, IsSound}
 use Rattle.sched_core.specs.Runs.{run, passed_over}
 use Rattle.sched_core.proofs.machine.Machine.run.Given as goal
 

@@ -1,6 +1,6 @@
 -- What is shown has a place.
 use Rattle.std.proofs.Common.{ap}
-use Rattle.sched_core.specs.Bounds.{opening_place, closing_place}
+use Rattle.sched_core.specs.Inside.Bounds.{opening_place, closing_place}
 use Rattle.sched_core.proofs.machine.Machine.show.Goals as goal
 
 pub show_at-requires-clause-inside : goal.show_at-requires-clause-inside

@@ -1,7 +1,7 @@
 -- A step leaves the machine sound, with the same workers.
 use Rattle.scheduling.specs.declared.step.Step.TheVariants.{Worker, Read}
 use Rattle.sched_core.specs.Steps.{after_step}
-use Rattle.sched_core.specs.Fields.{state_of}
+use Rattle.sched_core.specs.Inside.Fields.{state_of}
 use Rattle.sched_core.proofs.Sound.{sound_answered, same_workers}
 use Rattle.sched_core.proofs.machine.Machine.step.Goals as goal
 

@@ -1,7 +1,7 @@
 -- The trace has what was published, its beginning that was given, and each worker's part.
 use Rattle.std.proofs.Common.{ℕ, ◌≡◌, ◌∙◌, refl, ap, arith}
 use Rattle.std.proofs.lemmas.Grind.{common_steps}
-use Rattle.sched_core.specs.Fields.{parts_upto}
+use Rattle.sched_core.specs.Inside.Fields.{parts_upto}
 use Rattle.sched_core.specs.Traces.{lists_of}
 use Rattle.sched_core.proofs.Tracing.{as_many, each_part}
 use Rattle.sched_core.proofs.machine.Machine.trace.Goals as goal

@@ -3,8 +3,8 @@ use Rattle.std.proofs.Common.{◌≡◌, ◌≢◌, ◌∙◌, ◌-◌, sym, sub
 use Rattle.scheduling.specs.declared.task.Task.{Task}
 use Rattle.scheduling.specs.State.{State}
 use Rattle.scheduling.proofs.Direct.{after_direct}
-use Rattle.sched_core.specs.Bounds.{InBounds}
-use Rattle.sched_core.specs.Fields.{state_of, seated, IsAnswered}
+use Rattle.sched_core.specs.Inside.Bounds.{InBounds}
+use Rattle.sched_core.specs.Inside.Fields.{state_of, seated, IsAnswered}
 use Rattle.sched_core.specs.Steps.{reply_for}
 use Rattle.sched_core.proofs.InRange.{bounds, undecided}
 use Rattle.sched_core.proofs.Knowing.{told_answer, told_task, told_row}

@@ -1,6 +1,6 @@
 use Rattle.std.proofs.Common.{◌≡◌, arith, sym, subst, ap}
 use Rattle.suite_text.specs.Reading.Parts.{LinesRead}
-use Rattle.suite_text.specs.Reading.Paths.{IsSound}
+use Rattle.suite_text.specs.Inside.Paths.{IsSound}
 use Rattle.suite_text.proofs.Reading.Paths.{plan_takes, opened_is, is_open}
 use Rattle.suite_text.proofs.suite.builder.SuiteBuilder.above.Goals as goal
 

@@ -4,7 +4,7 @@ use Rattle.std.proofs.lemmas.Grind.{common_steps}
 use Rattle.descriptor.specs.Nodes.{Nodes}
 use Rattle.suite_text.specs.declared.script.Script.{Script}
 use Rattle.suite_text.specs.Reading.Parts.{AreBodiesOf, bodies_answered, parts_of}
-use Rattle.suite_text.specs.Reading.Paths.{IsSound}
+use Rattle.suite_text.specs.Inside.Paths.{IsSound}
 use Rattle.suite_text.proofs.Reading.Pulls.{all_answered}
 use Rattle.suite_text.proofs.suite.builder.SuiteBuilder.finish.Goals as goal
 

@@ -8,7 +8,7 @@ use Rattle.scheduling.specs.declared.task.Task.{Task}
 use Rattle.scheduling.specs.declared.seat.Hand.{Hand}
 use Rattle.scheduling.specs.declared.seat.Seat.{Seat}
 use Rattle.scheduling.specs.State.{State}
-use Rattle.scheduling.specs.Invariant.{IsKept}
+use Rattle.scheduling.specs.Inside.Invariant.{IsKept}
 use Rattle.scheduling.specs.Shown.{IsPlaced}
 use Rattle.sched_core.specs.declared.machine.Machine.{Machine}
 use Rattle.sched_core.specs.Replies.{replies_of}

@@ -14,7 +14,7 @@ use Rattle.scheduling.specs.declared.task.Task.TheVariants.{Free, Opens, Closes}
 use Rattle.scheduling.specs.declared.seat.Seat.{Seat}
 use Rattle.scheduling.specs.State.{State, lock_at}
 use Rattle.scheduling.specs.Choices.{keys_count, key_at, mode_at, admits}
-use Rattle.scheduling.specs.Invariant.{sum_below}
+use Rattle.scheduling.specs.Inside.Invariant.{sum_below}
 
 -- how many changes of its status a node has before it
 abbrev pub status_rank : NodeStatus → ℕ

@@ -13,7 +13,7 @@ use Rattle.event_history.specs.Plans.{IsPlanTree, Leaf, Maker, IsElder, sort_of,
 use Rattle.event_history.specs.Places.{has}
 use Rattle.event_history.specs.Results.{Jobs, NoJob, Around, jobs_of, HasAnswer, Ends}
 use Rattle.event_history.specs.Order.{goes_first}
-use Rattle.event_history.specs.Following.{has_failed, has_failed_by, started_by, registered_in}
+use Rattle.event_history.specs.Inside.Following.{has_failed, has_failed_by, started_by, registered_in}
 use Rattle.event_history.specs.Published.{IsPublished}
 use Rattle.scheduling.specs.declared.lock_word.LockWord.{LockWord}
 use Rattle.scheduling.specs.declared.lock_word.LockWord.TheVariants.{Readers, Written}
@@ -27,7 +27,7 @@ use Rattle.scheduling.specs.declared.seat.Hand.{Hand}
 use Rattle.scheduling.specs.declared.seat.Seat.{Seat}
 use Rattle.scheduling.specs.State.{State, status_at, counter_at, result_at, lock_at}
 use Rattle.scheduling.specs.Choices.{in_batch, key_at, mode_at, keys_count, admits, ending}
-use Rattle.scheduling.specs.Stages.{How, Gave, Kept, Skips, Stage, OpenedBy, InHand, Waiting, ClosedBy, Below, Shut, Runs, Past, picture, has_mark, starter_of, is_unseen, is_pending, is_past, is_unsettled, is_owned, is_over, raises, is_bold, brings}
+use Rattle.scheduling.specs.Inside.Stages.{How, Gave, Kept, Skips, Stage, OpenedBy, InHand, Waiting, ClosedBy, Below, Shut, Runs, Past, picture, has_mark, starter_of, is_unseen, is_pending, is_past, is_unsettled, is_owned, is_over, raises, is_bold, brings}
 
 -- what the core asks of a plan's tree, and what every tree of nodes has: besides, its nodes have numbers of events, and the
 -- children of a factory are spares

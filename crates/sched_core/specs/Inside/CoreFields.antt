@@ -1,7 +1,7 @@
 -- The core's fields as a snapshot, and what they keep. Only the core's model and proofs need this file.
 use Rattle.sched_core.specs.Snapshot.{Snapshot}
 use Rattle.scheduling.specs.LinkLists.{AreTurns}
-use Rattle.sched_core.specs.Fields.{state_of, IsSound}
+use Rattle.sched_core.specs.Inside.Fields.{state_of, IsSound}
 use Rattle.sched_core.specs.declared.core_steps.Core.TheInside.{Inside}
 
 -- what contracts see of the fields

@@ -20,8 +20,8 @@ use Rattle.scheduling.specs.State.{State}
 use Rattle.scheduling.specs.Choices.{in_batch, key_at, keys_count}
 use Rattle.scheduling.specs.Rows.{is_free}
 use Rattle.scheduling.specs.Shown.{IsPlaced}
-use Rattle.scheduling.specs.Stages.{Stage}
-use Rattle.scheduling.specs.Invariant.{IsNextSame, Holds}
+use Rattle.scheduling.specs.Inside.Stages.{Stage}
+use Rattle.scheduling.specs.Inside.Invariant.{IsNextSame, Holds}
 
 -- whether the task is about node n, and whether n is the factory in hand
 abbrev pub is_about : Task → ℕ → Bool

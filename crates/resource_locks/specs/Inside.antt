@@ -1,0 +1,3 @@
+-- What only private functions, models of types and proofs need.
+pub mod Places
+pub mod PlanFields

@@ -1,0 +1,2 @@
+-- What only private functions, models of types and proofs need.
+pub mod TagSetFields
