@@ -5,17 +5,16 @@ use Rattle.config_params.specs.declared.settings.Settings.{Settings}
 use Rattle.descriptor.specs.Nodes.{IsTree}
 use Rattle.plan_events.specs.declared.event.Event.{Event}
 use Rattle.plan_events.specs.declared.outcome.Reply.{Reply}
-use Rattle.plan_events.specs.Texts.{TextParts}
+use Rattle.plan_events.specs.Texts.{TextParts, text_at}
 use Rattle.resource_locks.specs.Plans.{PlanParts}
 use Rattle.event_history.specs.History.{IsLegal, IsComplete}
 use Rattle.event_history.specs.Order.{IsInOrder}
 use Rattle.listeners.specs.Results.{tests_found, has_failed}
 use Rattle.scheduling.proofs.OnlyHistory.{only_history, as_expected}
 use Rattle.sched_core.specs.Replies.{reply_of, replies_of as replies_by}
-use Rattle.sched_core.specs.Texts.{AreTexts}
 use Rattle.table_rule.specs.Picture.{replies_of}
 use Rattle.table_rule.specs.Slots.{slot_count}
-use Rattle.worker_pool.specs.Reports.{run_of, IsReport, IsRefusedRun}
+use Rattle.worker_pool.specs.Reports.{run_of, AreTexts, IsReport, IsRefusedRun}
 use Rattle.worker_pool.specs.declared.report.RunCause.{RunCause}
 use Rattle.worker_pool.specs.declared.report.RunCause.TheVariants.{Table, NoWorker}
 use Rattle.run_table.specs.Prepared.{HasAllJobs}
@@ -27,7 +26,7 @@ use Rattle.launcher.specs.ExitStatuses.{status_of_run}
 use Rattle.launcher.specs.Reports.{details_of, IsHistory, IsRunOutput}
 use Rattle.launcher.specs.Scripted.{replies_left, AreScripted}
 use Rattle.launcher.specs.WarningTexts.{warning_lines}
-use Rattle.launcher.proofs.Scripting.{all_there, legal_as_said}
+use Rattle.launcher.proofs.Scripting.{all_there, legal_as_said, text_as_said}
 
 -- what the threads report of the suite's jobs is a history of what the suite says
 pub history_of : (p : PlanParts) → IsTree p.tree → (answers : List (ℕ × Reply)) (jobs : List (ℕ × ScriptedJob)) → AreScripted p answers (slot_count p) jobs → (workers : ℕ) (history : List Event)
@@ -45,6 +44,19 @@ history_of p tree answers jobs are workers history report =
       as_expected = λ calm. as_expected p tree (reply_of answers) (replies_by answers) (λ job. refl) calm workers history legal report.complete;
     }
 
+-- the history, with the texts of its nodes
+pub record IsTold (workers : ℕ) (p : PlanParts) (answers : List (ℕ × Reply)) (history : List Event) (texts : TextParts) : Type 0 where
+  pub published : IsHistory workers p answers history
+  pub are : AreTexts p (replies_by answers) history texts
+
+-- and the texts that they report are those that the suite says
+pub told_of : (p : PlanParts) → IsTree p.tree → (answers : List (ℕ × Reply)) (jobs : List (ℕ × ScriptedJob)) → AreScripted p answers (slot_count p) jobs → (workers : ℕ) (history : List Event) (texts : TextParts)
+    → IsReport (run_of p workers jobs) (replies_of replies_left (run_of p workers jobs)) history → AreTexts p (replies_of replies_left (run_of p workers jobs)) history texts → IsTold workers p answers history texts
+told_of p tree answers jobs are workers history texts report told = record {
+  published = history_of p tree answers jobs are workers history report;
+  are = λ n low. text_as_said p tree answers jobs are history n (text_at texts n) (told n low);
+}
+
 -- with as many workers as there may be, and all its jobs, a run is refused for want of memory or of threads alone
 pub unrun : (p : PlanParts) (workers : ℕ) (jobs : List (ℕ × ScriptedJob)) (cause : RunCause) → IsRefusedRun p workers jobs cause → 1 ≤ workers → workers ≤ 64 → HasAllJobs p jobs → (cause ≡ Table NoMemory) ⊎ (cause ≡ NoWorker)
 unrun p workers jobs (Table NoMemory) is some few all = inl refl
@@ -54,13 +66,13 @@ unrun p workers jobs (Table (JobsMissing number)) is some few all = absurd (all 
 unrun p workers jobs NoWorker is some few all = inr refl
 
 -- what is printed of a history is what is printed of the run
-pub ran : (text : List ℕ) (status : ExitStatus) (asked : Asked) (settings : Settings) (p : PlanParts) (answers : List (ℕ × Reply)) (history : List Event) (texts : TextParts) → IsHistory settings.workers p answers history → AreTexts p answers history texts
+pub ran : (text : List ℕ) (status : ExitStatus) (asked : Asked) (settings : Settings) (p : PlanParts) (answers : List (ℕ × Reply)) (history : List Event) (texts : TextParts) → IsTold settings.workers p answers history texts
     → text ≡ warning_lines settings.warnings ++ details_of asked.details asked.theme p texts history → status ≡ status_of_run asked.fail_if_no_tests (tests_found p history) (has_failed p history) → IsRunOutput asked settings p answers text status
-ran text status asked settings p answers history texts published are printed exits = record {
+ran text status asked settings p answers history texts told printed exits = record {
   history = history;
-  published = published;
+  published = told.published;
   details = details_of asked.details asked.theme p texts history;
-  printed = record { texts = texts; are = are; printed = refl };
+  printed = record { texts = texts; are = told.are; printed = refl };
   behind_warnings = printed;
   exits = exits;
 }

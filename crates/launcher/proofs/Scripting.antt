@@ -20,7 +20,7 @@ use Rattle.plan_events.specs.declared.outcome.Reply.{Reply}
 use Rattle.plan_events.specs.declared.status.Status.{Status}
 use Rattle.plan_events.specs.declared.status.Status.TheVariants.{Successful}
 use Rattle.resource_locks.specs.Plans.{PlanParts}
-use Rattle.event_history.specs.History.{HasResult, IsLegal}
+use Rattle.event_history.specs.History.{HasResult, IsLegal, IsTextOf}
 use Rattle.event_history.specs.Plans.{Sort, Leaf, Holder, Maker, pulls_job, sort_by, sort_of, spare_count}
 use Rattle.event_history.specs.Results.{Jobs, NoJob, Alone, Pulled, Around, jobs_by, jobs_of, after_run, HasReply, HasPulls, HasTooMany, HasAnswer, EndsAfter, Ends}
 use Rattle.scheduling.specs.Choices.{after_job}
@@ -30,7 +30,8 @@ use Rattle.table_rule.specs.Slots.{slot_count, is_body_slot, after_slot, job_at,
 use Rattle.table_rule.proofs.Jobs.{body_job, after_job_at, after_is, one_slot_each, far}
 use Rattle.run_table.specs.Prepared.{IsMissing, HasAllJobs}
 use Rattle.run_table.proofs.Filled.{first_counts, one_more}
-use Rattle.worker_pool.specs.Premises.{MayAnswer}
+use Rattle.worker_pool.proofs.Handed.{body_inside, after_inside, replies_found}
+use Rattle.worker_pool.specs.Premises.{JobsMayAnswer}
 use Rattle.worker_pool.specs.Reports.{run_of}
 use Rattle.launcher.specs.declared.scripted.ScriptedJob.{ScriptedJob}
 use Rattle.launcher.specs.Scripted.{reply_left, replies_left, asked_reply, is_pulled_slot, IsScripted, AreScripted}
@@ -44,14 +45,6 @@ module _ {B : Type 0} where
       go : (job_with jobs number ≡ Some job → P (number, job)) → (b : Bool) → (x.0 == number) ≡ b → cond b (Some x.1) (job_with jobs number) ≡ Some job → P (number, job)
       go rest true e h = subst (λ (n : ℕ). P (n, job)) (eqb-true x.0 number e) (subst (λ (j : B). P (x.0, j)) (same_Some x.1 job h) (All-head P x jobs each))
       go rest false e h = rest h
-
-  pub replies_found : (answers : B → List Reply) (jobs : List (ℕ × B)) (number : ℕ) (job : B) → job_with jobs number ≡ Some job → replies_in answers jobs number ≡ answers job
-  replies_found answers [] number job q = absurd (none-some job q)
-  replies_found answers (x ∷ jobs) number job q = go (replies_found answers jobs number job) (x.0 == number) q
-    where
-      go : (job_with jobs number ≡ Some job → replies_in answers jobs number ≡ answers job) → (b : Bool) → cond b (Some x.1) (job_with jobs number) ≡ Some job → cond b (answers x.1) (replies_in answers jobs number) ≡ answers job
-      go rest true h = ap answers (same_Some x.1 job h)
-      go rest false h = rest h
 
   pub no_replies : (answers : B → List Reply) (jobs : List (ℕ × B)) (number : ℕ) → job_with jobs number ≡ None → replies_in answers jobs number ≡ []
   no_replies answers [] number q = refl
@@ -99,25 +92,6 @@ module _ (p : PlanParts) (answers : List (ℕ × Reply)) where
         (λ e. subst (λ (n : ℕ). (found : ScriptedJob) × (job_with (jobs ++ (number, job) ∷ []) n ≡ Some found)) (same_Some number other (sym is ∙ ap (job_at p) (sym e) ∙ at)) (now_there jobs number job))
         (λ ne. still_there jobs (number, job) other (so_far.all slot other (omega (arith, low, ne)) at));
   }
-
--- a node with a body, or an after-body, is one of the tree
-module _ (t : Nodes) (tree : IsTree t) where
-  at_inside : (m : ℕ) (node : Node) → node_at t m ≡ Some node → m < size t
-  at_inside zero node q = absurd (none-some node q)
-  at_inside (suc m) node q = (let low : m < length t.nodes = slice_get_within t.nodes m node q in let many : length t.nodes + 1 ≡ size t = tree.nodes_len in omega (arith, low, many))
-
-  node_inside : (n : ℕ) (o : Option ℕ) (b : ℕ) → ((node_at t n ≡ None) → o ≡ None) → o ≡ Some b → n < size t
-  node_inside n o b silent is = go (node_at t n) refl
-    where
-      go : (found : Option Node) → node_at t n ≡ found → n < size t
-      go None q = absurd (none-some b (sym (silent q) ∙ is))
-      go (Some node) q = at_inside n node q
-
-  pub body_inside : (n b : ℕ) → body_of t n ≡ Some b → n < size t
-  body_inside n b is = node_inside n (body_of t n) b (λ q. ap body_or q) is
-
-  pub after_inside : (n b : ℕ) → after_of t n ≡ Some b → n < size t
-  after_inside n b is = node_inside n (after_of t n) b (λ q. ap after_or q) is
 
 -- what a factory's body is run for alone is pulled
 maker_factory : (kind : Kind) (role : Role) → sort_by kind role ≡ Maker → is_factory role ≡ true
@@ -186,11 +160,11 @@ module _ (p : PlanParts) (tree : IsTree p.tree) (answers : List (ℕ × Reply)) 
   one_is_some : (xs : List Reply) (x : Reply) → xs ≡ x ∷ [] → 0 < length xs
   one_is_some xs x is = subst (λ (l : List Reply). 0 < length l) (sym is) (omega arith)
 
-  pub may_answer : (workers : ℕ) → MayAnswer replies_left (run_of p workers jobs)
+  pub may_answer : (workers : ℕ) → JobsMayAnswer replies_left (run_of p workers jobs)
   may_answer workers = record {
-    factories = λ n job pulls is. one_is_some _ (reply_of answers job) (factory_answers n job pulls is);
-    bodies = λ n job pulls is. one_is_some _ (asked_reply false (reply_of answers job)) (ap unpulled (plain_answers n job pulls is));
-    after_bodies = λ n job is. one_is_some _ (asked_reply false (reply_of answers job)) (ap unpulled (after_answers n job (after_is p n job is)));
+    factories = λ n number job pulls is found. one_is_some _ (reply_of answers number) (sym (replies_found replies_left jobs number job found) ∙ factory_answers n number pulls is);
+    bodies = λ n number job pulls is found. one_is_some _ (asked_reply false (reply_of answers number)) (ap unpulled (sym (replies_found replies_left jobs number job found) ∙ plain_answers n number pulls is));
+    after_bodies = λ n number job is found. one_is_some _ (asked_reply false (reply_of answers number)) (ap unpulled (sym (replies_found replies_left jobs number job found) ∙ after_answers n number (after_is p n number is)));
   }
 
   -- each reply of a job has the outcome that the suite says
@@ -247,6 +221,9 @@ module _ (p : PlanParts) (tree : IsTree p.tree) (answers : List (ℕ × Reply)) 
 
   by_result : (h : List Event) (i : ℕ) (e : Event) (text : Option (List ℕ)) → HasResult p told h i e text → HasResult p (replies_by answers) h i e text
   by_result h i e text x = record { status = x.status; here = x.here; stopped = x.stopped; stops = x.stops; lawful = by_ends (jobs_of p e.node) (whole_at e.node) x.stopped _ x.status text x.lawful }
+
+  pub text_as_said : (h : List Event) (n : ℕ) (text : Option (List ℕ)) → IsTextOf p told h n text → IsTextOf p (replies_by answers) h n text
+  text_as_said h n text x = record { of_skip = x.of_skip; of_finish = λ i e q finish node. by_result h i e text (x.of_finish i e q finish node); of_none = x.of_none }
 
   pub legal_as_said : (workers : ℕ) (h : List Event) → IsLegal p told workers h → IsLegal p (replies_by answers) workers h
   legal_as_said workers h x = record {

@@ -18,6 +18,7 @@ use Rattle.scheduling.specs.State.{State}
 use Rattle.sched_core.specs.Replies.{reply_of, replies_of}
 use Rattle.sched_core.specs.Runs.{run, passed_over}
 use Rattle.sched_core.specs.Texts.{AreTexts}
+use Rattle.worker_pool.specs.Reports.{AreTexts as AreRunTexts}
 use Rattle.listeners.specs.declared.theme.Theme.{Theme}
 use Rattle.listeners.specs.Counts.{counts_of as node_counts}
 use Rattle.listeners.specs.Feed.{feed_of}
@@ -54,10 +55,10 @@ details_of details.Summary theme p texts events = summary_of (node_counts p even
 details_of details.Tree theme p texts events = tree_of theme p texts events ++ summary_of (node_counts p events)
 details_of details.Testfeed theme p texts events = feed_of p texts events
 
--- the text is what is printed of a history, with the texts of its nodes
+-- the text is what is printed of a history, with the texts of its nodes, by what the suite has its bodies answer
 pub record ArePrinted (details : Details) (theme : Theme) (p : PlanParts) (answers : List (ℕ × Reply)) (history : List Event) (text : List ℕ) : Type 0 where
   pub texts : TextParts
-  pub are : AreTexts p answers history texts
+  pub are : AreRunTexts p (replies_of answers) history texts
   pub printed : text ≡ details_of details theme p texts history
 
 -- the settings' workers run the plan: a line for each warning, then its history as the options say, and its failures make the

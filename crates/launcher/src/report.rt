@@ -132,13 +132,12 @@ fn run_report<T: Threads + Wait + Sync>(
     match run_plan(rt, alloc, plan, jobs, settings.workers, &mut nobody) {
         Ok(ran) => {
             let history = ran.events.as_slice();
-            let texts = texts_of(alloc, &ran.plan, answers, history)?;
             Ok(history_report(
                 alloc,
                 options,
                 settings.warnings,
                 &ran.plan,
-                &texts,
+                &ran.texts,
                 history,
             )?)
         }

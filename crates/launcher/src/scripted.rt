@@ -6,14 +6,12 @@ ghost use Rattle.event_history.specs.Plans.{pulls_job};
 ghost use Rattle.sched_core.specs.Replies.{reply_of};
 ghost use Rattle.table_rule.specs.Slots.{slot_count, job_at};
 ghost use Rattle.run_table.specs.Prepared.{HasAllJobs};
-ghost use Rattle.worker_pool.specs.Premises.{MayAnswer};
-ghost use Rattle.worker_pool.specs.Reports.{run_of};
 ghost use Rattle.launcher.specs.Scripted.{replies_left, asked_reply, is_pulled_slot, AreScripted};
 
 use descriptor::{BodyId, NodeId, Role};
 use plan_events::{Job, Outcome, Pull, Reply, Status};
 use resource_locks::Plan;
-use run_table::Jobs;
+use run_table::{Jobs, job_number};
 use sched_core::Answers;
 use std::alloc::{AllocError, Global};
 use std::hint::spin_loop;
@@ -93,20 +91,6 @@ fn reply_to(answers: &Answers, body: BodyId) -> Result<Reply, AllocError>
     })
 }
 
-/// The job in a slot of the plan, if it has one: the body of a node, or behind these the after-body of one.
-fn number_at(plan: &Plan, slot: usize) -> Option<BodyId>
-    requires { slot < slot_count plan.now }
-    ensures { result ≡ job_at plan.now slot }
-{
-    let tree = plan.tree();
-    let nodes = tree.len();
-    if slot < nodes {
-        tree.body(NodeId::new(slot as u16))
-    } else {
-        tree.after(NodeId::new((slot - nodes) as u16))
-    }
-}
-
 /// Whether the body of a factory stands in a slot that has a job.
 fn is_pulled(plan: &Plan, slot: usize) -> bool
     requires inside { slot < slot_count plan.now }
@@ -154,7 +138,7 @@ pub(crate) fn scripted_jobs(
 {
     let mut jobs = Vec::with_capacity(alloc, plan.tree().len())?;
     for slot in 0..2 * plan.tree().len() {
-        if let Some(number) = number_at(plan, slot) {
+        if let Some(number) = job_number(plan, slot) {
             jobs.push((number, job_for(plan, answers, spins, slot, number)?))?;
         }
     }

@@ -74,6 +74,7 @@ pub fn dispatch_one<B: Job>(
     requires room { All (λ l. left_to_read desk.old.seat.me.0 ≤ room (l.vtable, l.value)) audience.old.listeners.items }
     requires texts { KeepsTexts B.answers desk.old.seat.me.0 texts.old }
     ensures same { IsOf desk.old.seat desk.new.seat }
+    ensures listeners { length audience.new.listeners.items ≡ length audience.old.listeners.items }
     ensures told { All (λ l. got (l.vtable, l.value) ≡ (dispatcher desk.new.seat.me.0).read) audience.new.listeners.items }
     ensures room { All (λ l. left_to_read desk.new.seat.me.0 ≤ room (l.vtable, l.value)) audience.new.listeners.items }
     ensures texts { KeepsTexts B.answers desk.new.seat.me.0 texts.new }
@@ -110,6 +111,7 @@ pub fn dispatch<B: Job, R: Wait>(
     requires texts { KeepsTexts B.answers desk.old.seat.me.0 texts.old }
     requires noted { IsNoted desk.old.seat.me.0 events.old.items (vec_capacity events.old) }
     ensures same { IsOf desk.old.seat desk.new.seat }
+    ensures listeners { length audience.new.listeners.items ≡ length audience.old.listeners.items }
     ensures told { All (λ l. got (l.vtable, l.value) ≡ (dispatcher desk.new.seat.me.0).read) audience.new.listeners.items }
     ensures texts { KeepsTexts B.answers desk.new.seat.me.0 texts.new }
     ensures noted { IsNoted desk.new.seat.me.0 events.new.items (vec_capacity events.new) }

@@ -2,12 +2,14 @@
 
 ghost use Rattle.std.specs.Prelude.{◌≡◌, ◌≤◌, ◌⊎◌, ℕ, [], List, IfOk, IfErr, IsPermutation, length, map, vec_capacity, vec_len};
 ghost use Rattle.std.specs.List.{All};
+ghost use Rattle.descriptor.specs.Nodes.{IsTree};
 ghost use Rattle.resource_locks.specs.Plans.{most_events};
 ghost use Rattle.table_rule.specs.Picture.{about_of, replies_of};
 ghost use Rattle.table_rule.specs.Plays.{dispatcher};
 ghost use Rattle.run_table.specs.Balance.{IsBalanced};
+ghost use Rattle.run_table.specs.Prepared.{HasAllJobs};
 ghost use Rattle.run_table.specs.Seats.{IsSeatOf};
-ghost use Rattle.worker_pool.specs.Premises.{MayAnswer};
+ghost use Rattle.worker_pool.specs.Premises.{JobsMayAnswer};
 ghost use Rattle.worker_pool.specs.Reports.{run_of, AreParts, AreTexts, IsReport, IsRefusedRun, IsLeft};
 ghost use Rattle.worker_pool.specs.Rooms.{HasTable};
 ghost use Rattle.worker_pool.specs.Telling.{AreTextsRead};
@@ -99,12 +101,14 @@ fn staged(
     audience: &mut Audience,
 ) -> Result<Stage, AllocError>
     requires fresh { All (λ l. got (l.vtable, l.value) ≡ []) audience.old.listeners.items }
+    ensures listeners { length audience.new.listeners.items ≡ length audience.old.listeners.items }
     ensures fresh { All (λ l. got (l.vtable, l.value) ≡ []) audience.new.listeners.items }
     ensures room { IfOk result (λ _. All (λ l. most_events plan.now ≤ room (l.vtable, l.value)) audience.new.listeners.items) }
     ensures empty { IfOk result (λ stage. stage.events.items ≡ []) }
     ensures enough { IfOk result (λ stage. most_events plan.now ≤ vec_capacity stage.events) }
     ensures lists { IfOk result (λ stage. length stage.mine.items ≡ workers) }
     ensures bare { IfOk result (λ stage. All (λ l. l.items ≡ []) stage.mine.items) }
+    ensures tree { IfOk result (λ _. IsTree plan.now.tree) }
     ensures texts { IfOk result (λ stage. (replies : ℕ → List Reply) → AreTextsRead plan.now replies [] stage.texts) }
     ensures wide { IfOk result (λ stage. All (λ l. most_events plan.now ≤ vec_capacity l) stage.mine.items) }
 {
@@ -147,7 +151,8 @@ fn run_at<B: Job + Send, M: Room<B> + Send + Sync, R: Threads + Wait + Sync>(
     requires table { HasTable M.table M.about table }
     requires seat { IsSeatOf table.table desk.seat }
     requires opens { dispatcher desk.seat.me.0 ≡ record { dealt = 0; read = []; slots = [] } }
-    requires jobs { MayAnswer B.answers (about_of table.table.shared.key) }
+    requires all { HasAllJobs (about_of table.table.shared.key).plan (about_of table.table.shared.key).jobs }
+    requires jobs { JobsMayAnswer B.answers (about_of table.table.shared.key) }
     requires fresh { All (λ l. got (l.vtable, l.value) ≡ []) audience.old.listeners.items }
     ensures plan { IfOk result (λ report. report.plan ≡ (about_of table.table.shared.key).plan) }
     ensures report { IfOk result (λ report. IsReport (about_of table.table.shared.key) (replies_of B.answers (about_of table.table.shared.key)) report.events.items) }
@@ -155,6 +160,7 @@ fn run_at<B: Job + Send, M: Room<B> + Send + Sync, R: Threads + Wait + Sync>(
     ensures texts { IfOk result (λ report. AreTexts (about_of table.table.shared.key).plan (replies_of B.answers (about_of table.table.shared.key)) report.events.items report.texts) }
     ensures left { IfOk result (λ report. IsLeft (replies_of B.answers (about_of table.table.shared.key)) (about_of table.table.shared.key) report.events.items report.unused_jobs.items) }
     ensures balanced { IfOk result (λ report. IsBalanced (about_of table.table.shared.key).plan (about_of table.table.shared.key).jobs report.events.items report.unused_jobs.items) }
+    ensures listeners { length audience.new.listeners.items ≡ length audience.old.listeners.items }
     ensures told { IfOk result (λ report. All (λ l. got (l.vtable, l.value) ≡ report.events.items) audience.new.listeners.items) }
     ensures cause { IfErr result (λ fault. (fault.cause ≡ RunCause.Table TableFault.NoMemory) ⊎ (fault.cause ≡ RunCause.NoWorker)) }
     ensures plan_back { IfErr result (λ fault. fault.plan ≡ (about_of table.table.shared.key).plan) }
@@ -214,8 +220,8 @@ fn run_at<B: Job + Send, M: Room<B> + Send + Sync, R: Threads + Wait + Sync>(
     }
 }
 
-/// Runs a plan on so many threads, or on as many as can be started, and tells the listeners each event. Where it is refused
-/// nothing was told, and the plan and the jobs come back, in any order.
+/// Runs a plan on so many threads, or on as many as can be started, and tells the listeners each event; as many listeners come
+/// back as were handed in. Where it is refused nothing was told, and the plan and the jobs come back, in any order.
 pub fn run_plan<B: Job + Send, R: Threads + Wait + Sync>(
     rt: &R,
     alloc: Global,
@@ -224,7 +230,7 @@ pub fn run_plan<B: Job + Send, R: Threads + Wait + Sync>(
     workers: u32,
     audience: &mut Audience,
 ) -> Result<Report<B>, RunFault<B>>
-    requires jobs { MayAnswer B.answers (run_of plan workers jobs.items) }
+    requires jobs { JobsMayAnswer B.answers (run_of plan workers jobs.items) }
     requires fresh { All (λ l. got (l.vtable, l.value) ≡ []) audience.old.listeners.items }
     ensures plan { IfOk result (λ report. report.plan ≡ plan) }
     ensures report { IfOk result (λ report. IsReport (run_of plan workers jobs.items) (replies_of B.answers (run_of plan workers jobs.items)) report.events.items) }
@@ -232,6 +238,7 @@ pub fn run_plan<B: Job + Send, R: Threads + Wait + Sync>(
     ensures texts { IfOk result (λ report. AreTexts plan (replies_of B.answers (run_of plan workers jobs.items)) report.events.items report.texts) }
     ensures left { IfOk result (λ report. IsLeft (replies_of B.answers (run_of plan workers jobs.items)) (run_of plan workers jobs.items) report.events.items report.unused_jobs.items) }
     ensures balanced { IfOk result (λ report. IsBalanced plan jobs.items report.events.items report.unused_jobs.items) }
+    ensures listeners { length audience.new.listeners.items ≡ length audience.old.listeners.items }
     ensures told { IfOk result (λ report. All (λ l. got (l.vtable, l.value) ≡ report.events.items) audience.new.listeners.items) }
     ensures refused { IfErr result (λ fault. IsRefusedRun plan workers jobs.items fault.cause) }
     ensures plan_back { IfErr result (λ fault. fault.plan ≡ plan) }

@@ -1,6 +1,6 @@
 //! A run on threads: one for each gate, and the dispatcher on the calling thread.
 
-ghost use Rattle.std.specs.Prelude.{◌≡◌, ◌≤◌, IfOk, IfErr, vec_capacity};
+ghost use Rattle.std.specs.Prelude.{◌≡◌, ◌≤◌, IfOk, IfErr, length, vec_capacity};
 ghost use Rattle.std.specs.List.{All};
 ghost use Rattle.table_rule.specs.Picture.{about_of};
 ghost use Rattle.table_rule.specs.Plays.{dispatcher};
@@ -45,6 +45,7 @@ pub fn run_in<B: Job + Send, M: Room<B> + Send + Sync, R: Threads + Wait + Sync>
     requires noted { IsNoted desk.seat.seat.me.0 desk.events.items (vec_capacity desk.events) }
     ensures same { IfOk result (λ d. IsOf desk.seat.seat d.seat.seat) }
     ensures noted { IfOk result (λ d. d.events.items ≡ (dispatcher d.seat.seat.me.0).read) }
+    ensures listeners { IfOk result (λ d. length d.audience.listeners.items ≡ length desk.audience.listeners.items) }
     ensures told { IfOk result (λ d. All (λ l. got (l.vtable, l.value) ≡ (dispatcher d.seat.seat.me.0).read) d.audience.listeners.items) }
     ensures texts { IfOk result (λ d. KeepsTexts B.answers d.seat.seat.me.0 d.texts) }
     ensures over { IfOk result (λ d. IsOver (dispatcher d.seat.seat.me.0).read) }
@@ -62,6 +63,7 @@ pub fn run_in<B: Job + Send, M: Room<B> + Send + Sync, R: Threads + Wait + Sync>
             requires noted { IsNoted desk.seat.seat.me.0 desk.events.items (vec_capacity desk.events) }
             ensures same { IfOk result (λ d. IsOf desk.seat.seat d.seat.seat) }
             ensures noted { IfOk result (λ d. d.events.items ≡ (dispatcher d.seat.seat.me.0).read) }
+            ensures listeners { IfOk result (λ d. length d.audience.listeners.items ≡ length desk.audience.listeners.items) }
             ensures told { IfOk result (λ d. All (λ l. got (l.vtable, l.value) ≡ (dispatcher d.seat.seat.me.0).read) d.audience.listeners.items) }
             ensures texts { IfOk result (λ d. KeepsTexts B.answers d.seat.seat.me.0 d.texts) }
             ensures over { IfOk result (λ d. IsOver (dispatcher d.seat.seat.me.0).read) }

@@ -5,8 +5,8 @@ use Rattle.descriptor.specs.Nodes.{IsTree}
 use Rattle.plan_events.specs.declared.event.Event.{Event}
 use Rattle.resource_locks.specs.Plans.{PlanParts}
 use Rattle.launcher.specs.Asked.{asked_by}
-use Rattle.launcher.specs.Reports.{IsHistory, IsRunOutput}
-use Rattle.launcher.proofs.Reporting.{history_of, ran, unrun}
+use Rattle.launcher.specs.Reports.{IsRunOutput}
+use Rattle.launcher.proofs.Reporting.{IsTold, told_of, ran, unrun}
 use Rattle.launcher.proofs.Scripting.{all_there, may_answer}
 use Rattle.launcher.proofs.report.run_report.Goals as goal
 
@@ -24,13 +24,15 @@ returns-in-Ok-run_plan-clause-output g c =
     let asked = asked_by c.args.options.now in
     let history = c.in-Ok-run_plan.ran.events.items in
     let report = c.in_ok-history_report-in-Ok-run_plan.field-0 in
+    let tree : IsTree p.tree = plan_is_tree c.plan.view_is c.plan.invariant.plan.tree in
     let same : c.in-Ok-run_plan.ran.plan ≡ p = c.in-Ok-run_plan.ensures.plan in
     let shown : history ≡ c.as_slice-history.result.now = sym c.as_slice-history.ensures.value in
-    let published : IsHistory settings.workers p answers history = history_of p (plan_is_tree c.plan.view_is c.plan.invariant.plan.tree) answers c.in_ok-jobs.jobs.items c.in_ok-jobs.ensures settings.workers history c.in-Ok-run_plan.ensures.report in
+    let told = told_of p tree answers c.in_ok-jobs.jobs.items c.in_ok-jobs.ensures settings.workers history c.in-Ok-run_plan.ran.texts c.in-Ok-run_plan.ensures.report c.in-Ok-run_plan.ensures.texts in
+    let there : IsTold settings.workers c.in-Ok-run_plan.ran.plan answers c.as_slice-history.result.now c.in-Ok-run_plan.ran.texts =
+    subst (λ (h : List Event). IsTold settings.workers c.in-Ok-run_plan.ran.plan answers h c.in-Ok-run_plan.ran.texts) shown (subst (λ (q : PlanParts). IsTold settings.workers q answers history c.in-Ok-run_plan.ran.texts) (sym same) told) in
     subst (λ (q : PlanParts). IsRunOutput asked settings q answers (string_bytes report.text) report.status) same
-    (ran (string_bytes report.text) report.status asked settings c.in-Ok-run_plan.ran.plan answers c.as_slice-history.result.now c.in_ok-texts-in-Ok-run_plan.texts
-    (subst (λ (h : List Event). IsHistory settings.workers c.in-Ok-run_plan.ran.plan answers h) shown (subst (λ (q : PlanParts). IsHistory settings.workers q answers history) (sym same) published))
-    c.in_ok-texts-in-Ok-run_plan.ensures.texts c.in_ok-history_report-in-Ok-run_plan.ensures.text c.in_ok-history_report-in-Ok-run_plan.ensures.status)
+    (ran (string_bytes report.text) report.status asked settings c.in-Ok-run_plan.ran.plan answers c.as_slice-history.result.now c.in-Ok-run_plan.ran.texts
+    there c.in_ok-history_report-in-Ok-run_plan.ensures.text c.in_ok-history_report-in-Ok-run_plan.ensures.status)
 
 pub unrun-requires : goal.unrun-requires
 unrun-requires g c =

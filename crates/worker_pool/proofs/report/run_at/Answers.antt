@@ -2,6 +2,7 @@ use Rattle.std.proofs.Common.{◌≡◌, ◌∙◌, ◌≤◌, ℕ, List, [], le
 use Rattle.std.specs.List.{All}
 use Rattle.plan_events.specs.declared.event.Event.{Event}
 use Rattle.plan_events.specs.declared.event.EventKind.TheVariants.{Finished}
+use Rattle.descriptor.specs.Nodes.{IsTree}
 use Rattle.resource_locks.specs.Plans.{PlanParts, most_events}
 use Rattle.event_history.specs.Places.{StandsAt}
 use Rattle.event_history.proofs.Few.{legal_few}
@@ -9,12 +10,20 @@ use Rattle.table_rule.specs.Picture.{about_of, replies_of}
 use Rattle.table_rule.specs.Plays.{dispatcher}
 use Rattle.run_table.specs.Balance.{IsBalanced}
 use Rattle.run_table.specs.Ended.{HasEnded}
+use Rattle.worker_pool.specs.Premises.{MayAnswer}
 use Rattle.worker_pool.specs.Telling.{AreTextsRead, left_to_read}
 use Rattle.worker_pool.proofs.Balance.{balance_reported}
+use Rattle.worker_pool.proofs.Handed.{may_answer}
 use Rattle.worker_pool.proofs.TextsRead.{texts_reported}
 use Rattle.worker_pool.proofs.Reported.{carried, fewer_left, at_most_that, reported}
 use Rattle.worker_pool.proofs.Shares.{fits_all}
 use Rattle.worker_pool.proofs.report.run_at.Goals as goal
+
+pub run_in-ran-requires-clause-jobs : goal.run_in-ran-requires-clause-jobs
+run_in-ran-requires-clause-jobs g c κs within =
+    let key = about_of c.args.table.table.shared.key in
+    let tree : IsTree key.plan.tree = carried (sym (c.plan.ensures ∙ c.args.table.fitting.plan)) (λ (p : PlanParts). IsTree p.tree) c.in-Ok-staged.ensures.tree in
+    carried c.new-hall.ensures (λ t. MayAnswer g.B.Job.answers (about_of t.table.shared.key)) (may_answer g.B.Job.answers key tree c.requires.all c.requires.jobs)
 
 pub run_in-ran-requires-clause-told : goal.run_in-ran-requires-clause-told
 run_in-ran-requires-clause-told g c κs within =

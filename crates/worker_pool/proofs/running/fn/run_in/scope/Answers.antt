@@ -20,6 +20,7 @@ loop-handle-preserved-in-Some-join g c =
       seat = record { same = step.same.table ∙ i.seat.same; about = step.same.about ∙ i.seat.about };
       same = record { table = step.same.table ∙ i.same.table; about = step.same.about ∙ i.same.about };
       noted = i.noted ∙ read;
+      many = i.many;
       told = subst (λ (r : List Event). All (λ b. (goal.Listener-dyn g (b.vtable, b.value)).got b.value ≡ r) c.dispatch.new.audience.listeners.items) read i.told;
       texts = carried step.kept (λ m. KeepsTexts g.B.Job.answers m.0 c.dispatch.new.texts) i.texts;
       over = subst IsOver read i.over;

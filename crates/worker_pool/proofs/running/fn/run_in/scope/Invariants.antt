@@ -26,6 +26,7 @@ invariant-loop-handle g l = record {
   seat : IsSeatOf l.hall.table.table l.seat.seat;
   same : IsOf l.initial.seat.seat l.seat.seat;
   noted : l.events.items ≡ (dispatcher l.seat.seat.me.0).read;
+  many : length l.audience.listeners.items ≡ length l.initial.audience.listeners.items;
   told : All (λ b. (goal.Listener-dyn g (b.vtable, b.value)).got b.value ≡ (dispatcher l.seat.seat.me.0).read) l.audience.listeners.items;
   texts : KeepsTexts g.B.Job.answers l.seat.seat.me.0 l.texts;
   over : IsOver (dispatcher l.seat.seat.me.0).read;
