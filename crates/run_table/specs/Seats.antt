@@ -13,9 +13,10 @@ use Rattle.event_history.specs.Places.{has}
 use Rattle.scheduling.specs.declared.answer.Answer.{Answer}
 use Rattle.scheduling.specs.declared.seat.Hand.{Hand}
 use Rattle.scheduling.specs.declared.seat.Seat.{Seat}
-use Rattle.scheduling.specs.declared.task.Closing.TheVariants.{CountingOff}
+use Rattle.scheduling.specs.declared.task.Closing.TheVariants.{CountingOff, AwaitingAfter}
+use Rattle.scheduling.specs.declared.task.Opening.TheVariants.{Awaiting}
 use Rattle.scheduling.specs.declared.task.Task.{Task}
-use Rattle.scheduling.specs.declared.task.Task.TheVariants.{Closes}
+use Rattle.scheduling.specs.declared.task.Task.TheVariants.{Opens, Closes}
 use Rattle.scheduling.specs.Rows.{with_task, ends_or_free}
 use Rattle.descriptor.specs.Nodes.{parent_of}
 use Rattle.scheduling.specs.declared.turns.Turns.{Turns}
@@ -45,6 +46,12 @@ abbrev pub task_by : PlanParts → Option ℕ → Option Answer → Task → Tas
 task_by p None answer task = decided p unasked task
 task_by p (Some job) None task = task
 task_by p (Some job) (Some answer) task = decided p (reply_by answer) task
+
+-- whether a task awaits an answer
+abbrev pub awaits_answer : Task → Bool
+awaits_answer (Opens n Awaiting) = true
+awaits_answer (Closes n AwaitingAfter) = true
+awaits_answer task = false
 
 -- a key that is given back: at this place of those of this node
 abbrev pub back_at : (node place : ℕ) → Back

@@ -8,7 +8,7 @@ ghost use Rattle.table_rule.specs.Picture.{about_of};
 ghost use Rattle.table_rule.specs.Plays.{dispatcher};
 ghost use Rattle.table_rule.specs.Slots.{slot_count};
 ghost use Rattle.table_rule.specs.Words.{words_of};
-ghost use Rattle.run_table.specs.Filling.{IsIndex, IsFilled, IsLeastBare};
+ghost use Rattle.run_table.specs.Inside.Filling.{IsIndex, IsFilled, IsLeastBare};
 ghost use Rattle.run_table.specs.Prepared.{HasAllJobs, IsRefused};
 ghost use Rattle.run_table.specs.Seats.{IsSeatOf};
 
@@ -42,7 +42,7 @@ pub struct Refused<B> {
 struct Room<B> {
     turns: Turns,
     words: Vec<u64>,
-    index: Vec<Option<usize>>,
+    index: Vec<Option<u16>>,
     slots: Vec<Slot<B>>,
     unused: Jobs<B>,
 }

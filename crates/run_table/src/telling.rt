@@ -172,27 +172,28 @@ impl<B: Job> WorkerSeat<B> {
         ensures unmoved { IfOk result (λ _. (n : ℕ) → (ready_in self.old.seat.me.0).seat.task ≡ Opens n (Beginning false) → made_of (worker self.old.seat.me.0).slots n ≡ Unmoved) }
         ensures refused { IfErr result (λ _. (self.new.seat.me ≡ self.old.seat.me) × (event_due (worker self.old.seat.me.0).number (ready_in self.old.seat.me.0).seat.task ≡ None)) }
     {
-        let Some(_event) = due_event(self.number, self.ready_task(table)) else {
+        let task = self.ready_task(table);
+        let Some(_event) = due_event(self.number, task) else {
             return Err(NotEnabled);
         };
-        self.draw_next(table);
+        self.draw_next(table, &task);
         Ok(self.task)
     }
 
-    /// Draws the event that is due, where there is one.
-    fn draw_next(&mut self, table: &RunTable<B>)
+    /// Draws the event that is due by this task, where there is one.
+    fn draw_next(&mut self, table: &RunTable<B>, task: &Task)
         requires table { IsSeatOf table.now.table self.old.seat }
+        requires task { task.now ≡ (ready_in self.old.seat.me.0).seat.task }
         requires due { (e : EventValue) × (event_due (worker self.old.seat.me.0).number (ready_in self.old.seat.me.0).seat.task ≡ Some e) }
         ensures same { SameSeat self.old.seat self.new.seat }
         ensures done { (e : EventValue) → event_due (worker self.old.seat.me.0).number (ready_in self.old.seat.me.0).seat.task ≡ Some e → (number : ℕ) × IsDraw self.old.seat self.new.seat e (drawn_seat number (ready_in self.old.seat.me.0).seat (ready_in self.old.seat.me.0).seat.task) self.new.task }
         ensures unmoved { (n : ℕ) → (ready_in self.old.seat.me.0).seat.task ≡ Opens n (Beginning false) → made_of (worker self.old.seat.me.0).slots n ≡ Unmoved }
     {
-        let task = self.ready_task(table);
         let number = table
             .table
             .shared
             .fetch_add::<Draws>(&mut self.seat, table.draws_at(), 1);
-        let next = after_draw(number as usize, task, self.hand);
+        let next = after_draw(number as usize, *task, self.hand);
         self.task = next.task;
         self.hand = next.hand;
         self.answer = None;
