@@ -1,10 +1,14 @@
--- The sets of a builder beside the tree's nodes.
-use Rattle.std.proofs.Common.{◌≡◌, ℕ, Bool, true, false, cond, List, [], ◌∷◌, refl, ap, sym, ◌∙◌, Option, Some, nat_eq, String, Global}
+-- The ids and the bodies of a builder beside the tree's nodes.
+use Rattle.std.proofs.Common.{◌≡◌, ◌≢◌, ◌<◌, ◌==◌, ℕ, Bool, true, false, cond, eq-eqb, ne_eqb, List, [], ◌∷◌, length, set, get_or, replicate, refl, ap, sym, ◌∙◌, Option, Some, None, String, Global}
 use Rattle.std.specs.Prelude.{◌||◌}
 use Rattle.std.specs.List.Sorted.{IsPermutation}
 use Rattle.std.specs.Str.{bytes_eq}
+use Rattle.std.proofs.lemmas.List.{length-replicate, get_or-replicate, get_or-set_other}
 use Rattle.std.proofs.lemmas.List.Folds.{list_any-append}
-use Rattle.std.specs.HashSet.{HashSet, contains_text, contains_by, UpdatesBy}
+use Rattle.std.proofs.lemmas.Grind.{get_or-set_at}
+use mathlib.Core.Logic.{dite}
+use native.Mathlib.Decide.{ℕ_discrete}
+use Rattle.std.specs.HashSet.{HashSet, contains_text, UpdatesBy}
 use Rattle.std.specs.String.{string_bytes, string_eq}
 use Rattle.std.proofs.lemmas.List.Sorted.{list_any-IsPermutation}
 use Rattle.std.proofs.lemmas.Map.Text.{hash_set_updates_text}
@@ -42,16 +46,9 @@ module _ {S : Type 0} where
   abbrev pub HasIds : Nodes → HashSet (String Global) S → Type 0
   HasIds t s = (key : List ℕ) → contains_text s key ≡ has_text t key
 
-  -- the set has the bodies of the tree
-  abbrev pub HasBodies : Nodes → HashSet ℕ S → Type 0
-  HasBodies t s = (b : ℕ) → contains_by (nat_eq b) s ≡ has_body t (Some b)
-
   -- a set in another order
   pub ids_kept : (t : Nodes) (s n : HashSet (String Global) S) → HasIds t s → IsPermutation s.keys n.keys → HasIds t n
   ids_kept t s n was order key = sym (list_any-IsPermutation (λ (k : String Global). bytes_eq key (string_bytes k)) s.keys n.keys order) ∙ was key
-
-  pub bodies_kept : (t : Nodes) (s n : HashSet ℕ S) → HasBodies t s → IsPermutation s.keys n.keys → HasBodies t n
-  bodies_kept t s n was order b = sym (list_any-IsPermutation (nat_eq b) s.keys n.keys order) ∙ was b
 
   -- a set with one more key, as the tree has one more node
   pub ids_grown : (t u : Nodes) (a : ℕ) (node : Node) (bs : List ℕ) (s n : HashSet (String Global) S) → u ≡ appended t a node → bs ≡ spelling node.id → HasIds t s → UpdatesBy string_eq (λ k. bytes_eq bs (string_bytes k)) s n true → HasIds u n
@@ -59,27 +56,41 @@ module _ {S : Type 0} where
       hash_set_updates_text bs s n true updates key ∙ ap (cond (bytes_eq bs key) true) (was key) ∙ ap (λ x. cond (bytes_eq x key) true (has_text t key)) text
       ∙ sym (has_text_grown t a node key) ∙ ap (λ x. has_text x key) (sym grown)
 
-  -- a set with a body, if there is one
-  abbrev pub PutsBody : Option ℕ → HashSet ℕ S → HashSet ℕ S → Type 0
-  PutsBody body s n = (b : ℕ) → contains_by (nat_eq b) n ≡ cond (is_body b body) true (contains_by (nat_eq b) s)
-
-  pub bodies_grown : (t u : Nodes) (a : ℕ) (node : Node) (s m n : HashSet ℕ S) → u ≡ appended t a node → HasBodies t s → PutsBody node.body s m → PutsBody node.after m n → HasBodies u n
-  bodies_grown t u a node s m n grown was body after b =
-      after b ∙ ap (cond (is_body b node.after) true) (body b ∙ ap (cond (is_body b node.body) true) (was b))
-      ∙ cond_or (is_body b node.body) (is_body b node.after) (has_body t (Some b))
-      ∙ sym (has_body_grown t a node b) ∙ ap (λ x. has_body x (Some b)) (sym grown)
-
-  -- the same set of ids and a set with one more body, as a node of the tree was given an after-body
+  -- the same set of ids, as a node of the tree was given an after-body
   pub ids_with_after : (t u : Nodes) (n b : ℕ) (s : HashSet (String Global) S) → u ≡ with_after t n b → HasIds t s → HasIds u s
   ids_with_after t u n b s given was key = was key ∙ sym (texts_with_after t b n key) ∙ ap (λ x. has_text x key) (sym given)
-
-  pub put_with_after : (t u : Nodes) (n b : ℕ) (s m : HashSet ℕ S) → u ≡ with_after t n b → may_get_after_at t n ≡ true → HasBodies t s → PutsBody (Some b) s m → HasBodies u m
-  put_with_after t u n b s m given may was put c =
-      put c ∙ ap (cond (is_body c (Some b)) true) (was c) ∙ sym (bodies_with_after t b n c may) ∙ ap (λ x. has_body x (Some c)) (sym given)
 
   -- the same set beside the same tree
   pub ids_as : (t u : Nodes) (s : HashSet (String Global) S) → t ≡ u → HasIds t s → HasIds u s
   ids_as t u s same was key = was key ∙ ap (λ x. has_text x key) same
 
-  pub bodies_as : (t u : Nodes) (s : HashSet ℕ S) → t ≡ u → HasBodies t s → HasBodies u s
-  bodies_as t u s same was b = was b ∙ ap (λ x. has_body x (Some b)) same
+-- at the place of each number, whether it is that of a body of the tree
+abbrev pub HasBodies : Nodes → List Bool → Type 0
+HasBodies t row = (b : ℕ) → b < 65536 → get_or row b false ≡ has_body t (Some b)
+
+-- a row with a body, if there is one
+abbrev pub PutsBody : Option ℕ → List Bool → List Bool → Type 0
+PutsBody body old new = (b : ℕ) → b < 65536 → get_or new b false ≡ cond (is_body b body) true (get_or old b false)
+
+pub no_bodies : (row : List Bool) → row ≡ replicate 65536 false → (length row ≡ 65536) × ((b : ℕ) → b < 65536 → get_or row b false ≡ false)
+no_bodies row is = (ap length is ∙ length-replicate 65536 false, λ b low. ap (λ (r : List Bool). get_or r b false) is ∙ get_or-replicate 65536 b false false low)
+
+pub body_put : (row : List Bool) (i body : ℕ) → i ≡ body → i < length row → PutsBody (Some body) row (set row i true)
+body_put row i body same low b small = dite (ℕ_discrete body b)
+    (λ e. get_or-set_at row i b true false (sym (same ∙ e)) low ∙ ap (λ c. cond c true (get_or row b false)) (sym (eq-eqb body b e)))
+    (λ ne. get_or-set_other row i b true false (λ q. ne (sym same ∙ sym q)) ∙ ap (λ c. cond c true (get_or row b false)) (sym (ne_eqb body b ne)))
+
+pub bodies_grown : (t u : Nodes) (a : ℕ) (node : Node) (row one two : List Bool) → u ≡ appended t a node → HasBodies t row → PutsBody node.body row one → PutsBody node.after one two → HasBodies u two
+bodies_grown t u a node row one two grown was body after b low =
+    after b low ∙ ap (cond (is_body b node.after) true) (body b low ∙ ap (cond (is_body b node.body) true) (was b low))
+    ∙ cond_or (is_body b node.body) (is_body b node.after) (has_body t (Some b))
+    ∙ sym (has_body_grown t a node b) ∙ ap (λ x. has_body x (Some b)) (sym grown)
+
+-- one body more, as a node of the tree was given an after-body
+pub put_with_after : (t u : Nodes) (n b : ℕ) (row more : List Bool) → u ≡ with_after t n b → may_get_after_at t n ≡ true → HasBodies t row → PutsBody (Some b) row more → HasBodies u more
+put_with_after t u n b row more given may was put c low =
+    put c low ∙ ap (cond (is_body c (Some b)) true) (was c low) ∙ sym (bodies_with_after t b n c may) ∙ ap (λ x. has_body x (Some c)) (sym given)
+
+-- the same row beside the same tree
+pub bodies_as : (t u : Nodes) (row : List Bool) → t ≡ u → HasBodies t row → HasBodies u row
+bodies_as t u row same was b low = was b low ∙ ap (λ x. has_body x (Some b)) same

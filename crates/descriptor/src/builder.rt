@@ -1,6 +1,6 @@
 //! Building a tree node by node.
 
-ghost use Rattle.std.specs.Prelude.{◌≡◌, ◌≢◌, ℕ, ◌+◌, ◌<◌, ◌≤◌, ◌↔◌, IsTrue, None, Some, OnOk, OnErr, IfOk, IfErr, IfSome};
+ghost use Rattle.std.specs.Prelude.{◌≡◌, ◌≢◌, ℕ, ◌<◌, ◌↔◌, IsTrue, None, Some, OnOk, OnErr, IfOk, IfErr, IfSome};
 
 use crate::body_id::BodyId;
 use crate::fault::TreeFault;
@@ -14,6 +14,9 @@ use std::marker::Model;
 /// The greatest number of nodes, the plan included.
 const MOST_NODES: usize = 4096;
 
+/// How many numbers of bodies there are.
+const NUMBERS: usize = 65_536;
+
 /// The greatest depth of a node; the plan has depth 0.
 const MOST_DEPTH: u8 = 64;
 
@@ -23,7 +26,8 @@ pub struct TreeBuilder {
     tree: Tree,
     // the canonical texts of the nodes' unique ids, so that no search goes over all nodes
     ids: HashSet<String>,
-    bodies: HashSet<BodyId>,
+    // at the place of each number, whether it is that of a body of the tree
+    bodies: Vec<bool>,
 }
 
 impl Model for TreeBuilder {
@@ -31,7 +35,7 @@ impl Model for TreeBuilder {
 
     ghost Value = { Nodes };
 
-    ghost use Rattle.descriptor.specs.BuilderFields.{IsBuilderSound};
+    ghost use Rattle.descriptor.specs.Inside.BuilderFields.{IsBuilderSound};
 
     ghost view = { λ b. b.tree };
 
@@ -59,7 +63,7 @@ impl TreeBuilder {
         Ok(TreeBuilder {
             tree: Tree::with_capacity(alloc, nodes)?,
             ids: HashSet::with_capacity(alloc, nodes)?,
-            bodies: HashSet::with_capacity(alloc, nodes)?,
+            bodies: vec![in alloc; false; NUMBERS]?,
         })
     }
 
@@ -89,7 +93,6 @@ impl TreeBuilder {
         let id = String::from_str(alloc, node.id.text())?;
         let (body, after) = (node.body, node.after);
         self.ids.reserve(1)?;
-        self.bodies.reserve(2)?;
         let number = self.tree.push(alloc, parent, node)?;
         // nothing below can fail, so that an `Err` leaves the builder as it was
         let Ok(_) = self.ids.insert(id) else {
@@ -103,19 +106,17 @@ impl TreeBuilder {
     /// Gives a node of the tree an after-body, for a caller that learns of it after the nodes below.
     ///
     /// Errors: refusal 15 where the body is one already; else 18 where the node is the plan, a factory, or a test that
-    /// holds no other node, or has an after-body; else want of memory.
+    /// holds no other node, or has an after-body.
     pub fn set_after(&mut self, node: NodeId, body: BodyId) -> Result<(), TreeFault>
         requires { node < size self.old }
         ensures ok { IfOk result (λ _. after_refusal self.old node body ≡ None) }
         ensures set { OnOk result (self.new ≡ with_after self.old node body) }
-        ensures refused { IfErr result (λ fault. fault ≢ TreeFault.NoMemory → after_refusal self.old node body ≡ Some fault) }
-        ensures no_memory { IfErr result (λ fault. fault ≡ TreeFault.NoMemory → after_refusal self.old node body ≡ None) }
+        ensures refused { IfErr result (λ fault. after_refusal self.old node body ≡ Some fault) }
         ensures err { OnErr result (self.new ≡ self.old) }
     {
         if let Some(fault) = self.after_refusal(node, body) {
             return Err(fault);
         }
-        self.bodies.reserve(1)?;
         self.tree.set_after(node, body);
         put_body(&mut self.bodies, Some(body));
         Ok(())
@@ -193,25 +194,22 @@ impl TreeBuilder {
         ensures { result ≡ has_body self.now body }
     {
         match body {
-            Some(body) => self.bodies.contains(&body),
+            Some(body) => self.bodies[body.index()],
             None => false,
         }
     }
 }
 
-ghost use Rattle.std.specs.Prelude.{nat_eq, cond, true};
-ghost use Rattle.std.specs.HashSet.{contains_by, spare};
+ghost use Rattle.std.specs.Prelude.{cond, true, false, length, get_or};
 ghost use Rattle.descriptor.specs.Bodies.{is_body};
 
-/// Puts a body, if there is one, into a set that has room for it.
-fn put_body(bodies: &mut HashSet<BodyId>, body: Option<BodyId>)
-    requires { 0 < spare bodies.old }
-    ensures has { (b : ℕ) → contains_by (nat_eq b) bodies.new ≡ cond (is_body b body) true (contains_by (nat_eq b) bodies.old) }
-    ensures room { spare bodies.old ≤ spare bodies.new + 1 }
+/// Puts a body, if there is one, among those of the tree.
+fn put_body(bodies: &mut Vec<bool>, body: Option<BodyId>)
+    requires { length bodies.old.items ≡ 65536 }
+    ensures many { length bodies.new.items ≡ 65536 }
+    ensures has { (b : ℕ) → b < 65536 → get_or bodies.new.items b false ≡ cond (is_body b body) true (get_or bodies.old.items b false) }
 {
     if let Some(body) = body {
-        let Ok(_) = bodies.insert(body) else {
-            unreachable!()
-        };
+        bodies[body.index()] = true;
     }
 }

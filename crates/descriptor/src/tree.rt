@@ -30,7 +30,7 @@ impl Model for Tree {
 
     ghost Value = { Nodes };
 
-    ghost use Rattle.descriptor.specs.Fields.{nodes_of, IsSound};
+    ghost use Rattle.descriptor.specs.Inside.Fields.{nodes_of, IsSound};
 
     ghost view = { nodes_of };
 
@@ -327,10 +327,10 @@ impl Tree {
         self.children.reserve(1)?;
         self.nodes.reserve(1)?;
         self.children[parent.index()].push(next)?;
-        self.parents.push(parent).unwrap();
-        self.depths.push(depth).unwrap();
-        self.children.push(Vec::new(alloc)).unwrap();
-        self.nodes.push(node).unwrap();
+        self.parents.push_reserved(parent);
+        self.depths.push_reserved(depth);
+        self.children.push_reserved(Vec::new(alloc));
+        self.nodes.push_reserved(node);
         Ok(next)
     }
 

@@ -52,7 +52,7 @@ impl EventList {
         requires { 0 < self.old.room }
         ensures { self.new ≡ record { got = self.old.got ++ event ∷ []; room = self.old.room - 1 } }
     {
-        self.events.push(event).unwrap();
+        self.events.push_reserved(event);
         self.room -= 1;
     }
 

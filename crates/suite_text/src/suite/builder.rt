@@ -45,7 +45,7 @@ pub(crate) struct SuiteBuilder {
 
 impl Model for SuiteBuilder {
     ghost use Rattle.suite_text.specs.Reading.Parts.{LinesRead};
-    ghost use Rattle.suite_text.specs.Reading.Paths.{IsSound};
+    ghost use Rattle.suite_text.specs.Inside.Paths.{IsSound};
 
     ghost Value = { LinesRead };
 
@@ -158,7 +158,7 @@ fn open_on(path: &mut Vec<Opened>, level: usize, opened: Opened)
     ensures { path.new.items ≡ take level path.old.items ++ opened ∷ [] }
 {
     path.truncate(level);
-    path.push(opened).unwrap();
+    path.push_reserved(opened);
 }
 
 /// The node, or the plan where there is none.
@@ -260,7 +260,7 @@ impl SuiteBuilder {
         let node = self.tree.add(alloc, parent, node)?;
         open_on(&mut self.path, level, Opened { node, word });
         if let Some(script) = script {
-            self.scripts.push(script).unwrap();
+            self.scripts.push_reserved(script);
         }
         Ok(())
     }
@@ -324,7 +324,7 @@ impl SuiteBuilder {
         let script = Script::ending(alloc, body, 0, 0, status, text)?;
         self.afters.reserve(1)?;
         self.tree.set_after(class, body)?;
-        self.afters.push(script).unwrap();
+        self.afters.push_reserved(script);
         Ok(())
     }
 

@@ -5,7 +5,7 @@ use Rattle.std.proofs.Math.Seq.{map-set_same}
 use Rattle.std.proofs.lemmas.List.{get_or-map}
 use Rattle.std.proofs.lemmas.Grind.{common_steps}
 use Rattle.descriptor.specs.Nodes.{size, Nodes}
-use Rattle.descriptor.specs.Fields.{nodes_of, IsKept}
+use Rattle.descriptor.specs.Inside.Fields.{nodes_of, IsKept}
 use Rattle.descriptor.specs.declared.node_id.NodeId.{NodeId}
 use Rattle.descriptor.proofs.Grown.{kept, kept_as, lists_grown}
 use Rattle.descriptor.proofs.Accepted.{tree_grown}
@@ -35,8 +35,8 @@ invariant_of-self-2 c =
     let number : c.new-next.result ≡ size c.args.self.now = grind (arith, common_steps) in
     let more : c.push.new.self.items ≡ c.index_mut.result.now.items ++ c.new-next.result ∷ [] = grind (arith, common_steps) in
     let one_more : c.push.new.self.items ≡ get_or (map items c.self.inside.children.items) c.args.parent [] ++ size c.args.self.now ∷ [] = cc in
-    let last : c.push-4.new.self.items ≡ set c.reserve-3.new.self.items c.index-3.result c.push.new.self ++ c.new.result ∷ [] = grind (arith, common_steps) in
+    let last : c.push_reserved-3.new.self.items ≡ set c.reserve-3.new.self.items c.index-3.result c.push.new.self ++ c.new.result ∷ [] = grind (arith, common_steps) in
     kept_as _ _ _ _ _ _ (kept c.args.self.now c.args.parent c.args.node c.requires.may_take.0 old.tree (tree_grown _ _ _ old.tree c.requires.may_take c.requires.accepted) c.self.inside.depths.items (map items c.self.inside.children.items) old _ refl)
     (grind (arith, common_steps))
     (grind (arith, common_steps))
-    (lists_grown items c.self.inside.children.items c.reserve-3.new.self.items c.push-4.new.self.items c.index-3.result c.args.parent (size c.args.self.now) c.push.new.self c.new.result room last (grind (arith, common_steps)) one_more (grind (arith, common_steps)))
+    (lists_grown items c.self.inside.children.items c.reserve-3.new.self.items c.push_reserved-3.new.self.items c.index-3.result c.args.parent (size c.args.self.now) c.push.new.self c.new.result room last (grind (arith, common_steps)) one_more (grind (arith, common_steps)))
