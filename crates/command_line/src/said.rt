@@ -9,11 +9,30 @@ use launcher::LaunchFault;
 use messages::Message;
 use std::alloc::{AllocError, Global};
 
+/// What clap says before a word that it does not expect.
+const UNEXPECTED: &str = "error: unexpected argument '";
+
+/// Whether clap says of a word that is no option that it does not expect it: a file's name, for one.
+fn is_of_no_option(said: &str) -> bool {
+    match said.strip_prefix(UNEXPECTED) {
+        Some(word) => !word.starts_with('-'),
+        None => false,
+    }
+}
+
 /// What clap says of words that it refuses: what is wrong with them, or the options where help is asked for.
 fn said_by_clap(alloc: Global, words: &[String]) -> Result<String, AllocError> {
     match command(alloc)?.try_get_matches_from(words) {
         Ok(_) => Ok(String::new(alloc)),
-        Err(error) => format!(in alloc; "{error}"),
+        Err(error) => {
+            let mut said = format!(in alloc; "{error}")?;
+            if is_of_no_option(said.as_str()) {
+                said.push_str(
+                    "\nThe suite is read from standard input, as in `./console < FILE`.\n",
+                )?;
+            }
+            Ok(said)
+        }
     }
 }
 

@@ -68,6 +68,44 @@ fn is_among(text: &str, key: &str) -> bool {
     found
 }
 
+/// The key of a lock, if the word is one.
+fn lock_key(word: &str) -> Option<&str> {
+    let lock = word.strip_prefix("lock=")?;
+    if let Some(key) = lock.strip_suffix(":rw") {
+        return Some(key);
+    }
+    Some(lock.strip_suffix(":r").unwrap_or(lock))
+}
+
+/// Whether one of the words of a text is a lock with this key.
+fn is_locked(text: &str, key: &str) -> bool {
+    let mut found = false;
+    for word in text.split(' ') {
+        if let Some(other) = lock_key(word) {
+            found = found || other == key;
+        }
+    }
+    found
+}
+
+/// How many keys the words of a text lock, and how many bytes the longest has.
+pub(crate) fn locks_in(text: &str) -> (usize, usize) {
+    let mut left = text;
+    let mut keys: usize = 0;
+    let mut longest = 0;
+    for _ in 0..text.len() {
+        let (word, rest) = cut(left);
+        if let Some(key) = lock_key(word) {
+            longest = key.len().max(longest);
+            if !is_locked(rest, key) {
+                keys = keys.saturating_add(1);
+            }
+        }
+        left = rest;
+    }
+    (keys, longest)
+}
+
 /// What is wrong with a number up to this.
 fn trouble_of_number(
     front: &str,

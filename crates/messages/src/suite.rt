@@ -1,6 +1,6 @@
 //! What is wrong with a suite, and where.
 
-use crate::attributes::{KNOWN, first_trouble, key_of, looks_like_attribute};
+use crate::attributes::{KNOWN, first_trouble, key_of, locks_in, looks_like_attribute};
 use crate::bytes::{last_line, text_of};
 use crate::line::{VERDICTS, WORDS, cut, indentation, where_stands, without_front};
 use crate::lines::{deepest, line_at, may_stand, same_node};
@@ -10,6 +10,27 @@ use config_params::ParamsFault;
 use descriptor::TreeFault;
 use std::alloc::{AllocError, Global};
 use suite_text::SuiteFault;
+
+/// Which limit the line of a node is over: that of its name, of a lock's key, of its locks, of its reason, or else of its unique
+/// id.
+fn limit_passed(alloc: Global, line: &str) -> &'static str {
+    let (first, rest) = cut(without_front(line));
+    let (name, more) = cut(rest);
+    let behind = first_trouble(alloc, first, more).0;
+    let (verdict, reason) = cut(behind);
+    let (keys, longest) = locks_in(more.strip_suffix(behind).unwrap_or(more));
+    if name.len() > 1_024 {
+        "a name has at most 1,024 bytes"
+    } else if longest > 1_024 {
+        "the key of a lock has at most 1,024 bytes"
+    } else if keys > 16 {
+        "a node has locks on 16 keys at most"
+    } else if verdict == "disabled" && reason.len() > 1_024 {
+        "a reason has at most 1,024 bytes"
+    } else {
+        "a unique id has at most 64 levels and 1,024 bytes, and with this node its id has more"
+    }
+}
 
 /// A line of a suite that is refused, and its number.
 #[derive(Clone, Copy)]
@@ -131,6 +152,11 @@ impl<'a> Spot<'a> {
     ) -> Result<(), AllocError> {
         let start = without_front(self.line);
         let (first, rest) = cut(start);
+        if first.contains('\t') {
+            let said =
+                "a tab stands there: a level is two spaces, and one space stands between words";
+            return self.push_said(alloc, text, start, said);
+        }
         if !is_known(WORDS.as_slice(), first) {
             let said = "no line begins with that word";
             return self.push_unknown(alloc, text, start, said, WORDS.as_slice());
@@ -172,9 +198,7 @@ impl<'a> Spot<'a> {
             TreeFault::TooMany => "with this node the suite has more than 4,095",
             TreeFault::DoubleId =>
                 "the same word and name stand below the same line already: give it another name",
-            TreeFault::OverLimit => {
-                "a name, a reason and the key of a lock have at most 1,024 bytes, a node has at most 16 keys, and a unique id at most 64 levels and 1,024 bytes"
-            }
+            TreeFault::OverLimit => limit_passed(alloc, self.line),
             _ => "this node may not stand here",
         };
         self.push_said(alloc, text, name, said)?;
