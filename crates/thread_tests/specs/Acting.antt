@@ -1,10 +1,8 @@
--- The replies of the jobs that tests hand in, and that each body and after-body of a plan has one.
-use Rattle.std.specs.Prelude.{◌≡◌, ℕ, ◌<◌, Bool, true, false, List, [], ◌∷◌, length, Option, Some, None}
+-- The replies of the jobs that tests hand in.
+use Rattle.std.specs.Prelude.{ℕ, ◌<◌, Bool, true, false, List, [], ◌∷◌, length, Option, Some, None}
 use Rattle.plan_events.specs.Jobs.{unpulled}
 use Rattle.plan_events.specs.declared.outcome.Outcome.{Outcome}
 use Rattle.plan_events.specs.declared.outcome.Reply.{Reply}
-use Rattle.resource_locks.specs.Plans.{PlanParts}
-use Rattle.table_rule.specs.Slots.{job_at, job_with}
 use Rattle.thread_tests.specs.declared.acting.Ends.{Ends}
 use Rattle.thread_tests.specs.declared.acting.Actor.{Actor}
 
@@ -24,8 +22,3 @@ replies_left job = left_of job.ends job.fresh job.pulls
 abbrev pub AreFresh : List (ℕ × Actor) → Type 0
 AreFresh [] = Unit {0}
 AreFresh (job ∷ jobs) = (0 < length (unpulled (replies_left job.1))) × AreFresh jobs
-
--- each may end so, and each of the first so many slots that has a job has one of these
-pub record AreCast (p : PlanParts) (slots : ℕ) (jobs : List (ℕ × Actor)) : Type 0 where
-  pub each : AreFresh jobs
-  pub all : (slot number : ℕ) → slot < slots → job_at p slot ≡ Some number → (job : Actor) × (job_with jobs number ≡ Some job)

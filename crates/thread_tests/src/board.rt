@@ -3,12 +3,14 @@
 use std::alloc::{AllocError, Global};
 use std::sync::atomic::{AtomicBool, AtomicU64, Ordering};
 
-/// A flag for each of the first nodes, how many jobs are at work, and how often a job was asked for a dynamic test.
+/// A flag for each of the first nodes, how many jobs are at work, how often a job was asked for a dynamic test, and how many
+/// bytes of texts the listener was told.
 #[derive(Drop)]
 pub struct Board {
     flags: Vec<AtomicBool>,
     at_work: AtomicU64,
     asked: AtomicU64,
+    heard: AtomicU64,
 }
 
 impl Board {
@@ -18,6 +20,7 @@ impl Board {
             flags: Vec::new(alloc),
             at_work: AtomicU64::new(0),
             asked: AtomicU64::new(0),
+            heard: AtomicU64::new(0),
         };
         for _flag in 0..flags {
             board.flags.push(AtomicBool::new(false))?;
@@ -58,5 +61,15 @@ impl Board {
     /// How often jobs were asked for a dynamic test.
     pub fn asked(&self) -> u64 {
         self.asked.load(Ordering::SeqCst)
+    }
+
+    /// The listener was told a text of so many bytes.
+    pub(crate) fn hear(&self, bytes: usize) {
+        self.heard.fetch_add(bytes as u64, Ordering::SeqCst);
+    }
+
+    /// How many bytes of texts the listener was told.
+    pub fn heard(&self) -> u64 {
+        self.heard.load(Ordering::SeqCst)
     }
 }

@@ -1,36 +1,22 @@
 //! The jobs of a plan: one for each body and each after-body.
 
-ghost use Rattle.std.specs.Prelude.{◌≡◌, ◌+◌, ◌<◌, ℕ, IfOk, OnOk, length};
+ghost use Rattle.std.specs.Prelude.{◌<◌, ℕ, IfOk, OnOk, length};
 ghost use Rattle.plan_events.specs.Jobs.{unpulled};
-ghost use Rattle.table_rule.specs.Slots.{slot_count, job_at};
-ghost use Rattle.worker_pool.specs.Premises.{MayAnswer};
+ghost use Rattle.table_rule.specs.Slots.{slot_count};
+ghost use Rattle.worker_pool.specs.Premises.{JobsMayAnswer};
 ghost use Rattle.worker_pool.specs.Reports.{run_of};
-ghost use Rattle.thread_tests.specs.Acting.{replies_left, AreCast};
+ghost use Rattle.thread_tests.specs.Acting.{replies_left, AreFresh};
 
 use crate::acting::{Act, Actor, Ends};
 use crate::board::Board;
-use descriptor::{BodyId, NodeId};
+use descriptor::BodyId;
 use plan_events::{Outcome, Status};
 use resource_locks::Plan;
-use run_table::Jobs;
+use run_table::{Jobs, job_number};
 use std::alloc::{AllocError, Global};
 use std::sync::Arc;
 use suite_text::Script;
 use unique_id::Text;
-
-/// The job in a slot of the plan, if it has one: the body of a node, or behind these the after-body of one.
-fn number_at(plan: &Plan, slot: usize) -> Option<BodyId>
-    requires { slot < slot_count plan.now }
-    ensures { result ≡ job_at plan.now slot }
-{
-    let tree = plan.tree();
-    let nodes = tree.len();
-    if slot < nodes {
-        tree.body(NodeId::new(slot as u16))
-    } else {
-        tree.after(NodeId::new((slot - nodes) as u16))
-    }
-}
 
 /// How a job ends that is told how: as its script says, and well where it has none.
 fn told(scripts: &[Script], number: BodyId) -> Result<(u16, Outcome), AllocError> {
@@ -72,7 +58,7 @@ fn actor(
 }
 
 /// Puts the job in a slot of the plan behind the others, if the slot has one.
-#[tactic(auto, using(crate::proofs::Replying::slot_without, crate::proofs::Replying::slot_with_job))]
+#[tactic(auto, using(crate::proofs::Replying::fresh_push))]
 fn put(
     alloc: Global,
     jobs: &mut Jobs<Actor>,
@@ -83,9 +69,9 @@ fn put(
     board: &Arc<Board>,
 ) -> Result<(), AllocError>
     requires { slot < slot_count plan.now }
-    ensures { OnOk result (AreCast plan.now slot jobs.old.items → AreCast plan.now (slot + 1) jobs.new.items) }
+    ensures { OnOk result (AreFresh jobs.old.items → AreFresh jobs.new.items) }
 {
-    let Some(number) = number_at(plan, slot) else {
+    let Some(number) = job_number(plan, slot) else {
         return Ok(());
     };
     let job = actor(alloc, scripts, number, slot, act, board)?;
@@ -94,7 +80,7 @@ fn put(
 }
 
 /// One job for each slot of the plan that has one.
-#[tactic(auto, using(crate::proofs::Replying::none_cast))]
+#[tactic(auto, using(crate::proofs::Replying::none_fresh))]
 fn filled(
     alloc: Global,
     plan: &Plan,
@@ -102,7 +88,7 @@ fn filled(
     act: Act,
     board: &Arc<Board>,
 ) -> Result<Jobs<Actor>, AllocError>
-    ensures { IfOk result (λ jobs. AreCast plan.now (slot_count plan.now) jobs.items) }
+    ensures { IfOk result (λ jobs. AreFresh jobs.items) }
 {
     let mut jobs = Vec::new(alloc);
     let nodes = plan.tree().len();
@@ -121,8 +107,7 @@ pub fn cast(
     act: Act,
     board: &Arc<Board>,
 ) -> Result<Jobs<Actor>, AllocError>
-    ensures { IfOk result (λ jobs. (workers : ℕ) → MayAnswer replies_left (run_of plan.now workers jobs.items)) }
+    ensures { IfOk result (λ jobs. (workers : ℕ) → JobsMayAnswer replies_left (run_of plan.now workers jobs.items)) }
 {
-    let _nodes = plan.tree().len();
     filled(alloc, plan, scripts, act, board)
 }

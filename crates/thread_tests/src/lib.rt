@@ -12,6 +12,8 @@ mod meeting;
 mod rows;
 #[cfg(test)]
 mod running;
+#[cfg(test)]
+mod stepping;
 
 pub use acting::{Act, Actor};
 pub use board::Board;

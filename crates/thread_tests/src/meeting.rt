@@ -57,7 +57,7 @@ fn ends_well<R: Threads + Wait + Sync>(
     let said = run_of_suite(rt, alloc, suite, false, act, workers)?;
     let all = said.as_str();
     let (told, rest) = all.split_once("unused ").unwrap_or((all, ""));
-    Ok(rest == "asked 0" && told.split_whitespace().count() == events && !told.contains('!'))
+    Ok(rest == "asked 0 told 0" && told.split_whitespace().count() == events && !told.contains('!'))
 }
 
 /// Whether one part of what is said stands before another.

@@ -10,38 +10,38 @@ use std::thread::Threads;
 /// What is to happen, and below it the suite: nothing; a test; a class whose body fails, and the same before an after-body; a
 /// disabled class; a test that fails; a factory, one that asks for too many dynamic tests, and one that does so without end;
 /// nodes below one that writes; a run that fails fast; an after-body that fails.
-const ROWS: &str = "+0 -0 unused asked 0
+const ROWS: &str = "+0 -0 unused asked 0 told 0
 ==
-+0 +1 +2 +3 -3 -2 -1 -0 unused asked 0
++0 +1 +2 +3 -3 -2 -1 -0 unused asked 0 told 0
 engine e
   class a.B
     test t() pass
 ==
-+0 +1 +2 -2! -1 -0 unused 3 4 asked 0
++0 +1 +2 -2! -1 -0 unused 3 4 asked 0 told 4
 engine e
   class a.B fail boom
     test t() pass
     test u() pass
 ==
-+0 +1 +2 -2! -1 -0 unused 3 4 8194 asked 0
++0 +1 +2 -2! -1 -0 unused 3 4 8194 asked 0 told 4
 engine e
   class a.B fail boom
     test t() pass
     test u() pass
     after pass
 ==
-+0 +1 ~2 -1 -0 unused 3 asked 0
++0 +1 ~2 -1 -0 unused 3 asked 0 told 5
 engine e
   class a.B disabled later
     test t() fail x
 ==
-+0 +1 +2 +3 -3 +4 -4! -2 -1 -0 unused asked 0
++0 +1 +2 +3 -3 +4 -4! -2 -1 -0 unused asked 0 told 2
 engine e
   class a.B
     test t() pass
     test u() fail no
 ==
-+0 +1 +2 +3 *4 +4 -4 *5 +5 -5 -3 -2 -1 -0 unused 6 asked 3
++0 +1 +2 +3 *4 +4 -4 *5 +5 -5 -3 -2 -1 -0 unused 6 asked 3 told 0
 engine e
   class a.B
     factory f() pulls=2 pass
@@ -49,7 +49,7 @@ engine e
       dyn two pass
       dyn three pass
 ==
-+0 +1 +2 +3 *4 +4 -4 *5 +5 -5 *6 +6 -6 -3! -2 -1 -0 unused asked 4
++0 +1 +2 +3 *4 +4 -4 *5 +5 -5 *6 +6 -6 -3! -2 -1 -0 unused asked 4 told 22
 engine e
   class a.B
     factory f() pulls=4 pass
@@ -57,7 +57,7 @@ engine e
       dyn two pass
       dyn three pass
 ==
-+0 +1 +2 +3 *4 +4 -4 *5 +5 -5 *6 +6 -6 -3! -2 -1 -0 unused asked 4
++0 +1 +2 +3 *4 +4 -4 *5 +5 -5 *6 +6 -6 -3! -2 -1 -0 unused asked 4 told 22
 engine e
   class a.B
     factory f() pulls=4096 pass
@@ -65,7 +65,7 @@ engine e
       dyn two pass
       dyn three pass
 ==
-+0 +1 +2 +3 -3 +4 -4 -2 -1 -0 unused asked 0
++0 +1 +2 +3 -3 +4 -4 -2 -1 -0 unused asked 0 told 0
 property junit.jupiter.execution.parallel.enabled=true
 property junit.jupiter.execution.parallel.mode.default=concurrent
 engine e
@@ -73,13 +73,13 @@ engine e
     test t() lock=db:rw pass
     test u() pass
 ==
-fail-fast +0 +1 +2 +3 -3! ~4 -2 -1 -0 unused 4 asked 0
+fail-fast +0 +1 +2 +3 -3! ~4 -2 -1 -0 unused 4 asked 0 told 10
 engine e
   class a.B
     test t() fail x
     test u() pass
 ==
-+0 +1 +2 +3 -3 -2! -1 -0 unused asked 0
++0 +1 +2 +3 -3 -2! -1 -0 unused asked 0 told 4
 engine e
   class a.B
     test t() pass
@@ -118,7 +118,7 @@ fn all_go_as_wanted<R: Threads + Wait + Sync>(
 
 #[test]
 fn runs_go_alike_whatever_the_number_of_workers(rt: HostRuntime) -> Result<(), Fail> {
-    for _round in 0..2 {
+    for _round in 0..100 {
         assert!(rt; all_go_as_wanted(&rt, rt.alloc(), 1)?);
         assert!(rt; all_go_as_wanted(&rt, rt.alloc(), 2)?);
         assert!(rt; all_go_as_wanted(&rt, rt.alloc(), 4)?);

@@ -2,7 +2,7 @@
 
 ghost use Rattle.std.specs.Prelude.{◌+◌, ◌≤◌, length, vec_capacity};
 ghost use Rattle.thread_tests.specs.Acting.{replies_left};
-ghost use Rattle.worker_pool.specs.Premises.{MayAnswer};
+ghost use Rattle.worker_pool.specs.Premises.{JobsMayAnswer};
 ghost use Rattle.worker_pool.specs.Reports.{run_of};
 
 use crate::acting::{Act, Actor};
@@ -24,11 +24,12 @@ use worker_pool::{Report, RunFault, run_plan};
 /// More nodes than a plan of these tests has.
 const FLAGS: usize = 16;
 
-/// Keeps events, and sets the flag of each node that starts.
+/// Keeps events, counts the bytes of their texts, and sets the flag of each node that starts.
 #[derive(Drop)]
 pub(crate) struct Watcher {
     pub(crate) events: Vec<Event>,
     pub(crate) room: usize,
+    pub(crate) flags: Arc<Board>,
     pub(crate) board: Arc<Board>,
     pub(crate) ghost has_room: { length events.items + room ≤ vec_capacity events },
 }
@@ -44,11 +45,14 @@ impl Listener for Watcher {
         Ok(())
     }
 
-    fn told(&mut self, event: Event, _text: Option<&str>) {
+    fn told(&mut self, event: Event, text: Option<&str>) {
         self.events.push(event).unwrap();
         self.room -= 1;
+        if let Some(text) = text {
+            self.board.hear(text.len());
+        }
         if event.kind == EventKind::Started {
-            self.board.set(event.node.index());
+            self.flags.set(event.node.index());
         }
     }
 
@@ -121,7 +125,7 @@ fn push_jobs(alloc: Global, text: &mut String, jobs: &Jobs<Actor>) -> Result<(),
     Ok(())
 }
 
-/// What was reported, and how often jobs were asked for a dynamic test.
+/// What was reported, how often jobs were asked for a dynamic test, and how many bytes of texts the listener was told.
 fn said(
     alloc: Global,
     ran: &Result<Report<Actor>, RunFault<Actor>>,
@@ -133,9 +137,9 @@ fn said(
             push_events(&mut text, report.events.as_slice())?;
             text.push_str("unused ")?;
             push_jobs(alloc, &mut text, &report.unused_jobs)?;
-            write!(text, "asked {}", board.asked())?;
+            write!(text, "asked {} told {}", board.asked(), board.heard())?;
         }
-        Err(_) => text.push_str("refused")?,
+        Err(fault) => write!(text, "refused {}", fault.cause.number())?,
     }
     Ok(text)
 }
@@ -150,7 +154,7 @@ fn run_before<R: Threads + Wait + Sync>(
     mut audience: Audience,
     board: &Board,
 ) -> Result<String, AllocError>
-    requires { MayAnswer replies_left (run_of plan workers jobs.items) }
+    requires { JobsMayAnswer replies_left (run_of plan workers jobs.items) }
 {
     if !audience.fresh() {
         return Ok(String::new(alloc));
@@ -169,7 +173,7 @@ fn run_watched<R: Threads + Wait + Sync>(
     watcher: Watcher,
     board: &Board,
 ) -> Result<String, AllocError>
-    requires { MayAnswer replies_left (run_of plan workers jobs.items) }
+    requires { JobsMayAnswer replies_left (run_of plan workers jobs.items) }
 {
     let mut listeners: Vec<Box<dyn Listener>> = Vec::new(alloc);
     listeners.push(Box::new(alloc, watcher)?)?;
@@ -185,14 +189,15 @@ pub(crate) fn one_watcher(
     act: Act,
     board: &Arc<Board>,
 ) -> Result<Watcher, AllocError> {
-    let board = match act {
+    let flags = match act {
         Act::Waits => Arc::try_clone(board)?,
         Act::Ends | Act::Meets(_, _) => Arc::new(alloc, Board::new(alloc, FLAGS)?)?,
     };
     Ok(Watcher {
         events: Vec::new(alloc),
         room: 0,
-        board,
+        flags,
+        board: Arc::try_clone(board)?,
     })
 }
 

@@ -1,0 +1,197 @@
+//! One worker and the dispatcher, both on the calling thread: when an event is told.
+
+ghost use Rattle.std.specs.Prelude.{◌≡◌, ◌≤◌, None};
+ghost use Rattle.std.specs.List.{All};
+ghost use Rattle.scheduling.specs.declared.task.Task.TheVariants.{Free};
+ghost use Rattle.table_rule.specs.Picture.{about_of};
+ghost use Rattle.table_rule.specs.Plays.{dispatcher};
+ghost use Rattle.run_table.specs.Seats.{IsSeatOf};
+ghost use Rattle.thread_tests.specs.Acting.{replies_left};
+ghost use Rattle.worker_pool.specs.Premises.{JobsMayAnswer, MayAnswer};
+ghost use Rattle.worker_pool.specs.Reports.{run_of};
+ghost use Rattle.worker_pool.specs.Telling.{KeepsTexts, left_to_read};
+
+use crate::acting::{Act, Actor};
+use crate::board::Board;
+use crate::casting::cast;
+use crate::running::{one_watcher, push_events, staged};
+use descriptor::NodeId;
+use listeners::{Audience, Listener};
+use plan_events::{Event, EventKind, Texts};
+use resource_locks::Plan;
+use run_table::{DispatcherSeat, Jobs, RunTable, WorkerSeat};
+use std::alloc::{AllocError, Global};
+use std::sync::{Arc, Wait};
+use std::test::Fail;
+use worker_pool::{dispatch_one, work};
+
+/// One test.
+const ONE: &str = "engine e
+  class a.B
+    test t() pass
+";
+
+/// What is told of it.
+const EVENTS: &str = "+0 +1 +2 +3 -3 -2 -1 -0 ";
+
+/// What the worker does before the dispatcher is called.
+#[derive(Clone, Copy)]
+enum Course {
+    /// Its first steps, and the dispatcher is called between them.
+    Begins,
+    /// All its work; and then the dispatcher is called so often.
+    Works(usize),
+}
+
+/// Whether this is the plan's start, by the only worker.
+fn is_start(event: Option<Event>) -> bool {
+    let start = Event {
+        kind: EventKind::Started,
+        node: NodeId::ROOT,
+        status: None,
+        worker: 1,
+    };
+    event == Some(start)
+}
+
+/// Whether the plan's start is told once it is shown, and not before, and nothing behind it.
+fn start_is_told_when_shown(
+    table: &RunTable<Actor>,
+    worker: &mut WorkerSeat<Actor>,
+    desk: &mut DispatcherSeat<Actor>,
+    audience: &mut Audience,
+    texts: &mut Texts,
+) -> bool
+    requires worker { IsSeatOf table.now.table worker.old.seat }
+    requires desk { IsSeatOf table.now.table desk.old.seat }
+    requires told { All (λ l. got (l.vtable, l.value) ≡ (dispatcher desk.old.seat.me.0).read) audience.old.listeners.items }
+    requires room { All (λ l. left_to_read desk.old.seat.me.0 ≤ room (l.vtable, l.value)) audience.old.listeners.items }
+    requires texts { KeepsTexts replies_left desk.old.seat.me.0 texts.old }
+{
+    let is_drawn = worker.claim(table, NodeId::ROOT).is_ok() && worker.draw(table).is_ok();
+    let early = dispatch_one(table, desk, audience, texts);
+    let is_shown = worker.show(table).is_ok();
+    let start = dispatch_one(table, desk, audience, texts);
+    let late = dispatch_one(table, desk, audience, texts);
+    is_drawn && early.is_none() && is_shown && is_start(start) && late.is_none()
+}
+
+/// Calls the dispatcher so often, and says whether the last call told an event.
+fn tells_at_last(
+    table: &RunTable<Actor>,
+    desk: &mut DispatcherSeat<Actor>,
+    audience: &mut Audience,
+    texts: &mut Texts,
+    calls: usize,
+) -> bool
+    requires desk { IsSeatOf table.now.table desk.old.seat }
+    requires told { All (λ l. got (l.vtable, l.value) ≡ (dispatcher desk.old.seat.me.0).read) audience.old.listeners.items }
+    requires room { All (λ l. left_to_read desk.old.seat.me.0 ≤ room (l.vtable, l.value)) audience.old.listeners.items }
+    requires texts { KeepsTexts replies_left desk.old.seat.me.0 texts.old }
+{
+    let mut is_told = false;
+    for _call in 0..calls {
+        is_told = dispatch_one(table, desk, audience, texts).is_some();
+    }
+    is_told
+}
+
+/// Whether the listener was told just the first events, one a call, and no more than there are.
+fn has_first(
+    alloc: Global,
+    audience: &Audience,
+    calls: usize,
+    is_told: bool,
+) -> Result<bool, AllocError> {
+    let mut told = String::new(alloc);
+    push_events(&mut told, audience.got(0).unwrap_or(&[]))?;
+    let wanted = EVENTS.get(..3 * calls.min(8)).unwrap_or("");
+    Ok(told.as_str() == wanted && is_told == (calls > 0 && calls <= 8))
+}
+
+/// Whether the listener is told what it should be, where the only worker does this at the table.
+fn is_told_at<R: Wait>(
+    rt: &R,
+    alloc: Global,
+    table: &RunTable<Actor>,
+    worker: &mut WorkerSeat<Actor>,
+    desk: &mut DispatcherSeat<Actor>,
+    audience: &mut Audience,
+    texts: &mut Texts,
+    course: Course,
+) -> Result<bool, AllocError>
+    requires jobs { MayAnswer replies_left (about_of table.now.table.shared.key) }
+    requires worker { IsSeatOf table.now.table worker.old.seat }
+    requires free { worker.old.task ≡ Free }
+    requires empty { worker.old.hand ≡ None }
+    requires desk { IsSeatOf table.now.table desk.old.seat }
+    requires told { All (λ l. got (l.vtable, l.value) ≡ (dispatcher desk.old.seat.me.0).read) audience.old.listeners.items }
+    requires room { All (λ l. left_to_read desk.old.seat.me.0 ≤ room (l.vtable, l.value)) audience.old.listeners.items }
+    requires texts { KeepsTexts replies_left desk.old.seat.me.0 texts.old }
+{
+    match course {
+        Course::Begins => Ok(start_is_told_when_shown(table, worker, desk, audience, texts)),
+        Course::Works(calls) => {
+            work(rt, table, worker);
+            let is_told = tells_at_last(table, desk, audience, texts, calls);
+            has_first(alloc, audience, calls, is_told)
+        }
+    }
+}
+
+/// Whether it is so at a table of this plan.
+fn is_told_of<R: Wait>(
+    rt: &R,
+    alloc: Global,
+    plan: Plan,
+    jobs: Jobs<Actor>,
+    mut audience: Audience,
+    course: Course,
+) -> Result<bool, AllocError>
+    requires { JobsMayAnswer replies_left (run_of plan 1 jobs.items) }
+{
+    if !audience.fresh() {
+        return Ok(false);
+    }
+    audience.prepare(&plan)?;
+    let mut texts = Texts::new(alloc, plan.tree())?;
+    let Ok((table, mut desk)) = RunTable::prepare(alloc, plan, jobs, 1) else {
+        return Ok(false);
+    };
+    let Some(mut worker) = desk.split(&table) else {
+        return Ok(false);
+    };
+    is_told_at(
+        rt,
+        alloc,
+        &table,
+        &mut worker,
+        &mut desk,
+        &mut audience,
+        &mut texts,
+        course,
+    )
+}
+
+/// Whether it is so of the suite with one test.
+fn is_told<R: Wait>(rt: &R, alloc: Global, course: Course) -> Result<bool, Fail> {
+    let (plan, scripts) = staged(alloc, ONE, false)?;
+    let board = Arc::new(alloc, Board::new(alloc, 0)?)?;
+    let jobs = cast(alloc, &plan, scripts.as_slice(), Act::Ends, &board)?;
+    let watcher = one_watcher(alloc, Act::Ends, &board)?;
+    let mut listeners: Vec<Box<dyn Listener>> = Vec::new(alloc);
+    listeners.push(Box::new(alloc, watcher)?)?;
+    match Audience::new(listeners) {
+        Ok(audience) => Ok(is_told_of(rt, alloc, plan, jobs, audience, course)?),
+        Err(_) => Ok(false),
+    }
+}
+
+#[test]
+fn events_are_told_one_by_one_once_they_are_shown(rt: HostRuntime) -> Result<(), Fail> {
+    assert!(rt; is_told(&rt, rt.alloc(), Course::Begins)?);
+    for calls in 0..10 {
+        assert!(rt; is_told(&rt, rt.alloc(), Course::Works(calls))?);
+    }
+    Ok(())
+}
