@@ -1,6 +1,6 @@
 //! Plans and events for the tests.
 
-use descriptor::{BodyId, Kind, Node, NodeId, Role, TreeBuilder};
+use descriptor::{BodyId, Kind, Mode, Node, NodeId, Role, Tree, TreeBuilder};
 use plan_events::{Event, EventKind, Status};
 use resource_locks::Plan;
 use std::alloc::Global;
@@ -8,9 +8,15 @@ use std::test::Fail;
 use suite_text::Suite;
 use unique_id::{Text, UniqueId};
 
+/// The plan of a tree whose nodes may all run side by side, as far as their locks let them.
+fn side_by_side(alloc: Global, tree: Tree) -> Result<Plan, Fail> {
+    let modes = vec![in alloc; Mode::Concurrent; tree.len()]?;
+    Ok(Plan::of(alloc, tree, modes)?)
+}
+
 /// The plan of the suite of a text.
 pub(crate) fn plan_of(alloc: Global, text: &str) -> Result<Plan, Fail> {
-    Ok(Plan::plain(alloc, Suite::parse(alloc, text)?.tree)?)
+    side_by_side(alloc, Suite::parse(alloc, text)?.tree)
 }
 
 /// A node of this id, which has no body.
@@ -24,7 +30,7 @@ fn plan_with(alloc: Global, node: Node) -> Result<Plan, Fail> {
     if builder.may_take(NodeId::ROOT) {
         builder.add(alloc, NodeId::ROOT, node)?;
     }
-    Ok(Plan::plain(alloc, builder.finish())?)
+    side_by_side(alloc, builder.finish())
 }
 
 /// The plan of one node with this name, which a suite's text may be unable to give.
@@ -63,7 +69,7 @@ pub(crate) fn factory_plan(alloc: Global) -> Result<Plan, Fail> {
     put(alloc, &mut builder, NodeId::ROOT, factory)?;
     let spare = node_with(alloc, "made", Kind::Test, Role::Spare, None)?;
     put(alloc, &mut builder, NodeId::new(1), spare)?;
-    Ok(Plan::plain(alloc, builder.finish())?)
+    side_by_side(alloc, builder.finish())
 }
 
 /// The event of this kind, by worker 1.

@@ -1,44 +1,12 @@
 -- Lists that have one place for each node of a plan.
-use Rattle.std.proofs.Common.{◌≡◌, ℕ, ◌<◌, ◌+◌, Bool, List, [], ◌∷◌, ◌++◌, length, map, get_or, replicate, inl, inr, sym, ap, ◌∙◌, subst, arith, add-one}
-use Rattle.std.proofs.lemmas.Bool.{cases_lt}
-use Rattle.std.proofs.lemmas.List.{length-map, get_or-map, get_or_past, length-replicate, get_or-replicate, replicate-append-replicate}
-use Rattle.std.proofs.lemmas.Option.{none-some, slice_get-get_or}
-use Rattle.descriptor.specs.Nodes.{Nodes, IsTree, size, bit, count_below}
+use Rattle.std.proofs.Common.{◌≡◌, ℕ, ◌<◌, ◌+◌, Bool, List, [], length, map, get_or, sym, ap, ◌∙◌, subst, arith, add-one}
+use Rattle.std.proofs.lemmas.List.{length-map, get_or-map}
+use Rattle.std.proofs.lemmas.Option.{slice_get-get_or}
+use Rattle.descriptor.specs.Nodes.{size, bit, count_below}
 use Rattle.descriptor.specs.declared.lock.Lock.{Lock}
-use Rattle.descriptor.specs.declared.lock_mode.LockMode.{LockMode}
 use Rattle.descriptor.specs.declared.lock_mode.LockMode.TheVariants.{Read}
-use Rattle.descriptor.specs.declared.mode.Mode.TheVariants.{Concurrent}
-use Rattle.resource_locks.specs.Wants.{HasLock}
-use Rattle.resource_locks.specs.LockSets.{IsLockSet}
-use Rattle.resource_locks.specs.Plans.{PlanParts, IsPlan, held_of, number_of, numbers_of, key_number, plain}
+use Rattle.resource_locks.specs.Plans.{PlanParts, IsPlan, held_of, number_of, numbers_of, key_number}
 use Rattle.resource_locks.specs.Inside.PlanFields.{IsSound}
-
--- one more set of nothing
-pub nothing_next : (n : ℕ) (v w : List (List Lock)) → v ≡ replicate n [] → w ≡ v ++ [] ∷ [] → w ≡ replicate (n + 1) []
-nothing_next n v w e f = f ∙ ap (λ (x : List (List Lock)). x ++ [] ∷ []) e ∙ replicate-append-replicate n 1 []
-
-abbrev nothing : List Lock
-nothing = []
-
-nothing_at : (n i : ℕ) → get_or (replicate n nothing) i nothing ≡ nothing
-nothing_at n i = elim (cases_lt i n) [ inl lt ↦ get_or-replicate n i nothing nothing lt | inr le ↦ get_or_past (replicate n nothing) i nothing (let h = length-replicate n nothing in omega (arith, h, le)) ]
-
-none_held : (n i : ℕ) (key : List ℕ) (mode : LockMode) → HasLock (get_or (replicate n nothing) i nothing) key mode → ⊥
-none_held n i key mode h = none-some (record { key = key; mode = mode }) (subst (λ (s : List Lock). HasLock s key mode) (nothing_at n i) h).1
-
-pub plain_sound : (t : Nodes) (lists : List (List ℕ)) → IsTree t → lists ≡ map (numbers_of []) (replicate (size t) []) → IsSound (plain t) lists
-plain_sound t lists tree is = record {
-  plan = record {
-    tree = tree;
-    modes_len = length-replicate (size t) Concurrent;
-    held_len = length-replicate (size t) [];
-    sets = λ n. subst IsLockSet (sym (nothing_at (size t) n)) tt;
-    lines = λ a n key m m2 below x y. absurd (none_held (size t) a key m x);
-    few = omega arith;
-    numbered = λ n key mode h. absurd (none_held (size t) n key mode h);
-  };
-  numbers = is;
-}
 
 -- one more node that may be a spare
 pub count_next : (q : ℕ → Bool) (n m spares : ℕ) (b : Bool) → spares ≡ count_below q n → q n ≡ b → m ≡ bit b + spares → m ≡ count_below q (n + 1)

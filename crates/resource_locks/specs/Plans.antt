@@ -1,5 +1,5 @@
 -- Plans as contracts see them.
-use Rattle.std.specs.Prelude.{◌≡◌, ℕ, ◌+◌, ◌*◌, ◌<◌, ◌≤◌, Bool, false, List, [], length, map, replicate, slice_index_or}
+use Rattle.std.specs.Prelude.{◌≡◌, ℕ, ◌+◌, ◌*◌, ◌<◌, ◌≤◌, Bool, false, List, [], length, map, slice_index_or}
 use Rattle.std.specs.List.{position_or_len}
 use Rattle.std.specs.Str.{bytes_eq}
 use Rattle.descriptor.specs.Nodes.{Nodes, IsTree, Below, size, count_below, is_spare_at}
@@ -7,7 +7,7 @@ use Rattle.descriptor.specs.declared.lock.Lock.{Lock}
 use Rattle.descriptor.specs.declared.lock_mode.LockMode.{LockMode}
 use Rattle.descriptor.specs.declared.lock_mode.LockMode.TheVariants.{Read}
 use Rattle.descriptor.specs.declared.mode.Mode.{Mode}
-use Rattle.descriptor.specs.declared.mode.Mode.TheVariants.{SameThread, Concurrent}
+use Rattle.descriptor.specs.declared.mode.Mode.TheVariants.{SameThread}
 use Rattle.resource_locks.specs.declared.fault.PlanFault.{PlanFault}
 use Rattle.resource_locks.specs.declared.fault.PlanFault.TheVariants.{NoMemory, TooManyKeys}
 use Rattle.resource_locks.specs.Wants.{HasLock}
@@ -60,16 +60,6 @@ pub record IsPlan (p : PlanParts) : Type 0 where
   -- at most 256 keys, and each that is held is one of them
   pub few : length p.keys ≤ 256
   pub numbered : (n : ℕ) (key : List ℕ) (mode : LockMode) → HasLock (held_of p n) key mode → number_of p.keys key < length p.keys
-
--- the plan of a tree whose nodes may all run side by side
-abbrev pub plain : Nodes → PlanParts
-plain t = record {
-  tree = t;
-  modes = replicate (size t) Concurrent;
-  held = replicate (size t) [];
-  keys = [];
-  fail_fast = false;
-}
 
 -- the number of a refusal, and 0 for want of memory
 abbrev pub fault_number : PlanFault → ℕ

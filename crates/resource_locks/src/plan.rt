@@ -62,7 +62,7 @@ pub fn hoist(alloc: Global, tree: &Tree, modes: Vec<Mode>) -> Result<Plan, PlanF
 
 impl Plan {
     ghost use Rattle.descriptor.specs.Nodes.{IsTree, size, count_below, is_spare_at};
-    ghost use Rattle.resource_locks.specs.Plans.{IsPlan, plain, mode_of, held_of, key_number, most_events};
+    ghost use Rattle.resource_locks.specs.Plans.{IsPlan, mode_of, held_of, key_number, most_events};
 
     /// The plan of a tree whose nodes were given these modes. Locks are held by the nodes that they are
     /// hoisted to: where a node at or below the child of an engine is isolated, that child holds all
@@ -87,27 +87,6 @@ impl Plan {
             tree,
             held,
             keys: keys.texts(alloc)?,
-            numbers,
-            fail_fast: false,
-        })
-    }
-
-    /// The plan of a tree whose nodes hold nothing and may all run side by side.
-    pub fn plain(alloc: Global, tree: Tree) -> Result<Plan, AllocError>
-        ensures { IfOk result (λ plan. plan ≡ plain tree) }
-    {
-        let modes = vec![in alloc; Mode::Concurrent; tree.len()]?;
-        let mut held = Vec::new(alloc);
-        let mut numbers = Vec::new(alloc);
-        for _node in 0..tree.len() {
-            held.push(LockSet::new(alloc))?;
-            numbers.push(Vec::new(alloc))?;
-        }
-        Ok(Plan {
-            tree,
-            modes,
-            held,
-            keys: Vec::new(alloc),
             numbers,
             fail_fast: false,
         })
