@@ -5,9 +5,9 @@ use Rattle.suite_text.specs.declared.suite.fault.SuiteFault.{SuiteFault}
 use Rattle.suite_text.specs.declared.suite.fault.SuiteFault.TheVariants.{TooLarge}
 use Rattle.suite_text.specs.declared.suite.Suite.{Suite}
 use Rattle.unique_id.specs.Answers.{◌>>=◌}
-use Rattle.suite_text.specs.Reading.Lines.{says_nothing, after_word, level_of}
+use Rattle.suite_text.specs.Reading.Lines.{says_nothing, first_word, after_word, level_of}
 use Rattle.suite_text.specs.Reading.After.{is_after, with_after_line}
-use Rattle.suite_text.specs.Reading.Words.{Declaration, declared_by}
+use Rattle.suite_text.specs.Reading.Words.{Declaration, declared_as}
 use Rattle.config_params.specs.Parameters.{Parameters}
 use Rattle.suite_text.specs.Reading.Properties.{is_property, with_property}
 use Rattle.suite_text.specs.Reading.Parts.{SuiteParts, LinesRead, no_lines, parts_of}
@@ -17,9 +17,13 @@ use Rattle.suite_text.specs.Reading.Nodes.{word_on, refusal_on, grown, unless_re
 abbrev pub with_declared : ℕ → LinesRead → ℕ → Declaration → Result LinesRead SuiteFault
 with_declared number read level d = unless_refused number (refusal_on read level d) (grown read level d)
 
+-- with the node that a first word declares on its level, with what follows it on its line
+abbrev pub with_node_words : ℕ → LinesRead → ℕ → List ℕ → List ℕ → Result LinesRead SuiteFault
+with_node_words number read level first rest = declared_as number (word_on read level) first rest >>= (λ d. with_declared number read level d)
+
 -- with the node that a line declares on its level
 abbrev pub with_node_line : ℕ → LinesRead → ℕ → List ℕ → Result LinesRead SuiteFault
-with_node_line number read level line = declared_by number (word_on read level) line >>= (λ d. with_declared number read level d)
+with_node_line number read level line = with_node_words number read level (first_word line) (after_word line)
 
 -- with what a line declares on its level: an after-body, or a node
 abbrev pub with_declaration : ℕ → LinesRead → ℕ → List ℕ → Result LinesRead SuiteFault

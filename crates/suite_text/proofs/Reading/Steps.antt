@@ -10,9 +10,9 @@ use Rattle.suite_text.specs.Reading.Faults.{Fails}
 use Rattle.unique_id.specs.Answers.{◌>>=◌}
 use Rattle.unique_id.specs.Answers.{texts}
 use Rattle.suite_text.specs.Reading.Parts.{SuiteParts, LinesRead, no_lines, parts_of}
-use Rattle.suite_text.specs.Suites.{with_declared, with_node_line, with_line, suite_from, suite_of}
+use Rattle.suite_text.specs.Suites.{with_declared, with_node_words, with_line, suite_from, suite_of}
 use Rattle.suite_text.specs.Reading.Nodes.{word_on}
-use Rattle.suite_text.specs.Reading.Words.{Declaration, declared_by}
+use Rattle.suite_text.specs.Reading.Words.{Declaration, declared_as}
 
 -- a fault of the first step is one of both
 pub fails_then : {A B : Type 0} (fault : SuiteFault) (r : Result A SuiteFault) (f : A → Result B SuiteFault) → Fails fault r → Fails fault (r >>= f)
@@ -62,7 +62,7 @@ suite_fails text ls fault h e fails =
     (fails_then fault (suite_from 1 no_lines ls) (λ read. Ok (parts_of read)) fails)
 
 -- a node's line that is read fails as its node does
-pub node_fails : (number level : ℕ) (read : LinesRead) (line : List ℕ) (d : Declaration) (result : Result (Unit {0}) SuiteFault) → declared_by number (word_on read level) line ≡ Ok d
-    → IfErr result (λ fault. Fails fault (with_declared number read level d)) → IfErr result (λ fault. Fails fault (with_node_line number read level line))
-node_fails number level read line d result says =
+pub node_fails : (number level : ℕ) (read : LinesRead) (first rest : List ℕ) (d : Declaration) (result : Result (Unit {0}) SuiteFault) → declared_as number (word_on read level) first rest ≡ Ok d
+    → IfErr result (λ fault. Fails fault (with_declared number read level d)) → IfErr result (λ fault. Fails fault (with_node_words number read level first rest))
+node_fails number level read first rest d result says =
     subst (λ (r : Result LinesRead SuiteFault). IfErr result (λ fault. Fails fault r)) (sym (ap (λ r. r >>= (λ x. with_declared number read level x)) says))

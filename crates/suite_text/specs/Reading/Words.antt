@@ -62,6 +62,10 @@ with_attributes number word name rest = attributes_of number word rest >>= (λ r
 abbrev pub with_name : ℕ → Word → List ℕ → Result Declaration SuiteFault
 with_name number word rest = if length (first_word rest) == 0 then Err (BadLine number) else with_attributes number word (first_word rest) (after_word rest)
 
+-- what a first word declares right below a node of the word above, with what follows it on its line
+abbrev pub declared_as : ℕ → Option Word → List ℕ → List ℕ → Result Declaration SuiteFault
+declared_as number above first rest = placed number above (word_of first) >>= (λ word. with_name number word rest)
+
 -- what a line declares right below a node of this word
 abbrev pub declared_by : ℕ → Option Word → List ℕ → Result Declaration SuiteFault
-declared_by number above line = placed number above (word_of (first_word line)) >>= (λ word. with_name number word (after_word line))
+declared_by number above line = declared_as number above (first_word line) (after_word line)

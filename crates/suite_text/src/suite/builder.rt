@@ -10,7 +10,7 @@ use crate::suite::lines::{level_at, next_word, without_front};
 use crate::suite::locks::locks_of;
 use crate::suite::properties::{is_property, put_property};
 use crate::suite::pulls::{Pending, all_settled, lines_below};
-use crate::suite::words::{Declared, Word, declared_in};
+use crate::suite::words::{Declared, Word, declared_as};
 use config_params::Params;
 use descriptor::{BodyId, Node, NodeId, Tree, TreeBuilder, TreeFault};
 use plan_events::Status;
@@ -178,7 +178,7 @@ impl SuiteBuilder {
     ghost use Rattle.suite_text.specs.Reading.Faults.{Fails, Gives};
     ghost use Rattle.suite_text.specs.Reading.After.{class_of, after_body, with_after_body, with_after_line};
     ghost use Rattle.descriptor.specs.Refusals.{after_refusal};
-    ghost use Rattle.suite_text.specs.Suites.{is_property_in, with_declared, with_node_line, with_declaration, with_words, with_line, suite_parts};
+    ghost use Rattle.suite_text.specs.Suites.{is_property_in, with_declared, with_node_words, with_declaration, with_words, with_line, suite_parts};
     ghost use Rattle.suite_text.specs.Reading.Parts.{parts_of, AreBodiesOf, bodies_answered};
 
     /// Before the first line, with room for the nodes of so many lines.
@@ -356,19 +356,20 @@ impl SuiteBuilder {
         self.above(level).map(|opened| opened.word)
     }
 
-    /// Reads the line of a node on this level.
+    /// Reads the line of a node on this level: its first word, and what follows that.
     fn read_node(
         &mut self,
         alloc: Global,
         number: usize,
         level: usize,
-        line: &str,
+        first: &str,
+        rest: &str,
     ) -> Result<(), SuiteFault>
         requires { level ≤ length self.old.path }
-        ensures added { OnOk result (with_node_line number self.old level line.now ≡ Ok self.new) }
-        ensures refused { IfErr result (λ fault. Fails fault (with_node_line number self.old level line.now)) }
+        ensures added { OnOk result (with_node_words number self.old level first.now rest.now ≡ Ok self.new) }
+        ensures refused { IfErr result (λ fault. Fails fault (with_node_words number self.old level first.now rest.now)) }
     {
-        let declared = declared_in(alloc, number, self.word_on(level), line)?;
+        let declared = declared_as(alloc, number, self.word_on(level), first, rest)?;
         self.declare(alloc, number, level, declared)
     }
 
@@ -388,7 +389,7 @@ impl SuiteBuilder {
         if first == "after" {
             self.read_after(alloc, number, level, rest)
         } else {
-            self.read_node(alloc, number, level, line)
+            self.read_node(alloc, number, level, first, rest)
         }
     }
 

@@ -1,7 +1,7 @@
 //! What the words of a line declare.
 
 ghost use Rattle.std.specs.Prelude.{◌≡◌, IfOk};
-ghost use Rattle.suite_text.specs.Reading.Words.{word_of, may_stand, placed, with_verdict, with_attributes, with_name, declared_by, declaration_of};
+ghost use Rattle.suite_text.specs.Reading.Words.{word_of, may_stand, placed, with_verdict, with_attributes, with_name, declared_as, declaration_of};
 ghost use Rattle.suite_text.specs.Reading.Faults.{Gives};
 
 use crate::script::Script;
@@ -248,16 +248,16 @@ fn with_name<'a>(
     with_attributes(alloc, number, word, name, rest)
 }
 
-/// The node that a line declares below a node of this word.
-pub(crate) fn declared_in<'a>(
+/// The node that a line's first word declares below a node of the word above, with what follows it.
+pub(crate) fn declared_as<'a>(
     alloc: Global,
     number: usize,
     above: Option<Word>,
-    line: &'a str,
+    first: &str,
+    rest: &'a str,
 ) -> Result<Declared<'a>, SuiteFault>
-    ensures { Gives declaration_of result (declared_by number above line.now) }
+    ensures { Gives declaration_of result (declared_as number above first.now rest.now) }
 {
-    let (first, rest) = next_word(line);
     let word = placed(number, above, Word::spelled(first))?;
     with_name(alloc, number, word, rest)
 }

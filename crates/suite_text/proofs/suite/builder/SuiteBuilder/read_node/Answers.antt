@@ -1,13 +1,13 @@
 -- A line that declares a node fails as the node does.
 use Rattle.std.proofs.Common.{◌≡◌, Ok, ap, sym, ◌∙◌}
 use Rattle.suite_text.specs.Reading.Nodes.{word_on}
-use Rattle.suite_text.specs.Reading.Words.{declaration_of, declared_by}
+use Rattle.suite_text.specs.Reading.Words.{declaration_of, declared_as}
 use Rattle.suite_text.proofs.Reading.Steps.{node_fails}
 use Rattle.suite_text.proofs.suite.builder.SuiteBuilder.read_node.Goals as goal
 
 pub returns-clause-refused : goal.returns-clause-refused
 returns-clause-refused c =
     let read = c.args.self.now in
-    let says : declared_by c.args.number (word_on read c.args.level) c.args.line.now ≡ Ok (declaration_of c.in_ok-declared.declared) =
-    sym (ap (λ w. declared_by c.args.number w c.args.line.now) c.word_on.ensures) ∙ c.in_ok-declared.ensures in
-    node_fails c.args.number c.args.level read c.args.line.now (declaration_of c.in_ok-declared.declared) c.declare.result says c.declare.ensures.refused
+    let says : declared_as c.args.number (word_on read c.args.level) c.args.first.now c.args.rest.now ≡ Ok (declaration_of c.in_ok-declared.declared) =
+    sym (ap (λ w. declared_as c.args.number w c.args.first.now c.args.rest.now) c.word_on.ensures) ∙ c.in_ok-declared.ensures in
+    node_fails c.args.number c.args.level read c.args.first.now c.args.rest.now (declaration_of c.in_ok-declared.declared) c.declare.result says c.declare.ensures.refused
