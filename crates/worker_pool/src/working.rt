@@ -9,17 +9,22 @@ ghost use Rattle.worker_pool.specs.Going.{Continues, GoesOn};
 ghost use Rattle.worker_pool.specs.Premises.{MayAnswer};
 ghost use Rattle.worker_pool.specs.Inside.Steady.{Phase, Steady, AtNodes};
 
+use crate::idle::IdleTurns;
 use crate::pulling::pull_tests;
 use crate::scan::{is_over, take_next};
 use crate::turns::{go_on_closing, go_on_opening};
-use crossbeam_utils::Backoff;
 use plan_events::Job;
 use run_table::{RunTable, WorkerSeat};
-use scheduling::Task;
+use scheduling::{Opening, Task};
 use std::sync::Wait;
 
-/// Takes one step after the other, until there is no task.
-pub(crate) fn run_tasks<B: Job, R: Wait>(rt: &R, table: &RunTable<B>, seat: &mut WorkerSeat<B>)
+/// Takes one step after the other, until there is no task, and says whether it gave its node up, a
+/// key of which was busy.
+pub(crate) fn run_tasks<B: Job, R: Wait>(
+    rt: &R,
+    table: &RunTable<B>,
+    seat: &mut WorkerSeat<B>,
+) -> bool
     requires table { IsSeatOf table.now.table seat.old.seat }
     requires jobs { MayAnswer B.answers (about_of table.now.table.shared.key) }
     requires steady { (phase : Phase) × Steady phase seat.old.seat }
@@ -27,10 +32,14 @@ pub(crate) fn run_tasks<B: Job, R: Wait>(rt: &R, table: &RunTable<B>, seat: &mut
     ensures steady { (phase : Phase) → Steady phase seat.old.seat → Steady phase seat.new.seat }
     ensures free { seat.new.task ≡ Free }
 {
+    let mut gave_up = false;
     for _ in rt.forever() {
         match seat.task() {
-            Task::Free => return,
-            Task::Opens(node, opening) => go_on_opening(table, seat, node, opening),
+            Task::Free => return gave_up,
+            Task::Opens(node, opening) => {
+                gave_up = matches!(opening, Opening::Backing(0));
+                go_on_opening(table, seat, node, opening)
+            }
             Task::Closes(node, closing) => go_on_closing(table, seat, node, closing),
         }
     }
@@ -38,7 +47,8 @@ pub(crate) fn run_tasks<B: Job, R: Wait>(rt: &R, table: &RunTable<B>, seat: &mut
 }
 
 /// Sees the node that it has taken through, and, of a factory, the dynamic tests that its job asks for.
-fn see_through<B: Job, R: Wait>(rt: &R, table: &RunTable<B>, seat: &mut WorkerSeat<B>)
+/// It says whether it gave the node up instead.
+fn see_through<B: Job, R: Wait>(rt: &R, table: &RunTable<B>, seat: &mut WorkerSeat<B>) -> bool
     requires table { IsSeatOf table.now.table seat.old.seat }
     requires jobs { MayAnswer B.answers (about_of table.now.table.shared.key) }
     requires steady { Steady AtNodes seat.old.seat }
@@ -48,9 +58,9 @@ fn see_through<B: Job, R: Wait>(rt: &R, table: &RunTable<B>, seat: &mut WorkerSe
     ensures empty { seat.new.hand ≡ None }
 {
     for _ in rt.forever() {
-        run_tasks(rt, table, seat);
+        let gave_up = run_tasks(rt, table, seat);
         match seat.hand() {
-            None => return,
+            None => return gave_up,
             Some(held) => pull_tests(rt, table, seat, held),
         }
     }
@@ -58,7 +68,8 @@ fn see_through<B: Job, R: Wait>(rt: &R, table: &RunTable<B>, seat: &mut WorkerSe
 }
 
 /// Works until node 0 is settled. A worker that is free looks round the circle of nodes, behind the one that it took last, and
-/// takes what is offered to any or to it; where there is nothing it waits a little, and looks again.
+/// takes what is offered to any or to it. Once it came round and there was nothing, or nothing whose keys are free, it waits a
+/// little, longer each time, and looks again.
 pub fn work<B: Job, R: Wait>(rt: &R, table: &RunTable<B>, seat: &mut WorkerSeat<B>)
     requires table { IsSeatOf table.now.table seat.old.seat }
     requires jobs { MayAnswer B.answers (about_of table.now.table.shared.key) }
@@ -70,7 +81,7 @@ pub fn work<B: Job, R: Wait>(rt: &R, table: &RunTable<B>, seat: &mut WorkerSeat<
     ensures empty { seat.new.hand ≡ None }
     ensures over { (worker seat.new.seat.me.0).over ≡ true }
 {
-    let idle = Backoff::new();
+    let mut idle = IdleTurns::new(table.plan().tree().len());
     let mut last = 0;
     for _ in rt.forever() {
         if is_over(table, seat) {
@@ -78,11 +89,15 @@ pub fn work<B: Job, R: Wait>(rt: &R, table: &RunTable<B>, seat: &mut WorkerSeat<
         }
         match take_next(table, seat, last) {
             Some(number) => {
+                let came_round = number <= last;
                 last = number;
-                see_through(rt, table, seat);
-                idle.reset();
+                if !see_through(rt, table, seat) {
+                    idle.reset();
+                } else if came_round {
+                    idle.snooze(rt);
+                }
             }
-            None => idle.snooze(),
+            None => idle.snooze(rt),
         }
     }
     unreachable!()
