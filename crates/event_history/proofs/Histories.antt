@@ -1,5 +1,5 @@
 -- What a legal history has above and below a node.
-use Rattle.std.proofs.Common.{◌≡◌, ℕ, ◌<◌, ◌≤◌, Bool, true, false, List, length, Some, slice_get, ◌⊎◌, inl, inr, refl, sym, ◌∙◌, subst, arith, lt_trans}
+use Rattle.std.proofs.Common.{◌≡◌, ℕ, ◌<◌, ◌≤◌, Bool, true, false, List, length, Option, Some, slice_get, ◌⊎◌, inl, inr, refl, sym, ◌∙◌, subst, arith, lt_trans}
 use Rattle.std.proofs.lemmas.Bool.{both_ways}
 use Rattle.descriptor.specs.Nodes.{IsChild, Below, child, under, is_spare_at}
 use Rattle.plan_events.specs.declared.event.EventKind.{EventKind}
@@ -9,7 +9,7 @@ use Rattle.plan_events.specs.declared.outcome.Reply.{Reply}
 use Rattle.resource_locks.specs.Plans.{PlanParts}
 use Rattle.event_history.specs.Plans.{IsPlanTree}
 use Rattle.event_history.specs.Places.{StandsAt, StandsBefore, IsSettledAt, has}
-use Rattle.event_history.specs.History.{IsStopped, StoppedIs, IsUnregistered, IsLegal, IsBarred}
+use Rattle.event_history.specs.History.{IsStopped, StoppedIs, IsUnregistered, HasResult, IsLegal, IsBarred}
 use Rattle.event_history.specs.Inside.Following.{IsParentOpen}
 use Rattle.event_history.proofs.Places.{has_stands, has_at, has_before, stands_within, before_more, settled_more}
 
@@ -121,3 +121,26 @@ module _ (p : PlanParts) (replies : ℕ → List Reply) (workers : ℕ) (h : Lis
             | inl t ↦ (let up = legal.start_above j m t.event t.here (subst (λ (y : ℕ). Below p.tree m y) (sym t.node) (child c)) in go m b (inr (up.place, up.stands)))
             | inr t ↦ (let up = legal.start_above t.0 m t.1.event t.1.here (subst (λ (y : ℕ). Below p.tree m y) (sym t.1.node) (child c)) in go m b (inr (up.place, up.stands)))
           ]
+
+-- A legal history is legal by other replies too, if each result of it is.
+module _ (p : PlanParts) (few more : ℕ → List Reply) (h : List Event) where
+  pub legal_by : ((i : ℕ) (e : Event) (text : Option (List ℕ)) → HasResult p few h i e text → HasResult p more h i e text) → (workers : ℕ) → IsLegal p few workers h → IsLegal p more workers h
+  legal_by results workers x = record {
+    lawful = x.lawful;
+    nodes = x.nodes;
+    by_workers = x.by_workers;
+    once = x.once;
+    apart = x.apart;
+    after_start = x.after_start;
+    registered = x.registered;
+    after_registered = x.after_registered;
+    elder_registered = x.elder_registered;
+    start_above = x.start_above;
+    open_above = x.open_above;
+    skipped = x.skipped;
+    unstarted = x.unstarted;
+    below_skipped = x.below_skipped;
+    quits = x.quits;
+    settled = x.settled;
+    result = λ i e q finish. (let y = x.result i e q finish in (y.0, results i e y.0 y.1));
+  }

@@ -23,6 +23,7 @@ use Rattle.resource_locks.specs.Plans.{PlanParts}
 use Rattle.event_history.specs.History.{HasResult, IsLegal, IsTextOf}
 use Rattle.event_history.specs.Plans.{Sort, Leaf, Holder, Maker, pulls_job, sort_by, sort_of, spare_count}
 use Rattle.event_history.specs.Results.{Jobs, NoJob, Alone, Pulled, Around, jobs_by, jobs_of, after_run, HasReply, HasPulls, HasTooMany, HasAnswer, EndsAfter, Ends}
+use Rattle.event_history.proofs.Histories.{legal_by}
 use Rattle.scheduling.specs.Choices.{after_job}
 use Rattle.sched_core.specs.Replies.{reply_of, replies_of as replies_by}
 use Rattle.table_rule.specs.Picture.{replies_in}
@@ -226,22 +227,4 @@ module _ (p : PlanParts) (tree : IsTree p.tree) (answers : List (ℕ × Reply)) 
   text_as_said h n text x = record { of_skip = x.of_skip; of_finish = λ i e q finish node. by_result h i e text (x.of_finish i e q finish node); of_none = x.of_none }
 
   pub legal_as_said : (workers : ℕ) (h : List Event) → IsLegal p told workers h → IsLegal p (replies_by answers) workers h
-  legal_as_said workers h x = record {
-    lawful = x.lawful;
-    nodes = x.nodes;
-    by_workers = x.by_workers;
-    once = x.once;
-    apart = x.apart;
-    after_start = x.after_start;
-    registered = x.registered;
-    after_registered = x.after_registered;
-    elder_registered = x.elder_registered;
-    start_above = x.start_above;
-    open_above = x.open_above;
-    skipped = x.skipped;
-    unstarted = x.unstarted;
-    below_skipped = x.below_skipped;
-    quits = x.quits;
-    settled = x.settled;
-    result = λ i e q finish. (let y = x.result i e q finish in (y.0, by_result h i e y.0 y.1));
-  }
+  legal_as_said workers h = legal_by p told (replies_by answers) h (by_result h) workers
