@@ -93,8 +93,11 @@ pub fn work<B: Job, R: Wait>(rt: &R, table: &RunTable<B>, seat: &mut WorkerSeat<
                 last = number;
                 if !see_through(rt, table, seat) {
                     idle.reset();
-                } else if came_round {
-                    idle.snooze(rt);
+                } else {
+                    idle.give_up();
+                    if came_round {
+                        idle.snooze(rt);
+                    }
                 }
             }
             None => idle.snooze(rt),
