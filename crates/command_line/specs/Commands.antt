@@ -15,20 +15,25 @@ repeated name = record (new_rule name) { long = Some name; action = Some Append 
 abbrev pub flag : List ℕ → Rule
 flag name = record (new_rule name) { long = Some name; action = Some SetTrue }
 
--- the program and the options that say what runs
+-- the program and the options that say which nodes run
 abbrev pub selecting : App
 selecting = fold with_rule (new_app (codes "console")) (
     repeated (codes "select-unique-id")
     ∷ repeated (codes "select-class")
     ∷ repeated (codes "select-method")
     ∷ repeated (codes "select-package")
-    ∷ repeated (codes "include-tag")
+    ∷ [])
+
+-- and those that say which tags run
+abbrev pub filtering : App
+filtering = fold with_rule selecting (
+    repeated (codes "include-tag")
     ∷ repeated (codes "exclude-tag")
     ∷ [])
 
 -- and those that say with which settings
 abbrev pub configuring : App
-configuring = fold with_rule selecting (
+configuring = fold with_rule filtering (
     repeated (codes "config")
     ∷ repeated (codes "system")
     ∷ single (codes "processors")

@@ -2,7 +2,7 @@
 
 ghost use Rattle.std.specs.Prelude.{◌≡◌, IfOk, false};
 ghost use Rattle.clap.specs.Words.{app_of, rule_of, with_rule};
-ghost use Rattle.command_line.specs.Commands.{program, configuring, selecting, single, repeated, flag};
+ghost use Rattle.command_line.specs.Commands.{program, configuring, filtering, selecting, single, repeated, flag};
 
 use clap::{Arg, ArgAction, Command};
 use std::alloc::{AllocError, Global};
@@ -70,7 +70,7 @@ fn with<'a>(command: Command<'a>, option: Arg<'a>) -> Result<Command<'a>, AllocE
     command.arg(option)
 }
 
-/// The program and the options that say what runs.
+/// The program and the options that say which nodes run.
 fn selecting<'a>(alloc: Global) -> Result<Command<'a>, AllocError>
     ensures { IfOk result (λ command. app_of command ≡ selecting) }
 {
@@ -99,14 +99,21 @@ fn selecting<'a>(alloc: Global) -> Result<Command<'a>, AllocError>
             "Runs the test or factory CLASS#METHOD, as in a.B#t()",
         ),
     )?;
-    let command = with(
+    with(
         command,
         repeated(
             alloc,
             SELECT_PACKAGE,
             "Runs the classes of this package, as in a.b",
         ),
-    )?;
+    )
+}
+
+/// The same, and the options that say which tags run.
+fn filtering<'a>(alloc: Global) -> Result<Command<'a>, AllocError>
+    ensures { IfOk result (λ command. app_of command ≡ filtering) }
+{
+    let command = selecting(alloc)?;
     let command = with(
         command,
         repeated(
@@ -129,7 +136,7 @@ fn selecting<'a>(alloc: Global) -> Result<Command<'a>, AllocError>
 fn configuring<'a>(alloc: Global) -> Result<Command<'a>, AllocError>
     ensures { IfOk result (λ command. app_of command ≡ configuring) }
 {
-    let command = selecting(alloc)?;
+    let command = filtering(alloc)?;
     let command = with(
         command,
         repeated(

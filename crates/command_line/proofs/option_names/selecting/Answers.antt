@@ -1,4 +1,4 @@
--- The command with the six options that say what runs.
+-- The command with the four options that say which nodes run.
 use Rattle.command_line.proofs.Growing.{one_more, last_one}
 use Rattle.command_line.proofs.option_names.selecting.Goals as goal
 
@@ -7,6 +7,4 @@ returns c =
     let one = one_more _ _ _ _ _ c.in_ok-command.ensures c.new-command.ensures.app c.repeated.ensures.rule in
     let two = one_more _ _ _ _ _ c.in_ok-command-2.ensures one c.repeated-2.ensures.rule in
     let three = one_more _ _ _ _ _ c.in_ok-command-3.ensures two c.repeated-3.ensures.rule in
-    let four = one_more _ _ _ _ _ c.in_ok-command-4.ensures three c.repeated-4.ensures.rule in
-    let five = one_more _ _ _ _ _ c.in_ok-command-5.ensures four c.repeated-5.ensures.rule in
-    last_one c.with-6.result _ _ _ _ c.with-6.ensures five c.repeated-6.ensures.rule
+    last_one c.with-4.result _ _ _ _ c.with-4.ensures three c.repeated-4.ensures.rule
