@@ -139,6 +139,25 @@ fn given_back<B: Job>(table: RunTable<B>, desk: DispatcherSeat<B>, cause: RunCau
     RunFault { cause, plan, jobs }
 }
 
+/// Takes the table of a run apart that could not be started, and gives the listeners back.
+fn not_started<B: Job>(table: RunTable<B>, same: Desk<B>, audience: &mut Audience) -> RunFault<B>
+    requires seat { IsSeatOf table.table same.seat.seat }
+    requires undealt { (dispatcher same.seat.seat.me.0).dealt ≡ 0 }
+    ensures cause { result.cause ≡ RunCause.NoWorker }
+    ensures plan { result.plan ≡ (about_of table.table.shared.key).plan }
+    ensures jobs { IsPermutation (about_of table.table.shared.key).jobs result.jobs.items }
+    ensures listeners { audience.new ≡ same.audience }
+{
+    let Desk {
+        seat,
+        audience: untold,
+        texts: _,
+        events: _,
+    } = same;
+    *audience = untold;
+    given_back(table, seat, RunCause::NoWorker)
+}
+
 /// Runs the plan of this table, in a room of its own.
 fn run_at<B: Job + Send, M: Room<B> + Send + Sync, R: Threads + Wait + Sync>(
     rt: &R,
@@ -207,16 +226,7 @@ fn run_at<B: Job + Send, M: Room<B> + Send + Sync, R: Threads + Wait + Sync>(
                 unused_jobs: jobs,
             })
         }
-        Err(same) => {
-            let Desk {
-                seat,
-                audience: untold,
-                texts: _,
-                events: _,
-            } = same;
-            *audience = untold;
-            Err(given_back(table, seat, RunCause::NoWorker))
-        }
+        Err(same) => Err(not_started(table, same, audience)),
     }
 }
 
