@@ -49,8 +49,8 @@ some : (replies : List Reply) → 0 < length (unpulled replies) → 0 < length r
 some [] low = low
 some (x ∷ replies) low = omega arith
 
-pub may_answer : (p : PlanParts) (workers : ℕ) (jobs : List (ℕ × Actor)) → AreFresh jobs → JobsMayAnswer replies_left (run_of p workers jobs)
-may_answer p workers jobs each = record {
+pub may_answer : (p : PlanParts) (workers ring : ℕ) (jobs : List (ℕ × Actor)) → AreFresh jobs → JobsMayAnswer replies_left (run_of p workers ring jobs)
+may_answer p workers ring jobs each = record {
   factories = λ n number job pulls is found. some (replies_left job) (found_fresh jobs each number job found);
   bodies = λ n number job pulls is found. found_fresh jobs each number job found;
   after_bodies = λ n number job is found. found_fresh jobs each number job found;

@@ -118,7 +118,7 @@ fn all_go_as_wanted<R: Threads + Wait + Sync>(
 
 #[test]
 fn runs_go_alike_whatever_the_number_of_workers(rt: HostRuntime) -> Result<(), Fail> {
-    for _round in 0..100 {
+    for _round in 0..10 {
         assert!(rt; all_go_as_wanted(&rt, rt.alloc(), 1)?);
         assert!(rt; all_go_as_wanted(&rt, rt.alloc(), 2)?);
         assert!(rt; all_go_as_wanted(&rt, rt.alloc(), 4)?);

@@ -154,12 +154,12 @@ fn run_before<R: Threads + Wait + Sync>(
     mut audience: Audience,
     board: &Board,
 ) -> Result<String, AllocError>
-    requires { JobsMayAnswer replies_left (run_of plan workers jobs.items) }
+    requires { JobsMayAnswer replies_left (run_of plan workers 1 jobs.items) }
 {
     if !audience.fresh() {
         return Ok(String::new(alloc));
     }
-    let ran = run_plan(rt, alloc, plan, jobs, workers, &mut audience);
+    let ran = run_plan(rt, alloc, plan, jobs, workers, 1, &mut audience);
     said(alloc, &ran, board)
 }
 
@@ -173,7 +173,7 @@ fn run_watched<R: Threads + Wait + Sync>(
     watcher: Watcher,
     board: &Board,
 ) -> Result<String, AllocError>
-    requires { JobsMayAnswer replies_left (run_of plan workers jobs.items) }
+    requires { JobsMayAnswer replies_left (run_of plan workers 1 jobs.items) }
 {
     let mut listeners: Vec<Box<dyn Listener>> = Vec::new(alloc);
     listeners.push(Box::new(alloc, watcher)?)?;

@@ -148,14 +148,14 @@ fn is_told_of<R: Wait>(
     mut audience: Audience,
     course: Course,
 ) -> Result<bool, AllocError>
-    requires { JobsMayAnswer replies_left (run_of plan 1 jobs.items) }
+    requires { JobsMayAnswer replies_left (run_of plan 1 1024 jobs.items) }
 {
     if !audience.fresh() {
         return Ok(false);
     }
     audience.prepare(&plan)?;
     let mut texts = Texts::new(alloc, plan.tree())?;
-    let Ok((table, mut desk)) = RunTable::prepare(alloc, plan, jobs, 1) else {
+    let Ok((table, mut desk)) = RunTable::prepare(alloc, plan, jobs, 1, 1024) else {
         return Ok(false);
     };
     let Some(mut worker) = desk.split(&table) else {
