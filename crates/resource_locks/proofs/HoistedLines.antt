@@ -5,7 +5,7 @@ use Rattle.descriptor.specs.declared.lock_mode.LockMode.{LockMode}
 use Rattle.descriptor.specs.declared.lock_mode.LockMode.TheVariants.{Read, ReadWrite}
 use Rattle.descriptor.specs.declared.mode.Mode.{Mode}
 use Rattle.resource_locks.specs.Wants.{HasLock}
-use Rattle.resource_locks.specs.Declarations.{Declared, AtOrBelow, IsTop, IsRooted, HasIsolated, DeclaredWithin, IsToHold, isolated_all, global_read, first}
+use Rattle.resource_locks.specs.Declarations.{Declared, global, AtOrBelow, IsTop, IsRooted, HasIsolated, DeclaredWithin, IsToHold, isolated_all, global_read, first}
 use Rattle.resource_locks.specs.Hoisted.{IsHoisted}
 use Rattle.resource_locks.specs.Plans.{PlanParts, held_of}
 use Rattle.resource_locks.proofs.Lines.{below_through, at_through, last_step}
@@ -42,6 +42,21 @@ module _ (told : Declared) (rooted : IsRooted told.tree) where
   to_hold_lines a n key m m2 below (first c top light at f within) (isolated_all top2 whole2 y) = absurd (no_top_below a n c top2 top below at)
   to_hold_lines a n key m m2 below (first c top light at f within) (global_read top2 light2 k q) = absurd (no_top_below a n c top2 top below at)
   to_hold_lines a n key m m2 below (first c top light at f within) (first c2 top2 light2 at2 f2 within2) = absurd (f.declares (f2.none_above a below))
+
+  -- above a node that is to hold a key, a node is to hold the global one in READ at most
+  to_hold_layers : (a n : ℕ) (key other : List ℕ) (m m2 : LockMode) → Below told.tree a n → IsToHold told a key m → IsToHold told n other m2 → (key ≡ global) × (m ≡ Read)
+  to_hold_layers a n key other m m2 below (isolated_all top whole x) (isolated_all top2 whole2 y) = absurd (no_tops a n top top2 below)
+  to_hold_layers a n key other m m2 below (isolated_all top whole x) (global_read top2 light k q) = absurd (no_tops a n top top2 below)
+  to_hold_layers a n key other m m2 below (isolated_all top whole x) (first c top2 light at f within) = absurd (light (subst (HasIsolated told) (one_top a c n top top2 below at) whole))
+  to_hold_layers a n key other m m2 below (global_read top light k q) (isolated_all top2 whole2 y) = absurd (no_tops a n top top2 below)
+  to_hold_layers a n key other m m2 below (global_read top light k q) (global_read top2 light2 k2 q2) = absurd (no_tops a n top top2 below)
+  to_hold_layers a n key other m m2 below (global_read top light k q) (first c top2 light2 at f within) = (k, q)
+  to_hold_layers a n key other m m2 below (first c top light at f within) (isolated_all top2 whole2 y) = absurd (no_top_below a n c top2 top below at)
+  to_hold_layers a n key other m m2 below (first c top light at f within) (global_read top2 light2 k q) = absurd (no_top_below a n c top2 top below at)
+  to_hold_layers a n key other m m2 below (first c top light at f within) (first c2 top2 light2 at2 f2 within2) = absurd (f.declares (f2.none_above a below))
+
+  pub hoisted_layers : (given : ℕ → Mode) (h : PlanParts) → IsHoisted told given h → (a n : ℕ) (key other : List ℕ) (m m2 : LockMode) → Below told.tree a n → HasLock (held_of h a) key m → HasLock (held_of h n) other m2 → (key ≡ global) × (m ≡ Read)
+  hoisted_layers given h hoisted a n key other m m2 below x y = to_hold_layers a n key other m m2 below (hoisted.only a key m x) (hoisted.only n other m2 y)
 
   pub hoisted_lines : (given : ℕ → Mode) (h : PlanParts) → IsHoisted told given h → (a n : ℕ) (key : List ℕ) (m m2 : LockMode) → Below told.tree a n → HasLock (held_of h a) key m → HasLock (held_of h n) key m2 → (m ≡ Read) × (m2 ≡ Read)
   hoisted_lines given h hoisted a n key m m2 below x y = to_hold_lines a n key m m2 below (hoisted.only a key m x) (hoisted.only n key m2 y)

@@ -18,7 +18,7 @@ use Rattle.resource_locks.proofs.Walks.{table_len, table_at, table_past}
 use Rattle.resource_locks.proofs.Gathering.{gathered_set}
 use Rattle.resource_locks.proofs.Hoisted.{hoisted}
 use Rattle.resource_locks.proofs.Guarded.{guarded}
-use Rattle.resource_locks.proofs.HoistedLines.{hoisted_lines}
+use Rattle.resource_locks.proofs.HoistedLines.{hoisted_lines, hoisted_layers}
 use Rattle.resource_locks.proofs.LockTrees.{lock_tree}
 use Rattle.resource_locks.proofs.Numbered.{to_hold_numbered}
 
@@ -54,6 +54,7 @@ module _ (t : Nodes) (tree : IsTree t) (given : List Mode) (len : length given �
       held_len = table_len (held told) (size t);
       sets = plan_sets;
       lines = hoisted_lines told (lock_tree t tree).rooted (λ n. get_or given n SameThread) (plan_of t given) plan_hoisted;
+      layers = hoisted_layers told (lock_tree t tree).rooted (λ n. get_or given n SameThread) (plan_of t given) plan_hoisted;
       few = few;
       numbered = plan_numbered;
     };

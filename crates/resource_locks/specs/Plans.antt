@@ -1,5 +1,5 @@
 -- Plans as contracts see them.
-use Rattle.std.specs.Prelude.{◌≡◌, ℕ, ◌+◌, ◌*◌, ◌<◌, ◌≤◌, Bool, false, List, [], length, map, slice_index_or}
+use Rattle.std.specs.Prelude.{◌≡◌, ℕ, ◌+◌, ◌*◌, ◌<◌, ◌≤◌, Bool, List, [], length, map, slice_index_or}
 use Rattle.std.specs.List.{position_or_len}
 use Rattle.std.specs.Str.{bytes_eq}
 use Rattle.descriptor.specs.Nodes.{Nodes, IsTree, Below, size, count_below, is_spare_at}
@@ -10,6 +10,7 @@ use Rattle.descriptor.specs.declared.mode.Mode.{Mode}
 use Rattle.descriptor.specs.declared.mode.Mode.TheVariants.{SameThread}
 use Rattle.resource_locks.specs.declared.fault.PlanFault.{PlanFault}
 use Rattle.resource_locks.specs.declared.fault.PlanFault.TheVariants.{NoMemory, TooManyKeys}
+use Rattle.resource_locks.specs.Declarations.{global}
 use Rattle.resource_locks.specs.Wants.{HasLock}
 use Rattle.resource_locks.specs.LockSets.{IsLockSet}
 
@@ -57,6 +58,8 @@ pub record IsPlan (p : PlanParts) : Type 0 where
   pub sets : (n : ℕ) → IsLockSet (held_of p n)
   -- of a node and one below it neither writes a key that both hold
   pub lines : (a n : ℕ) (key : List ℕ) (m m2 : LockMode) → Below p.tree a n → HasLock (held_of p a) key m → HasLock (held_of p n) key m2 → (m ≡ Read) × (m2 ≡ Read)
+  -- above a node that holds a key a node holds the global one, in READ, and no other
+  pub layers : (a n : ℕ) (key other : List ℕ) (m m2 : LockMode) → Below p.tree a n → HasLock (held_of p a) key m → HasLock (held_of p n) other m2 → (key ≡ global) × (m ≡ Read)
   -- at most 256 keys, and each that is held is one of them
   pub few : length p.keys ≤ 256
   pub numbered : (n : ℕ) (key : List ℕ) (mode : LockMode) → HasLock (held_of p n) key mode → number_of p.keys key < length p.keys

@@ -11,3 +11,4 @@ pub mod InRange
 pub mod Knowing
 pub mod AtStart
 pub mod OneWorker
+pub mod Endings

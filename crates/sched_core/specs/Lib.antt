@@ -7,3 +7,4 @@ pub mod Snapshot
 pub mod Traces
 pub mod Texts
 pub mod Inside
+pub mod Endings

@@ -1,5 +1,5 @@
 -- The copy is the same tree.
-use Rattle.std.proofs.Common.{ℕ, IfOk, get_or, subst}
+use Rattle.std.proofs.Common.{IfOk, get_or, subst}
 use Rattle.descriptor.specs.Nodes.{Nodes}
 use Rattle.descriptor.specs.declared.mode.Mode.TheVariants.{SameThread}
 use Rattle.resource_locks.specs.Declarations.{declared_of}

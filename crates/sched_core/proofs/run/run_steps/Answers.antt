@@ -4,6 +4,7 @@ use Rattle.scheduling.specs.Runs.{opening}
 use Rattle.scheduling.specs.Shown.{IsShown}
 use Rattle.scheduling.specs.State.{State}
 use Rattle.sched_core.specs.Runs.{run}
+use Rattle.sched_core.proofs.Endings.{can_end}
 use Rattle.sched_core.proofs.Tracing.{right_trace, shown_trace, right_apart, right_expected}
 use Rattle.sched_core.proofs.run.run_steps.Goals as goal
 
@@ -28,3 +29,8 @@ returns-clause-apart c = right_apart c.args.plan.now c.args.answers.now c.run-mi
 
 pub returns-clause-expected : goal.returns-clause-expected
 returns-clause-expected c = right_expected c.args.plan.now c.args.answers.now c.run-missed.ensures.sound.plan.tree c.args.workers c.in_ok-trace.field-0 (returns-clause-right c)
+
+pub returns-clause-never_stuck : goal.returns-clause-never_stuck
+returns-clause-never_stuck c =
+    let sound = c.in_ok-machine.ensures.sound c.args.answers.now in
+    can_end c.args.plan.now c.args.answers.now sound.plan c.args.workers c.in_ok-count.ensures.count.2 c.args.steps.now
