@@ -20,4 +20,5 @@ pub mod Numbered
 pub mod Forced
 pub mod HoistedLines
 pub mod Hoists
+pub mod Spares
 pub mod Worked

@@ -7,4 +7,5 @@ pub mod Declarations
 pub mod Hoisted
 pub mod Held
 pub mod Keys
+pub mod Spares
 pub mod Inside

@@ -1,6 +1,6 @@
 //! Plans.
 
-ghost use Rattle.std.specs.Prelude.{◌≡◌, ◌<◌, ◌≤◌, ℕ, IfOk, IfErr, OnOk, length, map, slice_index_or};
+ghost use Rattle.std.specs.Prelude.{◌≡◌, ◌<◌, ◌≤◌, ◌==◌, ◌&&◌, ◌↔◌, not, ℕ, IfOk, IfErr, IsTrue, OnOk, length, map, slice_index_or};
 ghost use Rattle.descriptor.specs.Nodes.{size, IsChild};
 ghost use Rattle.descriptor.specs.declared.mode.Mode.{Mode as ModeValue};
 ghost use Rattle.descriptor.specs.declared.mode.Mode.TheVariants.{SameThread};
@@ -9,6 +9,7 @@ ghost use Rattle.resource_locks.specs.Held.{plan_of};
 ghost use Rattle.resource_locks.specs.Hoisted.{IsHoisted, IsGuarded};
 ghost use Rattle.resource_locks.specs.Keys.{keys_of};
 ghost use Rattle.resource_locks.specs.Plans.{mode_of};
+ghost use Rattle.resource_locks.specs.Spares.{HasBareSpares, HasFreeSpares};
 
 use crate::fault::PlanFault;
 use crate::hoisting::{held_sets, hoisted_modes};
@@ -56,6 +57,8 @@ pub fn hoist(alloc: Global, tree: &Tree, modes: Vec<Mode>) -> Result<Plan, PlanF
     ensures guarded { IfOk result (λ plan. IsGuarded (declared_of tree.now) plan) }
     // An engine keeps the mode that it was given: nothing is held above it.
     ensures engines { IfOk result (λ plan. (e : ℕ) → IsChild tree.now 0 e → mode_of plan e ≡ slice_index_or modes.items e SameThread) }
+    // Spares hold keys only by what they declare, or below an engine that is a factory.
+    ensures free { IfOk result (λ plan. HasBareSpares tree.now → HasFreeSpares plan) }
 {
     Plan::of(alloc, tree.copy(alloc)?, modes)
 }
@@ -78,6 +81,7 @@ impl Plan {
         ensures hoisted { IfOk result (λ plan. IsHoisted (declared_of tree) (λ n. slice_index_or modes.items n SameThread) plan) }
         ensures guarded { IfOk result (λ plan. IsGuarded (declared_of tree) plan) }
         ensures engines { IfOk result (λ plan. (e : ℕ) → IsChild tree 0 e → mode_of plan e ≡ slice_index_or modes.items e SameThread) }
+        ensures free { IfOk result (λ plan. HasBareSpares tree → HasFreeSpares plan) }
     {
         let keys = Keys::of(alloc, &tree)?;
         let held = held_sets(alloc, &tree)?;
@@ -150,6 +154,29 @@ impl Plan {
         let mut plan = self;
         plan.fail_fast = fail_fast;
         plan
+    }
+
+    /// Whether no spare holds a key. Whatever the workers of such a plan have done, it can still be
+    /// brought to its end. A plan with a spare that holds a key can get stuck: the thread that has the
+    /// spare's factory in hand waits for the spare, the spare for who has the key, and that node for a
+    /// test that only this thread may run.
+    pub fn has_free_spares(&self) -> bool
+        ensures { IsTrue result ↔ HasFreeSpares self.now }
+    {
+        for node in 0..self.tree.len() {
+            if self.is_locked_spare(NodeId::new(node as u16)) {
+                return false;
+            }
+        }
+        true
+    }
+
+    /// Whether a node is a spare that holds a key.
+    fn is_locked_spare(&self, node: NodeId) -> bool
+        requires { node < size self.now.tree }
+        ensures { result ≡ (is_spare_at self.now.tree node && not (length (held_of self.now node) == 0)) }
+    {
+        self.tree.role(node).is_spare() && !self.held[node.index()].locks().is_empty()
     }
 
     /// The greatest number of events of an execution: two for each node, the plan's included, and

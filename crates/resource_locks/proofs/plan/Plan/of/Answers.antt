@@ -5,11 +5,14 @@ use Rattle.descriptor.specs.declared.mode.Mode.TheVariants.{SameThread}
 use Rattle.resource_locks.specs.Wants.{HasLock}
 use Rattle.resource_locks.specs.Declarations.{declared_of}
 use Rattle.resource_locks.specs.Hoisted.{IsHoisted, IsGuarded}
+use Rattle.resource_locks.specs.Held.{plan_of}
 use Rattle.resource_locks.specs.Keys.{keys_of}
 use Rattle.resource_locks.specs.Plans.{PlanParts, number_of, numbers_of}
 use Rattle.resource_locks.specs.Inside.PlanFields.{IsSound}
 use Rattle.resource_locks.proofs.Engines.{engines_keep}
+use Rattle.resource_locks.specs.Spares.{HasFreeSpares}
 use Rattle.resource_locks.proofs.Hoists.{plan_is, plan_hoisted, plan_guarded, plan_numbered, plan_sound}
+use Rattle.resource_locks.proofs.Spares.{free_spares}
 use Rattle.resource_locks.proofs.plan.Plan.of.Goals as goal
 
 pub all_numbers-requires : goal.all_numbers-requires
@@ -45,3 +48,9 @@ returns-clause-guarded c =
 
 pub returns-clause-engines : goal.returns-clause-engines
 returns-clause-engines c e of_plan = engines_keep (declared_of c.args.tree) (λ n. get_or c.args.modes.items n SameThread) _ (returns-clause-hoisted c) e of_plan
+
+pub returns-clause-free : goal.returns-clause-free
+returns-clause-free c bare =
+    let made = plan_is c.args.tree _ c.args.modes.items c.in_ok-hoisted_modes.field-0.items c.in_ok-held.held.items c.in_ok-texts.field-0.items c.tree.view_is c.in_ok-hoisted_modes.ensures.modes c.in_ok-held.ensures.held (c.in_ok-texts.ensures.same ∙ c.in_ok-keys.ensures.keys) in
+    let tree = c.in_ok-keys.ensures.tree in
+    subst HasFreeSpares (sym made) (free_spares (plan_of c.args.tree c.args.modes.items) (λ n. get_or c.args.modes.items n SameThread) tree (plan_hoisted c.args.tree tree c.args.modes.items c.requires) bare)
