@@ -54,6 +54,7 @@ fn feed_options(alloc: Global) -> Options {
         },
         params: Params::new(alloc),
         processors: 1,
+        ring: 1024,
         details: Details::Testfeed,
         theme: Theme::Unicode,
         fail_if_no_tests: false,

@@ -45,6 +45,7 @@ values_in rows = record {
   config = all_found (codes "config") rows;
   system = all_found (codes "system") rows;
   processors = first_of (codes "processors") rows;
+  ring = first_of (codes "ring") rows;
   details = first_of (codes "details") rows;
   theme = first_of (codes "details-theme") rows;
   replay = first_of (codes "replay") rows;

@@ -7,7 +7,8 @@ ghost use Rattle.command_line.specs.Found.{all_found as all_in, is_found, of_kin
 
 use crate::option_names::{
     CONFIG, DETAILS, DETAILS_THEME, EXCLUDE_TAG, FAIL_FAST, FAIL_IF_NO_TESTS, INCLUDE_TAG,
-    PROCESSORS, REPLAY, SELECT_CLASS, SELECT_METHOD, SELECT_PACKAGE, SELECT_UNIQUE_ID, SYSTEM,
+    PROCESSORS, REPLAY, RING, SELECT_CLASS, SELECT_METHOD, SELECT_PACKAGE, SELECT_UNIQUE_ID,
+    SYSTEM,
 };
 use clap::ArgMatches;
 use launcher::Given;
@@ -102,6 +103,7 @@ pub(crate) fn given_in<'a>(alloc: Global, matches: &ArgMatches<'a>) -> Result<Gi
         config: all_found(alloc, matches, CONFIG)?,
         system: all_found(alloc, matches, SYSTEM)?,
         processors: found(matches, PROCESSORS),
+        ring: found(matches, RING),
         details: found(matches, DETAILS),
         theme: found(matches, DETAILS_THEME),
         replay: found(matches, REPLAY),

@@ -25,6 +25,8 @@ pub(crate) const SYSTEM: &str = "system";
 
 pub(crate) const PROCESSORS: &str = "processors";
 
+pub(crate) const RING: &str = "ring";
+
 pub(crate) const DETAILS: &str = "details";
 
 pub(crate) const DETAILS_THEME: &str = "details-theme";
@@ -153,12 +155,20 @@ fn configuring<'a>(alloc: Global) -> Result<Command<'a>, AllocError>
             "Sets a parameter, as KEY=VALUE, over the suite",
         ),
     )?;
-    with(
+    let command = with(
         command,
         single(
             alloc,
             PROCESSORS,
             "How many processors there are, 1 to 1024 [default: 1]",
+        ),
+    )?;
+    with(
+        command,
+        single(
+            alloc,
+            RING,
+            "How many events may be shown before they are told, 1 to 16384 [default: 1024]",
         ),
     )
 }

@@ -1,5 +1,5 @@
 -- What a run prints, from what each of its parts says.
-use Rattle.std.proofs.Common.{◌≡◌, ◌∙◌, ◌≤◌, ℕ, arith, List, ◌++◌, refl, sym, ap, subst, inl, inr}
+use Rattle.std.proofs.Common.{◌≡◌, ◌∙◌, ◌<◌, ◌≤◌, ℕ, arith, List, ◌++◌, refl, sym, ap, subst, inl, inr}
 use Rattle.std.specs.Prelude.{◌⊎◌}
 use Rattle.config_params.specs.declared.settings.Settings.{Settings}
 use Rattle.descriptor.specs.Nodes.{IsTree}
@@ -17,8 +17,8 @@ use Rattle.table_rule.specs.Slots.{slot_count}
 use Rattle.worker_pool.specs.Reports.{run_of, AreTexts, IsReport, IsRefusedRun}
 use Rattle.worker_pool.specs.declared.report.RunCause.{RunCause}
 use Rattle.worker_pool.specs.declared.report.RunCause.TheVariants.{Table, NoWorker}
-use Rattle.run_table.specs.Prepared.{HasAllJobs}
-use Rattle.run_table.specs.declared.fault.TableFault.TheVariants.{NoMemory, NoWorkers, TooManyWorkers, JobsMissing}
+use Rattle.run_table.specs.Prepared.{HasAllJobs, IsRightRing}
+use Rattle.run_table.specs.declared.fault.TableFault.TheVariants.{NoMemory, NoWorkers, TooManyWorkers, BadRing, JobsMissing}
 use Rattle.launcher.specs.declared.exit_status.ExitStatus.{ExitStatus}
 use Rattle.launcher.specs.declared.scripted.ScriptedJob.{ScriptedJob}
 use Rattle.launcher.specs.Asked.{Asked}
@@ -29,9 +29,9 @@ use Rattle.launcher.specs.WarningTexts.{warning_lines}
 use Rattle.launcher.proofs.Scripting.{all_there, legal_as_said, text_as_said}
 
 -- what the threads report of the suite's jobs is a history of what the suite says
-pub history_of : (p : PlanParts) → IsTree p.tree → (answers : List (ℕ × Reply)) (jobs : List (ℕ × ScriptedJob)) → AreScripted p answers (slot_count p) jobs → (workers : ℕ) (history : List Event)
-    → IsReport (run_of p workers jobs) (replies_of replies_left (run_of p workers jobs)) history → IsHistory workers p answers history
-history_of p tree answers jobs are workers history report =
+pub history_of : (p : PlanParts) → IsTree p.tree → (answers : List (ℕ × Reply)) (jobs : List (ℕ × ScriptedJob)) → AreScripted p answers (slot_count p) jobs → (workers ring : ℕ) (history : List Event)
+    → IsReport (run_of p workers ring jobs) (replies_of replies_left (run_of p workers ring jobs)) history → IsHistory workers p answers history
+history_of p tree answers jobs are workers ring history report =
     let legal : IsLegal p (replies_by answers) workers history = legal_as_said p tree answers jobs are workers history report.legal in
     record {
       legal = legal;
@@ -50,20 +50,26 @@ pub record IsTold (workers : ℕ) (p : PlanParts) (answers : List (ℕ × Reply)
   pub are : AreTexts p (replies_by answers) history texts
 
 -- and the texts that they report are those that the suite says
-pub told_of : (p : PlanParts) → IsTree p.tree → (answers : List (ℕ × Reply)) (jobs : List (ℕ × ScriptedJob)) → AreScripted p answers (slot_count p) jobs → (workers : ℕ) (history : List Event) (texts : TextParts)
-    → IsReport (run_of p workers jobs) (replies_of replies_left (run_of p workers jobs)) history → AreTexts p (replies_of replies_left (run_of p workers jobs)) history texts → IsTold workers p answers history texts
-told_of p tree answers jobs are workers history texts report told = record {
-  published = history_of p tree answers jobs are workers history report;
+pub told_of : (p : PlanParts) → IsTree p.tree → (answers : List (ℕ × Reply)) (jobs : List (ℕ × ScriptedJob)) → AreScripted p answers (slot_count p) jobs → (workers ring : ℕ) (history : List Event) (texts : TextParts)
+    → IsReport (run_of p workers ring jobs) (replies_of replies_left (run_of p workers ring jobs)) history → AreTexts p (replies_of replies_left (run_of p workers ring jobs)) history texts → IsTold workers p answers history texts
+told_of p tree answers jobs are workers ring history texts report told = record {
+  published = history_of p tree answers jobs are workers ring history report;
   are = λ n low. text_as_said p tree answers jobs are history n (text_at texts n) (told n low);
 }
 
--- with as many workers as there may be, and all its jobs, a run is refused for want of memory or of threads alone
-pub unrun : (p : PlanParts) (workers : ℕ) (jobs : List (ℕ × ScriptedJob)) (cause : RunCause) → IsRefusedRun p workers jobs cause → 1 ≤ workers → workers ≤ 64 → HasAllJobs p jobs → (cause ≡ Table NoMemory) ⊎ (cause ≡ NoWorker)
-unrun p workers jobs (Table NoMemory) is some few all = inl refl
-unrun p workers jobs (Table NoWorkers) is some few all = absurd (omega (arith, is, some))
-unrun p workers jobs (Table TooManyWorkers) is some few all = absurd (omega (arith, is, few))
-unrun p workers jobs (Table (JobsMissing number)) is some few all = absurd (all number is.2.missing)
-unrun p workers jobs NoWorker is some few all = inr refl
+-- a ring that is right is none that is refused
+not_right : (ring : ℕ) → IsRightRing ring → (ring ≡ 0) ⊎ (16384 < ring) → ⊥
+not_right ring right (inl none) = omega (arith, right.0, none)
+not_right ring right (inr many) = omega (arith, right.1, many)
+
+-- with as many workers and as long a ring as there may be, and all its jobs, a run is refused for want of memory or of threads alone
+pub unrun : (p : PlanParts) (workers ring : ℕ) (jobs : List (ℕ × ScriptedJob)) (cause : RunCause) → IsRefusedRun p workers ring jobs cause → 1 ≤ workers → workers ≤ 64 → IsRightRing ring → HasAllJobs p jobs → (cause ≡ Table NoMemory) ⊎ (cause ≡ NoWorker)
+unrun p workers ring jobs (Table NoMemory) is some few right all = inl refl
+unrun p workers ring jobs (Table NoWorkers) is some few right all = absurd (omega (arith, is, some))
+unrun p workers ring jobs (Table TooManyWorkers) is some few right all = absurd (omega (arith, is, few))
+unrun p workers ring jobs (Table BadRing) is some few right all = absurd (not_right ring right is.1)
+unrun p workers ring jobs (Table (JobsMissing number)) is some few right all = absurd (all number is.2.missing)
+unrun p workers ring jobs NoWorker is some few right all = inr refl
 
 -- what is printed of a history is what is printed of the run
 pub ran : (text : List ℕ) (status : ExitStatus) (asked : Asked) (settings : Settings) (p : PlanParts) (answers : List (ℕ × Reply)) (history : List Event) (texts : TextParts) → IsTold settings.workers p answers history texts

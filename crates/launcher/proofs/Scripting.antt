@@ -161,8 +161,8 @@ module _ (p : PlanParts) (tree : IsTree p.tree) (answers : List (ℕ × Reply)) 
   one_is_some : (xs : List Reply) (x : Reply) → xs ≡ x ∷ [] → 0 < length xs
   one_is_some xs x is = subst (λ (l : List Reply). 0 < length l) (sym is) (omega arith)
 
-  pub may_answer : (workers : ℕ) → JobsMayAnswer replies_left (run_of p workers jobs)
-  may_answer workers = record {
+  pub may_answer : (workers ring : ℕ) → JobsMayAnswer replies_left (run_of p workers ring jobs)
+  may_answer workers ring = record {
     factories = λ n number job pulls is found. one_is_some _ (reply_of answers number) (sym (replies_found replies_left jobs number job found) ∙ factory_answers n number pulls is);
     bodies = λ n number job pulls is found. one_is_some _ (asked_reply false (reply_of answers number)) (ap unpulled (sym (replies_found replies_left jobs number job found) ∙ plain_answers n number pulls is));
     after_bodies = λ n number job is found. one_is_some _ (asked_reply false (reply_of answers number)) (ap unpulled (sym (replies_found replies_left jobs number job found) ∙ after_answers n number (after_is p n number is)));

@@ -22,14 +22,16 @@ use Rattle.launcher.specs.declared.fault.LaunchFault.{LaunchFault}
 use Rattle.launcher.specs.declared.fault.LaunchFault.TheVariants.{BadWords, BadStep, BadSelector, BadTags}
 use Rattle.step_text.specs.StepTexts.{steps_of}
 use Rattle.launcher.specs.Given.{Text, Values}
-use Rattle.launcher.specs.Parameters.{processors_named, params_said, params_refusal}
+use Rattle.launcher.specs.Parameters.{processors_named, ring_named, params_said, params_refusal}
 
--- what is asked for: what is to run, with which parameters and how many processors, what is printed and how, whether there
--- have to be tests, whether nothing more is to start once a node has failed, and the steps that are to be replayed, if any are
+-- what is asked for: what is to run, with which parameters and how many processors, how many events may be shown that are not
+-- told yet, what is printed and how, whether there have to be tests, whether nothing more is to start once a node has failed, and
+-- the steps that are to be replayed, if any are
 pub record Asked : Type 0 where
   pub request : Request
   pub params : Parameters
   pub processors : ℕ
+  pub ring : ℕ
   pub details : Details
   pub theme : Theme
   pub fail_if_no_tests : Bool
@@ -42,6 +44,7 @@ asked_by options = record {
   request = options.request;
   params = options.params;
   processors = options.processors;
+  ring = options.ring;
   details = options.details;
   theme = options.theme;
   fail_if_no_tests = options.fail_if_no_tests;
@@ -124,21 +127,23 @@ texts_refusal given =
     option_or (tags_refusal given.include_tags) (
     tags_refusal given.exclude_tags)))
 
--- why the values are refused: other details, other themes, what is no number of processors, then the texts that are read, and
--- what says no pair
+-- why the values are refused: other details, other themes, what is no number of processors, what is no size of the ring, then
+-- the texts that are read, and what says no pair
 abbrev pub refusal_of : Values → Option LaunchFault
 refusal_of given =
     option_or (unless_named (details_named given.details)) (
     option_or (unless_named (theme_named given.theme)) (
     option_or (unless_named (processors_named given.processors)) (
+    option_or (unless_named (ring_named given.ring)) (
     option_or (texts_refusal given) (
-    params_refusal given))))
+    params_refusal given)))))
 
 -- the values ask for this
 pub record AreAsked (given : Values) (asked : Asked) : Type 0 where
   pub details : details_named given.details ≡ Some asked.details
   pub theme : theme_named given.theme ≡ Some asked.theme
   pub processors : processors_named given.processors ≡ Some asked.processors
+  pub ring : ring_named given.ring ≡ Some asked.ring
   pub tests : asked.fail_if_no_tests ≡ given.fail_if_no_tests
   pub fail_fast : asked.fail_fast ≡ given.fail_fast
   pub replay : IsReplay given.replay asked.replay

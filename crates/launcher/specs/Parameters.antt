@@ -1,4 +1,4 @@
--- What `--config`, `--system` and `--processors` ask for, and why they ask for nothing.
+-- What `--config`, `--system`, `--processors` and `--ring` ask for, and why they ask for nothing.
 use Rattle.std.specs.Prelude.{ℕ, ◌+◌, ◌==◌, List, [], ◌∷◌, length, map, if◌then◌else◌, Option, Some, None, Result, Ok, Err}
 use Rattle.std.specs.Option.{option_or}
 use Rattle.config_params.specs.Pairs.{Pair, key_of, value_of, pair_of}
@@ -20,10 +20,18 @@ abbrev pub unless_zero : Option ℕ → Option ℕ
 unless_zero None = None
 unless_zero (Some number) = if number == 0 then None else Some number
 
+-- what an option asks for that is a number from 1 to this most, and this one where it is not given
+abbrev pub number_named : (most otherwise : ℕ) → Option Text → Option ℕ
+number_named most otherwise None = Some otherwise
+number_named most otherwise (Some text) = unless_zero (number_up_to most (without_plus text))
+
 -- what `--processors` asks for: 1 to 1,024, and 1 where it is not given
 abbrev pub processors_named : Option Text → Option ℕ
-processors_named None = Some 1
-processors_named (Some text) = unless_zero (number_up_to 1024 (without_plus text))
+processors_named text = number_named 1024 1 text
+
+-- what `--ring` asks for: 1 to 16,384, and 1,024 where it is not given
+abbrev pub ring_named : Option Text → Option ℕ
+ring_named text = number_named 16384 1024 text
 
 -- the pairs of words that are cut at their first equals sign
 abbrev pub pairs_in : List Text → List Pair

@@ -23,4 +23,5 @@ pub use exit_status::ExitStatus;
 pub use fault::LaunchFault;
 pub use given::Given;
 pub use options::Options;
+pub use parameters::{processors_named, ring_named};
 pub use run::{read_suite, run_options, run_suite};

@@ -4,13 +4,14 @@ ghost use Rattle.std.specs.Prelude.{◌≡◌, ◌≢◌, Some, None, option_map
 ghost use Rattle.std.specs.List.{filter_map};
 ghost use Rattle.launcher.specs.declared.fault.LaunchFault.TheVariants.{NoMemory};
 ghost use Rattle.launcher.specs.Given.{behind, maybe_behind, texts_of, values_of};
+ghost use Rattle.run_table.specs.Prepared.{IsRightRing};
 ghost use Rattle.launcher.specs.Asked.{asked_by, details_named as details_of_name, theme_named as theme_of_name, unless_named, IsReplay, refusal_of, AreAsked, spelled, IsExpression, AreExpressions};
 
 use crate::details::Details;
 use crate::fault::LaunchFault;
 use crate::given::Given;
 use crate::judged::judge_texts;
-use crate::parameters::{judge_params, params_given, processors_named};
+use crate::parameters::{judge_params, params_given, processors_named, ring_named};
 use config_params::Params;
 use listeners::Theme;
 use scheduling::Step;
@@ -29,6 +30,8 @@ pub struct Options {
     pub params: Params,
     /// How many processors the machine is taken to have.
     pub processors: u32,
+    /// How many events of a run on threads may be shown that were not told yet, from 1 to 16,384.
+    pub ring: u32,
     pub details: Details,
     /// The signs of the tree.
     pub theme: Theme,
@@ -39,6 +42,7 @@ pub struct Options {
     /// The steps that are run in place of the fixed schedule. Then their text alone is printed,
     /// whatever the details are.
     pub replay: Option<Vec<Step>>,
+    pub ghost right_ring: { IsRightRing ring },
 }
 
 /// What `--details` asks for.
@@ -137,11 +141,12 @@ fn request_of(alloc: Global, given: &Given<'_>) -> Result<Request, AllocError>
 
 impl Options {
     /// The options that these values ask for. Details and themes that are none of ours are refusal
-    /// 105, and so is what is no number of processors from 1 to 1,024; then a word in the text of
-    /// `--replay` that names no step is refusal 104, at its number; then a text that spells no
-    /// selector is refusal 40, at the selector's number; then an expression of `--include-tag`, and
-    /// then of `--exclude-tag`, is one of 20 to 26, at a place in it; then a word of `--config` or `--system` that has no equals sign or an empty key is
-    /// refusal 30 or 31, at its number, those of `--config` counted first. Selectors are numbered from
+    /// 105, and so is what is no number of processors from 1 to 1,024, and what is no number of
+    /// places of the ring from 1 to 16,384; then a word in the text of `--replay` that names no step
+    /// is refusal 104, at its number; then a text that spells no selector is refusal 40, at the
+    /// selector's number; then an expression of `--include-tag`, and then of `--exclude-tag`, is one
+    /// of 20 to 26, at a place in it; then a word of `--config` or `--system` that has no equals
+    /// sign or an empty key is refusal 30 or 31, at its number, those of `--config` counted first. Selectors are numbered from
     /// 1 in the order of `Given`. All of these are judged before any of them is kept, so want of memory
     /// stands in their place nowhere.
     pub fn of(alloc: Global, given: &Given<'_>) -> Result<Options, LaunchFault>
@@ -153,12 +158,14 @@ impl Options {
         let details = details_named(given.details)?;
         let theme = theme_named(given.theme)?;
         let processors = processors_named(given.processors)?;
+        let ring = ring_named(given.ring)?;
         judge_texts(alloc, given)?;
         judge_params(given)?;
         Ok(Options {
             request: request_of(alloc, given)?,
             params: params_given(alloc, given)?,
             processors,
+            ring,
             details,
             theme,
             fail_if_no_tests: given.fail_if_no_tests,

@@ -1,11 +1,12 @@
-//! What `--config`, `--system` and `--processors` ask for.
+//! What `--config`, `--system`, `--processors` and `--ring` ask for.
 
-ghost use Rattle.std.specs.Prelude.{◌≡◌, ◌≢◌, ◌+◌, ◌^◌, ◌<◌, Some, None, fold, length, IfOk, IfErr, OnOk};
+ghost use Rattle.std.specs.Prelude.{◌≡◌, ◌≢◌, ◌+◌, ◌^◌, ◌<◌, ◌≤◌, Some, None, fold, length, IfOk, IfErr, OnOk};
 ghost use Rattle.config_params.specs.Parameters.{with_value};
 ghost use Rattle.launcher.specs.declared.fault.LaunchFault.TheVariants.{NoMemory};
 ghost use Rattle.launcher.specs.Asked.{unless_named};
 ghost use Rattle.launcher.specs.Given.{behind, maybe_behind, values_of};
-ghost use Rattle.launcher.specs.Parameters.{without_plus, processors_named as processors_of_name, pairs_in, params_said, pairs_refusal, params_refusal};
+ghost use Rattle.launcher.specs.Parameters.{without_plus, number_named as number_of_name, processors_named as processors_of_name, ring_named as ring_of_name, pairs_in, params_said, pairs_refusal, params_refusal};
+ghost use Rattle.run_table.specs.Prepared.{IsRightRing};
 
 use crate::fault::LaunchFault;
 use crate::given::Given;
@@ -15,6 +16,15 @@ use suite_text::number_up_to;
 
 /// The greatest number of processors.
 const MOST_PROCESSORS: u32 = 1024;
+
+/// The number of processors where none is asked for.
+const USUAL_PROCESSORS: u32 = 1;
+
+/// The greatest number of places of the ring.
+const MOST_PLACES: u32 = 16_384;
+
+/// The number of places of the ring where none is asked for.
+const USUAL_PLACES: u32 = 1024;
 
 /// The text without the plus that it may begin with.
 fn without_plus(text: &str) -> &str
@@ -26,18 +36,39 @@ fn without_plus(text: &str) -> &str
     }
 }
 
+/// What an option asks for that is a number from 1 to this most, and this one where it is not given.
+fn number_named(most: u32, otherwise: u32, text: Option<&str>) -> Result<u32, LaunchFault>
+    requires some { 0 < otherwise }
+    requires few { otherwise ≤ most }
+    ensures named { IfOk result (λ number. number_of_name most otherwise (maybe_behind text.entry) ≡ Some number) }
+    ensures refused { IfErr result (λ fault. unless_named (number_of_name most otherwise (maybe_behind text.entry)) ≡ Some fault) }
+    ensures some { IfOk result (λ number. 0 < number) }
+    ensures few { IfOk result (λ number. number ≤ most) }
+{
+    let Some(text) = text else {
+        return Ok(otherwise);
+    };
+    match number_up_to(most, without_plus(text)) {
+        None | Some(0) => Err(LaunchFault::BadWords),
+        Some(number) => Ok(number),
+    }
+}
+
 /// What `--processors` asks for.
-pub(crate) fn processors_named(text: Option<&str>) -> Result<u32, LaunchFault>
+pub fn processors_named(text: Option<&str>) -> Result<u32, LaunchFault>
     ensures named { IfOk result (λ processors. processors_of_name (maybe_behind text.entry) ≡ Some processors) }
     ensures refused { IfErr result (λ fault. unless_named (processors_of_name (maybe_behind text.entry)) ≡ Some fault) }
 {
-    let Some(text) = text else {
-        return Ok(1);
-    };
-    match number_up_to(MOST_PROCESSORS, without_plus(text)) {
-        None | Some(0) => Err(LaunchFault::BadWords),
-        Some(processors) => Ok(processors),
-    }
+    number_named(MOST_PROCESSORS, USUAL_PROCESSORS, text)
+}
+
+/// What `--ring` asks for.
+pub fn ring_named(text: Option<&str>) -> Result<u32, LaunchFault>
+    ensures named { IfOk result (λ ring. ring_of_name (maybe_behind text.entry) ≡ Some ring) }
+    ensures refused { IfErr result (λ fault. unless_named (ring_of_name (maybe_behind text.entry)) ≡ Some fault) }
+    ensures right { IfOk result IsRightRing }
+{
+    number_named(MOST_PLACES, USUAL_PLACES, text)
 }
 
 /// Judges words, which stand behind so many others: each says a pair.

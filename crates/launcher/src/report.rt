@@ -129,7 +129,15 @@ fn run_report<T: Threads + Wait + Sync>(
     let Ok(mut nobody) = Audience::new(Vec::new(alloc)) else {
         unreachable!()
     };
-    match run_plan(rt, alloc, plan, jobs, settings.workers, &mut nobody) {
+    match run_plan(
+        rt,
+        alloc,
+        plan,
+        jobs,
+        settings.workers,
+        options.ring,
+        &mut nobody,
+    ) {
         Ok(ran) => {
             let history = ran.events.as_slice();
             Ok(history_report(

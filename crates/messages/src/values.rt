@@ -6,7 +6,7 @@ use crate::marked::push_marked;
 use crate::nearest::{is_known, push_nearest};
 use crate::options::{DETAILS, THEMES, form_of, option_of, pair_option};
 use config_params::ParamsFault;
-use launcher::Given;
+use launcher::{Given, processors_named, ring_named};
 use selectors::SelectorKind;
 use std::alloc::{AllocError, Global};
 use tag_expr::{TagExpr, TagFault};
@@ -43,8 +43,20 @@ fn push_choice(
     push_option(alloc, text, option, value, 0)
 }
 
-/// Appends which of the values that stand for something is none: what `--details`, then `--details-theme`, and then
-/// `--processors` may be.
+/// Appends that an option's value is no number from 1 to this most.
+fn push_range(
+    alloc: Global,
+    text: &mut String,
+    option: &str,
+    value: &str,
+    most: &str,
+) -> Result<(), AllocError> {
+    write!(text, "{option} is a number from 1 to {most}\n")?;
+    push_option(alloc, text, option, value, 0)
+}
+
+/// Appends which of the values that stand for something is none: what `--details`, then `--details-theme`, then
+/// `--processors`, and then `--ring` may be.
 pub(crate) fn push_words(
     alloc: Global,
     text: &mut String,
@@ -60,11 +72,17 @@ pub(crate) fn push_words(
             return push_choice(alloc, text, "--details-theme", name, THEMES.as_slice());
         }
     }
-    let Some(number) = given.processors else {
-        return Ok(());
-    };
-    text.push_str("--processors is a number from 1 to 1,024\n")?;
-    push_option(alloc, text, "--processors", number, 0)
+    if let Some(number) = given.processors {
+        if processors_named(given.processors).is_err() {
+            return push_range(alloc, text, "--processors", number, "1,024");
+        }
+    }
+    if let Some(number) = given.ring {
+        if ring_named(given.ring).is_err() {
+            return push_range(alloc, text, "--ring", number, "16,384");
+        }
+    }
+    Ok(())
 }
 
 /// Appends which word of the replay names no step.

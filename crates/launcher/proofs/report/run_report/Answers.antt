@@ -14,7 +14,7 @@ plan_is_tree : {inside p : PlanParts} → inside ≡ p → IsTree inside.tree �
 plan_is_tree is tree = subst (λ (q : PlanParts). IsTree q.tree) is tree
 
 pub run_plan-requires-clause-jobs : goal.run_plan-requires-clause-jobs
-run_plan-requires-clause-jobs g c κs within = may_answer c.args.plan (plan_is_tree c.plan.view_is c.plan.invariant.plan.tree) c.args.answers.now c.in_ok-jobs.jobs.items c.in_ok-jobs.ensures c.args.settings.now.workers
+run_plan-requires-clause-jobs g c κs within = may_answer c.args.plan (plan_is_tree c.plan.view_is c.plan.invariant.plan.tree) c.args.answers.now c.in_ok-jobs.jobs.items c.in_ok-jobs.ensures c.args.settings.now.workers c.args.options.now.ring
 
 pub returns-in-Ok-run_plan-clause-output : goal.returns-in-Ok-run_plan-clause-output
 returns-in-Ok-run_plan-clause-output g c =
@@ -27,7 +27,7 @@ returns-in-Ok-run_plan-clause-output g c =
     let tree : IsTree p.tree = plan_is_tree c.plan.view_is c.plan.invariant.plan.tree in
     let same : c.in-Ok-run_plan.ran.plan ≡ p = c.in-Ok-run_plan.ensures.plan in
     let shown : history ≡ c.as_slice-history.result.now = sym c.as_slice-history.ensures.value in
-    let told = told_of p tree answers c.in_ok-jobs.jobs.items c.in_ok-jobs.ensures settings.workers history c.in-Ok-run_plan.ran.texts c.in-Ok-run_plan.ensures.report c.in-Ok-run_plan.ensures.texts in
+    let told = told_of p tree answers c.in_ok-jobs.jobs.items c.in_ok-jobs.ensures settings.workers asked.ring history c.in-Ok-run_plan.ran.texts c.in-Ok-run_plan.ensures.report c.in-Ok-run_plan.ensures.texts in
     let there : IsTold settings.workers c.in-Ok-run_plan.ran.plan answers c.as_slice-history.result.now c.in-Ok-run_plan.ran.texts =
     subst (λ (h : List Event). IsTold settings.workers c.in-Ok-run_plan.ran.plan answers h c.in-Ok-run_plan.ran.texts) shown (subst (λ (q : PlanParts). IsTold settings.workers q answers history c.in-Ok-run_plan.ran.texts) (sym same) told) in
     subst (λ (q : PlanParts). IsRunOutput asked settings q answers (string_bytes report.text) report.status) same
@@ -36,4 +36,4 @@ returns-in-Ok-run_plan-clause-output g c =
 
 pub unrun-requires : goal.unrun-requires
 unrun-requires g c =
-    unrun c.args.plan c.args.settings.now.workers c.in_ok-jobs.jobs.items c.in-Err.fault.cause c.in-Err.ensures.refused c.requires.some c.requires.few (all_there c.args.plan (plan_is_tree c.plan.view_is c.plan.invariant.plan.tree) c.args.answers.now c.in_ok-jobs.jobs.items c.in_ok-jobs.ensures)
+    unrun c.args.plan c.args.settings.now.workers c.args.options.now.ring c.in_ok-jobs.jobs.items c.in-Err.fault.cause c.in-Err.ensures.refused c.requires.some c.requires.few c.args.options.now.right_ring (all_there c.args.plan (plan_is_tree c.plan.view_is c.plan.invariant.plan.tree) c.args.answers.now c.in_ok-jobs.jobs.items c.in_ok-jobs.ensures)
