@@ -1,0 +1,4 @@
+pub mod Alike
+pub mod ToldAsExpected
+pub mod PrintedAsExpected
+pub mod ExpectedRows
