@@ -1,4 +1,4 @@
--- No step changes how many workers there are.
+-- No step changes how many workers and how many words of keys there are.
 use Rattle.std.specs.Prelude.{option_and_then}
 use Rattle.std.proofs.Common.{◌≡◌, ℕ, zero, suc, Bool, true, false, cond, ◌&&◌, nat_lt, List, [], ◌∷◌, length, Option, Some, None, slice_get, slice_index_or, refl, ◌∙◌, length-set}
 use Rattle.std.proofs.lemmas.List.{length-replicate}
@@ -9,6 +9,7 @@ use Rattle.resource_locks.specs.Plans.{PlanParts}
 use Rattle.scheduling.specs.declared.status.NodeStatus.{NodeStatus}
 use Rattle.scheduling.specs.declared.status.NodeStatus.TheVariants.{Hidden, Ready, Claimed, Settled}
 use Rattle.scheduling.specs.declared.lock_word.LockWord.{LockWord}
+use Rattle.scheduling.specs.declared.lock_word.LockWord.TheVariants.{Readers}
 use Rattle.scheduling.specs.declared.task.Opening.TheVariants.{Registering, RegisteredAt, Offering, Noticing, Locking, Weighed, Backing, Beginning, StartedAt, Admitting, Guarding}
 use Rattle.scheduling.specs.declared.task.Closing.TheVariants.{Ending, FinishedAt, SkippedAt, Raising, Giving, Settling, Looking, Passing, CountingOff}
 use Rattle.scheduling.specs.declared.task.Task.{Task}
@@ -16,33 +17,36 @@ use Rattle.scheduling.specs.declared.task.Task.TheVariants.{Free, Opens, Closes}
 use Rattle.scheduling.specs.declared.seat.Hand.{Hand}
 use Rattle.scheduling.specs.declared.seat.Seat.{Seat}
 use Rattle.scheduling.specs.State.{State, status_at, counter_at}
-use Rattle.scheduling.specs.Choices.{next_spare, is_pulled, pulled_result, same_word, key_at, mode_at, taken, lock_from, claims}
+use Rattle.scheduling.specs.Choices.{next_spare, is_pulled, pulled_result, same_word, key_at, mode_at, taken, given_back, lock_from, claims}
 use Rattle.scheduling.specs.declared.step.Action.{Action}
 use Rattle.scheduling.specs.declared.step.Action.TheVariants.{Claim, Own, Notice, Weigh, Take, Give, GiveUp, Draw, Show, Admit, AddChild, Done, Settle, Look, Raise}
 use Rattle.scheduling.specs.Rows.{with_task, goes, puts_word, claimed, guard_given, ends_or_free, row, is_free, is_empty, is_of_hand, is_ready_for, notice_row, weigh_row, take_found, take_row, gives_key, give_row, give_up_row, draw_row, show_row, admit_row, child_added, add_by_hand, add_child_hand, add_child_row, done_by_hand, done_hand, done_row, settle_row, look_found, look_row, raise_row, goes_to, decided_seat, after_seat, after, Step, Works, Dispatches, read_event}
 use Rattle.scheduling.specs.Runs.{or_stays, next, run, opening}
 
--- a state with as many seats as s
+-- a state with as many seats as s, and as many words of keys
 abbrev pub Crew : State → Option State → Type 0
 Crew s None = Unit {0}
-Crew s (Some t) = length t.seats ≡ length s.seats
+Crew s (Some t) = (length t.seats ≡ length s.seats) × (length t.locks ≡ length s.locks)
 
 cond_crew : (s : State) (b : Bool) (x y : Option State) → Crew s x → Crew s y → Crew s (cond b x y)
 cond_crew s true x y a b = a
 cond_crew s false x y a b = b
 
 module _ (p : PlanParts) (s : State) (w : ℕ) (seat : Seat) (reply : Reply) where
-  set_crew : (other : Seat) → length (goes_to s w other) ≡ length s.seats
-  set_crew other = length-set s.seats w other
+  set_seat : (other : Seat) → length (goes_to s w other) ≡ length s.seats
+  set_seat other = length-set s.seats w other
+
+  set_crew : (other : Seat) → (length (goes_to s w other) ≡ length s.seats) × (length s.locks ≡ length s.locks)
+  set_crew other = (set_seat other, refl)
 
   take_crew : (n i : ℕ) (v : LockWord) (found : Option LockWord) → Crew s (take_found p s w seat n i v found)
   take_crew n i v None = tt
   take_crew n i v (Some word) =
-      cond_crew s (same_word word v) (Some (puts_word s w seat (Opens n (lock_from p n (suc i))) (key_at p n i) (taken (mode_at p n i) word))) (Some (goes s w seat (Opens n (Locking i)))) (set_crew (with_task seat (Opens n (lock_from p n (suc i))))) (set_crew (with_task seat (Opens n (Locking i))))
+      cond_crew s (same_word word v) (Some (puts_word s w seat (Opens n (lock_from p n (suc i))) (key_at p n i) (taken (mode_at p n i) word))) (Some (goes s w seat (Opens n (Locking i)))) (set_seat (with_task seat (Opens n (lock_from p n (suc i)))), length-set s.locks (key_at p n i) (taken (mode_at p n i) word)) (set_crew (with_task seat (Opens n (Locking i))))
 
   give_crew : (t : Task) (n i : ℕ) (found : Option LockWord) → Crew s (gives_key p s w seat t n i found)
   give_crew t n i None = tt
-  give_crew t n i (Some word) = set_crew _
+  give_crew t n i (Some word) = (set_seat _, length-set s.locks (key_at p n i) (given_back (mode_at p n i) word))
 
   added_crew : (f : ℕ) (found : Option ℕ) → Crew s (child_added s w seat f found)
   added_crew f None = tt
@@ -127,7 +131,7 @@ module _ (p : PlanParts) (s : State) (w : ℕ) (seat : Seat) (reply : Reply) whe
 
   look_c : (t : Task) → Crew s (look_row p s w seat t)
   look_c (Closes n (Looking m)) = look_crew n m (status_at s (parent_of p.tree n))
-  look_c Free = refl
+  look_c Free = (refl, refl)
   look_c _ = tt
 
   raise_c : (t : Task) → Crew s (raise_row p s w seat t)
@@ -155,31 +159,34 @@ module _ (p : PlanParts) (s : State) (w : ℕ) (seat : Seat) (reply : Reply) whe
   row_crew Raise = raise_c seat.task
 
 -- with other seats, as many
-crew_on : (s t : State) (found : Option State) → length t.seats ≡ length s.seats → Crew t found → Crew s found
+crew_on : (s t : State) (found : Option State) → Crew s (Some t) → Crew t found → Crew s found
 crew_on s t None e c = tt
-crew_on s t (Some u) e c = c ∙ e
+crew_on s t (Some u) e c = (c.0 ∙ e.0, c.1 ∙ e.1)
 
 pub after_crew : (p : PlanParts) (s : State) (a : Step) → Crew s (after p s a)
 after_crew p s Dispatches = go (slice_index_or s.shown (length s.given) false) (slice_get s.published (length s.given))
   where
     go : (b : Bool) (e : Option Event) → Crew s (read_event s b e)
-    go true (Some e) = refl
+    go true (Some e) = (refl, refl)
     go true None = tt
     go false e = tt
 after_crew p s (Works w a reply) = go (slice_get s.seats w)
   where
     go : (found : Option Seat) → Crew s (option_and_then (after_seat p s w a reply) found)
     go None = tt
-    go (Some seat) = crew_on s (record s { seats = goes_to s w (decided_seat p reply seat) }) (row p (record s { seats = goes_to s w (decided_seat p reply seat) }) w (decided_seat p reply seat) reply a) (length-set s.seats w (decided_seat p reply seat))
+    go (Some seat) = crew_on s (record s { seats = goes_to s w (decided_seat p reply seat) }) (row p (record s { seats = goes_to s w (decided_seat p reply seat) }) w (decided_seat p reply seat) reply a) (length-set s.seats w (decided_seat p reply seat), refl)
         (row_crew p (record s { seats = goes_to s w (decided_seat p reply seat) }) w (decided_seat p reply seat) reply a)
 
-next_crew : (s : State) (found : Option State) → Crew s found → length (or_stays s found).seats ≡ length s.seats
-next_crew s None c = refl
+next_crew : (s : State) (found : Option State) → Crew s found → Crew s (Some (or_stays s found))
+next_crew s None c = (refl, refl)
 next_crew s (Some t) c = c
 
-run_crew : (p : PlanParts) (s : State) (list : List Step) → length (run p s list).seats ≡ length s.seats
-run_crew p s [] = refl
-run_crew p s (a ∷ list) = run_crew p (next p s a) list ∙ next_crew s (after p s a) (after_crew p s a)
+run_crew : (p : PlanParts) (s : State) (list : List Step) → Crew s (Some (run p s list))
+run_crew p s [] = (refl, refl)
+run_crew p s (a ∷ list) = crew_on s (next p s a) (Some (run p (next p s a) list)) (next_crew s (after p s a) (after_crew p s a)) (run_crew p (next p s a) list)
 
 pub all_workers : (p : PlanParts) (workers : ℕ) (list : List Step) → length (run p (opening p workers) list).seats ≡ workers
-all_workers p workers list = run_crew p (opening p workers) list ∙ length-replicate workers (record { task = Free; hand = None })
+all_workers p workers list = (run_crew p (opening p workers) list).0 ∙ length-replicate workers (record { task = Free; hand = None })
+
+pub opening_words : (p : PlanParts) (workers : ℕ) → length (opening p workers).locks ≡ length p.keys
+opening_words p workers = length-replicate (length p.keys) (Readers 0)

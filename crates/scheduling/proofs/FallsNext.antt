@@ -36,22 +36,22 @@ use Rattle.scheduling.proofs.FallsRanks.{decided_rank}
 use Rattle.scheduling.proofs.Falls.{row_falls}
 
 -- no action of the schedule is a free worker's look
-claim_acts : (n : ℕ) → Claim n ≡ Look → ⊥
+pub claim_acts : (n : ℕ) → Claim n ≡ Look → ⊥
 claim_acts n q = cc
 
-own_acts : (n : ℕ) → Own n ≡ Look → ⊥
+pub own_acts : (n : ℕ) → Own n ≡ Look → ⊥
 own_acts n q = cc
 
-add_acts : AddChild ≡ Look → ⊥
+pub add_acts : AddChild ≡ Look → ⊥
 add_acts q = cc
 
-done_acts : Done ≡ Look → ⊥
+pub done_acts : Done ≡ Look → ⊥
 done_acts q = cc
 
-opens_busy : (n : ℕ) (d : Opening) → Opens n d ≡ Free → ⊥
+pub opens_busy : (n : ℕ) (d : Opening) → Opens n d ≡ Free → ⊥
 opens_busy n d q = cc
 
-closes_busy : (n : ℕ) (d : Closing) → Closes n d ≡ Free → ⊥
+pub closes_busy : (n : ℕ) (d : Closing) → Closes n d ≡ Free → ⊥
 closes_busy n d q = cc
 
 taking_acts : (st : NodeStatus) (n : ℕ) → taking st n ≡ Look → ⊥

@@ -62,7 +62,7 @@ first_to p x None f c lt b = both_ways (in_batch p x c) (first_none (in_batch p 
 first_to p x (Some m) f c lt b = elim (cases_lt c m) [ inl less ↦ absurd (both_ways (in_batch p x c) ((first_some (in_batch p x) 0 (size p.tree) m f).none_before c (omega arith) less) b) | inr ge ↦ ge ]
 
 -- a task that is decided asks for no reply
-decided_asks : (p : PlanParts) (r : Reply) (t : Task) → is_asking (decided p r t) ≡ false
+pub decided_asks : (p : PlanParts) (r : Reply) (t : Task) → is_asking (decided p r t) ≡ false
 decided_asks p r (Opens n Awaiting) =
     by_cond (λ t. is_asking t ≡ false) (is_leaf (sort_of p.tree n) || not (is_successful (status_by (body_of p.tree n) r))) (Closes n (Ending (status_by (body_of p.tree n) r))) (Opens n (admit_from p n 0)) (λ _. refl) (λ _. by_found (first_from (in_batch p n) 0 (size p.tree)))
   where

@@ -63,7 +63,7 @@ one_ranked q (suc n) k lt =
       ]
     ]
 
-none_ranked : (p : PlanParts) (f k : ℕ) → next_spare p f k ≡ None → k < spare_count p f → ⊥
+pub none_ranked : (p : PlanParts) (f k : ℕ) → next_spare p f k ≡ None → k < spare_count p f → ⊥
 none_ranked p f k none lt =
     let r = one_ranked (is_spare_of p f) (size p.tree) k lt in
     let c = r.0 in
@@ -71,15 +71,15 @@ none_ranked p f k none lt =
     both_ways (is_spare_ranked p f k c) (first_none (is_spare_ranked p f k) 0 (size p.tree) none c (omega arith) r.1)
     (and_from (is_spare_of p f c) (rank p c == k) r.2 (eq-eqb (rank p c) k (ap (λ (x : ℕ). count_below (is_spare_of p x) c) ch.parent ∙ r.3)))
 
-registered_most : (p : PlanParts) (h : List Event) (f : ℕ) → registered_in p h f ≤ spare_count p f
+pub registered_most : (p : PlanParts) (h : List Event) (f : ℕ) → registered_in p h f ≤ spare_count p f
 registered_most p h f = count_le (λ c. is_spare_of p f c && has Registered c h) (is_spare_of p f) (size p.tree) (λ m lt q. (and_parts (is_spare_of p f m) (has Registered m h) q).0)
 
-none_some : (found : Option ℕ) → is_some found ≡ false → found ≡ None
+pub none_some : (found : Option ℕ) → is_some found ≡ false → found ≡ None
 none_some None q = refl
 none_some (Some c) q = absurd (false≢true (sym q))
 
 -- the plan's node is no spare
-spare_above : (t : Nodes) (c : ℕ) → is_spare_at t c ≡ true → nat_lt 0 c ≡ true
+pub spare_above : (t : Nodes) (c : ℕ) → is_spare_at t c ≡ true → nat_lt 0 c ≡ true
 spare_above t zero q = absurd (false≢true q)
 spare_above t (suc c) q = lt-ltb 0 (suc c) (omega arith)
 

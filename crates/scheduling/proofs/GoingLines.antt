@@ -8,7 +8,7 @@ use Rattle.scheduling.specs.Choices.{lock_of, key_place, key_at, mode_at, keys_c
 use Rattle.scheduling.proofs.KeysOnce.{same_number, own_key, key_placed, key_once as placed_once}
 
 module _ (p : PlanParts) (plan : IsPlan p) where
-  has_lock : (n i : ℕ) → i < keys_count p n → HasLock (held_of p n) (lock_of p n i).key (mode_at p n i)
+  pub has_lock : (n i : ℕ) → i < keys_count p n → HasLock (held_of p n) (lock_of p n i).key (mode_at p n i)
   has_lock n i lt = (i, own_key p n i lt)
 
   pub key_inside : (n i : ℕ) → i < keys_count p n → key_at p n i < length p.keys

@@ -55,7 +55,7 @@ pub record IsHolder (p : PlanParts) (g : ℕ → Stage) (k : ℕ) (mode : LockMo
   pub key : key_at p n place ≡ k
   pub in_mode : mode_at p n place ≡ mode
 
-some_holder : (p : PlanParts) (g : ℕ → Stage) (k : ℕ) (mode : LockMode) → 0 < holders p g k mode → (n : ℕ) × (place : ℕ) × IsHolder p g k mode n place
+pub some_holder : (p : PlanParts) (g : ℕ → Stage) (k : ℕ) (mode : LockMode) → 0 < holders p g k mode → (n : ℕ) × (place : ℕ) × IsHolder p g k mode n place
 unfolding holders keys_in
 some_holder p g k mode lt =
     let r = sum_some (λ n. keys_in p k mode n (picture p n (g n)).keys) (size p.tree) lt in

@@ -27,18 +27,18 @@ last_one q (suc n) lt =
     ]
 
 -- a child that isn't of the batch, and is no spare, comes after one on the same thread
-not_batch : (a same spare none : Bool) → a ≡ true → spare ≡ false → (a && (not spare && (not same || none))) ≡ false → (same ≡ true) × (none ≡ false)
+pub not_batch : (a same spare none : Bool) → a ≡ true → spare ≡ false → (a && (not spare && (not same || none))) ≡ false → (same ≡ true) × (none ≡ false)
 not_batch true true false false x y q = (refl, refl)
 not_batch true true false true x y q = absurd (false≢true (sym q))
 not_batch true false false none x y q = absurd (false≢true (sym q))
 not_batch true same true none x y q = absurd (false≢true (sym y))
 not_batch false same spare none x y q = absurd (false≢true x)
 
-not_zero : (n : ℕ) → (n == 0) ≡ false → 0 < n
+pub not_zero : (n : ℕ) → (n == 0) ≡ false → 0 < n
 not_zero zero q = absurd (false≢true (sym q))
 not_zero (suc n) q = omega arith
 
-owed_hidden : (spare : Bool) → owed spare Hidden false ≡ true → spare ≡ false
+pub owed_hidden : (spare : Bool) → owed spare Hidden false ≡ true → spare ≡ false
 owed_hidden true q = absurd (false≢true q)
 owed_hidden false q = refl
 

@@ -56,7 +56,7 @@ module _ (p : PlanParts) (n : ℕ) where
   giving_keys locks zero le = tt
   giving_keys locks (suc i) le = (omega arith, le)
 
-word_is : (v : LockWord) → same_word v v ≡ true
+pub word_is : (v : LockWord) → same_word v v ≡ true
 word_is (Readers n) = eq-eqb n n refl
 word_is Written = refl
 

@@ -30,7 +30,7 @@ use Rattle.scheduling.proofs.GoingTurns.{claims_calm}
 pub maker_leaf : Maker ≡ Leaf → ⊥
 maker_leaf q = cc
 
-some_ready : (o : Option ℕ) (w : ℕ) → Ready o ≡ Ready (Some w) → o ≡ Some w
+pub some_ready : (o : Option ℕ) (w : ℕ) → Ready o ≡ Ready (Some w) → o ≡ Some w
 some_ready o w q = same_ready o (Some w) q
 
 pub word_inside : (l : List NodeStatus) (x : ℕ) → (word_of l x ≡ Hidden → ⊥) → x < length l

@@ -93,7 +93,7 @@ success_is Successful q = refl
 success_is Aborted q = absurd (false≢true q)
 success_is Failed q = absurd (false≢true q)
 
-not_false : (b : Bool) → not b ≡ false → b ≡ true
+pub not_false : (b : Bool) → not b ≡ false → b ≡ true
 not_false true q = refl
 not_false false q = absurd (false≢true (sym q))
 
