@@ -1,0 +1,3 @@
+-- What only proofs and the crates above need.
+pub mod Progress
+pub mod Live
