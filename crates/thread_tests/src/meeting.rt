@@ -1,7 +1,7 @@
 //! Bodies that run side by side, and bodies that must not.
 
 use crate::acting::Act;
-use crate::running::run_of_suite;
+use crate::running::{WIDE, run_of_suite};
 use std::alloc::Global;
 use std::sync::Wait;
 use std::test::Fail;
@@ -52,9 +52,10 @@ fn ends_well<R: Threads + Wait + Sync>(
     suite: &str,
     act: Act,
     workers: u32,
+    ring: u32,
     events: usize,
 ) -> Result<bool, Fail> {
-    let said = run_of_suite(rt, alloc, suite, false, act, workers)?;
+    let said = run_of_suite(rt, alloc, suite, false, act, workers, ring)?;
     let all = said.as_str();
     let (told, rest) = all.split_once("unused ").unwrap_or((all, ""));
     Ok(rest == "asked 0 told 0" && told.split_whitespace().count() == events && !told.contains('!'))
@@ -74,7 +75,7 @@ fn keeps_apart<R: Threads + Wait + Sync>(
     alloc: Global,
     workers: u32,
 ) -> Result<bool, Fail> {
-    let said = run_of_suite(rt, alloc, ISOLATED, false, Act::Ends, workers)?;
+    let said = run_of_suite(rt, alloc, ISOLATED, false, Act::Ends, workers, WIDE)?;
     let all = said.as_str();
     let first = stands_before(all, "-2 ", "+4 ") && stands_before(all, "-2 ", "+5 ");
     let last = stands_before(all, "-4 ", "+2 ") && stands_before(all, "-5 ", "+2 ");
@@ -84,11 +85,16 @@ fn keeps_apart<R: Threads + Wait + Sync>(
 /// Whether bodies meet that may, and those of one key and an isolated one do not.
 fn all_end_well<R: Threads + Wait + Sync>(rt: &R, alloc: Global) -> Result<bool, Fail> {
     Ok(
-        ends_well(rt, alloc, TWO, Act::Meets(3, 4), 2, 10)?
-            && ends_well(rt, alloc, THREE, Act::Meets(3, 5), 3, 12)?
-            && ends_well(rt, alloc, WRITERS, Act::Waits, 2, 10)?
+        ends_well(rt, alloc, TWO, Act::Meets(3, 4), 2, WIDE, 10)?
+            && ends_well(rt, alloc, THREE, Act::Meets(3, 5), 3, WIDE, 12)?
+            && ends_well(rt, alloc, WRITERS, Act::Waits, 2, WIDE, 10)?
             && keeps_apart(rt, alloc, 4)?,
     )
+}
+
+/// Whether two bodies meet where three workers hand each event through a ring of one word.
+pub(crate) fn two_end_well<R: Threads + Wait + Sync>(rt: &R, alloc: Global) -> Result<bool, Fail> {
+    ends_well(rt, alloc, TWO, Act::Meets(3, 4), 3, 1, 10)
 }
 
 #[test]

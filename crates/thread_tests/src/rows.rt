@@ -1,7 +1,7 @@
 //! Runs whose events stand in one order, whoever takes the nodes.
 
 use crate::acting::Act;
-use crate::running::run_of_suite;
+use crate::running::{WIDE, run_of_suite};
 use std::alloc::Global;
 use std::sync::Wait;
 use std::test::Fail;
@@ -86,42 +86,59 @@ engine e
     after fail late
 ";
 
-/// Whether this row's suite, run by so many workers, does what stands in its first line.
+/// Whether this row's suite, run by so many workers with a ring of so many words, does what stands in its first line.
 fn goes_as_wanted<R: Threads + Wait + Sync>(
     rt: &R,
     alloc: Global,
     row: &str,
     workers: u32,
+    ring: u32,
 ) -> Result<bool, Fail> {
     let (wanted, suite) = row.split_once('\n').unwrap_or((row, ""));
     let (fail_fast, wanted) = match wanted.strip_prefix("fail-fast ") {
         Some(rest) => (true, rest),
         None => (false, wanted),
     };
-    let said = run_of_suite(rt, alloc, suite, fail_fast, Act::Ends, workers)?;
+    let said = run_of_suite(rt, alloc, suite, fail_fast, Act::Ends, workers, ring)?;
     Ok(said.as_str() == wanted)
 }
 
-/// Whether all rows do so, by so many workers.
+/// Whether all rows do so.
 fn all_go_as_wanted<R: Threads + Wait + Sync>(
     rt: &R,
     alloc: Global,
     workers: u32,
+    ring: u32,
 ) -> Result<bool, Fail> {
     for row in ROWS.split("==\n") {
-        if !goes_as_wanted(rt, alloc, row, workers)? {
+        if !goes_as_wanted(rt, alloc, row, workers, ring)? {
             return Ok(false);
         }
     }
     Ok(true)
 }
 
+/// Whether all rows do so whoever takes the nodes, with a ring of so many words.
+fn all_go_alike<R: Threads + Wait + Sync>(rt: &R, alloc: Global, ring: u32) -> Result<bool, Fail> {
+    Ok(
+        all_go_as_wanted(rt, alloc, 1, ring)?
+            && all_go_as_wanted(rt, alloc, 2, ring)?
+            && all_go_as_wanted(rt, alloc, 4, ring)?,
+    )
+}
+
 #[test]
 fn runs_go_alike_whatever_the_number_of_workers(rt: HostRuntime) -> Result<(), Fail> {
+    for _round in 0..100 {
+        assert!(rt; all_go_alike(&rt, rt.alloc(), WIDE)?);
+    }
+    Ok(())
+}
+
+#[test]
+fn runs_go_alike_in_a_ring_of_one_word(rt: HostRuntime) -> Result<(), Fail> {
     for _round in 0..10 {
-        assert!(rt; all_go_as_wanted(&rt, rt.alloc(), 1)?);
-        assert!(rt; all_go_as_wanted(&rt, rt.alloc(), 2)?);
-        assert!(rt; all_go_as_wanted(&rt, rt.alloc(), 4)?);
+        assert!(rt; all_go_alike(&rt, rt.alloc(), 1)?);
     }
     Ok(())
 }

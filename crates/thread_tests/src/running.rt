@@ -24,6 +24,9 @@ use worker_pool::{Report, RunFault, run_plan};
 /// More nodes than a plan of these tests has.
 const FLAGS: usize = 16;
 
+/// A ring in which all events of a plan of these tests have room at once.
+pub(crate) const WIDE: u32 = 1024;
+
 /// Keeps events, counts the bytes of their texts, and sets the flag of each node that starts.
 #[derive(Drop)]
 pub(crate) struct Watcher {
@@ -151,15 +154,16 @@ fn run_before<R: Threads + Wait + Sync>(
     plan: Plan,
     jobs: Jobs<Actor>,
     workers: u32,
+    ring: u32,
     mut audience: Audience,
     board: &Board,
 ) -> Result<String, AllocError>
-    requires { JobsMayAnswer replies_left (run_of plan workers 1 jobs.items) }
+    requires { JobsMayAnswer replies_left (run_of plan workers ring jobs.items) }
 {
     if !audience.fresh() {
         return Ok(String::new(alloc));
     }
-    let ran = run_plan(rt, alloc, plan, jobs, workers, 1, &mut audience);
+    let ran = run_plan(rt, alloc, plan, jobs, workers, ring, &mut audience);
     said(alloc, &ran, board)
 }
 
@@ -170,15 +174,16 @@ fn run_watched<R: Threads + Wait + Sync>(
     plan: Plan,
     jobs: Jobs<Actor>,
     workers: u32,
+    ring: u32,
     watcher: Watcher,
     board: &Board,
 ) -> Result<String, AllocError>
-    requires { JobsMayAnswer replies_left (run_of plan workers 1 jobs.items) }
+    requires { JobsMayAnswer replies_left (run_of plan workers ring jobs.items) }
 {
     let mut listeners: Vec<Box<dyn Listener>> = Vec::new(alloc);
     listeners.push(Box::new(alloc, watcher)?)?;
     match Audience::new(listeners) {
-        Ok(audience) => run_before(rt, alloc, plan, jobs, workers, audience, board),
+        Ok(audience) => run_before(rt, alloc, plan, jobs, workers, ring, audience, board),
         Err(_) => Ok(String::new(alloc)),
     }
 }
@@ -201,8 +206,8 @@ pub(crate) fn one_watcher(
     })
 }
 
-/// What happens in a run of this suite by so many workers, all jobs of which do this: the events, the numbers of the jobs that
-/// were not used, and how often jobs were asked for a dynamic test.
+/// What happens in a run of this suite by so many workers with a ring of so many words, all jobs of which do this: the events,
+/// the numbers of the jobs that were not used, and how often jobs were asked for a dynamic test.
 pub(crate) fn run_of_suite<R: Threads + Wait + Sync>(
     rt: &R,
     alloc: Global,
@@ -210,10 +215,11 @@ pub(crate) fn run_of_suite<R: Threads + Wait + Sync>(
     fail_fast: bool,
     act: Act,
     workers: u32,
+    ring: u32,
 ) -> Result<String, Fail> {
     let (plan, scripts) = staged(alloc, text, fail_fast)?;
     let board = Arc::new(alloc, Board::new(alloc, FLAGS)?)?;
     let watcher = one_watcher(alloc, act, &board)?;
     let jobs = cast(alloc, &plan, scripts.as_slice(), act, &board)?;
-    Ok(run_watched(rt, alloc, plan, jobs, workers, watcher, &board)?)
+    Ok(run_watched(rt, alloc, plan, jobs, workers, ring, watcher, &board)?)
 }

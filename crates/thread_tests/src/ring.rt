@@ -1,0 +1,145 @@
+//! One worker and the dispatcher, both on the calling thread, at a ring of one word; and rings that are refused.
+
+ghost use Rattle.std.specs.Prelude.{[]};
+ghost use Rattle.run_table.specs.Seats.{IsSeatOf};
+
+use crate::acting::Act;
+use crate::meeting::two_end_well;
+use crate::running::run_of_suite;
+use descriptor::{Kind, Mode, Node, NodeId, TreeBuilder};
+use plan_events::{Event, EventKind, Job, Outcome, Pull, Status};
+use resource_locks::Plan;
+use run_table::{DispatcherSeat, RunTable, WorkerSeat};
+use std::alloc::Global;
+use std::sync::Wait;
+use std::test::Fail;
+use std::thread::Threads;
+use unique_id::{Text, UniqueId};
+
+/// A job. No plan here has one.
+#[derive(Drop)]
+struct AnyJob;
+
+impl Job for AnyJob {
+    ghost answers = { λ _. [] };
+
+    fn next(&mut self) -> Pull {
+        Pull::End
+    }
+
+    fn run(&mut self) -> Outcome {
+        Outcome {
+            status: Status::Successful,
+            text: Text::empty(),
+        }
+    }
+}
+
+/// A plan of one engine, with nothing below it.
+fn engine_plan(alloc: Global) -> Result<Plan, Fail> {
+    let mut builder = TreeBuilder::new(alloc)?;
+    let id = UniqueId::of(alloc, "engine", "e")?;
+    let name = Text::new(alloc, "e")?;
+    builder.add(
+        alloc,
+        NodeId::ROOT,
+        Node::plain(alloc, id, name, Kind::Container),
+    )?;
+    let tree = builder.finish();
+    let modes = vec![in alloc; Mode::SameThread; tree.len()]?;
+    Ok(Plan::of(alloc, tree, modes)?)
+}
+
+/// Whether it is the start of this node.
+fn is_start(event: Option<Event>, node: u16) -> bool {
+    match event {
+        Some(event) => {
+            let kind = event.kind;
+            let started = event.node;
+            matches!(kind, EventKind::Started) && started == NodeId::new(node)
+        }
+        None => false,
+    }
+}
+
+/// Whether the worker comes to the engine's start, with the plan's start shown in the only word of the ring.
+fn comes_to_the_engine(table: &RunTable<AnyJob>, worker: &mut WorkerSeat<AnyJob>) -> bool
+    requires { IsSeatOf table.now.table worker.old.seat }
+    ensures { IsSeatOf table.now.table worker.new.seat }
+{
+    worker.claim(table, NodeId::ROOT).is_ok()
+        && worker.draw(table).is_ok()
+        && worker.show(table).is_ok()
+        && worker.admit(table).is_ok()
+        && worker.done(table).is_ok()
+        && worker.own(table, NodeId::new(1)).is_ok()
+        && worker.draw(table).is_ok()
+}
+
+/// Whether the engine's start has room once the plan's start is read and that is told, and not before.
+fn room_is_made(
+    table: &RunTable<AnyJob>,
+    worker: &mut WorkerSeat<AnyJob>,
+    desk: &mut DispatcherSeat<AnyJob>,
+) -> bool
+    requires worker { IsSeatOf table.now.table worker.old.seat }
+    requires desk { IsSeatOf table.now.table desk.old.seat }
+{
+    let came = comes_to_the_engine(table, worker);
+    let full = worker.room(table) == Ok(false);
+    let early = worker.show(table).is_err();
+    let first = is_start(desk.read(table), 0);
+    let untold = worker.room(table) == Ok(false);
+    let again = desk.read(table).is_none();
+    desk.advance(table);
+    let free = worker.room(table) == Ok(true);
+    let shown = worker.show(table).is_ok();
+    let second = is_start(desk.read(table), 1);
+    let last = desk.read(table).is_none();
+    came && full && early && first && untold && again && free && shown && second && last
+}
+
+/// Whether it is so at a table with a ring of one word.
+fn room_is_made_in_one_word(alloc: Global) -> Result<bool, Fail> {
+    let plan = engine_plan(alloc)?;
+    let Ok((table, mut desk)) = RunTable::<AnyJob>::prepare(alloc, plan, Vec::new(alloc), 1, 1)
+    else {
+        return Ok(false);
+    };
+    let Some(mut worker) = desk.split(&table) else {
+        return Ok(false);
+    };
+    Ok(room_is_made(&table, &mut worker, &mut desk))
+}
+
+/// Whether a run by so many workers with a ring of so many words is refused so.
+fn is_refused<R: Threads + Wait + Sync>(
+    rt: &R,
+    alloc: Global,
+    workers: u32,
+    ring: u32,
+    wanted: &str,
+) -> Result<bool, Fail> {
+    let said = run_of_suite(rt, alloc, "engine e\n", false, Act::Ends, workers, ring)?;
+    Ok(said.as_str() == wanted)
+}
+
+/// Whether other numbers of workers and other rings are refused, the workers first.
+fn others_are_refused<R: Threads + Wait + Sync>(rt: &R, alloc: Global) -> Result<bool, Fail> {
+    Ok(
+        is_refused(rt, alloc, 0, 0, "refused 60")?
+            && is_refused(rt, alloc, 65, 0, "refused 61")?
+            && is_refused(rt, alloc, 1, 0, "refused 71")?
+            && is_refused(rt, alloc, 1, 16_385, "refused 71")?,
+    )
+}
+
+#[test]
+fn room_is_made_by_reading(rt: HostRuntime) -> Result<(), Fail> {
+    assert!(rt; room_is_made_in_one_word(rt.alloc())?);
+    assert!(rt; others_are_refused(&rt, rt.alloc())?);
+    for _round in 0..10 {
+        assert!(rt; two_end_well(&rt, rt.alloc())?);
+    }
+    Ok(())
+}
