@@ -18,14 +18,12 @@ use Rattle.scheduling.specs.declared.lock_word.LockWord.TheVariants.{Readers}
 use Rattle.scheduling.specs.declared.seat.Seat.{Seat}
 use Rattle.scheduling.specs.Runs.{first_status, opening}
 use Rattle.scheduling.specs.State.{State}
-use Rattle.scheduling.proofs.FirstState.{opening_is}
 use Rattle.scheduling.proofs.Headline.{core_plan}
-use Rattle.scheduling.proofs.Placing.{opening_placed}
 use Rattle.scheduling.proofs.Counters.{counters_are}
-use Rattle.scheduling.specs.Inside.Invariant.{IsKept}
-use Rattle.scheduling.specs.Shown.{IsPlaced}
+use Rattle.never_stuck.specs.Inside.Live.{IsLive}
+use Rattle.never_stuck.proofs.Reach.{live_opening}
 use Rattle.sched_core.specs.declared.machine.Machine.{Machine}
-use Rattle.sched_core.specs.Replies.{replies_of}
+use Rattle.sched_core.specs.Replies.{reply_of, replies_of}
 use Rattle.sched_core.specs.Inside.Fields.{state_of, HasRoom, IsSound}
 use Rattle.scheduling.specs.Inside.Start.{guard_and_children, free_seat}
 
@@ -55,12 +53,11 @@ starts p tree workers statuses counters results locks seats published shown a b 
         → record { statuses = statuses; counters = counters; results = results; locks = locks; cancel = false; seats = seats; published = published; shown = shown; given = take 0 published } ≡ opening p workers
     alike q1 q2 q3 q4 q5 q6 q7 = λ j. record { statuses = q1 j; counters = q2 j; results = q3 j; locks = q4 j; cancel = false; seats = q5 j; published = q6 j; shown = q7 j; given = [] }
 
-pub sound_start : (p : PlanParts) (answers : List (ℕ × Reply)) (m : Machine) (workers : ℕ) → IsPlan p → workers ≤ 64 → m.workers ≡ workers → m.given ≡ 0 → state_of m ≡ opening p workers → HasRoom p m → IsSound p answers m
-sound_start p answers m workers plan few count none is room = record {
+pub sound_start : (p : PlanParts) (answers : List (ℕ × Reply)) (m : Machine) (workers : ℕ) → IsPlan p → 0 < workers → workers ≤ 64 → m.workers ≡ workers → m.given ≡ 0 → state_of m ≡ opening p workers → HasRoom p m → IsSound p answers m
+sound_start p answers m workers plan some few count none is room = record {
   plan = plan;
   workers = ap (λ (s : State). length s.seats) is ∙ length-replicate workers free_seat ∙ sym count;
-  kept = subst (IsKept p (replies_of answers)) (sym is) (opening_is p (core_plan p plan.tree) (replies_of answers) workers few);
-  placed = subst IsPlaced (sym is) (opening_placed p workers);
+  live = subst (IsLive p (replies_of answers) (reply_of answers)) (sym is) (live_opening p (core_plan p plan.tree) (replies_of answers) (reply_of answers) (λ job. refl) workers some few);
   given = omega (arith, none);
   room = room;
 }

@@ -51,28 +51,28 @@ one_more left lt = omega (arith, lt)
 
 module _ (p : PlanParts) (answers : List (ℕ × Reply)) (m : Machine) (sound : IsSound p answers m) (w : ℕ) (seat : Seat) (is : slice_get m.seats.items w ≡ Some seat) (a : Action) where
   range : InRange p (state_of m) w (decided_seat p (reply_for p answers seat) seat)
-  range = ranges_decided p sound.plan (replies_of answers) (state_of m) sound.kept sound.placed w a (reply_for p answers seat) seat (replied p answers (state_of m) w a seat is) is
+  range = ranges_decided p sound.plan (replies_of answers) (state_of m) sound.live.kept sound.live.placed w a (reply_for p answers seat) seat (replied p answers (state_of m) w a seat is) is
 
   has_place : draws (decided_seat p (reply_for p answers seat) seat).task ≡ true → HasPlace m
   has_place q =
       let t = draws_some (state_of m) w (decided_seat p (reply_for p answers seat) seat) (decided_seat p (reply_for p answers seat) seat).task q in
-      let room = draw_room p sound.plan (replies_of answers) (state_of m) sound.kept w a (reply_for p answers seat) seat (replied p answers (state_of m) w a seat is) is t.0 t.1 in
+      let room = draw_room p sound.plan (replies_of answers) (state_of m) sound.live.kept w a (reply_for p answers seat) seat (replied p answers (state_of m) w a seat is) is t.0 t.1 in
       record {
         published = omega (arith, room, sound.room.published);
-        shown = (let as_many = sound.kept.1.shown_len in omega (arith, room, sound.room.shown, as_many));
+        shown = (let as_many = sound.live.kept.1.shown_len in omega (arith, room, sound.room.shown, as_many));
         given = omega (arith, sound.given);
       }
 
   pub bounds : InBounds p m w (decided_seat p (reply_for p answers seat) seat)
   bounds = record {
     place = slice_get_within m.seats.items w seat is;
-    few = (let lt = slice_get_within m.seats.items w seat is in let few = sound.kept.1.workers_few in omega (arith, lt, few));
-    statuses = sound.kept.1.statuses_len;
-    counters = sound.kept.1.counters_len;
-    results = sound.kept.1.results_len;
+    few = (let lt = slice_get_within m.seats.items w seat is in let few = sound.live.kept.1.workers_few in omega (arith, lt, few));
+    statuses = sound.live.kept.1.statuses_len;
+    counters = sound.live.kept.1.counters_len;
+    results = sound.live.kept.1.results_len;
     opens = λ n d e. range.inside n (ap subject e);
     closes = λ n d e. range.inside n (ap subject e);
-    hand = λ h e. record { inside = range.hand h e; factory = range.factory h e; counter = subst (λ k. h.factory < k) (sym sound.kept.1.counters_len) (range.hand h e); few = range.counter h e };
+    hand = λ h e. record { inside = range.hand h e; factory = range.factory h e; counter = subst (λ k. h.factory < k) (sym sound.live.kept.1.counters_len) (range.hand h e); few = range.counter h e };
     registered = range.registered;
     room = λ q. has_place q;
     opening = λ n i d e q. (let x = opening_named w n i d q in range.shown i x.0 (ap (named w) e ∙ x.1));
@@ -90,4 +90,4 @@ module _ (p : PlanParts) (answers : List (ℕ × Reply)) (m : Machine) (sound : 
 
   -- the same of the task that is not decided yet
   pub undecided : InRange p (state_of m) w seat
-  undecided = ranges p sound.plan (replies_of answers) (state_of m) sound.kept sound.placed w seat is
+  undecided = ranges p sound.plan (replies_of answers) (state_of m) sound.live.kept sound.live.placed w seat is

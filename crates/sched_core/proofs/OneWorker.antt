@@ -128,7 +128,7 @@ module _ (p : PlanParts) (answers : List (ℕ × Reply)) (old new : Machine) (so
   less_left =
       let t = taken in
       subst (λ (s : State). work_left p s < work_left p (state_of old)) (sym t.is_new)
-      (next_falls p (core_plan p sound.plan.tree) (replies_of answers) (state_of old) t.to seat a (reply_for p answers seat) sound.kept (replied p answers (state_of old) 0 a seat at) at (clear p answers old sound going.0 going.1 seat at seat.task refl) next t.leads)
+      (next_falls p (core_plan p sound.plan.tree) (replies_of answers) (state_of old) t.to seat a (reply_for p answers seat) sound.live.kept (replied p answers (state_of old) 0 a seat at) at (clear p answers old sound going.0 going.1 seat at seat.task refl) next t.leads)
 
   pub none_below : (lowest found : ℕ) → NoneOpenBelow (state_of old) lowest
       → ((decided_seat p (reply_for p answers seat) seat).task ≡ Free → seat.hand ≡ None → IsFirstOpen (state_of old) found)
@@ -165,7 +165,7 @@ module _ (p : PlanParts) (answers : List (ℕ × Reply)) (m : Machine) (sound : 
   pub finds_open : (answer : Reply) → decided p answer seat.task ≡ Free → seat.hand ≡ None → status_at (state_of m) 0 ≢ Settled → (n : ℕ) × (n < length m.statuses.items) × (is_open (status_at (state_of m) n) ≡ true)
   finds_open answer free empty running =
       let found = going_open p (core_plan p sound.plan.tree) (replies_of answers) (state_of m) going.0 going.1 seat only_seat (decided_free p answer seat.task free) empty running in
-      (found.0, (let lt = found.1 in let len = sound.kept.1.statuses_len in omega (arith, lt, len)), found.2)
+      (found.0, (let lt = found.1 in let len = sound.live.kept.1.statuses_len in omega (arith, lt, len)), found.2)
 
 -- What the schedule's step of the worker leaves, as the code takes it: by the answer that it was told.
 pub record IsActed (p : PlanParts) (answers : List (ℕ × Reply)) (old new : Machine) (task : Task) (hand : Option Hand) : Type 0 where

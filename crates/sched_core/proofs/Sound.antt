@@ -14,14 +14,12 @@ use Rattle.scheduling.specs.Rows.{Works, Dispatches, after, after_seat}
 use Rattle.scheduling.specs.Rows.{Step as Move}
 use Rattle.scheduling.specs.Runs.{IsReplied}
 use Rattle.scheduling.specs.State.{State}
-use Rattle.scheduling.specs.Inside.Invariant.{IsKept}
-use Rattle.scheduling.specs.Shown.{IsPlaced}
 use Rattle.scheduling.proofs.Crew.{Crew, after_crew}
 use Rattle.scheduling.proofs.Headline.{core_plan}
-use Rattle.scheduling.proofs.Placing.{step_placed}
-use Rattle.scheduling.proofs.Steps.{after_keeps}
+use Rattle.never_stuck.specs.Inside.Live.{IsLive}
+use Rattle.never_stuck.proofs.Reach.{live_step}
 use Rattle.sched_core.specs.declared.machine.Machine.{Machine}
-use Rattle.sched_core.specs.Replies.{replies_of}
+use Rattle.sched_core.specs.Replies.{reply_of, replies_of}
 use Rattle.sched_core.specs.Steps.{reply_awaited, reply_for, worker_step, after_step}
 use Rattle.sched_core.specs.Inside.Fields.{state_of, IsSound, IsAnswered, KeepsRoom, HasRoom}
 
@@ -89,12 +87,11 @@ sound_answered p answers old new step result sound is = go (after_step p answers
     go None q r = subst (IsSound p answers) (sym r.1) sound
     go (Some t) q r =
         let move = step_moves p answers (state_of old) t step q in
-        let crew = after_crew p (state_of old) move.move in
+        let crew : Crew (state_of old) (Some t) = subst (Crew (state_of old)) move.leads (after_crew p (state_of old) move.move) in
         record {
           plan = sound.plan;
-          workers = (let more = subst (λ o. Crew (state_of old) o) move.leads crew in let w = sound.workers in let v = r.2.workers in ap (λ (s : State). length s.seats) r.1 ∙ more ∙ w ∙ sym v);
-          kept = subst (IsKept p (replies_of answers)) (sym r.1) (after_keeps p (core_plan p sound.plan.tree) (replies_of answers) (state_of old) t move.move sound.kept move.replied move.leads);
-          placed = subst IsPlaced (sym r.1) (step_placed p (state_of old) t move.move sound.placed move.leads);
+          workers = (let w = sound.workers in let v = r.2.workers in ap (λ (s : State). length s.seats) r.1 ∙ crew.0 ∙ w ∙ sym v);
+          live = subst (IsLive p (replies_of answers) (reply_of answers)) (sym r.1) (live_step p (core_plan p sound.plan.tree) (replies_of answers) (reply_of answers) (λ job. refl) (state_of old) t move.move sound.live move.replied move.leads);
           given = r.2.given sound.given;
           room = kept_room p old new r.2 sound.room;
         }

@@ -1,5 +1,5 @@
 -- What a trace of the machine tells: each worker's part, and the headline.
-use Rattle.std.proofs.Common.{◌≡◌, ◌∙◌, ◌<◌, ◌+◌, ℕ, List, [], length, Some, Result, Ok, Err, IfOk, slice_get, refl, sym, ap, subst, arith}
+use Rattle.std.proofs.Common.{◌≡◌, ◌∙◌, ◌<◌, ◌+◌, ℕ, List, [], length, Some, Result, Ok, Err, IfOk, OnOk, slice_get, refl, sym, ap, subst, arith}
 use Rattle.std.proofs.lemmas.Option.{same_Some, slice_get-get_or, slice_get_within}
 use Rattle.plan_events.specs.declared.event.Event.{Event}
 use Rattle.plan_events.specs.declared.outcome.Reply.{Reply}
@@ -42,7 +42,7 @@ each_part lists workers seats h are same w lt =
 -- the headline, of a trace of a sound machine
 module _ (p : PlanParts) (answers : List (ℕ × Reply)) (m : Machine) (sound : IsSound p answers m) (workers passed : ℕ) (count : m.workers ≡ workers) (t : Trace) (is : IsTraceOf (state_of m) passed t) where
   right_state : IsStateRight p (replies_of answers) (length m.seats.items) (state_of m)
-  right_state = kept_right p (core_plan p sound.plan.tree) (replies_of answers) (state_of m) sound.kept sound.placed
+  right_state = kept_right p (core_plan p sound.plan.tree) (replies_of answers) (state_of m) sound.live.kept sound.live.placed
 
   given_first : IsPrefix (state_of m).given m.published.items
   given_first = right_state.given
@@ -79,6 +79,10 @@ pub if_ok : {T E : Type 0} {P Q : T → Type 0} (r : Result T E) → ((x : T) �
 if_ok (Ok x) f h = f x h
 if_ok (Err e) f h = tt
 
+pub on_ok : {T E P : Type 0} (r : Result T E) → P → OnOk r P
+on_ok (Ok x) fact = fact
+on_ok (Err e) fact = tt
+
 pub both_ok : {T E : Type 0} {P Q R : T → Type 0} (r : Result T E) → ((x : T) → P x → Q x → R x) → IfOk r P → IfOk r Q → IfOk r R
 both_ok (Ok x) f h k = f x h k
 both_ok (Err e) f h k = tt
@@ -97,7 +101,7 @@ whole_trace p answers m sound going passed t is first drives =
     let end = going_end p (core_plan p sound.plan.tree) (replies_of answers) (state_of m) going.0 going.1 ended.1 ended.0 in
     record {
       complete = subst (λ (h : List Event). IsComplete p h) (sym is.published) end.1.0;
-      ends = subst (λ (h : List Event). EndsInPlan h) (sym is.published) (ends_in_plan p (plan_tree p.tree sound.plan.tree) (replies_of answers) (length m.seats.items) m.published.items sound.kept.1.published.legal end.1.1.0 end.1.1.1);
+      ends = subst (λ (h : List Event). EndsInPlan h) (sym is.published) (ends_in_plan p (plan_tree p.tree sound.plan.tree) (replies_of answers) (length m.seats.items) m.published.items sound.live.kept.1.published.legal end.1.1.0 end.1.1.1);
       given = is.given ∙ end.0 ∙ sym is.published;
     }
 

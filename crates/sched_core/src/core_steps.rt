@@ -1,6 +1,6 @@
 //! The core of a run, a step at a time.
 
-ghost use Rattle.std.specs.Prelude.{◌≡◌, ◌≢◌, ◌≤◌, Some, None, IfOk, IfErr, length};
+ghost use Rattle.std.specs.Prelude.{◌≡◌, ◌≢◌, ◌<◌, ◌≤◌, Some, None, IfOk, IfErr, length};
 ghost use Rattle.sched_core.specs.Snapshot.{workers_refusal};
 
 use crate::answers::Answers;
@@ -17,7 +17,7 @@ const MOST_WORKERS: u32 = 64;
 
 /// The number of workers, if there may be so many.
 pub(crate) fn worker_count(workers: u32) -> Result<u8, CoreFault>
-    ensures count { IfOk result (λ count. (count ≡ workers) × (count ≤ 64) × (workers_refusal workers ≡ None)) }
+    ensures count { IfOk result (λ count. (count ≡ workers) × (0 < count) × (count ≤ 64) × (workers_refusal workers ≡ None)) }
     ensures refused { IfErr result (λ fault. (workers_refusal workers ≡ Some fault) × (fault ≢ CoreFault.NoMemory)) }
 {
     if workers == 0 {
@@ -54,6 +54,7 @@ impl Core {
     ghost use Rattle.scheduling.specs.Runs.{opening};
     ghost use Rattle.sched_core.specs.Snapshot.{stepped, IsStep};
     ghost use Rattle.scheduling.specs.Shown.{IsShown};
+    ghost use Rattle.sched_core.specs.Endings.{IsNotStuck};
     ghost use Rattle.sched_core.specs.Traces.{IsTraceOf, IsRightTrace, KeepsApart, HasExpected};
 
     /// The run of a plan by so many workers, before its first step. It makes room for every event, so that no step
@@ -90,6 +91,8 @@ impl Core {
         ensures shown { IfOk result (λ trace. IsShown self.now.state trace.given.items) }
         ensures apart { IfOk result (λ trace. KeepsApart self.now.plan trace) }
         ensures expected { IfOk result (λ trace. HasExpected self.now.plan self.now.answers trace) }
+        // Whatever the steps so far were, further ones bring the run to its end.
+        ensures never_stuck { IsNotStuck self.now.plan self.now.answers self.now.state }
     {
         self.machine.trace(alloc, 0)
     }

@@ -41,7 +41,8 @@ pub(crate) struct Machine {
 impl Machine {
     /// The opening state, with room for every event of the plan.
     pub(crate) fn new(alloc: Global, plan: &Plan, workers: u8) -> Result<Machine, AllocError>
-        requires { workers ≤ 64 }
+        requires some { 0 < workers }
+        requires few { workers ≤ 64 }
         ensures opening { IfOk result (λ m. state_of m ≡ opening plan.now workers) }
         ensures workers { IfOk result (λ m. m.workers ≡ workers) }
         ensures sound { IfOk result (λ m. (answers : List (ℕ × Reply)) → IsSound plan.now answers m) }

@@ -1,12 +1,12 @@
 //! Whole runs: of a list of steps, and of the fixed schedule.
 
-ghost use Rattle.std.specs.Prelude.{◌≡◌, ◌≢◌, Some, None, IfOk, IfErr, OnOk};
+ghost use Rattle.std.specs.Prelude.{◌≡◌, ◌≢◌, List, Some, None, IfOk, IfErr, OnOk};
 ghost use Rattle.scheduling.specs.LinkLists.{AreTurns};
 ghost use Rattle.scheduling.specs.Runs.{opening};
 ghost use Rattle.scheduling.specs.Shown.{IsShown};
 ghost use Rattle.sched_core.specs.Snapshot.{workers_refusal};
 ghost use Rattle.sched_core.specs.Runs.{run, passed_over};
-ghost use Rattle.sched_core.specs.Endings.{NeverStuck};
+ghost use Rattle.sched_core.specs.Endings.{IsNotStuck};
 ghost use Rattle.sched_core.specs.Traces.{IsTraceOf, IsRightTrace, IsDriven, IsOnlyDriven, IsShownAtEnd, IsWhole, KeepsApart, HasExpected, IsOnlyHistory};
 ghost use Rattle.sched_core.specs.Inside.Fields.{state_of, IsSound};
 
@@ -54,7 +54,7 @@ pub fn run_steps(
     ensures apart { IfOk result (λ trace. KeepsApart plan.now trace) }
     ensures expected { IfOk result (λ trace. HasExpected plan.now answers.now trace) }
     // Whatever the steps were, further ones bring the run to its end.
-    ensures never_stuck { OnOk result (NeverStuck plan.now answers.now workers steps.now) }
+    ensures never_stuck { OnOk result (IsNotStuck plan.now answers.now (run plan.now answers.now (opening plan.now workers) steps.now)) }
     ensures accepted { IfOk result (λ _. workers_refusal workers ≡ None) }
     ensures refused { IfErr result (λ fault. fault ≢ CoreFault.NoMemory → workers_refusal workers ≡ Some fault) }
     ensures no_memory { IfErr result (λ fault. fault ≡ CoreFault.NoMemory → workers_refusal workers ≡ None) }
@@ -78,6 +78,8 @@ pub fn drive(alloc: Global, plan: &Plan, answers: &Answers) -> Result<Trace, All
     ensures apart { IfOk result (λ trace. KeepsApart plan.now trace) }
     ensures expected { IfOk result (λ trace. HasExpected plan.now answers.now trace) }
     ensures only_history { IfOk result (λ trace. IsOnlyHistory plan.now answers.now trace) }
+    // So it is from wherever one worker's steps lead, also those that the schedule does not take.
+    ensures never_stuck { OnOk result ((steps : List Step) → IsNotStuck plan.now answers.now (run plan.now answers.now (opening plan.now 1) steps)) }
 {
     let turns = Turns::new(alloc, plan)?;
     let mut machine = Machine::new(alloc, plan, 1)?;

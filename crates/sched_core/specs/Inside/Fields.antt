@@ -8,10 +8,9 @@ use Rattle.scheduling.specs.declared.task.Task.{Task}
 use Rattle.scheduling.specs.declared.seat.Hand.{Hand}
 use Rattle.scheduling.specs.declared.seat.Seat.{Seat}
 use Rattle.scheduling.specs.State.{State}
-use Rattle.scheduling.specs.Inside.Invariant.{IsKept}
-use Rattle.scheduling.specs.Shown.{IsPlaced}
+use Rattle.never_stuck.specs.Inside.Live.{IsLive}
 use Rattle.sched_core.specs.declared.machine.Machine.{Machine}
-use Rattle.sched_core.specs.Replies.{replies_of}
+use Rattle.sched_core.specs.Replies.{reply_of, replies_of}
 
 -- the parts of the first so many workers
 abbrev pub parts_upto : ℕ → List Event → List (List Event)
@@ -52,8 +51,7 @@ pub record KeepsRoom (old new : Machine) : Type 0 where
 pub record IsSound (p : PlanParts) (answers : List (ℕ × Reply)) (m : Machine) : Type 0 where
   pub plan : IsPlan p
   pub workers : length m.seats.items ≡ m.workers
-  pub kept : IsKept p (replies_of answers) (state_of m)
-  pub placed : IsPlaced (state_of m)
+  pub live : IsLive p (replies_of answers) (reply_of answers) (state_of m)
   pub given : m.given ≤ length m.published.items
   pub room : HasRoom p m
 

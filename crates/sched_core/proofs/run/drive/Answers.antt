@@ -1,12 +1,13 @@
 -- What the trace of the fixed schedule tells.
-use Rattle.std.proofs.Common.{◌∙◌, sym, subst}
+use Rattle.std.proofs.Common.{◌∙◌, sym, subst, arith}
 use Rattle.scheduling.proofs.Going.{going_opening}
 use Rattle.scheduling.proofs.Headline.{core_plan}
 use Rattle.scheduling.specs.State.{State}
 use Rattle.sched_core.specs.Drives.{Drives, IsOnSchedule}
 use Rattle.sched_core.specs.Inside.Fields.{state_of}
 use Rattle.sched_core.specs.Replies.{replies_of}
-use Rattle.sched_core.proofs.Tracing.{only_driven, right_trace, shown_trace, shown_at_end, whole_trace, right_apart, right_expected, right_only, if_ok, both_ok}
+use Rattle.sched_core.proofs.Endings.{run_not_stuck}
+use Rattle.sched_core.proofs.Tracing.{only_driven, right_trace, shown_trace, shown_at_end, whole_trace, right_apart, right_expected, right_only, if_ok, on_ok, both_ok}
 use Rattle.sched_core.proofs.run.drive.Goals as goal
 
 pub drive-requires-clause-sound : goal.drive-requires-clause-sound
@@ -47,3 +48,6 @@ returns-clause-expected c = if_ok c.trace.result (λ t right. right_expected c.a
 pub returns-clause-only_history : goal.returns-clause-only_history
 returns-clause-only_history c =
     both_ok c.trace.result (λ t right whole. right_only c.args.plan.now c.args.answers.now c.drive.ensures.sound.plan.tree t right whole) (returns-clause-right c) (returns-clause-whole c)
+
+pub returns-clause-never_stuck : goal.returns-clause-never_stuck
+returns-clause-never_stuck c = on_ok c.trace.result (λ steps. run_not_stuck c.args.plan.now c.drive.ensures.sound.plan c.args.answers.now 1 (omega arith) (omega arith) steps)

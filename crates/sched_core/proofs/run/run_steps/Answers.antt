@@ -4,7 +4,9 @@ use Rattle.scheduling.specs.Runs.{opening}
 use Rattle.scheduling.specs.Shown.{IsShown}
 use Rattle.scheduling.specs.State.{State}
 use Rattle.sched_core.specs.Runs.{run}
-use Rattle.sched_core.proofs.Endings.{can_end}
+use Rattle.sched_core.specs.Endings.{IsNotStuck}
+use Rattle.sched_core.specs.Inside.Fields.{state_of}
+use Rattle.sched_core.proofs.Endings.{not_stuck}
 use Rattle.sched_core.proofs.Tracing.{right_trace, shown_trace, right_apart, right_expected}
 use Rattle.sched_core.proofs.run.run_steps.Goals as goal
 
@@ -32,5 +34,7 @@ returns-clause-expected c = right_expected c.args.plan.now c.args.answers.now c.
 
 pub returns-clause-never_stuck : goal.returns-clause-never_stuck
 returns-clause-never_stuck c =
-    let sound = c.in_ok-machine.ensures.sound c.args.answers.now in
-    can_end c.args.plan.now c.args.answers.now sound.plan c.args.workers c.in_ok-count.ensures.count.2 c.args.steps.now
+    let sound = c.run-missed.ensures.sound in
+    let from = c.in_ok-machine.ensures.opening ∙ ap (λ (n : ℕ). opening c.args.plan.now n) c.in_ok-count.ensures.count.0 in
+    let ends = c.run-missed.ensures.state ∙ ap (λ (s : State). run c.args.plan.now c.args.answers.now s c.args.steps.now) from in
+    subst (IsNotStuck c.args.plan.now c.args.answers.now) ends (not_stuck c.args.plan.now sound.plan c.args.answers.now (state_of c.run-missed.new.self) sound.live)

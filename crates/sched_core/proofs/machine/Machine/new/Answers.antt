@@ -22,5 +22,5 @@ returns-clause-opening c =
 
 pub returns-clause-sound : goal.returns-clause-sound
 returns-clause-sound c answers =
-    sound_start c.args.plan.now answers _ c.args.workers c.tree-2.ensures.plan c.requires refl refl (returns-clause-opening c)
+    sound_start c.args.plan.now answers _ c.args.workers c.tree-2.ensures.plan c.requires.some c.requires.few refl refl (returns-clause-opening c)
     (record { published = omega (arith, c.most_events-most.ensures, c.in_ok-with_capacity.ensures.capacity); shown = omega (arith, c.most_events-most.ensures, c.in_ok-with_capacity-2.ensures.capacity) })
