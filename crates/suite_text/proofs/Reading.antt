@@ -9,4 +9,5 @@ pub mod Paths
 pub mod Pulls
 pub mod Lines
 pub mod Spaces
+pub mod Spares
 pub mod Steps

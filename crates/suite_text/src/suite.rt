@@ -2,6 +2,7 @@
 
 ghost use Rattle.std.specs.Prelude.{◌≡◌, ◌≢◌, ◌≤◌, ◌+◌, ◌==◌, length, count_by, IfOk, IfErr, Ok, Err};
 ghost use Rattle.std.specs.Str.{IsUtf8};
+ghost use Rattle.resource_locks.specs.Spares.{HasBareSpares};
 ghost use Rattle.suite_text.specs.Reading.Bytes.{suite_read};
 ghost use Rattle.suite_text.specs.Reading.Faults.{Gives};
 ghost use Rattle.suite_text.specs.Reading.Ids.{IdsFollow};
@@ -104,6 +105,8 @@ impl Suite {
         // Each node's unique id is its parent's with one more segment, whose value is its name; of a
         // factory's k-th dynamic test `#k`.
         ensures ids { IfOk result (λ suite. IdsFollow suite.tree) }
+        // No dynamic test declares a lock, and no engine is a factory.
+        ensures bare { IfOk result (λ suite. HasBareSpares suite.tree) }
         // Each body of the tree has one script, in the order of the nodes; behind these each
         // after-body has one, in the order of their lines.
         ensures answered { IfOk result (λ suite. AreBodiesOf suite.tree.nodes (bodies_answered suite.scripts.items)) }
@@ -119,6 +122,7 @@ impl Suite {
         ensures exact { Gives suite_parts result (suite_read bytes.now) }
         // Bytes that may be written for a suite are read as that suite.
         ensures reads_back { IsUtf8 bytes.now → (suite : SuiteParts) → IsSuite bytes.now suite → Gives suite_parts result (Ok suite) }
+        ensures bare { IfOk result (λ suite. HasBareSpares suite.tree) }
         // Memory is taken only for bytes that are a text, and not too large a one.
         ensures no_memory { IfErr result (λ fault. fault ≡ SuiteFault.NoMemory → (length bytes.now ≤ 1048576) × IsUtf8 bytes.now) }
     {

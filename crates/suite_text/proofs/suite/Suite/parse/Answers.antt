@@ -1,5 +1,7 @@
 -- A text that may be written for a suite is read as that suite, and none is read as want of memory.
 use Rattle.suite_text.proofs.Reading.Never.{never_no_memory}
+use Rattle.suite_text.specs.Suites.{suite_of}
+use Rattle.suite_text.proofs.Reading.Spares.{suite_bare, given_bare}
 use Rattle.suite_text.proofs.Writing.Suites as written
 use Rattle.suite_text.proofs.suite.Suite.parse.Goals as goal
 
@@ -8,3 +10,6 @@ returns-clause-reads_back c = written.reads_back _ c.args.text.now c.suite_in.en
 
 pub returns-clause-never : goal.returns-clause-never
 returns-clause-never c = never_no_memory c.args.text.now
+
+pub returns-clause-bare : goal.returns-clause-bare
+returns-clause-bare c = given_bare _ (suite_of c.args.text.now) c.suite_in.ensures.exact (suite_bare c.args.text.now)
