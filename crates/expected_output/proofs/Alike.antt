@@ -1,5 +1,5 @@
 -- Lists, counts and trees that are made of the same facts about each node are the same.
-use Rattle.std.proofs.Common.{◌≡◌, ℕ, zero, suc, ◌+◌, ◌<◌, ◌≤◌, Bool, List, [], ◌∷◌, ◌++◌, get_or, map, refl, ap, sym, ◌∙◌, arith}
+use Rattle.std.proofs.Common.{◌≡◌, ℕ, zero, suc, ◌+◌, ◌<◌, ◌≤◌, Bool, List, [], ◌∷◌, ◌++◌, get_or, map, refl, ◌∙◌, arith}
 use Rattle.std.specs.List.{All, AllByRecursion, filter, list_any, range_with_len}
 use Rattle.std.proofs.lemmas.List.Elements.{All-filter, recursion_from_All}
 use Rattle.std.proofs.lemmas.Option.{slice_get-get_or}
@@ -8,7 +8,6 @@ use Rattle.descriptor.proofs.Children.{children_listed}
 use Rattle.plan_events.specs.Texts.{TextParts, text_at}
 use Rattle.listeners.specs.declared.theme.Theme.{Theme}
 use Rattle.listeners.specs.declared.told.Told.{Told}
-use Rattle.listeners.specs.Feed.{text_or}
 use Rattle.listeners.specs.Told.{has_line}
 use Rattle.listeners.specs.TreeSigns.{item}
 use Rattle.listeners.specs.TreeTexts.{Drawn, each_sibling, lines_below}

@@ -1,5 +1,5 @@
 -- Small trees, and what is expected to be printed of them: the prover computes each.
-use Rattle.std.proofs.Common.{◌≡◌, ℕ, ◌==◌, Bool, true, false, cond, List, [], ◌∷◌, ◌++◌, Option, Some, None, refl}
+use Rattle.std.proofs.Common.{◌≡◌, ℕ, ◌==◌, true, false, cond, List, [], ◌∷◌, Option, Some, None, refl}
 use Rattle.std.specs.Prelude.{codes}
 use Rattle.descriptor.specs.declared.kind.Kind.{Kind}
 use Rattle.descriptor.specs.declared.kind.Kind.TheVariants.{Test, Container}

@@ -1,7 +1,6 @@
 -- What is printed of a complete legal history, where nothing fails fast, is what is expected of the tree: every such history gives the
 -- same tree, counts, tests and failure.
-use Rattle.std.proofs.Common.{◌≡◌, ℕ, ◌<◌, ◌&&◌, ◌||◌, not, nat_lt, Bool, false, List, [], length, map, refl, sym, ap, ◌∙◌, arith}
-use Rattle.std.specs.List.{range_with_len}
+use Rattle.std.proofs.Common.{◌≡◌, ℕ, ◌<◌, ◌&&◌, ◌||◌, not, nat_lt, false, List, [], length, ap, ◌∙◌, arith}
 use Rattle.descriptor.specs.Kinds.{is_test}
 use Rattle.descriptor.specs.Nodes.{IsTree, size, kind_of, is_spare_at}
 use Rattle.plan_events.specs.declared.event.Event.{Event}

@@ -4,6 +4,7 @@ use Rattle.std.specs.Prelude.{nat_lt, Bool, true, false, if◌then◌else◌}
 use borrow.Author.Tests.{tests}
 use Rattle.std.specs.Result.{IsErrAnd}
 use Rattle.std.specs.Io.KnownBytes.{IsAtEnd}
+use Rattle.resource_locks.specs.Spares.{HasBareSpares}
 use Rattle.suite_text.specs.Reading.Bytes.{suite_read}
 use Rattle.suite_text.specs.Reading.Parts.{SuiteParts}
 use Rattle.suite_text.specs.Suites.{suite_parts}
@@ -22,22 +23,22 @@ use Rattle.launcher.specs.declared.fault.LaunchFault.TheVariants.{NoMemory, Suit
 
 module _ (asked : Asked) (old new : Option (List ℕ)) where
   -- a suite was read, and this is the answer of its run
-  pub run_read : (suite : SuiteParts) (read : Result SuiteParts SuiteFault) (result : Result ExitStatus LaunchFault) → read ≡ Ok suite → IsSuiteRun asked suite old new result → IsRun asked read old new result
-  run_read suite read (Ok status) is run = record { suite = suite; is_read = is; run = run }
-  run_read suite read (Err NoMemory) is run = tt
-  run_read suite read (Err (OfSuite f)) is run = absurd run
-  run_read suite read (Err BadWords) is run = absurd run
-  run_read suite read (Err (BadStep n)) is run = absurd run
-  run_read suite read (Err (BadSelector n)) is run = absurd run
-  run_read suite read (Err (BadTags f)) is run = absurd run
-  run_read suite read (Err (BadPair f)) is run = absurd run
-  run_read suite read (Err (BadSettings f)) is run = record { suite = suite; is_read = is; run = run }
-  run_read suite read (Err (NothingMatches n)) is run = record { suite = suite; is_read = is; run = run }
-  run_read suite read (Err TooManyKeys) is run = record { suite = suite; is_read = is; run = run }
-  run_read suite read (Err TooManyWorkers) is run = record { suite = suite; is_read = is; run = run }
-  run_read suite read (Err NoWorker) is run = record { suite = suite; is_read = is; run = run }
-  run_read suite read (Err Reading) is run = absurd run
-  run_read suite read (Err (Writing f)) is run = record { suite = suite; is_read = is; run = run }
+  pub run_read : (suite : SuiteParts) (read : Result SuiteParts SuiteFault) (result : Result ExitStatus LaunchFault) → read ≡ Ok suite → HasBareSpares suite.tree → IsSuiteRun asked suite old new result → IsRun asked read old new result
+  run_read suite read (Ok status) is bare run = record { suite = suite; is_read = is; bare = bare; run = run }
+  run_read suite read (Err NoMemory) is bare run = tt
+  run_read suite read (Err (OfSuite f)) is bare run = absurd run
+  run_read suite read (Err BadWords) is bare run = absurd run
+  run_read suite read (Err (BadStep n)) is bare run = absurd run
+  run_read suite read (Err (BadSelector n)) is bare run = absurd run
+  run_read suite read (Err (BadTags f)) is bare run = absurd run
+  run_read suite read (Err (BadPair f)) is bare run = absurd run
+  run_read suite read (Err (BadSettings f)) is bare run = record { suite = suite; is_read = is; bare = bare; run = run }
+  run_read suite read (Err (NothingMatches n)) is bare run = record { suite = suite; is_read = is; bare = bare; run = run }
+  run_read suite read (Err TooManyKeys) is bare run = record { suite = suite; is_read = is; bare = bare; run = run }
+  run_read suite read (Err TooManyWorkers) is bare run = record { suite = suite; is_read = is; bare = bare; run = run }
+  run_read suite read (Err NoWorker) is bare run = record { suite = suite; is_read = is; bare = bare; run = run }
+  run_read suite read (Err Reading) is bare run = absurd run
+  run_read suite read (Err (Writing f)) is bare run = record { suite = suite; is_read = is; bare = bare; run = run }
 
   unread : (read : Result SuiteParts SuiteFault) (fault : LaunchFault) → FailsToRead read fault → IsRun asked read old new (Err fault)
   unread read NoMemory fails = tt
@@ -154,9 +155,9 @@ module _ (old new : Option (List ℕ)) where
   ends_run asked suite was is (Err (Writing f)) run same = cc
 
   -- a suite was read, and run
-  pub takes_run : (asked : Asked) (suite : Suite) (was is : Option (List ℕ)) (result : Result ExitStatus LaunchFault) → IsSuiteRun asked (suite_parts suite) was is result
+  pub takes_run : (asked : Asked) (suite : Suite) (was is : Option (List ℕ)) (result : Result ExitStatus LaunchFault) → HasBareSpares suite.tree → IsSuiteRun asked (suite_parts suite) was is result
       → TakesFrom old new None (λ read. ReadsSuite (suite_read read) (Ok suite)) → TakesFrom old new (fault_in result) (λ read. IsRun asked (suite_read read) was is result)
-  takes_run asked suite was is result run taken =
+  takes_run asked suite was is result bare run taken =
       takes_as None (fault_in result) (λ read. ReadsSuite (suite_read read) (Ok suite)) (λ read. IsRun asked (suite_read read) was is result)
-      (λ read ok. run_read asked was is (suite_parts suite) (suite_read read) result ok run)
+      (λ read ok. run_read asked was is (suite_parts suite) (suite_read read) result ok bare run)
       (λ read ok end. ends_whole (fault_in result) (length read) new (ends_run asked (suite_parts suite) was is result run) (λ same. read_small read (suite_parts suite) ok) end) taken

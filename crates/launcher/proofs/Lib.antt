@@ -5,3 +5,4 @@ pub mod Reading
 pub mod Requesting
 pub mod Reporting
 pub mod Scripting
+pub mod Selected

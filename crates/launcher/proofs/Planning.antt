@@ -13,8 +13,11 @@ use Rattle.exec_mode.specs.GivenModes.{given_modes}
 use Rattle.plan_events.specs.declared.outcome.Reply.{Reply}
 use Rattle.resource_locks.specs.Declarations.{declared_of}
 use Rattle.resource_locks.specs.Held as hoisted
+use Rattle.resource_locks.specs.Hoisted.{IsGuarded}
 use Rattle.resource_locks.specs.Keys.{keys_of}
 use Rattle.resource_locks.specs.Plans.{PlanParts}
+use Rattle.resource_locks.specs.Spares.{HasBareSpares}
+use Rattle.never_stuck.specs.Reaching.{NeverStuck}
 use Rattle.resource_locks.specs.declared.fault.PlanFault.{PlanFault}
 use Rattle.resource_locks.specs.declared.fault.PlanFault.TheVariants as plans
 use Rattle.selectors.specs.Selections.{answer, refusal}
@@ -77,6 +80,13 @@ pub plan_made : (tree found : Nodes) (request : Request) (settings : Settings) (
     → plan ≡ record made { fail_fast = fail_fast } → plan ≡ plan_of fail_fast settings (answer tree request)
 plan_made tree found request settings fail_fast modes made plan is_found are_modes is_made is =
     is ∙ ap (λ (p : PlanParts). record p { fail_fast = fail_fast }) (is_made ∙ ap (hoisted.plan_of found) are_modes) ∙ ap (plan_of fail_fast settings) is_found
+
+-- and it holds for its nodes what they declare
+pub still_guarded : (found : Nodes) (modes : List Mode) (fail_fast : Bool) (made plan : PlanParts) → made ≡ hoisted.plan_of found modes → plan ≡ record made { fail_fast = fail_fast } → IsGuarded (declared_of found) made
+    → (IsGuarded (declared_of made.tree) made → IsGuarded (declared_of made.tree) plan) → IsGuarded (declared_of plan.tree) plan
+still_guarded found modes fail_fast made plan is_made is safe still =
+    let safe_there : IsGuarded (declared_of made.tree) made = subst (λ (t : Nodes). IsGuarded (declared_of t) made) (sym (ap (λ (p : PlanParts). p.tree) is_made)) safe in
+    subst (λ (t : Nodes). IsGuarded (declared_of t) plan) (sym (ap (λ (p : PlanParts). p.tree) is)) (still safe_there)
 
 -- what a run of a suite is refused for is one of these
 abbrev IsRunRefusal : LaunchFault → Type 0
@@ -165,15 +175,16 @@ module _ (asked : Asked) (suite : SuiteParts) where
 
       -- the output of the plan is the suite's
       pub is_output : (plan : PlanParts) (answers : List (ℕ × Reply)) (text : List ℕ) (status : ExitStatus) → workers_refusal settings.workers ≡ None → plan ≡ plan_of asked.fail_fast settings (answer suite.tree asked.request) → answers ≡ answers_of suite.scripts
-          → IsOutput asked settings plan answers text status → IsSuiteOutput asked suite text status
-      is_output plan answers text status few same replies output = record {
+          → (HasBareSpares suite.tree → NeverStuck plan) → IsOutput asked settings plan answers text status → IsSuiteOutput asked suite text status
+      is_output plan answers text status few same replies never output = record {
         accepted = run_left ∙ few;
         settings = settings;
         are = sym are;
         output = subst (λ (p : PlanParts). IsOutput asked settings p (answers_of suite.scripts) text status) same (subst (λ (a : List (ℕ × Reply)). IsOutput asked settings plan a text status) replies output);
+        never_stuck = λ bare. subst NeverStuck same (never bare);
       }
 
       pub outputs : {E : Type 0} (result : Result Report E) (plan : PlanParts) (answers : List (ℕ × Reply)) → workers_refusal settings.workers ≡ None → plan ≡ plan_of asked.fail_fast settings (answer suite.tree asked.request) → answers ≡ answers_of suite.scripts
-          → IfOk result (λ report. IsOutput asked settings plan answers (string_bytes report.text) report.status) → IfOk result (λ report. IsSuiteOutput asked suite (string_bytes report.text) report.status)
-      outputs (Ok report) plan answers few same replies output = is_output plan answers (string_bytes report.text) report.status few same replies output
-      outputs (Err e) plan answers few same replies output = tt
+          → (HasBareSpares suite.tree → NeverStuck plan) → IfOk result (λ report. IsOutput asked settings plan answers (string_bytes report.text) report.status) → IfOk result (λ report. IsSuiteOutput asked suite (string_bytes report.text) report.status)
+      outputs (Ok report) plan answers few same replies never output = is_output plan answers (string_bytes report.text) report.status few same replies never output
+      outputs (Err e) plan answers few same replies never output = tt

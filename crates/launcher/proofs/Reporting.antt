@@ -1,15 +1,23 @@
 -- What a run prints, from what each of its parts says.
-use Rattle.std.proofs.Common.{◌≡◌, ◌∙◌, ◌<◌, ◌≤◌, ℕ, arith, List, ◌++◌, refl, sym, ap, subst, inl, inr}
+use Rattle.std.proofs.Common.{◌≡◌, ◌∙◌, ◌<◌, ◌≤◌, ℕ, Bool, false, arith, List, ◌++◌, Some, refl, sym, ap, ap₂, subst, inl, inr}
 use Rattle.std.specs.Prelude.{◌⊎◌}
+use Rattle.std.proofs.lemmas.Option.{none-some, same_Some}
 use Rattle.config_params.specs.declared.settings.Settings.{Settings}
 use Rattle.descriptor.specs.Nodes.{IsTree}
 use Rattle.plan_events.specs.declared.event.Event.{Event}
 use Rattle.plan_events.specs.declared.outcome.Reply.{Reply}
 use Rattle.plan_events.specs.Texts.{TextParts, text_at}
+use Rattle.resource_locks.specs.Declarations.{declared_of}
+use Rattle.resource_locks.specs.Hoisted.{IsGuarded}
 use Rattle.resource_locks.specs.Plans.{PlanParts}
 use Rattle.event_history.specs.History.{IsLegal, IsComplete}
 use Rattle.event_history.specs.Order.{IsInOrder}
+use Rattle.event_history.proofs.Apart.{apart}
+use Rattle.listeners.specs.declared.theme.Theme.{Theme}
 use Rattle.listeners.specs.Results.{tests_found, has_failed}
+use Rattle.listeners.specs.SummaryTexts.{summary_of}
+use Rattle.expected_output.specs.Expectations.{IsPrintedAsExpected}
+use Rattle.expected_output.proofs.PrintedAsExpected.{printed_as_expected}
 use Rattle.scheduling.proofs.OnlyHistory.{only_history, as_expected}
 use Rattle.sched_core.specs.Replies.{reply_of, replies_of as replies_by}
 use Rattle.table_rule.specs.Picture.{replies_of}
@@ -19,24 +27,27 @@ use Rattle.worker_pool.specs.declared.report.RunCause.{RunCause}
 use Rattle.worker_pool.specs.declared.report.RunCause.TheVariants.{Table, NoWorker}
 use Rattle.run_table.specs.Prepared.{HasAllJobs, IsRightRing}
 use Rattle.run_table.specs.declared.fault.TableFault.TheVariants.{NoMemory, NoWorkers, TooManyWorkers, BadRing, JobsMissing}
+use Rattle.launcher.specs.declared.details.Details.{Details}
+use Rattle.launcher.specs.declared.details.Details.TheVariants as details
 use Rattle.launcher.specs.declared.exit_status.ExitStatus.{ExitStatus}
 use Rattle.launcher.specs.declared.scripted.ScriptedJob.{ScriptedJob}
 use Rattle.launcher.specs.Asked.{Asked}
 use Rattle.launcher.specs.ExitStatuses.{status_of_run}
-use Rattle.launcher.specs.Reports.{details_of, IsHistory, IsRunOutput}
+use Rattle.launcher.specs.Reports.{details_of, expected_details, expected_status, IsExpectedOutput, IsHistory, IsRunOutput}
 use Rattle.launcher.specs.Scripted.{replies_left, AreScripted}
 use Rattle.launcher.specs.WarningTexts.{warning_lines}
 use Rattle.launcher.proofs.Scripting.{all_there, legal_as_said, text_as_said}
 
 -- what the threads report of the suite's jobs is a history of what the suite says
-pub history_of : (p : PlanParts) → IsTree p.tree → (answers : List (ℕ × Reply)) (jobs : List (ℕ × ScriptedJob)) → AreScripted p answers (slot_count p) jobs → (workers ring : ℕ) (history : List Event)
+pub history_of : (p : PlanParts) → IsTree p.tree → IsGuarded (declared_of p.tree) p → (answers : List (ℕ × Reply)) (jobs : List (ℕ × ScriptedJob)) → AreScripted p answers (slot_count p) jobs → (workers ring : ℕ) (history : List Event)
     → IsReport (run_of p workers ring jobs) (replies_of replies_left (run_of p workers ring jobs)) history → IsHistory workers p answers history
-history_of p tree answers jobs are workers ring history report =
+history_of p tree safe answers jobs are workers ring history report =
     let legal : IsLegal p (replies_by answers) workers history = legal_as_said p tree answers jobs are workers history report.legal in
     record {
       legal = legal;
       order = report.order;
       exclusive = report.exclusive;
+      apart = apart p tree (replies_by answers) workers history safe legal report.order report.exclusive;
       complete = report.complete;
       ends = report.ends;
       only = λ one same h other order complete.
@@ -46,14 +57,16 @@ history_of p tree answers jobs are workers ring history report =
 
 -- the history, with the texts of its nodes
 pub record IsTold (workers : ℕ) (p : PlanParts) (answers : List (ℕ × Reply)) (history : List Event) (texts : TextParts) : Type 0 where
+  pub tree : IsTree p.tree
   pub published : IsHistory workers p answers history
   pub are : AreTexts p (replies_by answers) history texts
 
 -- and the texts that they report are those that the suite says
-pub told_of : (p : PlanParts) → IsTree p.tree → (answers : List (ℕ × Reply)) (jobs : List (ℕ × ScriptedJob)) → AreScripted p answers (slot_count p) jobs → (workers ring : ℕ) (history : List Event) (texts : TextParts)
+pub told_of : (p : PlanParts) → IsTree p.tree → IsGuarded (declared_of p.tree) p → (answers : List (ℕ × Reply)) (jobs : List (ℕ × ScriptedJob)) → AreScripted p answers (slot_count p) jobs → (workers ring : ℕ) (history : List Event) (texts : TextParts)
     → IsReport (run_of p workers ring jobs) (replies_of replies_left (run_of p workers ring jobs)) history → AreTexts p (replies_of replies_left (run_of p workers ring jobs)) history texts → IsTold workers p answers history texts
-told_of p tree answers jobs are workers ring history texts report told = record {
-  published = history_of p tree answers jobs are workers ring history report;
+told_of p tree safe answers jobs are workers ring history texts report told = record {
+  tree = tree;
+  published = history_of p tree safe answers jobs are workers ring history report;
   are = λ n low. text_as_said p tree answers jobs are history n (text_at texts n) (told n low);
 }
 
@@ -71,6 +84,26 @@ unrun p workers ring jobs (Table BadRing) is some few right all = absurd (not_ri
 unrun p workers ring jobs (Table (JobsMissing number)) is some few right all = absurd (all number is.2.missing)
 unrun p workers ring jobs NoWorker is some few right all = inr refl
 
+-- what is printed of a history by which all is as it is expected to be
+module _ (theme : Theme) (p : PlanParts) (answers : List (ℕ × Reply)) (history : List Event) (texts : TextParts) (is : IsPrintedAsExpected p (reply_of answers) history texts) where
+  expected_text : (kind : Details) (text : List ℕ) → expected_details kind theme p.tree (reply_of answers) ≡ Some text → details_of kind theme p texts history ≡ text
+  expected_text details.None text so = same_Some _ _ so
+  expected_text details.Summary text so = ap summary_of is.counts ∙ same_Some _ _ so
+  expected_text details.Tree text so = ap₂ (λ a b. a ++ b) (is.tree theme) (ap summary_of is.counts) ∙ same_Some _ _ so
+  expected_text details.Testfeed text so = absurd (none-some text so)
+
+-- it is, where the plan does not fail fast
+module _ (asked : Asked) (settings : Settings) (p : PlanParts) (answers : List (ℕ × Reply)) (history : List Event) (texts : TextParts) (told : IsTold settings.workers p answers history texts) (calm : p.fail_fast ≡ false) where
+  printed_so : IsPrintedAsExpected p (reply_of answers) history texts
+  printed_so = printed_as_expected p told.tree (reply_of answers) (replies_by answers) (λ job. refl) calm settings.workers history told.published.legal told.published.complete texts told.are
+
+  expected_output : (text : List ℕ) (status : ExitStatus) → text ≡ warning_lines settings.warnings ++ details_of asked.details asked.theme p texts history
+      → status ≡ status_of_run asked.fail_if_no_tests (tests_found p history) (has_failed p history) → IsExpectedOutput asked settings p.tree (reply_of answers) text status
+  expected_output text status printed exits = record {
+    printed = λ shown so. printed ∙ ap (λ (xs : List ℕ). warning_lines settings.warnings ++ xs) (expected_text asked.theme p answers history texts printed_so asked.details shown so);
+    exits = exits ∙ ap₂ (λ (tests : ℕ) (failed : Bool). status_of_run asked.fail_if_no_tests tests failed) printed_so.tests printed_so.failure;
+  }
+
 -- what is printed of a history is what is printed of the run
 pub ran : (text : List ℕ) (status : ExitStatus) (asked : Asked) (settings : Settings) (p : PlanParts) (answers : List (ℕ × Reply)) (history : List Event) (texts : TextParts) → IsTold settings.workers p answers history texts
     → text ≡ warning_lines settings.warnings ++ details_of asked.details asked.theme p texts history → status ≡ status_of_run asked.fail_if_no_tests (tests_found p history) (has_failed p history) → IsRunOutput asked settings p answers text status
@@ -81,4 +114,5 @@ ran text status asked settings p answers history texts told printed exits = reco
   printed = record { texts = texts; are = told.are; printed = refl };
   behind_warnings = printed;
   exits = exits;
+  as_expected = λ calm. expected_output asked settings p answers history texts told calm text status printed exits;
 }

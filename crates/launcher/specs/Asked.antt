@@ -17,7 +17,7 @@ use Rattle.tag_expr.specs.Tokens.{tokens, token_of}
 use Rattle.tag_expr.specs.ExpressionFaults.{expression_refusal}
 use Rattle.launcher.specs.declared.details.Details.{Details}
 use Rattle.launcher.specs.declared.details.Details.TheVariants as details
-use Rattle.launcher.specs.declared.options.Options.{Options}
+use Rattle.launcher.specs.declared.asked.Options.{Options}
 use Rattle.launcher.specs.declared.fault.LaunchFault.{LaunchFault}
 use Rattle.launcher.specs.declared.fault.LaunchFault.TheVariants.{BadWords, BadStep, BadSelector, BadTags}
 use Rattle.step_text.specs.StepTexts.{steps_of}

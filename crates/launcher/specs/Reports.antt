@@ -1,11 +1,12 @@
 -- What is printed of a run or of a replay, and its status.
 use Rattle.std.specs.Prelude.{◌≡◌, ℕ, ◌<◌, Bool, true, false, List, [], ◌++◌, length, Option, Some, None}
 use Rattle.config_params.specs.declared.settings.Settings.{Settings}
-use Rattle.descriptor.specs.Nodes.{size}
+use Rattle.descriptor.specs.Nodes.{Nodes, size}
 use Rattle.plan_events.specs.declared.event.Event.{Event}
 use Rattle.plan_events.specs.declared.outcome.Reply.{Reply}
 use Rattle.plan_events.specs.Texts.{TextParts}
 use Rattle.resource_locks.specs.Plans.{PlanParts}
+use Rattle.event_history.specs.Apart.{IsApart}
 use Rattle.event_history.specs.Exclusion.{IsExclusive}
 use Rattle.event_history.specs.Expected.{expected, IsAsExpected}
 use Rattle.event_history.specs.History.{IsLegal, IsComplete}
@@ -29,6 +30,7 @@ use Rattle.launcher.specs.declared.details.Details.{Details}
 use Rattle.launcher.specs.declared.exit_status.ExitStatus.{ExitStatus}
 use Rattle.launcher.specs.declared.exit_status.ExitStatus.TheVariants.{Success}
 use Rattle.launcher.specs.ExitStatuses.{status_of_run}
+use Rattle.expected_output.specs.Expectations.{expected_tree, expected_counts, expected_tests, expects_failure}
 use Rattle.launcher.specs.declared.details.Details.TheVariants as details
 use Rattle.launcher.specs.declared.replay.ReplayCounts.{ReplayCounts}
 use Rattle.launcher.specs.ReplayTexts.{replay_line}
@@ -36,11 +38,13 @@ use Rattle.launcher.specs.WarningTexts.{warning_lines}
 use Rattle.launcher.specs.Asked.{Asked}
 
 -- A history of a run of the plan by so many workers, whatever these do first: it is legal for what the suite has its bodies answer,
--- in same-thread order, nodes that hold conflicting locks stand apart in it, it is complete, and the plan's finish stands last.
+-- in same-thread order, nodes that hold conflicting locks stand apart in it, and so do those that declare them or are isolated, it is
+-- complete, and the plan's finish stands last.
 pub record IsHistory (workers : ℕ) (p : PlanParts) (answers : List (ℕ × Reply)) (history : List Event) : Type 0 where
   pub legal : IsLegal p (replies_of answers) workers history
   pub order : IsInOrder p history
   pub exclusive : IsExclusive p history
+  pub apart : IsApart p history
   pub complete : IsComplete p history
   pub ends : EndsInPlan history
   -- one worker has no other where every node runs in the thread of its parent
@@ -61,6 +65,24 @@ pub record ArePrinted (details : Details) (theme : Theme) (p : PlanParts) (answe
   pub are : AreRunTexts p (replies_of answers) history texts
   pub printed : text ≡ details_of details theme p texts history
 
+-- what is expected to be printed of a tree whose bodies answer so, where nothing fails fast; of a feed nothing is, since it tells in
+-- which order things happened
+abbrev pub expected_details : Details → Theme → Nodes → (ℕ → Reply) → Option (List ℕ)
+expected_details details.None theme t reply = Some []
+expected_details details.Summary theme t reply = Some (summary_of (expected_counts t reply))
+expected_details details.Tree theme t reply = Some (expected_tree theme t reply ++ summary_of (expected_counts t reply))
+expected_details details.Testfeed theme t reply = None
+
+-- the status that is expected
+abbrev pub expected_status : Bool → Nodes → (ℕ → Reply) → ExitStatus
+expected_status needs_tests t reply = status_of_run needs_tests (expected_tests t reply) (expects_failure t reply)
+
+-- The text and the status are those that are expected of the tree. Neither the workers nor the modes of the nodes nor their locks are
+-- spoken of.
+pub record IsExpectedOutput (asked : Asked) (settings : Settings) (t : Nodes) (reply : ℕ → Reply) (text : List ℕ) (status : ExitStatus) : Type 0 where
+  pub printed : (shown : List ℕ) → expected_details asked.details asked.theme t reply ≡ Some shown → text ≡ warning_lines settings.warnings ++ shown
+  pub exits : status ≡ expected_status asked.fail_if_no_tests t reply
+
 -- the settings' workers run the plan: a line for each warning, then its history as the options say, and its failures make the
 -- status
 pub record IsRunOutput (asked : Asked) (settings : Settings) (p : PlanParts) (answers : List (ℕ × Reply)) (text : List ℕ) (status : ExitStatus) : Type 0 where
@@ -70,6 +92,8 @@ pub record IsRunOutput (asked : Asked) (settings : Settings) (p : PlanParts) (an
   pub printed : ArePrinted asked.details asked.theme p answers history details
   pub behind_warnings : text ≡ warning_lines settings.warnings ++ details
   pub exits : status ≡ status_of_run asked.fail_if_no_tests (tests_found p history) (has_failed p history)
+  -- and unless the plan fails fast all this but a feed is what is expected, whatever the workers did
+  pub as_expected : p.fail_fast ≡ false → IsExpectedOutput asked settings p.tree (reply_of answers) text status
 
 -- the state in which a replay of these steps by so many workers ends
 abbrev pub replayed : ℕ → PlanParts → List (ℕ × Reply) → List Step → State

@@ -13,6 +13,8 @@ use Rattle.resource_locks.specs.Declarations.{declared_of}
 use Rattle.resource_locks.specs.Held as hoisted
 use Rattle.resource_locks.specs.Keys.{keys_of}
 use Rattle.resource_locks.specs.Plans.{PlanParts}
+use Rattle.resource_locks.specs.Spares.{HasBareSpares}
+use Rattle.never_stuck.specs.Reaching.{NeverStuck}
 use Rattle.launcher.specs.declared.exit_status.ExitStatus.{ExitStatus}
 use Rattle.launcher.specs.declared.fault.LaunchFault.{LaunchFault}
 use Rattle.launcher.specs.declared.fault.LaunchFault.TheVariants.{NoMemory, Suite, BadWords, BadStep, BadSelector, BadTags, BadPair, BadSettings, NothingMatches, TooManyKeys, TooManyWorkers, NoWorker, Reading, Writing}
@@ -91,6 +93,8 @@ pub record IsSuiteOutput (asked : Asked) (suite : SuiteParts) (text : List ℕ) 
   pub settings : Settings
   pub are : settings_in asked suite ≡ Ok settings
   pub output : IsOutput asked settings (plan_of asked.fail_fast settings (answer suite.tree asked.request)) (answers_of suite.scripts) text status
+  -- whatever the workers of this plan do first, it can still be brought to its end
+  pub never_stuck : HasBareSpares suite.tree → NeverStuck (plan_of asked.fail_fast settings (answer suite.tree asked.request))
 
 -- the output of a suite is refused by its first refusal, and want of memory stands in place of none that is judged before; where
 -- nothing refuses the suite there may be no thread to run it
@@ -131,6 +135,8 @@ IsSuiteRun asked suite old new (Err fault) = FailsSuite asked suite fault
 pub record IsReadAndRun (asked : Asked) (read : Result SuiteParts SuiteFault) (old new : Option (List ℕ)) (result : Result ExitStatus LaunchFault) : Type 0 where
   pub suite : SuiteParts
   pub is_read : read ≡ Ok suite
+  -- no spare of it declares a lock, and no engine is a factory
+  pub bare : HasBareSpares suite.tree
   pub run : IsSuiteRun asked suite old new result
 
 -- what the reading of a suite refuses: the suite's own refusal is the one that the definition gives

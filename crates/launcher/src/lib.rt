@@ -1,6 +1,7 @@
 //! A launch: what is asked for, the run of a suite or the replay of steps, what is printed, and the exit status.
 #![tactic(auto)]
 
+mod asked;
 mod bytes;
 mod closing;
 mod details;
@@ -16,12 +17,12 @@ mod run;
 mod scripted;
 mod warning_lines;
 
+pub use asked::Options;
 pub use bytes::{ReadFault, read_front};
 pub use closing::Closing;
 pub use details::Details;
 pub use exit_status::ExitStatus;
 pub use fault::LaunchFault;
 pub use given::Given;
-pub use options::Options;
 pub use parameters::{processors_named, ring_named};
 pub use run::{read_suite, run_options, run_suite};

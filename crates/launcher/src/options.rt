@@ -1,12 +1,12 @@
-//! The options of a run, and what each value means that words give them.
+//! What each value means that words give the options of a run.
 
 ghost use Rattle.std.specs.Prelude.{◌≡◌, ◌≢◌, Some, None, option_map, IfOk, IfErr};
 ghost use Rattle.std.specs.List.{filter_map};
 ghost use Rattle.launcher.specs.declared.fault.LaunchFault.TheVariants.{NoMemory};
 ghost use Rattle.launcher.specs.Given.{behind, maybe_behind, texts_of, values_of};
-ghost use Rattle.run_table.specs.Prepared.{IsRightRing};
 ghost use Rattle.launcher.specs.Asked.{asked_by, details_named as details_of_name, theme_named as theme_of_name, unless_named, IsReplay, refusal_of, AreAsked, spelled, IsExpression, AreExpressions};
 
+use crate::asked::Options;
 use crate::details::Details;
 use crate::fault::LaunchFault;
 use crate::given::Given;
@@ -19,31 +19,6 @@ use selectors::{Request, Selector, SelectorKind};
 use std::alloc::{AllocError, Global};
 use step_text::parse_steps;
 use tag_expr::TagExpr;
-
-/// The options of a run.
-#[derive(Drop)]
-pub struct Options {
-    /// What is to run: the options for selectors, which share one numbering, and those for tags.
-    pub request: Request,
-    /// What the request and the system say of the configuration; what the suite says of a key counts
-    /// only where neither has it.
-    pub params: Params,
-    /// How many processors the machine is taken to have.
-    pub processors: u32,
-    /// How many events of a run on threads may be shown that were not told yet, from 1 to 16,384.
-    pub ring: u32,
-    pub details: Details,
-    /// The signs of the tree.
-    pub theme: Theme,
-    /// Whether a run without tests has a status of its own.
-    pub fail_if_no_tests: bool,
-    /// Whether nothing more starts once a node has failed.
-    pub fail_fast: bool,
-    /// The steps that are run in place of the fixed schedule. Then their text alone is printed,
-    /// whatever the details are.
-    pub replay: Option<Vec<Step>>,
-    pub ghost right_ring: { IsRightRing ring },
-}
 
 /// What `--details` asks for.
 fn details_named(name: Option<&str>) -> Result<Details, LaunchFault>

@@ -7,11 +7,13 @@ ghost use Rattle.launcher.specs.ExitStatuses.{status_of_run};
 ghost use Rattle.launcher.specs.Reports.{details_of, ArePrinted, IsRunOutput, IsReplayOutput, IsOutput};
 ghost use Rattle.launcher.specs.Runs.{IsUnrun};
 ghost use Rattle.launcher.specs.WarningTexts.{warning_lines};
+ghost use Rattle.resource_locks.specs.Declarations.{declared_of};
+ghost use Rattle.resource_locks.specs.Hoisted.{IsGuarded};
 
+use crate::asked::Options;
 use crate::details::Details;
 use crate::exit_status::ExitStatus;
 use crate::fault::LaunchFault;
-use crate::options::Options;
 use crate::replay::{ReplayCounts, push_replay_line};
 use crate::scripted::scripted_jobs;
 use crate::warning_lines::push_warnings;
@@ -122,6 +124,7 @@ fn run_report<T: Threads + Wait + Sync>(
 ) -> Result<Report, LaunchFault>
     requires some { 1 ≤ settings.now.workers }
     requires few { settings.now.workers ≤ 64 }
+    requires guarded { IsGuarded (declared_of plan.tree) plan }
     ensures output { IfOk result (λ report. IsRunOutput (asked_by options.now) settings.now plan answers.now (string_bytes report.text) report.status) }
     ensures refused { IfErr result (λ fault. (fault ≡ LaunchFault.NoMemory) ⊎ (fault ≡ LaunchFault.NoWorker)) }
 {
@@ -196,6 +199,7 @@ pub(crate) fn report_of<T: Threads + Wait + Sync>(
 ) -> Result<Report, LaunchFault>
     requires some { 1 ≤ settings.now.workers }
     requires few { settings.now.workers ≤ 64 }
+    requires guarded { IsGuarded (declared_of plan.tree) plan }
     ensures output { IfOk result (λ report. IsOutput (asked_by options.now) settings.now plan answers.now (string_bytes report.text) report.status) }
     ensures refused { IfErr result (IsUnrun (asked_by options.now)) }
 {

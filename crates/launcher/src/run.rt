@@ -2,16 +2,20 @@
 
 ghost use Rattle.std.specs.Prelude.{◌≡◌, ◌≢◌, ◌≤◌, None, Some, IfOk, IfErr, IfSome, false, take, string_bytes};
 ghost use Rattle.std.specs.Io.KnownBytes.{Keeps};
+ghost use Rattle.resource_locks.specs.Spares.{HasBareSpares};
+ghost use Rattle.never_stuck.specs.Reaching.{NeverStuck};
 ghost use Rattle.suite_text.specs.Reading.Bytes.{suite_read};
 ghost use Rattle.suite_text.specs.Suites.{suite_parts};
 ghost use Rattle.launcher.specs.Runs.{IsRun, IsSuiteOutput, IsSuiteRun, FailsSuite, ReadsSuite, TakesFrom, TakesMemory, answers_of as answers_in, fault_in, is_writing, plan_of as plan_in, plan_refusal, selection_refusal, workers_refusal};
+ghost use Rattle.resource_locks.specs.Declarations.{declared_of};
+ghost use Rattle.resource_locks.specs.Hoisted.{IsGuarded};
 ghost use Rattle.selectors.specs.Selections.{answer};
 ghost use Rattle.launcher.specs.Asked.{asked_by};
 
+use crate::asked::Options;
 use crate::bytes::{ReadFault, read_front};
 use crate::exit_status::ExitStatus;
 use crate::fault::LaunchFault;
-use crate::options::Options;
 use crate::report::{Report, report_of};
 use crate::scripted::spins_of;
 use config_params::Settings;
@@ -38,6 +42,8 @@ const MOST_WORKERS: u32 = 64;
 pub fn read_suite<R: Read>(alloc: Global, reader: &mut R) -> Result<Suite, LaunchFault>
     ensures exact { IfSome (R.remaining reader.old) (λ bytes. ReadsSuite (suite_read (take 1048577 bytes)) result) }
     ensures reads { TakesFrom (R.remaining reader.old) (R.remaining reader.new) (fault_in result) (λ bytes. ReadsSuite (suite_read bytes) result) }
+    // No dynamic test declares a lock, and no engine is a factory.
+    ensures bare { IfOk result (λ suite. HasBareSpares suite.tree) }
 {
     let bytes = read_front(alloc, reader, MOST_READ)?;
     Ok(Suite::read(alloc, bytes.as_slice())?)
@@ -64,14 +70,22 @@ fn plan_of(
     tree: Tree,
 ) -> Result<Plan, LaunchFault>
     ensures plan { IfOk result (λ plan. plan ≡ plan_in options.now.fail_fast settings.now (answer tree options.now.request)) }
+    ensures guarded { IfOk result (λ plan. IsGuarded (declared_of plan.tree) plan) }
     ensures accepted { IfOk result (λ _. plan_refusal tree options.now.request ≡ None) }
     ensures refused { IfErr result (λ fault. fault ≢ LaunchFault.NoMemory → plan_refusal tree options.now.request ≡ Some fault) }
     ensures no_memory { IfErr result (λ fault. fault ≡ LaunchFault.NoMemory → selection_refusal tree options.now.request ≡ None) }
+    // Whatever its workers do first, it can still be brought to its end.
+    ensures never_stuck { IfOk result (λ plan. HasBareSpares tree → NeverStuck plan) }
 {
+    // the contract of `len` tells that it is a tree
+    let _ = tree.len();
     let tree = discover(alloc, tree, &options.request)?;
     let modes = modes(alloc, &tree, settings)?;
     let plan = Plan::of(alloc, tree, modes)?;
-    Ok(plan.with_fail_fast(options.fail_fast))
+    let plan = plan.with_fail_fast(options.fail_fast);
+    // and that of `tree`, that this is a plan
+    let _ = plan.tree();
+    Ok(plan)
 }
 
 /// Refused are more than 64 workers (61).

@@ -1,13 +1,28 @@
 -- The plan is made of what the request selects, with the modes that its nodes are given.
-use Rattle.launcher.proofs.Planning.{keys_refused, plan_made}
+use Rattle.std.proofs.Common.{subst, sym}
+use Rattle.descriptor.specs.Nodes.{IsTree}
+use Rattle.resource_locks.specs.Spares.{HasBareSpares, HasFreeSpares}
+use Rattle.never_stuck.proofs.Theorem.{never_stuck}
+use Rattle.launcher.proofs.Planning.{keys_refused, plan_made, still_guarded}
+use Rattle.launcher.proofs.Selected.{selected_bare}
 use Rattle.launcher.proofs.run.plan_of.Goals as goal
 
 pub returns-clause-plan : goal.returns-clause-plan
 returns-clause-plan c =
-    plan_made c.args.tree c.in_ok-tree.tree c.args.options.now.request c.args.settings.now c.args.options.now.fail_fast c.in_ok-modes.modes.items c.in_ok-plan.plan c.with_fail_fast.result c.in_ok-tree.ensures.ok c.in_ok-modes.ensures.exact c.in_ok-plan.ensures.same
-    c.with_fail_fast.ensures.same
+    plan_made c.args.tree c.in_ok-tree.tree c.args.options.now.request c.args.settings.now c.args.options.now.fail_fast c.in_ok-modes.modes.items c.in_ok-plan.plan c.with_fail_fast-plan.result c.in_ok-tree.ensures.ok c.in_ok-modes.ensures.exact c.in_ok-plan.ensures.same
+    c.with_fail_fast-plan.ensures.same
+
+pub returns-clause-guarded : goal.returns-clause-guarded
+returns-clause-guarded c =
+    still_guarded c.in_ok-tree.tree c.in_ok-modes.modes.items c.args.options.now.fail_fast c.in_ok-plan.plan c.with_fail_fast-plan.result c.in_ok-plan.ensures.same c.with_fail_fast-plan.ensures.same c.in_ok-plan.ensures.guarded c.with_fail_fast-plan.ensures.guarded
 
 pub returns-in_err-plan-clause-refused : goal.returns-in_err-plan-clause-refused
 returns-in_err-plan-clause-refused c =
     keys_refused c.args.tree c.args.options.now.request c.in_ok-tree.tree c.in_ok-tree.ensures.ok c.in_ok-tree.ensures.accepted c.in_err-plan.field-0.0 c.from_residual-in_err-plan.result c.from_residual-in_err-plan.ensures.1
     c.in_err-plan.ensures.refused
+
+pub returns-clause-never_stuck : goal.returns-clause-never_stuck
+returns-clause-never_stuck c bare =
+    let found = c.in_ok-tree.ensures.ok in
+    let selected = subst HasBareSpares (sym found) (selected_bare c.args.tree c.len.ensures.tree c.args.options.now.request (subst IsTree found c.in_ok-tree.ensures.tree) bare) in
+    never_stuck c.with_fail_fast-plan.result c.tree.ensures.plan (subst HasFreeSpares (sym c.with_fail_fast-plan.ensures.same) (c.in_ok-plan.ensures.free selected))

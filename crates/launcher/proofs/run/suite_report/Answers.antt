@@ -20,7 +20,7 @@ returns-in_err-spins-clause-refused g c =
 pub returns-clause-report : goal.returns-clause-report
 returns-clause-report g c =
     outputs (asked_by c.args.options.now) (suite_parts c.args.suite) c.in_ok-settings.settings c.in_ok-settings.ensures.exact c.in_ok-plan.ensures.accepted c.report_of.result c.in_ok-plan.plan c.in_ok-answers.answers c.in_ok-judge_workers.ensures.accepted
-    c.in_ok-plan.ensures.plan c.in_ok-answers.ensures c.report_of.ensures.output
+    c.in_ok-plan.ensures.plan c.in_ok-answers.ensures c.in_ok-plan.ensures.never_stuck c.report_of.ensures.output
 
 pub returns-clause-refused : goal.returns-clause-refused
 returns-clause-refused g c =

@@ -1,0 +1,61 @@
+-- What a request selects of a tree in which no spare declares a lock, and no engine is a factory, is such a tree.
+use Rattle.std.proofs.Common.{◌≡◌, ℕ, zero, suc, ◌+◌, ◌<◌, Bool, true, false, List, [], refl, sym, ap, ◌∙◌, subst, arith, inl, inr}
+use Rattle.std.proofs.lemmas.Bool.{cases_lt, false≢true}
+use Rattle.std.proofs.lemmas.Option.{slice_get_past}
+use Rattle.descriptor.specs.declared.node.Node.{Node}
+use Rattle.descriptor.specs.Nodes.{Nodes, IsTree, IsChild, size, parent_of, node_at, role_or, locks_or, is_spare_at, is_factory_at, locks_of}
+use Rattle.descriptor.specs.Pruned.{IsClosed, KeepsNodes, pruned, is_kept, new_number}
+use Rattle.descriptor.specs.Roles.{is_spare, is_factory}
+use Rattle.descriptor.proofs.Pruning.{kept_at_end}
+use Rattle.resource_locks.specs.Spares.{HasBareSpares}
+use Rattle.selectors.specs.declared.request.Request.{Request}
+use Rattle.selectors.specs.Covered.{truths}
+use Rattle.selectors.specs.Keeping.{stays, is_taken, is_above}
+use Rattle.selectors.specs.Selections.{is_selected, answer}
+use Rattle.selectors.proofs.Answer.{closed, kept_of}
+
+-- a spare is a node
+spare_inside : (t : Nodes) → IsTree t → (n : ℕ) → is_spare_at t n ≡ true → n < size t
+spare_inside t tree zero spare = tree.root
+spare_inside t tree (suc m) spare = elim (cases_lt (suc m) (size t)) [
+  | inl inside ↦ inside
+  | inr past ↦ absurd (false≢true (sym (ap (λ o. is_spare (role_or o)) (slice_get_past t.nodes m (let len = tree.nodes_len in omega (arith, len, past)))) ∙ spare))
+]
+
+-- the nodes that are kept are told of as before, and a child of the plan was one
+module _ (t u : Nodes) (keep : List Bool) (close : IsClosed t keep) (tree : IsTree t) (kept : KeepsNodes t keep u) (len : (k : ℕ) → is_spare_at u k ≡ true → k < size u) (bare : HasBareSpares t) where
+  kept_locks : (k : ℕ) → is_spare_at u k ≡ true → locks_of u k ≡ []
+  kept_locks k spare =
+      let from = kept.each k (len k spare) in
+      let told : node_at u k ≡ node_at t from.0 = ap (node_at u) (sym from.3) ∙ kept.told from.0 from.1 from.2 in
+      ap locks_or told ∙ bare.locks from.0 (sym (ap (λ o. is_spare (role_or o)) told) ∙ spare)
+
+  kept_engines : (e : ℕ) → IsChild u 0 e → is_factory_at u e ≡ false
+  kept_engines e child =
+      let from = kept.each e child.inside in
+      let n = from.0 in
+      let told : node_at u e ≡ node_at t n = ap (node_at u) (sym from.3) ∙ kept.told n from.1 from.2 in
+      ap (λ o. is_factory (role_or o)) told ∙ bare.engines n (record { above_zero = above n from.3; inside = from.1; parent = of_plan n from.1 from.2 from.3 })
+    where
+      above : (n : ℕ) → new_number keep n ≡ e → 0 < n
+      above zero is = absurd (let pos = child.above_zero in omega (arith, pos, is))
+      above (suc n) is = omega arith
+
+      of_plan : (n : ℕ) → n < size t → is_kept keep n ≡ true → new_number keep n ≡ e → parent_of t n ≡ 0
+      of_plan n inside is_there is = elim (cases_lt 0 (parent_of t n)) [
+        | inr none ↦ omega (arith, none)
+        | inl some ↦ absurd (
+            let first = kept.ordered 0 (parent_of t n) some close.root in
+            let new : new_number keep (parent_of t n) ≡ 0 = sym (kept.parent n (above n is) inside is_there) ∙ ap (parent_of u) is ∙ child.parent in
+            omega (arith, first, new))
+      ]
+
+pub selected_bare : (t : Nodes) → IsTree t → (request : Request) → IsTree (answer t request) → HasBareSpares t → HasBareSpares (answer t request)
+selected_bare t tree request found bare =
+    let q = is_selected t request in
+    let above = truths (is_above t (is_taken t q)) (size t) in
+    let keep = truths (stays t q) (size t) in
+    let close : IsClosed t keep = subst (IsClosed t) (kept_of t tree q above refl) (closed t tree (is_taken t q) above refl) in
+    let kept : KeepsNodes t keep (pruned t keep) = kept_at_end t (pruned t keep) keep (size t) tree close refl refl in
+    let inside = spare_inside (answer t request) found in
+    record { locks = kept_locks t (pruned t keep) keep close tree kept inside bare; engines = kept_engines t (pruned t keep) keep close tree kept inside bare }

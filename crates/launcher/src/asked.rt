@@ -1,0 +1,34 @@
+//! The options of a run.
+
+ghost use Rattle.run_table.specs.Prepared.{IsRightRing};
+
+use crate::details::Details;
+use config_params::Params;
+use listeners::Theme;
+use scheduling::Step;
+use selectors::Request;
+
+/// The options of a run.
+#[derive(Drop)]
+pub struct Options {
+    /// What is to run: the options for selectors, which share one numbering, and those for tags.
+    pub request: Request,
+    /// What the request and the system say of the configuration; what the suite says of a key counts
+    /// only where neither has it.
+    pub params: Params,
+    /// How many processors the machine is taken to have.
+    pub processors: u32,
+    /// How many events of a run on threads may be shown that were not told yet, from 1 to 16,384.
+    pub ring: u32,
+    pub details: Details,
+    /// The signs of the tree.
+    pub theme: Theme,
+    /// Whether a run without tests has a status of its own.
+    pub fail_if_no_tests: bool,
+    /// Whether nothing more starts once a node has failed.
+    pub fail_fast: bool,
+    /// The steps that are run in place of the fixed schedule. Then their text alone is printed,
+    /// whatever the details are.
+    pub replay: Option<Vec<Step>>,
+    pub ghost right_ring: { IsRightRing ring },
+}
