@@ -23,7 +23,7 @@ use run_table::{DispatcherSeat, Jobs, RunTable, WorkerSeat};
 use std::alloc::{AllocError, Global};
 use std::sync::{Arc, Wait};
 use std::test::Fail;
-use worker_pool::{Sources, dispatch_one, work};
+use worker_pool::{Beds, Sources, dispatch_one, work};
 
 /// One test.
 const ONE: &str = "engine e
@@ -132,7 +132,8 @@ fn is_told_at<R: Wait>(
     match course {
         Course::Begins => Ok(start_is_told_when_shown(table, worker, desk, audience, texts)),
         Course::Works(calls) => {
-            let mut sources = Sources::new(alloc, 0)?;
+            let beds = Arc::new(alloc, Beds::new(alloc, 1)?)?;
+            let mut sources = Sources::new(alloc, &beds, 0)?;
             work(rt, table, worker, &mut sources);
             let is_told = tells_at_last(table, desk, audience, texts, calls);
             has_first(alloc, audience, calls, is_told)
