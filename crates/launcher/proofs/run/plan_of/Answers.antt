@@ -25,4 +25,4 @@ pub returns-clause-never_stuck : goal.returns-clause-never_stuck
 returns-clause-never_stuck c bare =
     let found = c.in_ok-tree.ensures.ok in
     let selected = subst HasBareSpares (sym found) (selected_bare c.args.tree c.len.ensures.tree c.args.options.now.request (subst IsTree found c.in_ok-tree.ensures.tree) bare) in
-    never_stuck c.with_fail_fast-plan.result c.tree.ensures.plan (subst HasFreeSpares (sym c.with_fail_fast-plan.ensures.same) (c.in_ok-plan.ensures.free selected))
+    never_stuck c.with_fail_fast-plan.result c.tree-2.ensures.plan (subst HasFreeSpares (sym c.with_fail_fast-plan.ensures.same) (c.in_ok-plan.ensures.free selected))
