@@ -27,15 +27,15 @@ module _ (t u : Nodes) (keep : List Bool) (close : IsClosed t keep) (tree : IsTr
   kept_locks : (k : ℕ) → is_spare_at u k ≡ true → locks_of u k ≡ []
   kept_locks k spare =
       let from = kept.each k (len k spare) in
-      let told : node_at u k ≡ node_at t from.0 = ap (node_at u) (sym from.3) ∙ kept.told from.0 from.1 from.2 in
+      let told : node_at u k ≡ node_at t from.0 = ap (node_at u) (sym from.1.2) ∙ kept.told from.0 from.1.0 from.1.1 in
       ap locks_or told ∙ bare.locks from.0 (sym (ap (λ o. is_spare (role_or o)) told) ∙ spare)
 
   kept_engines : (e : ℕ) → IsChild u 0 e → is_factory_at u e ≡ false
   kept_engines e child =
       let from = kept.each e child.inside in
       let n = from.0 in
-      let told : node_at u e ≡ node_at t n = ap (node_at u) (sym from.3) ∙ kept.told n from.1 from.2 in
-      ap (λ o. is_factory (role_or o)) told ∙ bare.engines n (record { above_zero = above n from.3; inside = from.1; parent = of_plan n from.1 from.2 from.3 })
+      let told : node_at u e ≡ node_at t n = ap (node_at u) (sym from.1.2) ∙ kept.told n from.1.0 from.1.1 in
+      ap (λ o. is_factory (role_or o)) told ∙ bare.engines n (record { above_zero = above n from.1.2; inside = from.1.0; parent = of_plan n from.1.0 from.1.1 from.1.2 })
     where
       above : (n : ℕ) → new_number keep n ≡ e → 0 < n
       above zero is = absurd (let pos = child.above_zero in omega (arith, pos, is))

@@ -80,6 +80,9 @@ fn three_threads_get_each_number_once(rt: HostRuntime) -> Result<(), Fail> {
     let left = left_in(&mut lane);
     let stolen = u64::wrapping_add(a, b);
     let rest = u64::wrapping_add(left, stolen);
-    assert_eq!(rt; own.map(|own| u64::wrapping_add(own, rest)), Some(4_501_500));
+    assert_eq!(rt;
+        own.map(|own| u64::wrapping_add(own, rest)),
+        Some(4_501_500)
+    );
     Ok(())
 }
