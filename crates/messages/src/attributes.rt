@@ -1,9 +1,13 @@
 //! What is wrong with the attributes and the verdict of a line.
 
 use crate::line::cut;
+use crate::nearest::is_known;
 use std::alloc::Global;
 use suite_text::number_up_to;
 use tag_expr::tag_of;
+
+/// One key of locks more than a line may have: where so many were found, further ones change nothing.
+const MOST_COUNTED: usize = 17;
 
 /// The attributes that are words of their own, the keys of the others, and the verdicts.
 pub(crate) const KNOWN: [&str; 10] = [
@@ -77,31 +81,31 @@ fn lock_key(word: &str) -> Option<&str> {
     Some(lock.strip_suffix(":r").unwrap_or(lock))
 }
 
-/// Whether one of the words of a text is a lock with this key.
-fn is_locked(text: &str, key: &str) -> bool {
-    let mut found = false;
-    for word in text.split(' ') {
-        if let Some(other) = lock_key(word) {
-            found = found || other == key;
-        }
+/// Counts a key of these, of which so many were counted: where it is another, and none of the places is left, nothing changes.
+fn counted<'a>(seen: &mut [&'a str; MOST_COUNTED], keys: usize, key: &'a str) -> usize {
+    let before = seen.get(..keys).unwrap_or(&[]);
+    if is_known(before, key) {
+        return keys;
     }
-    found
+    match seen.get_mut(keys) {
+        Some(place) => {
+            *place = key;
+            keys.saturating_add(1)
+        }
+        None => keys,
+    }
 }
 
-/// How many keys the words of a text lock, and how many bytes the longest has.
+/// How many keys the words of a text lock, counted up to one more than a line may have, and how many bytes the longest has.
 pub(crate) fn locks_in(text: &str) -> (usize, usize) {
-    let mut left = text;
+    let mut seen = [""; MOST_COUNTED];
     let mut keys: usize = 0;
     let mut longest = 0;
-    for _ in 0..text.len() {
-        let (word, rest) = cut(left);
+    for word in text.split(' ') {
         if let Some(key) = lock_key(word) {
             longest = key.len().max(longest);
-            if !is_locked(rest, key) {
-                keys = keys.saturating_add(1);
-            }
+            keys = counted(&mut seen, keys, key);
         }
-        left = rest;
     }
     (keys, longest)
 }
@@ -161,6 +165,15 @@ fn trouble_of(alloc: Global, front: &str, word: &str) -> Option<&'static str> {
     }
 }
 
+/// What stands in a text before this rest of it, whose length alone is looked at, so that a long line is not read again for each word.
+fn front_of<'a>(text: &'a str, rest: &str) -> &'a str {
+    let at = text.len().saturating_sub(rest.len());
+    match text.split_at_checked(at) {
+        Some((front, _)) => front,
+        None => "",
+    }
+}
+
 /// What follows the attributes that are in order, of a line with this first word, whose attributes and verdict are this text; and
 /// what is wrong with the attribute that stands there, if one does.
 pub(crate) fn first_trouble<'a>(
@@ -174,8 +187,7 @@ pub(crate) fn first_trouble<'a>(
         if !is_attribute(first, word) {
             return (left, None);
         }
-        let front = text.strip_suffix(left).unwrap_or("");
-        let trouble = trouble_of(alloc, front, word);
+        let trouble = trouble_of(alloc, front_of(text, left), word);
         if trouble.is_some() {
             return (left, trouble);
         }
