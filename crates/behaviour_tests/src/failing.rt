@@ -1,15 +1,35 @@
-//! A writer that fails.
+//! Writers that fail.
 
 ghost use Rattle.std.specs.Prelude.{Some};
 
 use std::io::{Error, ErrorKind, Result as IoResult, Write};
 
-/// Takes so many bytes, a few at a time, and then fails.
+/// What a writer does where it has no room left.
+#[derive(Clone, Copy)]
+pub(crate) enum Full {
+    IsInterrupted,
+    Fails,
+    TakesNothing,
+}
+
+impl Full {
+    /// What it answers to a write.
+    fn answer(self) -> IoResult<usize> {
+        match self {
+            Full::IsInterrupted => Err(Error::from(ErrorKind::Interrupted)),
+            Full::Fails => Err(Error::from(ErrorKind::Other)),
+            Full::TakesNothing => Ok(0),
+        }
+    }
+}
+
+/// Takes so many bytes, a few at a time, and then does this.
 #[derive(Drop)]
 pub(crate) struct Failing {
     pub(crate) taken: Vec<u8>,
     pub(crate) room: usize,
     pub(crate) step: usize,
+    pub(crate) full: Full,
 }
 
 impl Write for Failing {
@@ -17,7 +37,7 @@ impl Write for Failing {
 
     fn write(&mut self, buf: &[u8]) -> IoResult<usize> {
         if self.room == 0 {
-            return Err(Error::from(ErrorKind::Interrupted));
+            return self.full.answer();
         }
         let count = buf.len().min(self.room).min(self.step);
         self.taken.extend_from_slice(&buf[..count])?;

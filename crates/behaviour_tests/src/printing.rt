@@ -1,6 +1,6 @@
 //! Writers that fail, and texts whose characters no line of a suite can have.
 
-use crate::failing::Failing;
+use crate::failing::{Failing, Full};
 use crate::plans::{event, finished, plan_of_one, started};
 use descriptor::{Kind, NodeId};
 use listeners::{Theme, feed_text, print_to, tree_text};
@@ -19,6 +19,7 @@ fn refused(alloc: Global, room: usize, step: usize) -> Option<usize> {
         taken: Vec::new(alloc),
         room,
         step,
+        full: Full::IsInterrupted,
     };
     let fault = print_to(&mut writer, BYTES).err()?;
     let is_front = BYTES.starts_with(writer.taken.as_slice());
@@ -48,6 +49,7 @@ fn a_writer_that_takes_all_is_no_fault(rt: HostRuntime) {
         taken: Vec::new(rt.alloc()),
         room: 19,
         step: 1,
+        full: Full::Fails,
     };
     let is_ok = print_to(&mut writer, BYTES).is_ok();
     assert!(rt; is_ok && writer.taken.as_slice() == BYTES);

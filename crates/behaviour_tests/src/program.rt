@@ -1,8 +1,8 @@
 //! A run whose reader or writer fails.
 
-use crate::failing::Failing;
+use crate::failing::{Failing, Full};
 use config_params::Params;
-use launcher::{Details, LaunchFault, Options, ReadFault, read_front, run_options};
+use launcher::{Details, ExitStatus, LaunchFault, Options, ReadFault, read_front, run_options};
 use listeners::Theme;
 use selectors::Request;
 use std::alloc::Global;
@@ -25,18 +25,20 @@ w1 finished [engine:e] SUCCESSFUL
 w1 plan finished
 ";
 
-/// Gives its text, so many bytes at a time, and then fails.
+/// Gives its text, so many bytes at a time, and fails at the read behind so many.
 #[derive(Drop)]
 struct Broken<'a> {
     text: &'a [u8],
     step: usize,
+    reads: usize,
 }
 
 impl Read for Broken<'_> {
     fn read(&mut self, buf: &mut [u8]) -> IoResult<usize> {
-        if self.text.is_empty() {
+        if self.reads == 0 {
             return Err(Error::from(ErrorKind::Other));
         }
+        self.reads -= 1;
         let count = self.text.len().min(buf.len()).min(self.step);
         buf[..count].copy_from_slice(&self.text[..count]);
         self.text = &self.text[count..];
@@ -63,25 +65,34 @@ fn feed_options(alloc: Global) -> Options {
     }
 }
 
-/// What is read of at most so many bytes from a reader that gives this text, a few bytes at a time, and then fails.
-fn front_of(alloc: Global, text: &[u8], most: usize) -> Result<Vec<u8>, ReadFault> {
-    let mut reader = Broken { text, step: 2 };
+/// What is read of at most so many bytes from a reader that gives a line, two bytes at a time, and fails behind so many reads.
+fn front_of(alloc: Global, most: usize, reads: usize) -> Result<Vec<u8>, ReadFault> {
+    let mut reader = Broken {
+        text: b"engine e\n",
+        step: 2,
+        reads,
+    };
     read_front(alloc, &mut reader, most)
 }
 
-/// Whether a reader that fails behind this text ends the reading.
-fn is_not_read(alloc: Global, text: &[u8]) -> bool {
-    front_of(alloc, text, 99).err() == Some(ReadFault::Failed)
+/// Whether a reader that fails ends the reading, whichever of its reads it is: five give the line, and the sixth its end.
+fn is_never_read(alloc: Global) -> bool {
+    for reads in 0..6 {
+        if front_of(alloc, 99, reads).err() != Some(ReadFault::Failed) {
+            return false;
+        }
+    }
+    true
 }
 
 #[test]
 fn a_reader_that_fails_ends_the_reading(rt: HostRuntime) {
-    assert!(rt; is_not_read(rt.alloc(), b"") && is_not_read(rt.alloc(), b"engine e\n"));
+    assert!(rt; is_never_read(rt.alloc()));
 }
 
-/// Whether the front of this text is read from a reader that fails behind the text.
-fn gives_front(alloc: Global, text: &[u8], front: &[u8]) -> bool {
-    match front_of(alloc, text, front.len()) {
+/// Whether this is read of at most so many bytes, in so many reads.
+fn gives_front(alloc: Global, most: usize, reads: usize, front: &[u8]) -> bool {
+    match front_of(alloc, most, reads) {
         Ok(read) => read.as_slice() == front,
         Err(_) => false,
     }
@@ -89,14 +100,17 @@ fn gives_front(alloc: Global, text: &[u8], front: &[u8]) -> bool {
 
 #[test]
 fn a_reader_that_fails_later_gives_its_front(rt: HostRuntime) {
-    assert!(rt; gives_front(rt.alloc(), b"engine e\n", b"engine"));
+    assert!(rt;
+        gives_front(rt.alloc(), 6, 3, b"engine") && gives_front(rt.alloc(), 99, 6, b"engine e\n")
+    );
 }
 
-/// Whether a suite whose reader fails is refused, and nothing is written.
-fn is_refused_unread<T: Threads + Wait + Sync>(rt: &T, alloc: Global) -> bool {
+/// Whether a suite whose reader fails behind so many reads is refused, and nothing is written.
+fn is_refused_unread<T: Threads + Wait + Sync>(rt: &T, alloc: Global, reads: usize) -> bool {
     let mut reader = Broken {
         text: SUITE.as_bytes(),
         step: 9,
+        reads,
     };
     let mut written = Vec::new(alloc);
     let answer = run_options(rt, alloc, &feed_options(alloc), &mut reader, &mut written);
@@ -104,39 +118,142 @@ fn is_refused_unread<T: Threads + Wait + Sync>(rt: &T, alloc: Global) -> bool {
 }
 
 #[test]
-fn a_suite_that_is_not_read_is_refused(rt: HostRuntime) {
-    assert!(rt; is_refused_unread(&rt, rt.alloc()));
+fn a_suite_whose_first_or_second_read_fails_is_refused(rt: HostRuntime) {
+    assert!(rt; is_refused_unread(&rt, rt.alloc(), 0));
+    assert!(rt; is_refused_unread(&rt, rt.alloc(), 1));
 }
 
-/// Whether a run that writes the feed to a writer which takes so many bytes is refused at that place, when the first bytes
-/// of it are written.
-fn is_cut_at<T: Threads + Wait + Sync>(rt: &T, alloc: Global, room: usize) -> bool {
-    let mut reader = SUITE.as_bytes();
-    let mut writer = Failing {
+/// A suite of a passing and a failing test.
+const TWO_TESTS: &str = "engine e\n  class a.B\n    test t() pass\n    test u() fail no\n";
+
+/// Its tree and its summary: 522 bytes.
+const TREE: &str = "'-- e [OK]
+    '-- a.B [OK]
+        +-- t() [OK]
+        '-- u() [X] no
+Test run finished
+[         2 containers found      ]
+[         0 containers skipped    ]
+[         2 containers started    ]
+[         0 containers aborted    ]
+[         2 containers successful ]
+[         0 containers failed     ]
+[         2 tests found           ]
+[         0 tests skipped         ]
+[         2 tests started         ]
+[         0 tests aborted         ]
+[         1 tests successful      ]
+[         1 tests failed          ]
+";
+
+/// The options that print it.
+fn tree_options(alloc: Global) -> Options {
+    let mut options = feed_options(alloc);
+    options.details = Details::Tree;
+    options.theme = Theme::Ascii;
+    options
+}
+
+/// How a run ends that writes the tree to this writer.
+fn ends_before<T: Threads + Wait + Sync>(
+    rt: &T,
+    alloc: Global,
+    writer: &mut Failing,
+) -> Result<ExitStatus, LaunchFault> {
+    let mut reader = TWO_TESTS.as_bytes();
+    run_options(rt, alloc, &tree_options(alloc), &mut reader, writer)
+}
+
+/// A writer that takes so many bytes, at most so many at a time, and then does this.
+fn writer_of(alloc: Global, room: usize, step: usize, full: Full) -> Failing {
+    Failing {
         taken: Vec::new(alloc),
         room,
-        step: 7,
-    };
-    let Err(fault) = run_options(rt, alloc, &feed_options(alloc), &mut reader, &mut writer) else {
-        return false;
-    };
-    fault.number() == 81
-        && fault.place() == Some(room as u64)
-        && writer.taken.len() == room
-        && FEED.as_bytes().starts_with(writer.taken.as_slice())
+        step,
+        full,
+    }
 }
 
-/// Whether an output is cut at its beginning, behind its first line, and before its last byte.
+/// Whether a run is refused at the byte at which its writer, which takes so many at a time, does this.
+fn is_cut<T: Threads + Wait + Sync>(
+    rt: &T,
+    alloc: Global,
+    room: usize,
+    step: usize,
+    full: Full,
+) -> bool {
+    let mut writer = writer_of(alloc, room, step, full);
+    match ends_before(rt, alloc, &mut writer) {
+        Ok(_) => false,
+        Err(fault) => {
+            fault.number() == 81
+                && fault.place() == Some(room as u64)
+                && writer.taken.len() == room
+                && TREE.as_bytes().starts_with(writer.taken.as_slice())
+        }
+    }
+}
+
+/// Whether the output is cut at each of its bytes, where a writer that takes one byte a write fails, or one that takes all at once is
+/// interrupted.
 fn is_cut_anywhere<T: Threads + Wait + Sync>(rt: &T, alloc: Global) -> bool {
-    is_cut_at(rt, alloc, 0) && is_cut_at(rt, alloc, 16) && is_cut_at(rt, alloc, FEED.len() - 1)
+    for room in 0..TREE.len() {
+        if !is_cut(rt, alloc, room, 1, Full::Fails) {
+            return false;
+        }
+        if !is_cut(rt, alloc, room, TREE.len(), Full::IsInterrupted) {
+            return false;
+        }
+    }
+    TREE.len() == 522
 }
 
 #[test]
-fn an_output_that_is_cut_short_is_refused(rt: HostRuntime) {
+fn an_output_that_is_cut_at_any_byte_is_refused_there(rt: HostRuntime) {
     assert!(rt; is_cut_anywhere(&rt, rt.alloc()));
 }
 
+/// Whether a writer that takes so many bytes, and then nothing of the rest, cuts the output there.
+fn is_left<T: Threads + Wait + Sync>(rt: &T, alloc: Global, room: usize) -> bool {
+    is_cut(rt, alloc, room, 1, Full::TakesNothing)
+        && is_cut(rt, alloc, room, TREE.len(), Full::TakesNothing)
+}
+
 #[test]
-fn an_output_that_is_taken_is_no_refusal(rt: HostRuntime) {
-    assert!(rt; !is_cut_at(&rt, rt.alloc(), FEED.len()));
+fn an_output_of_which_a_rest_is_not_taken_is_refused_there(rt: HostRuntime) {
+    assert!(rt;
+        is_left(&rt, rt.alloc(), 0) && is_left(&rt, rt.alloc(), 11) && is_left(&rt, rt.alloc(), 521)
+    );
+}
+
+/// Whether the output is taken as a whole by a writer that has room for it and takes so many bytes at a time.
+fn is_taken<T: Threads + Wait + Sync>(rt: &T, alloc: Global, step: usize) -> bool {
+    let mut writer = writer_of(alloc, TREE.len(), step, Full::Fails);
+    let end = ends_before(rt, alloc, &mut writer);
+    end == Ok(ExitStatus::TestsFailed) && writer.taken.as_slice() == TREE.as_bytes()
+}
+
+#[test]
+fn an_output_that_is_taken_as_a_whole_is_no_refusal(rt: HostRuntime) {
+    assert!(rt; is_taken(&rt, rt.alloc(), 1) && is_taken(&rt, rt.alloc(), TREE.len()));
+}
+
+/// Whether a run is refused where its writer, which has so much room, takes no more of the feed of one test.
+fn feed_is_cut<T: Threads + Wait + Sync>(rt: &T, alloc: Global, room: usize) -> bool {
+    let mut reader = SUITE.as_bytes();
+    let mut writer = writer_of(alloc, room, 7, Full::Fails);
+    let end = run_options(rt, alloc, &feed_options(alloc), &mut reader, &mut writer);
+    match end {
+        Ok(_) => false,
+        Err(fault) => {
+            fault.place() == Some(room as u64)
+                && writer.taken.len() == room
+                && FEED.as_bytes().starts_with(writer.taken.as_slice())
+        }
+    }
+}
+
+#[test]
+fn a_feed_that_is_cut_behind_its_first_line_is_refused(rt: HostRuntime) {
+    assert!(rt; feed_is_cut(&rt, rt.alloc(), 16) && !feed_is_cut(&rt, rt.alloc(), FEED.len()));
 }
