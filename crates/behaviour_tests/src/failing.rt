@@ -12,17 +12,6 @@ pub(crate) enum Full {
     TakesNothing,
 }
 
-impl Full {
-    /// What it answers to a write.
-    fn answer(self) -> IoResult<usize> {
-        match self {
-            Full::IsInterrupted => Err(Error::from(ErrorKind::Interrupted)),
-            Full::Fails => Err(Error::from(ErrorKind::Other)),
-            Full::TakesNothing => Ok(0),
-        }
-    }
-}
-
 /// Takes so many bytes, a few at a time, and then does this.
 #[derive(Drop)]
 pub(crate) struct Failing {
@@ -37,7 +26,11 @@ impl Write for Failing {
 
     fn write(&mut self, buf: &[u8]) -> IoResult<usize> {
         if self.room == 0 {
-            return self.full.answer();
+            return match self.full {
+                Full::IsInterrupted => Err(Error::from(ErrorKind::Interrupted)),
+                Full::Fails => Err(Error::from(ErrorKind::Other)),
+                Full::TakesNothing => Ok(0),
+            };
         }
         let count = buf.len().min(self.room).min(self.step);
         self.taken.extend_from_slice(&buf[..count])?;
