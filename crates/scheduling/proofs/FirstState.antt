@@ -1,7 +1,7 @@
 -- The opening state keeps the invariant.
-use Rattle.std.proofs.Common.{◌≤◌, ◌≡◌, ℕ, zero, suc, ◌<◌, false, ◌&&◌, not, List, [], ◌∷◌, ◌++◌, length, get_or, replicate, Some, None, slice_get, inl, inr, refl, sym, ap, ◌∙◌, subst, arith, length-append}
+use Rattle.std.proofs.Common.{◌≤◌, ◌≡◌, ℕ, zero, suc, ◌<◌, false, ◌&&◌, not, List, [], ◌∷◌, ◌++◌, length, get_or, replicate, Some, None, slice_get, ◌⊎◌, inl, inr, refl, sym, ap, ◌∙◌, subst, arith, length-append}
 use Rattle.std.proofs.lemmas.Option.{same_Some, none-some}
-use Rattle.std.proofs.lemmas.Bool.{cases_eq, false≢true}
+use Rattle.std.proofs.lemmas.Bool.{cases_eq, cases_lt, false≢true}
 use Rattle.std.proofs.lemmas.List.{length-replicate}
 use Rattle.descriptor.specs.declared.lock_mode.LockMode.{LockMode}
 use Rattle.descriptor.specs.declared.lock_mode.LockMode.TheVariants.{Read, ReadWrite}
@@ -14,11 +14,13 @@ use Rattle.plan_events.specs.declared.status.Status.TheVariants.{Successful}
 use Rattle.resource_locks.specs.Held.{table}
 use Rattle.resource_locks.specs.Plans.{PlanParts}
 use Rattle.event_history.proofs.Published.{published_nil}
-use Rattle.scheduling.specs.declared.status.NodeStatus.TheVariants.{Hidden}
+use Rattle.scheduling.specs.declared.status.NodeStatus.{NodeStatus}
+use Rattle.scheduling.specs.declared.status.NodeStatus.TheVariants.{Hidden, Ready}
 use Rattle.scheduling.specs.declared.lock_word.LockWord.TheVariants.{Readers}
 use Rattle.scheduling.specs.declared.task.Task.TheVariants.{Free}
 use Rattle.scheduling.specs.declared.seat.Seat.{Seat}
 use Rattle.scheduling.specs.Runs.{first_status, first_counter, opening}
+use Rattle.scheduling.specs.Inside.Going.{word_of}
 use Rattle.scheduling.specs.Inside.Stages.{Stage, Unseen, Offered, Waiting, Mark, Blank, Known, has_mark, picture, is_unseen, is_pending}
 use Rattle.scheduling.specs.Inside.Invariant.{IsCorePlan, pends_at, pending, keys_in, sum_below, holders, holders_by, SeatOk, Holds, IsKept}
 use Rattle.scheduling.proofs.Basics.{count_same}
@@ -155,3 +157,21 @@ opening_is p core replies workers few = (
     held : (n : ℕ) → Rattle.scheduling.specs.Inside.Invariant.HeldBy (replicate workers (record { task = Free; hand = None })) n (first_stage n)
     held zero = tt
     held (suc n) = tt
+
+-- At the opening the plan is offered to all,
+pub opening_root : (p : PlanParts) → 0 < size p.tree → word_of (table first_status (size p.tree)) 0 ≡ Ready None
+opening_root p root = each_at first_status Hidden (size p.tree) 0 root
+
+-- and each other node is hidden.
+pub opening_word : (p : PlanParts) → 0 < size p.tree → (n : ℕ) → (word_of (table first_status (size p.tree)) n ≡ Ready None) ⊎ (word_of (table first_status (size p.tree)) n ≡ Hidden)
+opening_word p root zero = inl (opening_root p root)
+opening_word p root (suc n) =
+    elim (cases_lt (suc n) (size p.tree)) [
+      | inl lt ↦ inr (each_at first_status Hidden (size p.tree) (suc n) lt)
+      | inr ge ↦ (let len = each_length first_status (size p.tree) in inr (past (table first_status (size p.tree)) (suc n) (omega (arith, ge, len))))
+    ]
+  where
+    past : (l : List NodeStatus) (n : ℕ) → length l ≤ n → word_of l n ≡ Hidden
+    past [] n le = refl
+    past (v ∷ l) zero le = absurd (omega (arith, le))
+    past (v ∷ l) (suc n) le = past l n (omega (arith, le))

@@ -1,32 +1,25 @@
 -- The fixed schedule of one worker is never stuck: it keeps going from the opening, and ends with all given and the plan finished.
 use Rattle.std.specs.Prelude.{option_and_then}
-use Rattle.std.proofs.Common.{◌≡◌, ◌≢◌, ℕ, zero, suc, ◌<◌, ◌≤◌, Bool, true, false, ◌||◌, not, List, [], ◌∷◌, ◌++◌, length, set, Option, Some, None, slice_get, slice_index_or, ◌⊎◌, inl, inr, refl, sym, ap, ◌∙◌, subst, arith, append-nil}
-use Rattle.std.proofs.lemmas.Option.{same_Some, none-some, slice_get_within, slice_get-get_or}
-use Rattle.std.proofs.lemmas.Bool.{cases_eq, cases_lt, false≢true, both_ways, or_left}
+use Rattle.std.proofs.Common.{◌≡◌, ◌≢◌, ℕ, ◌<◌, Bool, true, false, ◌||◌, not, List, [], ◌∷◌, ◌++◌, length, set, Option, Some, None, slice_get, slice_index_or, ◌⊎◌, inl, inr, refl, sym, ap, ◌∙◌, subst, arith}
+use Rattle.std.proofs.lemmas.Option.{same_Some, none-some, slice_get-get_or}
+use Rattle.std.proofs.lemmas.Bool.{cases_lt, false≢true, both_ways, or_left}
 use Rattle.std.proofs.lemmas.List.{length-replicate}
-use Rattle.descriptor.specs.Nodes.{size, is_spare_at, body_of}
+use Rattle.descriptor.specs.Nodes.{size, body_of}
 use Rattle.plan_events.specs.declared.event.Event.{Event}
-use Rattle.plan_events.specs.declared.event.EventKind.TheVariants.{Finished, Skipped}
+use Rattle.plan_events.specs.declared.event.EventKind.TheVariants.{Finished}
 use Rattle.plan_events.specs.declared.outcome.Reply.{Reply}
 use Rattle.plan_events.specs.Statuses.{is_successful}
 use Rattle.resource_locks.specs.Held.{table}
 use Rattle.resource_locks.specs.Plans.{PlanParts, IsPlan}
 use Rattle.event_history.specs.Expected.{HasOneReply}
 use Rattle.event_history.specs.History.{IsComplete}
-use Rattle.event_history.specs.Places.{StandsAt, StandsBefore}
+use Rattle.event_history.specs.Places.{StandsAt}
 use Rattle.event_history.specs.Plans.{Leaf, sort_of}
-use Rattle.event_history.proofs.Branches.{below_root}
-use Rattle.event_history.proofs.Places.{get_next, has_before}
-use Rattle.event_history.proofs.Roots.{plan_unskipped}
-use Rattle.event_history.proofs.Whole.{complete_at_finish}
-use Rattle.scheduling.specs.declared.status.NodeStatus.{NodeStatus}
-use Rattle.scheduling.specs.declared.status.NodeStatus.TheVariants.{Hidden, Ready, Claimed, Settled}
+use Rattle.scheduling.specs.declared.status.NodeStatus.TheVariants.{Hidden, Ready, Settled}
 use Rattle.scheduling.specs.declared.lock_word.LockWord.{LockWord}
 use Rattle.scheduling.specs.declared.lock_word.LockWord.TheVariants.{Readers}
-use Rattle.scheduling.specs.declared.task.Opening.{Opening}
-use Rattle.scheduling.specs.declared.task.Opening.TheVariants.{Registering, RegisteredAt, Offering, Noticing, Locking, Weighed, Backing, Beginning, StartedAt, Awaiting, Admitting, Guarding}
-use Rattle.scheduling.specs.declared.task.Closing.{Closing}
-use Rattle.scheduling.specs.declared.task.Closing.TheVariants.{AwaitingAfter, Ending, FinishedAt, SkippedAt, Raising, Giving, Settling, Looking, Passing, CountingOff}
+use Rattle.scheduling.specs.declared.task.Opening.TheVariants.{Locking, Weighed, Backing, Awaiting, Admitting, Guarding}
+use Rattle.scheduling.specs.declared.task.Closing.TheVariants.{AwaitingAfter, Ending}
 use Rattle.scheduling.specs.declared.task.Task.{Task}
 use Rattle.scheduling.specs.declared.task.Task.TheVariants.{Free, Opens, Closes}
 use Rattle.scheduling.specs.declared.seat.Hand.{Hand}
@@ -37,8 +30,7 @@ use Rattle.scheduling.specs.declared.step.Action.{Action}
 use Rattle.scheduling.specs.Rows.{goes_to, decided_seat, after_seat, after, Works, Dispatches, read_event, read_row}
 use Rattle.scheduling.specs.Runs.{first_status, opening}
 use Rattle.scheduling.specs.Schedule.{is_open, IsNextBy, IsNext}
-use Rattle.scheduling.specs.Shown.{named}
-use Rattle.scheduling.specs.Inside.Stages.{How, Gave, Kept, Skips, Stage, Unseen, Offered, OpenedBy, InHand, Waiting, ClosedBy, Over, picture, has_mark, is_live}
+use Rattle.scheduling.specs.Inside.Stages.{Stage, OpenedBy}
 use Rattle.scheduling.specs.Inside.Invariant.{IsCorePlan, ShapeOk, TaskOk}
 use Rattle.scheduling.specs.Inside.Going.{is_begun, word_of, OpeningTo, Goes, IsGoing}
 use Rattle.scheduling.proofs.Basics.{first_some, first_none}
@@ -46,15 +38,16 @@ use Rattle.scheduling.proofs.RowsOne.{by_cond}
 use Rattle.scheduling.proofs.RowsBelow.{ReplyIs, decide_keeps}
 use Rattle.scheduling.proofs.Shown.{reseat_keeps}
 use Rattle.scheduling.proofs.Steps.{decided_free, after_keeps}
-use Rattle.scheduling.proofs.FirstState.{each_length, each_at, opening_is}
+use Rattle.scheduling.proofs.FirstState.{opening_is, opening_root, opening_word}
 use Rattle.scheduling.proofs.Placing.{decided_named, step_placed, opening_placed}
-use Rattle.scheduling.proofs.GoingBasics.{hidden_ready, hidden_claimed, hidden_settled, ready_claimed, ready_settled, settled_claimed, same_ready, one_seat, seat_ok}
+use Rattle.scheduling.proofs.GoingBasics.{hidden_ready, hidden_claimed, hidden_settled, ready_claimed, ready_settled, same_ready, seat_ok}
 use Rattle.scheduling.proofs.GoingTurns.{IsStep, at_task, opening_turn, closing_turn, ending_turn}
 use Rattle.scheduling.proofs.GoingOpen.{some_open}
-use Rattle.scheduling.proofs.GoingLocks.{above_runs, key_free}
+use Rattle.scheduling.proofs.GoingLocks.{key_free}
 use Rattle.scheduling.proofs.GoingLines.{key_inside}
 use Rattle.scheduling.proofs.GoingRows.{is_asking, opening_step, closing_step}
 use Rattle.scheduling.proofs.GoingFree.{free_step}
+use Rattle.scheduling.proofs.PlanOver.{plan_over}
 
 -- what a reply decides goes on
 first_to : (p : PlanParts) (x : ℕ) (found : Option ℕ) → first_from (in_batch p x) 0 (size p.tree) ≡ found → (c : ℕ) → c < size p.tree → in_batch p x c ≡ true → OpeningTo (admit_next found) c
@@ -132,102 +125,9 @@ module _ (p : PlanParts) (core : IsCorePlan p) (replies : ℕ → List Reply) wh
           },
         )
 
-    -- a plan that is settled is over
-    root_over : status_at s 0 ≡ Settled → (how : How) × (g 0 ≡ Over how)
-    root_over settled = go (g 0) refl (sym (i.holds.words 0 core.plan.rooted.root) ∙ settled)
-      where
-        claimed_not : (w : ℕ) → Claimed w ≡ Settled → ⊥
-        claimed_not w q = settled_claimed w (sym q)
-
-        closes : (w c : ℕ) (d : Closing) (how : How) → g 0 ≡ ClosedBy w c d how → (picture p 0 (ClosedBy w c d how)).word ≡ Settled → ShapeOk p replies s.published 0 (ClosedBy w c d how) → ⊥
-        closes w c AwaitingAfter how at q ok = claimed_not c q
-        closes w c (Ending st) how at q ok = claimed_not c q
-        closes w c (FinishedAt j st) how at q ok = claimed_not c q
-        closes w c (SkippedAt j) how at q ok = claimed_not c q
-        closes w c Raising how at q ok = claimed_not c q
-        closes w c (Giving j) how at q ok = claimed_not c q
-        closes w c Settling how at q ok = claimed_not c q
-        closes w c (Looking m) how at q ok = (let pos = ok.elder.elder.above_zero in omega (arith, pos))
-        closes w c (Passing m o) how at q ok = (let pos = ok.elder.elder.above_zero in omega (arith, pos))
-        closes w c CountingOff how at q ok = omega (arith, ok)
-
-        opens : (w : ℕ) (d : Opening) → (picture p 0 (OpenedBy w d)).word ≡ Settled → ⊥
-        opens w Registering q = hidden_settled (sym q)
-        opens w (RegisteredAt j) q = hidden_settled (sym q)
-        opens w Offering q = hidden_settled (sym q)
-        opens w (Beginning true) q = claimed_not w q
-        opens w (Beginning false) q = claimed_not w q
-        opens w Noticing q = claimed_not w q
-        opens w (Locking k) q = claimed_not w q
-        opens w (Weighed k v) q = claimed_not w q
-        opens w (Backing k) q = claimed_not w q
-        opens w (StartedAt k) q = claimed_not w q
-        opens w Awaiting q = claimed_not w q
-        opens w (Admitting c) q = claimed_not w q
-        opens w Guarding q = claimed_not w q
-
-        go : (st : Stage) → g 0 ≡ st → (picture p 0 st).word ≡ Settled → (how : How) × (g 0 ≡ Over how)
-        go Unseen at q = absurd (hidden_settled (sym q))
-        go (Offered o) at q = absurd (ready_settled o q)
-        go (OpenedBy w d) at q = absurd (opens w d q)
-        go (InHand w) at q = absurd (claimed_not w q)
-        go (Waiting c r) at q = absurd (claimed_not c q)
-        go (ClosedBy w c d how) at q = absurd (closes w c d how at q (subst (ShapeOk p replies s.published 0) at (i.holds.shapes 0 core.plan.rooted.root)))
-        go (Over how) at q = (how, at)
-
-    -- then no node is live
-    none_live : status_at s 0 ≡ Settled → (x : ℕ) → x < size p.tree → is_live (g x) ≡ true → ⊥
-    none_live settled x lt live =
-        elim (cases_eq x 0) [
-          | inl e ↦ (let over = root_over settled in false≢true (sym (ap is_live over.1) ∙ ap (λ k. is_live (g k)) (sym e) ∙ live))
-          | inr ne ↦ (let up = above_runs p core replies s g i.holds 0 x (below_root p core.plan x (omega (arith, ne)) lt) live in settled_claimed up.0 (sym settled ∙ up.2.1))
-        ]
-
-    -- so the worker is free, and all that was drawn is shown
-    all_free : status_at s 0 ≡ Settled → i.seat.task ≡ Free
-    all_free settled = go i.seat.task (seat_ok p replies s g i.holds i.seat i.one).task
-      where
-        go : (t : Task) → TaskOk p g 0 t → t ≡ Free
-        go Free ok = refl
-        go (Opens x d) ok = absurd (none_live settled x ok.0 (ap is_live ok.1))
-        go (Closes x d) ok = absurd (none_live settled x ok.0 (ap is_live ok.1.2))
-
-    all_shown : status_at s 0 ≡ Settled → (k : ℕ) → slice_get s.shown k ≡ Some false → ⊥
-    all_shown settled k hidden =
-        let n = i.placed.unshown k hidden in
-        let same = one_seat i.seat n.worker n.seat (ap (λ l. slice_get l n.worker) (sym i.one) ∙ n.is) in
-        none-some (k, n.event) (sym (ap (λ (x : Seat). named n.worker x.task) same.1 ∙ ap (named n.worker) (all_free settled)) ∙ n.names)
-
-    -- and the plan has finished
-    plan_finish : status_at s 0 ≡ Settled → StandsBefore s.published (length s.published) Finished 0
-    plan_finish settled = (let over = root_over settled in go over.0 over.1)
-      where
-        go : (how : How) → g 0 ≡ Over how → StandsBefore s.published (length s.published) Finished 0
-        go Gave at = has_before Finished 0 s.published (i.holds.flags Finished 0 core.plan.rooted.root ∙ ap (λ st. has_mark (is_spare_at p.tree 0) Finished (picture p 0 st).mark) at)
-        go Kept at = has_before Finished 0 s.published (i.holds.flags Finished 0 core.plan.rooted.root ∙ ap (λ st. has_mark (is_spare_at p.tree 0) Finished (picture p 0 st).mark) at)
-        go Skips at =
-            let b = has_before Skipped 0 s.published (i.holds.flags Skipped 0 core.plan.rooted.root ∙ ap (λ st. has_mark (is_spare_at p.tree 0) Skipped (picture p 0 st).mark) at) in
-            absurd (plan_unskipped p core.plan replies (length s.seats) s.published i.holds.published.legal b.place b.stands)
-
     -- Where the plan is settled and nothing is to be read, all is given, the history is complete, and the plan has finished.
     pub going_end : status_at s 0 ≡ Settled → read_row s ≡ None → (s.given ≡ s.published) × (IsComplete p s.published × ((k : ℕ) × StandsAt s.published k Finished 0))
-    going_end settled ended =
-        let finish = plan_finish settled in
-        (all_given i.holds.given.rest i.holds.given.front, (complete_at_finish p core.plan replies (length s.seats) s.published i.holds.published.legal finish.place finish.stands, (finish.place, finish.stands)))
-      where
-        no_event : (e : Event) → slice_get s.published (length s.given) ≡ Some e → ⊥
-        no_event e at =
-            let within = slice_get_within s.published (length s.given) e at in
-            let len = i.holds.shown_len in
-            by_shown (slice_index_or s.shown (length s.given) false) refl (slice_get-get_or s.shown (length s.given) false (omega (arith, within, len)))
-          where
-            by_shown : (b : Bool) → slice_index_or s.shown (length s.given) false ≡ b → slice_get s.shown (length s.given) ≡ Some (slice_index_or s.shown (length s.given) false) → ⊥
-            by_shown true is get = none-some (record s { given = s.given ++ e ∷ [] }) (sym ended ∙ ap (λ b. read_event s b (slice_get s.published (length s.given))) is ∙ ap (read_event s true) at)
-            by_shown false is get = all_shown settled (length s.given) (get ∙ ap Some is)
-
-        all_given : (rest : List Event) → s.given ++ rest ≡ s.published → s.given ≡ s.published
-        all_given [] front = sym (append-nil s.given) ∙ front
-        all_given (e ∷ more) front = absurd (no_event e (ap (λ l. slice_get l (length s.given)) (sym front) ∙ get_next s.given e more))
+    going_end settled = plan_over p core replies s g i.holds i.placed settled
 
   -- The dispatcher's step.
   pub going_read : (s t : State) (g : ℕ → Stage) → IsGoing p replies s g → read_row s ≡ Some t → (g2 : ℕ → Stage) × IsGoing p replies t g2
@@ -254,7 +154,7 @@ module _ (p : PlanParts) (core : IsCorePlan p) (replies : ℕ → List Reply) wh
           one = refl;
           goes = record {
             words = record {
-              root = λ q. ready_not (sym at_zero ∙ q);
+              root = λ q. ready_not (sym (opening_root p core.plan.rooted.root) ∙ q);
               offered = λ n w q. absurd (elim (first_word n) [ inl a ↦ other (sym a ∙ q) | inr a ↦ hidden_ready (Some w) (sym q ∙ a) ]);
               claimed = λ n w q. absurd (elim (first_word n) [ inl a ↦ ready_claimed None w (sym a ∙ q) | inr a ↦ hidden_claimed w (sym q ∙ a) ]);
               walk = λ a b el plain begun. absurd (elim (first_word b) [ inl z ↦ false≢true (sym (ap is_begun z) ∙ begun) | inr z ↦ false≢true (sym (ap is_begun z) ∙ begun) ]);
@@ -277,21 +177,8 @@ module _ (p : PlanParts) (core : IsCorePlan p) (replies : ℕ → List Reply) wh
       other : {w : ℕ} → Ready None ≡ Ready (Some w) → ⊥
       other {w} q = none-some w (same_ready None (Some w) q)
 
-      at_zero : word_of (table first_status (size p.tree)) 0 ≡ Ready None
-      at_zero = each_at first_status Hidden (size p.tree) 0 core.plan.rooted.root
-
-      past : (l : List NodeStatus) (n : ℕ) → length l ≤ n → word_of l n ≡ Hidden
-      past [] n le = refl
-      past (v ∷ l) zero le = absurd (omega (arith, le))
-      past (v ∷ l) (suc n) le = past l n (omega (arith, le))
-
       first_word : (n : ℕ) → (word_of (table first_status (size p.tree)) n ≡ Ready None) ⊎ (word_of (table first_status (size p.tree)) n ≡ Hidden)
-      first_word zero = inl at_zero
-      first_word (suc n) =
-          elim (cases_lt (suc n) (size p.tree)) [
-            | inl lt ↦ inr (each_at first_status Hidden (size p.tree) (suc n) lt)
-            | inr ge ↦ (let len = each_length first_status (size p.tree) in inr (past (table first_status (size p.tree)) (suc n) (omega (arith, ge, len))))
-          ]
+      first_word = opening_word p core.plan.rooted.root
 
   -- A step of the schedule.
   module _ (plan : IsPlan p) (reply : ℕ → Reply) (one_reply : HasOneReply reply replies) where

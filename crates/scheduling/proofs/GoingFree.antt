@@ -78,6 +78,26 @@ pub none_some : (found : Option ℕ) → is_some found ≡ false → found ≡ N
 none_some None q = refl
 none_some (Some c) q = absurd (false≢true (sym q))
 
+-- A factory that may add no more has all that it pulled.
+pub pulled_whole : (p : PlanParts) (hand : Hand) (r : Reply) (h : List Event) → registered_in p h hand.factory ≡ hand.registered → hand.registered ≤ r.pulls → may_add p r hand ≡ false → is_pulled p hand.factory hand.registered r ≡ true
+pulled_whole p hand r h count most no_more =
+    elim (cases_Bool (nat_lt hand.registered r.pulls)) [
+      | inl more ↦ or_right (r.pulls == hand.registered) _ (and_from (hand.registered == spare_count p hand.factory) _ (eq-eqb hand.registered (spare_count p hand.factory) (all more)) more)
+      | inr less ↦ or_left (r.pulls == hand.registered) _ (eq-eqb r.pulls hand.registered (let ge = ltb-false hand.registered r.pulls less in omega (arith, ge, most)))
+    ]
+  where
+    all : nat_lt hand.registered r.pulls ≡ true → hand.registered ≡ spare_count p hand.factory
+    all more =
+        let none : next_spare p hand.factory hand.registered ≡ None = none_some (next_spare p hand.factory hand.registered) (elim (cases_Bool (is_some (next_spare p hand.factory hand.registered))) [
+          | inl y ↦ absurd (both_ways (may_add p r hand) no_more (and_from (nat_lt hand.registered r.pulls) _ more y))
+          | inr no' ↦ no'
+        ]) in
+        let few = registered_most p h hand.factory in
+        elim (cases_lt hand.registered (spare_count p hand.factory)) [
+          | inl lt ↦ absurd (none_ranked p hand.factory hand.registered none lt)
+          | inr ge ↦ omega (arith, ge, few, count)
+        ]
+
 -- the plan's node is no spare
 pub spare_above : (t : Nodes) (c : ℕ) → is_spare_at t c ≡ true → nat_lt 0 c ≡ true
 spare_above t zero q = absurd (false≢true q)
@@ -182,28 +202,10 @@ module _ (p : PlanParts) (core : IsCorePlan p) (tree : IsTree p.tree) (reply : �
 
       -- the factory is done
       pulled : may_add p r hand ≡ false → is_pulled p hand.factory hand.registered r ≡ true
-      pulled no_more =
-          elim (cases_Bool (nat_lt hand.registered r.pulls)) [
-            | inl more ↦ or_right (r.pulls == hand.registered) _ (and_from (hand.registered == spare_count p hand.factory) _ (eq-eqb hand.registered (spare_count p hand.factory) (all more)) more)
-            | inr less ↦ or_left (r.pulls == hand.registered) _ (eq-eqb r.pulls hand.registered (
-                let ge = ltb-false hand.registered r.pulls less in
-                let most = old.in_hand.pulls maker.0 0 (reply maker.0) maker.1 (ap (λ l. slice_get l 0) (one_reply maker.0)) in
-                let same = ap (λ (x : Reply). x.pulls) (replied maker.0 maker.1) in
-                omega (arith, ge, most, same)))
-          ]
-        where
-          all : nat_lt hand.registered r.pulls ≡ true → hand.registered ≡ spare_count p hand.factory
-          all more =
-              let none : next_spare p hand.factory hand.registered ≡ None = none_some (next_spare p hand.factory hand.registered) (elim (cases_Bool (is_some (next_spare p hand.factory hand.registered))) [
-                | inl y ↦ absurd (both_ways (may_add p r hand) no_more (and_from (nat_lt hand.registered r.pulls) _ more y))
-                | inr no' ↦ no'
-              ]) in
-              let most = registered_most p s.published hand.factory in
-              let count = in_hand.count in
-              elim (cases_lt hand.registered (spare_count p hand.factory)) [
-                | inl lt ↦ absurd (none_ranked p hand.factory hand.registered none lt)
-                | inr ge ↦ omega (arith, ge, most, count)
-              ]
+      pulled =
+          let most = old.in_hand.pulls maker.0 0 (reply maker.0) maker.1 (ap (λ l. slice_get l 0) (one_reply maker.0)) in
+          let same = ap (λ (x : Reply). x.pulls) (replied maker.0 maker.1) in
+          pulled_whole p hand r s.published in_hand.count (omega (arith, most, same))
 
       done_factory : hand.waiting ≡ None → may_add p r hand ≡ false → IsStep p replies s seat r Done
       done_factory idle no_more = record {
