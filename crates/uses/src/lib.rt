@@ -15,6 +15,7 @@ mod steps_named;
 mod suite_output;
 mod suite_size;
 mod tag_match;
+mod threaded_run;
 mod whole_history;
 
 pub use child_of_id::child_text;
@@ -31,4 +32,5 @@ pub use steps_named::step_count;
 pub use suite_output::run_text;
 pub use suite_size::node_count;
 pub use tag_match::is_true_of;
+pub use threaded_run::run_two;
 pub use whole_history::history;

@@ -1,0 +1,2 @@
+-- Lemmas of the callers.
+pub mod Passing
