@@ -1,5 +1,6 @@
 -- Lemmas on what lines say.
 pub mod Afters
+pub mod FewLocks
 pub mod Outcomes
 pub mod Attributes
 pub mod Ids

@@ -1,2 +1,3 @@
 -- What only private functions, models of types and proofs need.
 pub mod Paths
+pub mod FewLocks

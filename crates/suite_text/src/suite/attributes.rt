@@ -7,11 +7,10 @@ ghost use Rattle.suite_text.specs.Reading.Lines.{first_word};
 
 use crate::suite::fault::SuiteFault;
 use crate::suite::lines::next_word;
-use crate::suite::locks::put_lock;
+use crate::suite::locks::{NamedLocks, put_lock};
 use crate::suite::spins::{count_in, key_and_value};
 use crate::suite::words::Word;
 use descriptor::Mode;
-use resource_locks::LockSet;
 use std::alloc::Global;
 use tag_expr::{TagFault, TagSet, tag_of};
 
@@ -90,7 +89,7 @@ pub(crate) struct Attributes {
     pub(crate) pulls: Option<u16>,
     pub(crate) mode: Option<Mode>,
     /// Each key once, in byte order.
-    pub(crate) locks: LockSet,
+    pub(crate) locks: NamedLocks,
     pub(crate) isolated: bool,
 }
 
@@ -104,7 +103,7 @@ impl Attributes {
             spin: None,
             pulls: None,
             mode: None,
-            locks: LockSet::new(alloc),
+            locks: NamedLocks::new(alloc),
             isolated: false,
         }
     }
@@ -193,7 +192,7 @@ impl Attributes {
             Attribute::Spin => self.set_spin(number, key_and_value(text).1),
             Attribute::Pulls => self.set_pulls(number, key_and_value(text).1),
             Attribute::Runs(mode) => self.set_mode(number, mode),
-            Attribute::Lock => put_lock(&mut self.locks, number, key_and_value(text).1),
+            Attribute::Lock => put_lock(alloc, &mut self.locks, number, key_and_value(text).1),
             Attribute::Isolated => {
                 self.isolated = true;
                 Ok(())

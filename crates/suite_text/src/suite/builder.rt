@@ -7,7 +7,6 @@ use crate::suite::Suite;
 use crate::suite::after::after_in;
 use crate::suite::fault::SuiteFault;
 use crate::suite::lines::{level_at, next_word, without_front};
-use crate::suite::locks::locks_of;
 use crate::suite::properties::{is_property, put_property};
 use crate::suite::pulls::{Pending, all_settled, lines_below};
 use crate::suite::words::{Declared, Word, declared_as};
@@ -57,6 +56,7 @@ impl Model for SuiteBuilder {
 ghost use Rattle.unique_id.specs.Spelling.{refusal};
 ghost use Rattle.descriptor.specs.Nodes.{size, IsTree, MayTake};
 ghost use Rattle.suite_text.specs.Reading.Parts.{above, word_of_opened, node_of_opened};
+ghost use Rattle.suite_text.specs.Inside.FewLocks.{DoesFor};
 ghost use Rattle.suite_text.specs.Reading.Words.{declaration_of};
 ghost use Rattle.suite_text.specs.Reading.Nodes.{id_at, value_declared, node_with, node_declared, is_over_limit, place_on, word_on, refusal_on, grown};
 
@@ -86,7 +86,7 @@ fn node_with(
     number: u16,
     declared: Declared<'_>,
 ) -> Result<Node, AllocError>
-    ensures { IfOk result (λ node. node ≡ node_with number id (declaration_of declared.entry)) }
+    ensures { IfOk result (λ node. DoesFor node (node_with number id (declaration_of declared.entry))) }
 {
     let body = declared.body(number);
     let disabled = declared.reason(alloc)?;
@@ -97,7 +97,7 @@ fn node_with(
     Ok(Node {
         role,
         mode: attributes.mode,
-        locks: locks_of(alloc, &attributes.locks)?,
+        locks: attributes.locks.in_order(alloc)?,
         isolated: attributes.isolated,
         body,
         disabled,
@@ -139,7 +139,7 @@ fn node_below(
     declared: Declared<'_>,
 ) -> Result<Node, TreeFault>
     requires { IfSome parent (λ opened. (0 < opened.node) × (opened.node < size tree.now)) }
-    ensures ok { IfOk result (λ node. node ≡ node_declared number (word_of_opened parent) (id_at tree.now (node_of_opened parent)) place (declaration_of declared.entry)) }
+    ensures ok { IfOk result (λ node. DoesFor node (node_declared number (word_of_opened parent) (id_at tree.now (node_of_opened parent)) place (declaration_of declared.entry))) }
     ensures accepted { IfOk result (λ _. is_over_limit (id_at tree.now (node_of_opened parent)) (word_of_opened parent) place (declaration_of declared.entry) ≡ false) }
     ensures refused { IfErr result (λ fault. fault ≢ TreeFault.NoMemory → (fault ≡ TreeFault.OverLimit) × (is_over_limit (id_at tree.now (node_of_opened parent)) (word_of_opened parent) place (declaration_of declared.entry) ≡ true)) }
 {
@@ -233,7 +233,7 @@ impl SuiteBuilder {
         declared: Declared<'_>,
     ) -> Result<Node, TreeFault>
         requires { level ≤ length self.now.path }
-        ensures ok { IfOk result (λ node. node ≡ node_on self.now level (declaration_of declared.entry)) }
+        ensures ok { IfOk result (λ node. DoesFor node (node_on self.now level (declaration_of declared.entry))) }
         ensures accepted { IfOk result (λ _. is_over_limit_on self.now level (declaration_of declared.entry) ≡ false) }
         ensures refused { IfErr result (λ fault. fault ≢ TreeFault.NoMemory → (fault ≡ TreeFault.OverLimit) × (is_over_limit_on self.now level (declaration_of declared.entry) ≡ true)) }
     {

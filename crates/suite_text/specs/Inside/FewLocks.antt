@@ -1,0 +1,21 @@
+-- Definitions that only proofs need: which locks do for a node that may be refused for having too many.
+use Rattle.std.specs.Prelude.{◌≡◌, ◌<◌, ◌≤◌, ℕ, List, length, None}
+use Rattle.descriptor.specs.declared.lock.Lock.{Lock}
+use Rattle.descriptor.specs.declared.node.Node.{Node}
+use Rattle.descriptor.specs.Nodes.{Nodes}
+use Rattle.descriptor.specs.Refusals.{refusal}
+
+-- these are all the locks, or both are more than a node may have
+pub record StandFor (few all : List Lock) : Type 0 where
+  pub same : length all ≤ 16 → few ≡ all
+  pub more : 16 < length all → 16 < length few
+
+-- a node is another but for such locks
+pub record DoesFor (node whole : Node) : Type 0 where
+  pub locks : StandFor node.locks whole.locks
+  pub rest : node ≡ record whole { locks = node.locks }
+
+-- below node a it is refused as the other is, and where it is not refused it is the other
+pub record IsTakenAs (t : Nodes) (a : ℕ) (node whole : Node) : Type 0 where
+  pub refused : refusal t a node ≡ refusal t a whole
+  pub taken : refusal t a node ≡ None → node ≡ whole
