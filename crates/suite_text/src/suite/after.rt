@@ -1,6 +1,6 @@
 //! The line `after`: what the after-body of a class answers.
 
-ghost use Rattle.std.specs.Prelude.{◌≡◌};
+ghost use Rattle.std.specs.Prelude.{◌≡◌, ◌≢◌, IfErr};
 ghost use Rattle.suite_text.specs.Reading.After.{after_said};
 ghost use Rattle.suite_text.specs.Reading.Faults.{Gives};
 
@@ -13,7 +13,8 @@ use plan_events::Status;
 /// The status and the text that the body ends with, by what follows the word `after`: a verdict as
 /// that of a test, but not `disabled`.
 pub(crate) fn after_in<'a>(number: usize, rest: &'a str) -> Result<(Status, &'a str), SuiteFault>
-    ensures { Gives (λ said. (said.0, said.1.now)) result (after_said number rest.now) }
+    ensures exact { Gives (λ said. (said.0, said.1.now)) result (after_said number rest.now) }
+    ensures real { IfErr result (λ fault. fault ≢ SuiteFault.NoMemory) }
 {
     let (first, text) = word_and_text(rest);
     match status_of(verdict_in(number, Word::Test, first, text)?) {

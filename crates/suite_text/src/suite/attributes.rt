@@ -1,9 +1,10 @@
 //! The attributes of a line, which stand before its verdict.
 
-ghost use Rattle.std.specs.Prelude.{◌≡◌, OnOk, IfErr, Ok};
+ghost use Rattle.std.specs.Prelude.{◌≡◌, ◌≢◌, OnOk, IfErr, Ok, None};
 ghost use Rattle.suite_text.specs.Reading.Attributes.{after_sign, declaration_in, attribute_of, no_attributes, with_tag_of, with_spin_of, with_pulls_of, with_mode, with_attribute, attributes_of, spin_said, pulls_said};
 ghost use Rattle.suite_text.specs.Reading.Faults.{Fails, Gives};
 ghost use Rattle.suite_text.specs.Reading.Lines.{first_word};
+ghost use Rattle.tag_expr.specs.Tags.{tag_refusal};
 
 use crate::suite::fault::SuiteFault;
 use crate::suite::lines::next_word;
@@ -132,6 +133,8 @@ impl Attributes {
     fn add_tag(&mut self, alloc: Global, number: usize, text: &str) -> Result<(), SuiteFault>
         ensures added { OnOk result (with_tag_of number self.old text.now ≡ Ok self.new) }
         ensures refused { IfErr result (λ fault. Fails fault (with_tag_of number self.old text.now)) }
+        // Memory is taken only for a tag.
+        ensures no_memory { IfErr result (λ fault. fault ≡ SuiteFault.NoMemory → tag_refusal text.now ≡ None) }
     {
         match tag_of(alloc, text) {
             Ok(tag) => Ok(self.tags.add(tag)?),
@@ -144,6 +147,7 @@ impl Attributes {
     fn set_spin(&mut self, number: usize, value: &str) -> Result<(), SuiteFault>
         ensures added { OnOk result (with_spin_of number self.old value.now ≡ Ok self.new) }
         ensures refused { IfErr result (λ fault. Fails fault (with_spin_of number self.old value.now)) }
+        ensures real { IfErr result (λ fault. fault ≢ SuiteFault.NoMemory) }
     {
         if self.spin.is_some() {
             return Err(SuiteFault::BadLine(number));
@@ -156,6 +160,7 @@ impl Attributes {
     fn set_pulls(&mut self, number: usize, value: &str) -> Result<(), SuiteFault>
         ensures added { OnOk result (with_pulls_of number self.old value.now ≡ Ok self.new) }
         ensures refused { IfErr result (λ fault. Fails fault (with_pulls_of number self.old value.now)) }
+        ensures real { IfErr result (λ fault. fault ≢ SuiteFault.NoMemory) }
     {
         if self.pulls.is_some() {
             return Err(SuiteFault::BadLine(number));
@@ -168,6 +173,7 @@ impl Attributes {
     fn set_mode(&mut self, number: usize, mode: Mode) -> Result<(), SuiteFault>
         ensures added { OnOk result (with_mode number self.old mode ≡ Ok self.new) }
         ensures refused { IfErr result (λ fault. Fails fault (with_mode number self.old mode)) }
+        ensures real { IfErr result (λ fault. fault ≢ SuiteFault.NoMemory) }
     {
         if self.mode.is_some() {
             return Err(SuiteFault::BadLine(number));

@@ -296,6 +296,7 @@ impl SuiteBuilder {
         ensures exact { Gives (λ node. node) result (class_of number self.now.tree (above self.now.path level)) }
         ensures inside { IfOk result (λ node. (0 < node) × (node < size self.now.tree)) }
         ensures few { IfOk result (λ node. node < 4096) }
+        ensures real { IfErr result (λ fault. fault ≢ SuiteFault.NoMemory) }
     {
         let Some(opened) = self.above(level) else {
             return Err(SuiteFault::BadLine(number));

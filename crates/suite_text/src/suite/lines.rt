@@ -1,6 +1,6 @@
 //! The lines of a suite text, and the indentation, the words and the end of one.
 
-ghost use Rattle.std.specs.Prelude.{◌≡◌, ◌≤◌, IfOk};
+ghost use Rattle.std.specs.Prelude.{◌≡◌, ◌≢◌, ◌≤◌, IfOk, IfErr};
 ghost use Rattle.std.specs.List.{before_first, after_first};
 ghost use Rattle.std.specs.Str.Lines.{lines};
 ghost use Rattle.suite_text.specs.Words.{is_space};
@@ -83,6 +83,7 @@ fn indentation(line: &str) -> usize
 pub(crate) fn level_at(number: usize, deepest: usize, line: &str) -> Result<usize, SuiteFault>
     ensures exact { Gives (λ level. level) result (level_of number deepest line.now) }
     ensures within { IfOk result (λ level. level ≤ deepest) }
+    ensures real { IfErr result (λ fault. fault ≢ SuiteFault.NoMemory) }
 {
     let indentation = indentation(line);
     if indentation % 2 != 0 || deepest < indentation / 2 {

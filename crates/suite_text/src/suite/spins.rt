@@ -1,6 +1,6 @@
 //! Attributes that say a number: `spin=N` and `pulls=N`.
 
-ghost use Rattle.std.specs.Prelude.{◌≡◌, ◌≤◌, IfOk};
+ghost use Rattle.std.specs.Prelude.{◌≡◌, ◌≢◌, ◌≤◌, IfOk, IfErr};
 ghost use Rattle.suite_text.specs.Reading.Spins.{key_of, value_of, count_of};
 ghost use Rattle.suite_text.specs.Reading.Faults.{Gives};
 
@@ -23,6 +23,7 @@ pub(crate) fn key_and_value(word: &str) -> (&str, &str)
 pub(crate) fn count_in(number: usize, most: u32, value: &str) -> Result<u32, SuiteFault>
     ensures exact { Gives (λ count. count) result (count_of number most value.now) }
     ensures within { IfOk result (λ count. count ≤ most) }
+    ensures real { IfErr result (λ fault. fault ≢ SuiteFault.NoMemory) }
 {
     match number_up_to(most, value) {
         Some(count) => Ok(count),

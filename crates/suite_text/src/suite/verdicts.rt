@@ -1,6 +1,6 @@
 //! The verdict of a line, and what it has the node's body end with.
 
-ghost use Rattle.std.specs.Prelude.{◌≡◌};
+ghost use Rattle.std.specs.Prelude.{◌≡◌, ◌≢◌, IfErr};
 ghost use Rattle.suite_text.specs.Reading.Verdicts.{verdict_spelled, no_verdict, verdict_with, verdict_of, status_declared};
 ghost use Rattle.suite_text.specs.Reading.Faults.{Gives};
 
@@ -46,7 +46,8 @@ pub(crate) fn status_of(verdict: Option<Verdict>) -> Option<Status>
 
 /// Judges that a line ends without a verdict.
 fn no_verdict(number: usize, word: Word) -> Result<Option<Verdict>, SuiteFault>
-    ensures { Gives (λ verdict. verdict) result (no_verdict number word) }
+    ensures exact { Gives (λ verdict. verdict) result (no_verdict number word) }
+    ensures real { IfErr result (λ fault. fault ≢ SuiteFault.NoMemory) }
 {
     match word {
         Word::Engine | Word::Class => Ok(None),
@@ -61,7 +62,8 @@ fn verdict_with(
     verdict: Option<Verdict>,
     text: &str,
 ) -> Result<Option<Verdict>, SuiteFault>
-    ensures { Gives (λ verdict. verdict) result (verdict_with number word verdict text.now) }
+    ensures exact { Gives (λ verdict. verdict) result (verdict_with number word verdict text.now) }
+    ensures real { IfErr result (λ fault. fault ≢ SuiteFault.NoMemory) }
 {
     match (word, verdict) {
         (Word::Engine, _) | (_, None) => Err(SuiteFault::BadLine(number)),
@@ -77,7 +79,8 @@ pub(crate) fn verdict_in(
     first: &str,
     text: &str,
 ) -> Result<Option<Verdict>, SuiteFault>
-    ensures { Gives (λ verdict. verdict) result (verdict_of number word first.now text.now) }
+    ensures exact { Gives (λ verdict. verdict) result (verdict_of number word first.now text.now) }
+    ensures real { IfErr result (λ fault. fault ≢ SuiteFault.NoMemory) }
 {
     if first.is_empty() {
         no_verdict(number, word)

@@ -1,6 +1,6 @@
 //! What the words of a line declare.
 
-ghost use Rattle.std.specs.Prelude.{◌≡◌, IfOk};
+ghost use Rattle.std.specs.Prelude.{◌≡◌, ◌≢◌, IfOk, IfErr};
 ghost use Rattle.suite_text.specs.Reading.Words.{word_of, may_stand, placed, with_verdict, with_attributes, with_name, declared_as, declaration_of};
 ghost use Rattle.suite_text.specs.Reading.Faults.{Gives};
 
@@ -189,7 +189,8 @@ impl<'a> Declared<'a> {
 
 /// The word, where it may stand right below a node of the word above.
 fn placed(number: usize, above: Option<Word>, word: Option<Word>) -> Result<Word, SuiteFault>
-    ensures { Gives (λ word. word) result (placed number above word) }
+    ensures exact { Gives (λ word. word) result (placed number above word) }
+    ensures real { IfErr result (λ fault. fault ≢ SuiteFault.NoMemory) }
 {
     match word {
         Some(word) if word.stands_below(above) => Ok(word),
@@ -205,7 +206,8 @@ fn with_verdict<'a>(
     attributes: Attributes,
     rest: &'a str,
 ) -> Result<Declared<'a>, SuiteFault>
-    ensures { Gives declaration_of result (with_verdict number word name.now attributes rest.now) }
+    ensures exact { Gives declaration_of result (with_verdict number word name.now attributes rest.now) }
+    ensures real { IfErr result (λ fault. fault ≢ SuiteFault.NoMemory) }
 {
     let (first, text) = word_and_text(rest);
     let verdict = verdict_in(number, word, first, text)?;
