@@ -1,7 +1,7 @@
 -- In the tree of a suite no spare declares a lock, and no engine is a factory.
-use Rattle.std.proofs.Common.{length-append, ◌≡◌, ℕ, zero, suc, ◌+◌, ◌<◌, ◌≤◌, Bool, true, false, List, [], ◌∷◌, ◌++◌, length, take, Option, Some, None, Result, Ok, Err, IfOk, ◌⊎◌, inl, inr, refl, sym, ap, ◌∙◌, subst, arith}
-use Rattle.std.specs.Prelude.{nat_lt, ◌==◌, ◌&&◌, slice_get, slice_index_or, if◌then◌else◌}
-use Rattle.std.specs.Option.{is_some, is_none, option_map_or}
+use Rattle.std.proofs.Common.{length-append, ◌≡◌, ℕ, zero, suc, ◌+◌, ◌<◌, Bool, true, false, List, [], ◌∷◌, ◌++◌, length, take, Option, Some, None, Result, Ok, Err, IfOk, ◌⊎◌, inl, inr, refl, sym, ap, ◌∙◌, subst, arith}
+use Rattle.std.specs.Prelude.{nat_lt, ◌==◌, slice_get, slice_index_or, if◌then◌else◌}
+use Rattle.std.specs.Option.{is_some, option_map_or}
 use Rattle.std.specs.Str.{is_utf8}
 use Rattle.std.specs.Str.Lines.{lines}
 use Rattle.std.proofs.lemmas.Bool.{cases_lt, false≢true}
@@ -9,14 +9,13 @@ use Rattle.std.proofs.lemmas.Option.{slice_get_past}
 use Rattle.descriptor.specs.declared.fault.TreeFault.{TreeFault}
 use Rattle.descriptor.specs.declared.node.Node.{Node}
 use Rattle.descriptor.specs.Bodies.{given_after_at, with_after}
-use Rattle.descriptor.specs.Nodes.{Nodes, IsChild, size, parent_of, node_at, role_or, locks_or, is_spare_at, is_factory_at, locks_of, appended}
+use Rattle.descriptor.specs.Nodes.{Nodes, IsChild, size, role_or, locks_or, is_spare_at, is_factory_at, locks_of, appended}
 use Rattle.descriptor.specs.Refusals.{after_refusal}
 use Rattle.descriptor.specs.Roles.{is_spare, is_factory}
 use Rattle.descriptor.proofs.AfterBodies.{told_as_before}
 use Rattle.resource_locks.specs.Spares.{HasBareSpares}
 use Rattle.unique_id.specs.Answers.{◌>>=◌}
 use Rattle.suite_text.specs.declared.suite.Suite.{Suite}
-use Rattle.suite_text.specs.declared.suite.attributes.Attribute.{Attribute}
 use Rattle.suite_text.specs.declared.suite.attributes.Attribute.TheVariants.{Spin}
 use Rattle.suite_text.specs.declared.suite.attributes.Attributes.{Attributes}
 use Rattle.suite_text.specs.declared.suite.builder.Opened.{Opened}
@@ -26,7 +25,7 @@ use Rattle.suite_text.specs.declared.suite.words.Word.TheVariants.{Engine, Class
 use Rattle.suite_text.specs.Words.{words_in}
 use Rattle.suite_text.specs.Suites.{with_declared, with_declaration, with_words_on, is_property_in, with_pair, with_properties, with_line, suite_from, suite_of, suite_parts}
 use Rattle.suite_text.specs.Reading.After.{is_after, class_of, after_said, after_body, with_after_body, given_after_body, with_after_line}
-use Rattle.suite_text.specs.Reading.Attributes.{no_attributes, with_spin_of, with_attribute, attribute_of, attributes_from, attributes_of}
+use Rattle.suite_text.specs.Reading.Attributes.{no_attributes, with_attribute, attributes_from, attributes_of}
 use Rattle.suite_text.specs.Reading.Bytes.{suite_read}
 use Rattle.suite_text.specs.Reading.Faults.{Gives}
 use Rattle.suite_text.specs.Reading.Lines.{says_nothing, first_word, after_word, text_after_word, level_of}
