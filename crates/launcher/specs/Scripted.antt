@@ -1,11 +1,12 @@
 -- The jobs that the scripts of a suite give a plan.
-use Rattle.std.specs.Prelude.{◌≡◌, ℕ, ◌<◌, ◌&&◌, Bool, true, false, List, [], ◌∷◌, Option, Some, None}
+use Rattle.std.specs.Prelude.{◌≡◌, ℕ, ◌<◌, ◌==◌, ◌&&◌, Bool, true, false, if◌then◌else◌, List, [], ◌∷◌, Option, Some, None}
 use Rattle.std.specs.List.{All}
 use Rattle.plan_events.specs.declared.outcome.Reply.{Reply}
 use Rattle.resource_locks.specs.Plans.{PlanParts}
 use Rattle.event_history.specs.Plans.{pulls_job}
 use Rattle.sched_core.specs.Replies.{reply_of}
 use Rattle.table_rule.specs.Slots.{slot_count, is_body_slot, job_at, job_with}
+use Rattle.suite_text.specs.declared.script.Script.{Script}
 use Rattle.launcher.specs.declared.scripted.ScriptedJob.{ScriptedJob}
 
 -- the replies that a job may still give: its own, until it was run
@@ -36,3 +37,12 @@ pub record IsScripted (p : PlanParts) (answers : List (ℕ × Reply)) (job : ℕ
 pub record AreScripted (p : PlanParts) (answers : List (ℕ × Reply)) (slots : ℕ) (jobs : List (ℕ × ScriptedJob)) : Type 0 where
   pub each : All (IsScripted p answers) jobs
   pub all : (slot number : ℕ) → slot < slots → job_at p slot ≡ Some number → (job : ScriptedJob) × (job_with jobs number ≡ Some job)
+
+-- how far the body of this number counts, by the scripts behind those by which it counts so far: as far as its own script says
+abbrev pub spin_behind : ℕ → List Script → ℕ → ℕ
+spin_behind so_far [] body = so_far
+spin_behind so_far (script ∷ more) body = spin_behind (if script.body == body then script.spin else so_far) more body
+
+-- how far it counts by all scripts: a body without a script not at all
+abbrev pub spin_of : List Script → ℕ → ℕ
+spin_of scripts body = spin_behind 0 scripts body

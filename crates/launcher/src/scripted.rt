@@ -1,12 +1,12 @@
 //! The jobs of a plan, as the scripts of a suite have them answer.
 
-ghost use Rattle.std.specs.Prelude.{◌≡◌, ◌<◌, ◌∷◌, [], ℕ, Some, IfOk};
+ghost use Rattle.std.specs.Prelude.{◌≡◌, ◌<◌, ◌==◌, ◌∷◌, [], ℕ, Some, IfOk, OnOk, if◌then◌else◌, get_or, length};
 ghost use Rattle.resource_locks.specs.Plans.{PlanParts};
 ghost use Rattle.event_history.specs.Plans.{pulls_job};
 ghost use Rattle.sched_core.specs.Replies.{reply_of};
 ghost use Rattle.table_rule.specs.Slots.{slot_count, job_at};
 ghost use Rattle.run_table.specs.Prepared.{HasAllJobs};
-ghost use Rattle.launcher.specs.Scripted.{replies_left, asked_reply, is_pulled_slot, AreScripted};
+ghost use Rattle.launcher.specs.Scripted.{replies_left, asked_reply, is_pulled_slot, spin_of, AreScripted};
 
 use descriptor::{BodyId, NodeId, Role};
 use plan_events::{Job, Outcome, Pull, Reply, Status};
@@ -59,17 +59,45 @@ impl Job for ScriptedJob {
     }
 }
 
+/// Makes a place for a body; at a new place it does not count.
+fn make_place(spins: &mut Vec<u32>, place: usize) -> Result<(), AllocError>
+    ensures room { OnOk result (place < length spins.new.items) }
+    ensures same { OnOk result ((body : ℕ) → get_or spins.new.items body 0 ≡ get_or spins.old.items body 0) }
+{
+    while spins.len() <= place {
+        spins.push(0)?;
+    }
+    Ok(())
+}
+
+/// Keeps how far the body at this place counts.
+fn put_spin(spins: &mut Vec<u32>, place: usize, spin: u32) -> Result<(), AllocError>
+    ensures { OnOk result ((body : ℕ) → get_or spins.new.items body 0 ≡ (if place == body then spin else get_or spins.old.items body 0)) }
+{
+    make_place(spins, place)?;
+    spins[place] = spin;
+    Ok(())
+}
+
 /// How far each body counts, at the place of its number.
-pub(crate) fn spins_of(alloc: Global, scripts: &[Script]) -> Result<Vec<u32>, AllocError> {
+pub(crate) fn spins_of(alloc: Global, scripts: &[Script]) -> Result<Vec<u32>, AllocError>
+    ensures { IfOk result (λ spins. (body : ℕ) → get_or spins.items body 0 ≡ spin_of scripts.now body) }
+{
     let mut spins = Vec::new(alloc);
     for script in scripts {
-        let place = script.body.index();
-        if place >= spins.len() {
-            spins.resize_with(place + 1, || 0)?;
-        }
-        spins[place] = script.spin;
+        put_spin(&mut spins, script.body.index(), script.spin)?;
     }
     Ok(spins)
+}
+
+/// How far the body of this number counts.
+fn spin_at(spins: &[u32], number: BodyId) -> u32
+    ensures { result ≡ get_or spins.now number 0 }
+{
+    match spins.get(number.index()) {
+        Some(spin) => *spin,
+        None => 0,
+    }
 }
 
 /// The reply of a body, as the suite says it; without one it is successful, and says nothing.
@@ -111,18 +139,15 @@ fn job_for(
 ) -> Result<ScriptedJob, AllocError>
     requires inside { slot < slot_count plan.now }
     requires is { job_at plan.now slot ≡ Some number }
-    ensures { IfOk result (λ job. replies_left job ≡ asked_reply (is_pulled_slot plan.now slot) (reply_of answers.now number) ∷ []) }
+    ensures reply { IfOk result (λ job. replies_left job ≡ asked_reply (is_pulled_slot plan.now slot) (reply_of answers.now number) ∷ []) }
+    ensures spin { IfOk result (λ job. job.spin ≡ get_or spins.now number 0) }
 {
     let mut reply = reply_to(answers, number)?;
     if !is_pulled(plan, slot) {
         reply.pulls = 0;
     }
-    let spin = match spins.get(number.index()) {
-        Some(spin) => *spin,
-        None => 0,
-    };
     Ok(ScriptedJob {
-        spin,
+        spin: spin_at(spins, number),
         reply: Some(reply),
     })
 }

@@ -18,7 +18,7 @@ loop-slot-preserved c =
     let i = c.loop-slot.slot in
     elim c.match-job_number.branch [
       | in-Some+in_ok-job_for+in_ok-push w ↦ subst (λ (jobs : List (ℕ × ScriptedJob)). AreScripted p answers (i + 1) jobs) (sym (ap (λ v. v.items) w.jobs-is ∙ w.in_ok-push.ensures.items))
-          (slot_with_job p answers i w.in-Some.number w.in_ok-job_for.field-0 c.loop-slot.jobs.items c.loop-slot.invariant (omega (arith, c.loop-slot-test.true, c.loop-slot.auto.slot-end, c.len-slot-end.ensures.len, ap (λ t. length t.parents) c.tree-2.ensures.same)) (sym c.job_number.ensures ∙ w.in-Some.is) w.in_ok-job_for.ensures)
+          (slot_with_job p answers i w.in-Some.number w.in_ok-job_for.field-0 c.loop-slot.jobs.items c.loop-slot.invariant (omega (arith, c.loop-slot-test.true, c.loop-slot.auto.slot-end, c.len-slot-end.ensures.len, ap (λ t. length t.parents) c.tree-2.ensures.same)) (sym c.job_number.ensures ∙ w.in-Some.is) w.in_ok-job_for.ensures.reply)
       | in_default w ↦ subst (λ (jobs : List (ℕ × ScriptedJob)). AreScripted p answers (i + 1) jobs) (sym (ap (λ v. v.items) w.jobs-is))
           (slot_without p answers i c.loop-slot.jobs.items c.loop-slot.invariant (no_number _ (λ x is. w.in_default.not-Some x (c.job_number.ensures ∙ is))))
     ]
