@@ -1,5 +1,5 @@
 -- From what was read to the answer of a run, whatever the reader tells of its bytes.
-use Rattle.std.proofs.Common.{◌≡◌, ◌≢◌, ℕ, ◌<◌, ◌≤◌, List, length, Option, Some, None, Result, Ok, Err, refl, rules, arith}
+use Rattle.std.proofs.Common.{◌≡◌, ◌≢◌, ℕ, ◌<◌, ◌≤◌, List, length, Option, Some, None, Result, Ok, Err, refl, ap, rules, arith}
 use Rattle.std.specs.Prelude.{nat_lt, Bool, true, false, if◌then◌else◌}
 use borrow.Author.Tests.{tests}
 use Rattle.std.specs.Result.{IsErrAnd}
@@ -23,43 +23,13 @@ use Rattle.launcher.specs.declared.fault.LaunchFault.TheVariants.{NoMemory, Suit
 
 module _ (asked : Asked) (old new : Option (List ℕ)) where
   -- a suite was read, and this is the answer of its run
-  pub run_read : (suite : SuiteParts) (read : Result SuiteParts SuiteFault) (result : Result ExitStatus LaunchFault) → read ≡ Ok suite → HasBareSpares suite.tree → IsSuiteRun asked suite old new result → IsRun asked read old new result
-  run_read suite read (Ok status) is bare run = record { suite = suite; is_read = is; bare = bare; run = run }
-  run_read suite read (Err NoMemory) is bare run = tt
-  run_read suite read (Err (OfSuite f)) is bare run = absurd run
-  run_read suite read (Err BadWords) is bare run = absurd run
-  run_read suite read (Err (BadStep n)) is bare run = absurd run
-  run_read suite read (Err (BadSelector n)) is bare run = absurd run
-  run_read suite read (Err (BadTags f)) is bare run = absurd run
-  run_read suite read (Err (BadPair f)) is bare run = absurd run
-  run_read suite read (Err (BadSettings f)) is bare run = record { suite = suite; is_read = is; bare = bare; run = run }
-  run_read suite read (Err (NothingMatches n)) is bare run = record { suite = suite; is_read = is; bare = bare; run = run }
-  run_read suite read (Err TooManyKeys) is bare run = record { suite = suite; is_read = is; bare = bare; run = run }
-  run_read suite read (Err TooManyWorkers) is bare run = record { suite = suite; is_read = is; bare = bare; run = run }
-  run_read suite read (Err NoWorker) is bare run = record { suite = suite; is_read = is; bare = bare; run = run }
-  run_read suite read (Err Reading) is bare run = absurd run
-  run_read suite read (Err (Writing f)) is bare run = record { suite = suite; is_read = is; bare = bare; run = run }
-
-  unread : (read : Result SuiteParts SuiteFault) (fault : LaunchFault) → FailsToRead read fault → IsRun asked read old new (Err fault)
-  unread read NoMemory fails = tt
-  unread read (OfSuite f) fails = fails
-  unread read BadWords fails = absurd fails
-  unread read (BadStep n) fails = absurd fails
-  unread read (BadSelector n) fails = absurd fails
-  unread read (BadTags f) fails = absurd fails
-  unread read (BadPair f) fails = absurd fails
-  unread read (BadSettings f) fails = absurd fails
-  unread read (NothingMatches n) fails = absurd fails
-  unread read TooManyKeys fails = absurd fails
-  unread read TooManyWorkers fails = absurd fails
-  unread read NoWorker fails = absurd fails
-  unread read Reading fails = tt
-  unread read (Writing f) fails = absurd fails
+  pub run_read : (suite : Suite) (read : Result SuiteParts SuiteFault) (result : Result ExitStatus LaunchFault) → ReadsSuite read (Ok suite) → HasBareSpares suite.tree → IsSuiteRun asked (suite_parts suite) old new result → IsRun asked read old new result
+  run_read suite read result is bare run = record { loaded = Ok suite; reads = is; runs = (bare, run) }
 
   -- no suite was read
   pub run_unread : (fault : LaunchFault) (read : Result SuiteParts SuiteFault) (result : Result ExitStatus LaunchFault) → IsErrAnd result (λ e. e ≡ fault) → FailsToRead read fault → IsRun asked read old new result
   run_unread fault read (Ok status) same fails = absurd same
-  run_unread fault read (Err e) same fails = rw same (unread read fault fails)
+  run_unread fault read (Err e) same fails = record { loaded = Err fault; reads = fails; runs = ap Err same }
 
 -- what was read to the end of what may be read, or to the reader's own, was so whatever is answered but that it failed
 ends_whole : (fault : Option LaunchFault) (count : ℕ) (new : Option (List ℕ)) → fault ≢ Some Reading → (fault ≡ Some NoMemory → count < 1048577) → (count < 1048577 → IsAtEnd new) → EndsAs fault count new
@@ -159,5 +129,5 @@ module _ (old new : Option (List ℕ)) where
       → TakesFrom old new None (λ read. ReadsSuite (suite_read read) (Ok suite)) → TakesFrom old new (fault_in result) (λ read. IsRun asked (suite_read read) was is result)
   takes_run asked suite was is result bare run taken =
       takes_as None (fault_in result) (λ read. ReadsSuite (suite_read read) (Ok suite)) (λ read. IsRun asked (suite_read read) was is result)
-      (λ read ok. run_read asked was is (suite_parts suite) (suite_read read) result ok bare run)
+      (λ read ok. run_read asked was is suite (suite_read read) result ok bare run)
       (λ read ok end. ends_whole (fault_in result) (length read) new (ends_run asked (suite_parts suite) was is result run) (λ same. read_small read (suite_parts suite) ok) end) taken

@@ -10,6 +10,8 @@ use Rattle.selectors.specs.declared.select_fault.SelectFault.TheVariants as sele
 use Rattle.suite_text.specs.Reading.Faults as suite_faults
 use Rattle.suite_text.specs.declared.suite.fault.SuiteFault.{SuiteFault}
 use Rattle.suite_text.specs.declared.suite.fault.SuiteFault.TheVariants as suites
+use Rattle.worker_pool.specs.declared.report.RunCause.{RunCause}
+use Rattle.worker_pool.specs.declared.report.RunCause.TheVariants as runs
 use Rattle.launcher.specs.declared.bytes.ReadFault.{ReadFault}
 use Rattle.launcher.specs.declared.bytes.ReadFault.TheVariants as reads
 use Rattle.step_text.specs.declared.steps.StepsFault.{StepsFault}
@@ -84,3 +86,8 @@ IsPlanFault plans.TooManyKeys fault = fault ≡ TooManyKeys
 abbrev pub IsSelectFault : SelectFault → LaunchFault → Type 0
 IsSelectFault selections.NoMemory fault = fault ≡ NoMemory
 IsSelectFault (selections.NothingMatches number) fault = fault ≡ NothingMatches number
+
+-- a run that was not begun: that no thread could be started is told apart from want of memory
+abbrev pub unrun_fault : RunCause → LaunchFault
+unrun_fault (runs.Table fault) = NoMemory
+unrun_fault runs.NoWorker = NoWorker

@@ -131,14 +131,6 @@ IsSuiteRun asked suite old new (Ok status) = IsWhole asked suite old new status
 IsSuiteRun asked suite old new (Err (Writing fault)) = IsCutShort asked suite old new fault.sent
 IsSuiteRun asked suite old new (Err fault) = FailsSuite asked suite fault
 
--- a suite was read, and this is the answer of its run
-pub record IsReadAndRun (asked : Asked) (read : Result SuiteParts SuiteFault) (old new : Option (List ℕ)) (result : Result ExitStatus LaunchFault) : Type 0 where
-  pub suite : SuiteParts
-  pub is_read : read ≡ Ok suite
-  -- no spare of it declares a lock, and no engine is a factory
-  pub bare : HasBareSpares suite.tree
-  pub run : IsSuiteRun asked suite old new result
-
 -- what the reading of a suite refuses: the suite's own refusal is the one that the definition gives
 abbrev pub FailsToRead : Result SuiteParts SuiteFault → LaunchFault → Type 0
 FailsToRead read NoMemory = Unit {0}
@@ -161,17 +153,18 @@ abbrev pub ReadsSuite : Result SuiteParts SuiteFault → Result suites.Suite Lau
 ReadsSuite read (Ok suite) = read ≡ Ok (suite_parts suite)
 ReadsSuite read (Err fault) = FailsToRead read fault
 
--- the answer of a run: the suite's refusal is the one that the definition gives, and else the suite is run. Of memory and
--- of a reader that failed nothing is known
-abbrev pub IsRun : Asked → Result SuiteParts SuiteFault → Option (List ℕ) → Option (List ℕ) → Result ExitStatus LaunchFault → Type 0
-IsRun asked read old new (Ok status) = IsReadAndRun asked read old new (Ok status)
-IsRun asked read old new (Err (BadSettings fault)) = IsReadAndRun asked read old new (Err (BadSettings fault))
-IsRun asked read old new (Err (NothingMatches number)) = IsReadAndRun asked read old new (Err (NothingMatches number))
-IsRun asked read old new (Err TooManyKeys) = IsReadAndRun asked read old new (Err TooManyKeys)
-IsRun asked read old new (Err TooManyWorkers) = IsReadAndRun asked read old new (Err TooManyWorkers)
-IsRun asked read old new (Err NoWorker) = IsReadAndRun asked read old new (Err NoWorker)
-IsRun asked read old new (Err (Writing fault)) = IsReadAndRun asked read old new (Err (Writing fault))
-IsRun asked read old new (Err fault) = FailsToRead read fault
+-- What is answered behind a reading: a suite, of which no spare declares a lock and no engine is a factory, is run; a refusal of the
+-- reading is answered.
+abbrev pub RunsLoaded : Asked → Result suites.Suite LaunchFault → Option (List ℕ) → Option (List ℕ) → Result ExitStatus LaunchFault → Type 0
+RunsLoaded asked (Ok suite) old new result = HasBareSpares suite.tree × IsSuiteRun asked (suite_parts suite) old new result
+RunsLoaded asked (Err fault) old new result = result ≡ Err fault
+
+-- The bytes are read, and what that gave is run. So want of memory is either that of the reading, or that of the run, which hides
+-- neither settings that are none nor a selector that covers nothing.
+pub record IsRun (asked : Asked) (read : Result SuiteParts SuiteFault) (old new : Option (List ℕ)) (result : Result ExitStatus LaunchFault) : Type 0 where
+  pub loaded : Result suites.Suite LaunchFault
+  pub reads : ReadsSuite read loaded
+  pub runs : RunsLoaded asked loaded old new result
 
 -- the fault is the writer's
 abbrev pub is_writing : LaunchFault → Bool
