@@ -22,7 +22,7 @@ use Rattle.scheduling.proofs.OnlyHistory.{only_history, as_expected}
 use Rattle.sched_core.specs.Replies.{reply_of, replies_of as replies_by}
 use Rattle.table_rule.specs.Picture.{replies_of}
 use Rattle.table_rule.specs.Slots.{slot_count}
-use Rattle.worker_pool.specs.Reports.{run_of, AreTexts, IsReport, IsRefusedRun}
+use Rattle.worker_pool.specs.Reports.{run_of, AreParts, AreTexts, IsReport, IsRefusedRun}
 use Rattle.worker_pool.specs.declared.report.RunCause.{RunCause}
 use Rattle.worker_pool.specs.declared.report.RunCause.TheVariants.{Table, NoWorker}
 use Rattle.run_table.specs.Prepared.{HasAllJobs, IsRightRing}
@@ -55,19 +55,24 @@ history_of p tree safe answers jobs are workers ring history report =
       as_expected = λ calm. as_expected p tree (reply_of answers) (replies_by answers) (λ job. refl) calm workers history legal report.complete;
     }
 
--- the history, with the texts of its nodes
+-- the history, with the texts of its nodes, and a list for each worker
 pub record IsTold (workers : ℕ) (p : PlanParts) (answers : List (ℕ × Reply)) (history : List Event) (texts : TextParts) : Type 0 where
   pub tree : IsTree p.tree
   pub published : IsHistory workers p answers history
   pub are : AreTexts p (replies_by answers) history texts
+  pub lists : List (List Event)
+  pub mine : AreParts workers history lists
 
 -- and the texts that they report are those that the suite says
 pub told_of : (p : PlanParts) → IsTree p.tree → IsGuarded (declared_of p.tree) p → (answers : List (ℕ × Reply)) (jobs : List (ℕ × ScriptedJob)) → AreScripted p answers (slot_count p) jobs → (workers ring : ℕ) (history : List Event) (texts : TextParts)
-    → IsReport (run_of p workers ring jobs) (replies_of replies_left (run_of p workers ring jobs)) history → AreTexts p (replies_of replies_left (run_of p workers ring jobs)) history texts → IsTold workers p answers history texts
-told_of p tree safe answers jobs are workers ring history texts report told = record {
+    → IsReport (run_of p workers ring jobs) (replies_of replies_left (run_of p workers ring jobs)) history → AreTexts p (replies_of replies_left (run_of p workers ring jobs)) history texts
+    → (lists : List (List Event)) → AreParts workers history lists → IsTold workers p answers history texts
+told_of p tree safe answers jobs are workers ring history texts report told lists mine = record {
   tree = tree;
   published = history_of p tree safe answers jobs are workers ring history report;
   are = λ n low. text_as_said p tree answers jobs are history n (text_at texts n) (told n low);
+  lists = lists;
+  mine = mine;
 }
 
 -- a ring that is right is none that is refused
@@ -110,6 +115,8 @@ pub ran : (text : List ℕ) (status : ExitStatus) (asked : Asked) (settings : Se
 ran text status asked settings p answers history texts told printed exits = record {
   history = history;
   published = told.published;
+  lists = told.lists;
+  mine = told.mine;
   details = details_of asked.details asked.theme p texts history;
   printed = record { texts = texts; are = told.are; printed = refl };
   behind_warnings = printed;

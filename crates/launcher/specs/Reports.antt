@@ -19,7 +19,7 @@ use Rattle.scheduling.specs.State.{State}
 use Rattle.sched_core.specs.Replies.{reply_of, replies_of}
 use Rattle.sched_core.specs.Runs.{run, passed_over}
 use Rattle.sched_core.specs.Texts.{AreTexts}
-use Rattle.worker_pool.specs.Reports.{AreTexts as AreRunTexts}
+use Rattle.worker_pool.specs.Reports.{AreParts, AreTexts as AreRunTexts}
 use Rattle.listeners.specs.declared.theme.Theme.{Theme}
 use Rattle.listeners.specs.Counts.{counts_of as node_counts}
 use Rattle.listeners.specs.Feed.{feed_of}
@@ -88,6 +88,9 @@ pub record IsExpectedOutput (asked : Asked) (settings : Settings) (t : Nodes) (r
 pub record IsRunOutput (asked : Asked) (settings : Settings) (p : PlanParts) (answers : List (ℕ × Reply)) (text : List ℕ) (status : ExitStatus) : Type 0 where
   pub history : List Event
   pub published : IsHistory settings.workers p answers history
+  -- the run has reported a list for each of them, its own events: so many workers and no fewer were asked to run it
+  pub lists : List (List Event)
+  pub mine : AreParts settings.workers history lists
   pub details : List ℕ
   pub printed : ArePrinted asked.details asked.theme p answers history details
   pub behind_warnings : text ≡ warning_lines settings.warnings ++ details

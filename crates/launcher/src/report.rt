@@ -4,6 +4,7 @@ ghost use Rattle.std.specs.Prelude.{◌≡◌, ◌≤◌, ◌++◌, ◌⊎◌, I
 ghost use Rattle.listeners.specs.Results.{tests_found, has_failed};
 ghost use Rattle.launcher.specs.Asked.{asked_by};
 ghost use Rattle.launcher.specs.ExitStatuses.{status_of_run};
+ghost use Rattle.launcher.specs.Faults.{unrun_fault};
 ghost use Rattle.launcher.specs.Reports.{details_of, ArePrinted, IsRunOutput, IsReplayOutput, IsOutput};
 ghost use Rattle.launcher.specs.Runs.{IsUnrun};
 ghost use Rattle.launcher.specs.WarningTexts.{warning_lines};
@@ -104,7 +105,8 @@ fn history_report(
 /// The refusal of a run that was not begun.
 fn unrun(cause: RunCause) -> LaunchFault
     requires { (cause ≡ RunCause.Table TableFault.NoMemory) ⊎ (cause ≡ RunCause.NoWorker) }
-    ensures { (result ≡ LaunchFault.NoMemory) ⊎ (result ≡ LaunchFault.NoWorker) }
+    ensures exact { result ≡ unrun_fault cause }
+    ensures either { (result ≡ LaunchFault.NoMemory) ⊎ (result ≡ LaunchFault.NoWorker) }
 {
     match cause {
         RunCause::Table(_) => LaunchFault::NoMemory,
@@ -160,9 +162,9 @@ fn run_report<T: Threads + Wait + Sync>(
 fn replay_report(
     alloc: Global,
     steps: &[Step],
-    workers: u32,
     plan: &Plan,
     answers: &Answers,
+    workers: u32,
 ) -> Result<Report, AllocError>
     ensures { IfOk result (λ report. IsReplayOutput steps.now workers plan.now answers.now (string_bytes report.text) report.status) }
 {
@@ -205,7 +207,7 @@ pub(crate) fn report_of<T: Threads + Wait + Sync>(
 {
     match &options.replay {
         Some(steps) => {
-            let report = replay_report(alloc, steps.as_slice(), settings.workers, &plan, answers)?;
+            let report = replay_report(alloc, steps.as_slice(), &plan, answers, settings.workers)?;
             Ok(report)
         }
         None => run_report(rt, alloc, options, settings, plan, answers, spins),

@@ -1,5 +1,5 @@
 -- The jobs are those that a run asks for, and what it reports is a history of what the suite says.
-use Rattle.std.proofs.Common.{◌≡◌, List, sym, subst}
+use Rattle.std.proofs.Common.{◌≡◌, List, map, sym, subst}
 use Rattle.std.specs.Prelude.{string_bytes}
 use Rattle.descriptor.specs.Nodes.{IsTree}
 use Rattle.plan_events.specs.declared.event.Event.{Event}
@@ -27,7 +27,7 @@ returns-in-Ok-run_plan-clause-output g c =
     let tree : IsTree p.tree = plan_is_tree c.plan.view_is c.plan.invariant.plan.tree in
     let same : c.in-Ok-run_plan.ran.plan ≡ p = c.in-Ok-run_plan.ensures.plan in
     let shown : history ≡ c.as_slice-history.result.now = sym c.as_slice-history.ensures.value in
-    let told = told_of p tree c.requires.guarded answers c.in_ok-jobs.jobs.items c.in_ok-jobs.ensures settings.workers asked.ring history c.in-Ok-run_plan.ran.texts c.in-Ok-run_plan.ensures.report c.in-Ok-run_plan.ensures.texts in
+    let told = told_of p tree c.requires.guarded answers c.in_ok-jobs.jobs.items c.in_ok-jobs.ensures settings.workers asked.ring history c.in-Ok-run_plan.ran.texts c.in-Ok-run_plan.ensures.report c.in-Ok-run_plan.ensures.texts (map (λ l. l.items) c.in-Ok-run_plan.ran.mine.items) c.in-Ok-run_plan.ensures.mine in
     let there : IsTold settings.workers c.in-Ok-run_plan.ran.plan answers c.as_slice-history.result.now c.in-Ok-run_plan.ran.texts =
     subst (λ (h : List Event). IsTold settings.workers c.in-Ok-run_plan.ran.plan answers h c.in-Ok-run_plan.ran.texts) shown (subst (λ (q : PlanParts). IsTold settings.workers q answers history c.in-Ok-run_plan.ran.texts) (sym same) told) in
     subst (λ (q : PlanParts). IsRunOutput asked settings q answers (string_bytes report.text) report.status) same
