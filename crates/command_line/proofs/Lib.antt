@@ -1,5 +1,6 @@
 pub mod ByClap
+pub mod Ended
 pub mod Growing
 pub mod Listing
-pub mod Refused
+pub mod Running
 pub mod Told

@@ -1,50 +1,84 @@
 -- What the program reads and writes by the words of its command line.
-use Rattle.std.specs.Prelude.{◌≡◌, ℕ, List, Option, Some, None, IsSomeAnd, Result, Ok, Err, ◌⊎◌}
+use Rattle.std.specs.Prelude.{◌≡◌, ◌++◌, ℕ, Bool, true, false, List, codes, take, string_bytes, Option, Some, None, IfErr, IfSome, IsSomeAnd, Result, Ok, Err}
+use Rattle.std.specs.Io.KnownBytes.{Appends, Keeps}
 use Rattle.clap.specs.Words.{Text}
-use Rattle.launcher.specs.Asked.{Asked, AreAsked}
+use Rattle.launcher.specs.Asked.{Asked, asked_by}
 use Rattle.launcher.specs.Closings.{line_after}
-use Rattle.launcher.specs.ExitStatuses.{status_after}
-use Rattle.launcher.specs.Runs.{IsRun}
-use Rattle.launcher.specs.declared.closing.Closing.{Closing}
+use Rattle.launcher.specs.ExitStatuses.{number_of, status_after}
+use Rattle.launcher.specs.Faults.{refusal_text}
+use Rattle.launcher.specs.Runs.{IsRun, TakesFrom, fault_in, is_writing}
+use Rattle.launcher.specs.declared.asked.Options.{Options}
 use Rattle.launcher.specs.declared.exit_status.ExitStatus.{ExitStatus}
 use Rattle.launcher.specs.declared.fault.LaunchFault.{LaunchFault}
-use Rattle.launcher.specs.declared.fault.LaunchFault.TheVariants.{NoMemory}
+use Rattle.messages.specs.Messages.{message_text}
 use Rattle.messages.specs.Sentences.{sentence_of}
 use Rattle.messages.specs.declared.message.Message.{Message}
-use Rattle.suite_text.specs.Reading.Parts.{SuiteParts}
-use Rattle.suite_text.specs.declared.suite.fault.SuiteFault.{SuiteFault}
-use Rattle.command_line.specs.Words.{values_given}
+use Rattle.suite_text.specs.Reading.Bytes.{suite_read}
+use Rattle.command_line.specs.Words.{ReadsWords}
+use Rattle.command_line.specs.declared.closing.Ending.{Ending}
 
--- words that give no options are refused, and nothing else is done
-abbrev pub RefusesWords : LaunchFault → Result ExitStatus LaunchFault → Type 0
-RefusesWords refusal (Ok status) = ⊥
-RefusesWords refusal (Err fault) = (fault ≡ NoMemory) ⊎ (fault ≡ refusal)
+-- what is asked for is run: what the reader held, or, whatever it tells of its bytes, what it gave is what is judged; and nothing is
+-- written on a refusal but that the writer failed
+pub record RunsAsked (asked : Asked) (before after old new : Option (List ℕ)) (result : Result ExitStatus LaunchFault) : Type 0 where
+  pub exact : IfSome before (λ bytes. IsRun asked (suite_read (take 1048577 bytes)) old new result)
+  pub reads : TakesFrom before after (fault_in result) (λ bytes. IsRun asked (suite_read bytes) old new result)
+  pub quiet : IfErr result (λ fault. is_writing fault ≡ false → Keeps old new)
 
--- the words ask for something, and this is the answer of its run
-pub record IsRunAsAsked (words : List Text) (read : Result SuiteParts SuiteFault) (old new : Option (List ℕ)) (result : Result ExitStatus LaunchFault) : Type 0 where
-  pub asked : Asked
-  pub are : AreAsked (values_given words) asked
-  pub run : IsRun asked read old new result
+module _ {R W : Type 0} (remaining : R → Option (List ℕ)) (contents : W → Option (List ℕ)) where
+  -- what is done with what the words gave: options are run, and this is left to read; a refusal is answered, and neither reader nor
+  -- writer is touched
+  abbrev pub RunsOptions : Result Options LaunchFault → (before after : R) → (left : Option (List ℕ)) → (old new : W) → Result ExitStatus LaunchFault → Type 0
+  RunsOptions (Ok options) before after left old new result = RunsAsked (asked_by options) (remaining before) left (contents old) (contents new) result
+  RunsOptions (Err fault) before after left old new result = (result ≡ Err fault) × (after ≡ before) × (new ≡ old)
 
--- the same unless memory ran out
-abbrev pub RunsAsAsked : List Text → Result SuiteParts SuiteFault → Option (List ℕ) → Option (List ℕ) → Result ExitStatus LaunchFault → Type 0
-RunsAsAsked words read old new (Err NoMemory) = Unit {0}
-RunsAsAsked words read old new result = IsRunAsAsked words read old new result
+  -- the words are read, and what that gave is run
+  pub record IsConsoleRun (words : List Text) (before after : R) (left : Option (List ℕ)) (old new : W) (result : Result ExitStatus LaunchFault) : Type 0 where
+    pub options : Result Options LaunchFault
+    pub reads : ReadsWords words options
+    pub runs : RunsOptions options before after left old new result
 
--- the answer of a run by these words, by why they are refused, if they are
-abbrev pub IsRunBy : Option LaunchFault → List Text → Result SuiteParts SuiteFault → Option (List ℕ) → Option (List ℕ) → Result ExitStatus LaunchFault → Type 0
-IsRunBy (Some refusal) words read old new result = RefusesWords refusal result
-IsRunBy None words read old new result = RunsAsAsked words read old new result
+-- the message that stands there after this answer: none where nothing was refused, and else one that begins with the refusal's sentence
+abbrev pub HasMessage : Result ExitStatus LaunchFault → Option Message → Type 0
+HasMessage (Ok status) message = message ≡ None
+HasMessage (Err fault) message = IsSomeAnd message (λ said. said.sentence.now ≡ sentence_of fault)
 
--- there is an answer of which this is so, and this is what is done after it
-pub record Closes (closing : Closing) (Answered : Result ExitStatus LaunchFault → Type 0) : Type 0 where
-  pub answer : Result ExitStatus LaunchFault
-  pub answered : Answered answer
-  pub line : closing.line ≡ line_after answer
-  pub status : closing.status ≡ status_after answer
+-- the line of a refusal
+abbrev pub refusal_line : LaunchFault → List ℕ
+refusal_line fault = refusal_text fault ++ codes "\n"
 
--- the message that stands there after this answer: what stood there before where nothing was refused, and else one that begins
--- with the refusal's sentence
-abbrev pub Tells : Option Message → Result ExitStatus LaunchFault → Option Message → Type 0
-Tells old (Ok status) new = new ≡ old
-Tells old (Err fault) new = IsSomeAnd new (λ message. message.sentence.now ≡ sentence_of fault)
+-- where all of it went out a text stands behind what the writer held
+abbrev pub WentOut : Bool → (old new : Option (List ℕ)) → List ℕ → Type 0
+WentOut all old new text = all ≡ true → Appends old new text
+
+module _ {W : Type 0} (contents : W → Option (List ℕ)) where
+  -- a line is printed, or the writer is left alone
+  abbrev pub PrintsLine : Option LaunchFault → (old new : W) → Bool → Type 0
+  PrintsLine None old new all = new ≡ old
+  PrintsLine (Some fault) old new all = WentOut all (contents old) (contents new) (refusal_line fault)
+
+  -- a message is printed, or the writer is left alone
+  abbrev pub PrintsMessage : Option Message → (old new : W) → Bool → Type 0
+  PrintsMessage None old new all = new ≡ old
+  PrintsMessage (Some said) old new all = WentOut all (contents old) (contents new) (message_text said.sentence.now (string_bytes said.details))
+
+  -- what is said of this answer: nothing where nothing was refused, and else the refusal's sentence, and details below it
+  abbrev pub SaysWhy : Result ExitStatus LaunchFault → (old new : W) → Bool → Type 0
+  SaysWhy (Ok status) old new all = new ≡ old
+  SaysWhy (Err fault) old new all = (details : List ℕ) × WentOut all (contents old) (contents new) (message_text (sentence_of fault) details)
+
+module _ {W E : Type 0} (contents : W → Option (List ℕ)) (said : E → Option (List ℕ)) where
+  -- what is done after this answer: a refusal's line is printed unless the writer failed, its message goes to the other writer, and
+  -- the program ends with the number of the answer's status
+  pub record Closes (answer : Result ExitStatus LaunchFault) (old new : W) (quiet told : E) (ending : Ending) : Type 0 where
+    pub line : PrintsLine contents (line_after answer) old new ending.is_printed
+    pub message : SaysWhy said answer quiet told ending.is_told
+    pub status : ending.status ≡ number_of (status_after answer)
+
+module _ {R W E : Type 0} (remaining : R → Option (List ℕ)) (contents : W → Option (List ℕ)) (said : E → Option (List ℕ)) where
+  -- the program: what `run_console` does, which leaves this to read and the writer like this, and then what is done after its answer
+  pub record IsProgramRun (words : List Text) (before after : R) (old new : W) (quiet told : E) (ending : Ending) : Type 0 where
+    pub answer : Result ExitStatus LaunchFault
+    pub left : Option (List ℕ)
+    pub between : W
+    pub run : IsConsoleRun remaining contents words before after left old between answer
+    pub closed : Closes contents said answer between new quiet told ending

@@ -1,10 +1,11 @@
 -- What the words of the command line ask for, and why they ask for nothing.
-use Rattle.std.specs.Prelude.{◌≡◌, List, [], ◌∷◌, Option, Some}
+use Rattle.std.specs.Prelude.{◌≡◌, ◌≢◌, List, [], ◌∷◌, Option, Some, None, Result, Ok, Err}
 use Rattle.clap.specs.Words.{Kinds, Text, fault_of, matches_of}
 use Rattle.clap.specs.declared.error.kind.ErrorKind.{ErrorKind}
 use Rattle.clap.specs.declared.error.kind.ErrorKind.TheVariants as kinds
-use Rattle.launcher.specs.Asked.{refusal_of}
+use Rattle.launcher.specs.Asked.{AreAsked, asked_by, refusal_of}
 use Rattle.launcher.specs.Given.{Values}
+use Rattle.launcher.specs.declared.asked.Options.{Options}
 use Rattle.launcher.specs.declared.fault.LaunchFault.{LaunchFault}
 use Rattle.launcher.specs.declared.fault.LaunchFault.TheVariants.{NoMemory, BadWords}
 use Rattle.command_line.specs.Commands.{program}
@@ -27,3 +28,29 @@ values_given words = values_in (matches_of program words)
 -- why the words are refused, if they are
 abbrev pub words_refusal : List Text → Option LaunchFault
 words_refusal words = where_faultless (fault_of program words) (refusal_of (values_given words))
+
+-- what clap says of the words: the values of the options, or a refusal
+abbrev pub CutsWords : List Text → Result Values LaunchFault → Type 0
+CutsWords words (Ok values) = (values ≡ values_given words) × (fault_of program words ≡ [])
+CutsWords words (Err fault) = fault ≢ NoMemory → (fault ≡ BadWords) × (fault_of program words ≢ [])
+
+-- what these values ask for, or why they ask for nothing; want of memory stands in place of no refusal
+pub record IsAsked (values : Values) (options : Options) : Type 0 where
+  pub accepted : refusal_of values ≡ None
+  pub asked : AreAsked values (asked_by options)
+
+pub record IsNotAsked (values : Values) (fault : LaunchFault) : Type 0 where
+  pub refused : fault ≢ NoMemory → refusal_of values ≡ Some fault
+  pub no_memory : fault ≡ NoMemory → refusal_of values ≡ None
+
+-- what the cut words ask for; what clap refuses is refused
+abbrev pub AsksCut : Result Values LaunchFault → Result Options LaunchFault → Type 0
+AsksCut (Ok values) (Ok options) = IsAsked values options
+AsksCut (Ok values) (Err fault) = IsNotAsked values fault
+AsksCut (Err fault) options = options ≡ Err fault
+
+-- the words are cut by clap, and then judged: so want of memory is either clap's, or hides no refusal
+pub record ReadsWords (words : List Text) (options : Result Options LaunchFault) : Type 0 where
+  pub cut : Result Values LaunchFault
+  pub cuts : CutsWords words cut
+  pub asks : AsksCut cut options

@@ -1,6 +1,7 @@
 //! The command line: what its words give the options, and the program over any reader and writer.
 #![tactic(auto)]
 
+mod closing;
 mod found;
 mod kept;
 mod option_names;
@@ -9,7 +10,8 @@ mod said;
 mod system_words;
 mod words;
 
-pub use program::{run_console, run_program};
+pub use closing::Ending;
+pub use program::{run_console, run_program, run_words};
 pub use said::message_of;
 pub use system_words::given_words;
 pub use words::read_options;

@@ -7,7 +7,7 @@ ghost use Rattle.launcher.specs.Given.{values_of};
 ghost use Rattle.launcher.specs.declared.fault.LaunchFault.TheVariants.{NoMemory};
 ghost use Rattle.command_line.specs.Commands.{program};
 ghost use Rattle.command_line.specs.Found.{values_in};
-ghost use Rattle.command_line.specs.Words.{values_given, words_refusal, IsWordsFault};
+ghost use Rattle.command_line.specs.Words.{values_given, words_refusal, IsWordsFault, ReadsWords};
 
 use crate::found::given_in;
 use crate::option_names::command;
@@ -50,12 +50,14 @@ pub(crate) fn given_by<'a>(alloc: Global, words: &'a [String]) -> Result<Given<'
 
 /// The options that the words give. The first word is the program's name, whatever it is. Words
 /// that clap refuses are refusal 105; others ask for what `Options::of` says, and are refused as it
-/// says. Clap takes memory before it judges any word, so want of memory may stand in place of each
-/// of these refusals.
+/// says. Clap takes memory before it judges any word, so its want of memory may stand in place of
+/// each of these refusals.
 pub fn read_options(alloc: Global, words: &[String]) -> Result<Options, LaunchFault>
     ensures asked { IfOk result (λ options. AreAsked (values_given (map string_bytes words.now)) (asked_by options)) }
     ensures accepted { IfOk result (λ _. words_refusal (map string_bytes words.now) ≡ None) }
     ensures refused { IfErr result (λ fault. fault ≢ NoMemory → words_refusal (map string_bytes words.now) ≡ Some fault) }
+    // Clap takes memory first; where it had enough, want of memory hides no refusal of `Options::of`.
+    ensures read { ReadsWords (map string_bytes words.now) result }
 {
     let given = given_by(alloc, words)?;
     Options::of(alloc, &given)

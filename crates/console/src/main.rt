@@ -5,21 +5,14 @@ use command_line::run_program;
 use std::io;
 use std::process::ExitCode;
 
-fn main(rt: HostRuntime) -> io::Result<ExitCode> {
-    let mut message = None;
-    let closing = run_program(
+fn main(rt: HostRuntime) -> ExitCode {
+    let ending = run_program(
         &rt,
         rt.alloc(),
         std::env::args(&rt),
         &mut rt.reader(),
         &mut io::writer(&rt),
-        &mut message,
+        &mut rt.stderr(),
     );
-    if let Some(fault) = closing.line {
-        let _ = println!(rt; "{fault}");
-    }
-    if let Some(message) = message {
-        let _ = eprint!(rt; "{message}");
-    }
-    Ok(ExitCode::from(closing.status.number()))
+    ExitCode::from(ending.status)
 }
