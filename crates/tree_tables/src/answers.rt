@@ -84,7 +84,7 @@ pub(crate) fn answer(alloc: Global, tree: &Tree, asked: &str) -> Result<String, 
         "below" => below(alloc, tree, words),
         "keep" => kept(alloc, tree, words),
         "select" => found(alloc, tree, words),
-        "plan" | "drive" | "steps" => planned(alloc, tree, asked, words),
+        "plan" | "free-spares" | "drive" | "steps" => planned(alloc, tree, asked, words),
         "conflicts" | "joined" => locks_answer(alloc, tree, asked, words),
         _ => String::from_str(alloc, " => ?"),
     }

@@ -106,7 +106,7 @@ fn copied_text(alloc: Global, plan: &Plan) -> Result<String, AllocError> {
     String::from_str(alloc, " => the copy differs")
 }
 
-/// What is asked of a plan: how it executes its nodes, or what a run of it leaves.
+/// What is asked of a plan: how it executes its nodes, whether no spare holds a key, or what a run of it leaves.
 fn plan_answer(
     alloc: Global,
     plan: &Plan,
@@ -116,6 +116,7 @@ fn plan_answer(
 ) -> Result<String, AllocError> {
     match asked {
         "plan" => copied_text(alloc, plan),
+        "free-spares" => format!(in alloc; " => {}", plan.has_free_spares()),
         _ => run_text(alloc, plan, asked, words, steps),
     }
 }
