@@ -116,29 +116,33 @@ taken_as t a node whole does = by (nat_lt 16 (length whole.locks)) refl
         let same : node ≡ whole = does.rest ∙ ap (with_locks whole) (does.locks.same (ltb-false 16 (length whole.locks) e)) in
         record { refused = ap (refusal t a) same; taken = λ none. same }
 
--- a node that does for the one that a line declares, which is asked for below the line's parent in the tree so far
-module _ (read : LinesRead) (level : ℕ) (d : Declaration) (t : Nodes) (parent : ℕ) (node : Node)
-    (same_tree : t ≡ read.tree) (same_parent : parent ≡ parent_on read level) (does : DoesFor node (node_on read level d)) where
+-- a node that does for the one that a line declares, below the line's parent; `old` is what was read so far
+module _ (read old : LinesRead) (level : ℕ) (d : Declaration) (parent : ℕ) (node : Node)
+    (same : old ≡ read) (same_parent : parent ≡ parent_on read level) (does : DoesFor node (node_on read level d)) where
   taken : IsTakenAs read.tree (parent_on read level) node (node_on read level d)
   taken = taken_as read.tree (parent_on read level) node (node_on read level d) does
 
-  refused_there : refusal t parent node ≡ refusal read.tree (parent_on read level) node
-  refused_there = ap (λ x. refusal x parent node) same_tree ∙ ap (λ n. refusal read.tree n node) same_parent
+  refused_there : refusal old.tree parent node ≡ refusal read.tree (parent_on read level) node
+  refused_there = ap (λ (r : LinesRead). refusal r.tree parent node) same ∙ ap (λ n. refusal read.tree n node) same_parent
 
-  pub refused_on : is_over_limit_on read level d ≡ false → refusal_on read level d ≡ refusal t parent node
+  pub refused_on : is_over_limit_on read level d ≡ false → refusal_on read level d ≡ refusal old.tree parent node
   refused_on short =
       ap (λ b. cond b (Some OverLimit) (refusal read.tree (parent_on read level) (node_on read level d))) short
       ∙ sym (refused_there ∙ taken.refused)
 
-  pub added_on : (grown_tree : Nodes) → refusal t parent node ≡ None → grown_tree ≡ appended t parent node → grown_tree ≡ appended read.tree (parent_on read level) (node_on read level d)
-  added_on grown_tree none is =
+  added : (made : Nodes) → refusal old.tree parent node ≡ None → made ≡ appended old.tree parent node → made ≡ appended read.tree (parent_on read level) (node_on read level d)
+  added made none is =
       is
-      ∙ ap (λ x. appended x parent node) same_tree
+      ∙ ap (λ (r : LinesRead). appended r.tree parent node) same
       ∙ ap (λ n. appended read.tree n node) same_parent
       ∙ ap (appended read.tree (parent_on read level)) (taken.taken (sym refused_there ∙ none))
 
--- what a line has made, part by part
-pub grown_is : (read : LinesRead) (level : ℕ) (d : Declaration) (made : LinesRead) → made.tree ≡ appended read.tree (parent_on read level) (node_on read level d)
-    → made.path ≡ take level read.path ++ record { node = size read.tree; word = d.word } ∷ [] → made.scripts ≡ read.scripts ++ option_to_list (script_declared d (size read.tree))
-    → made.afters ≡ read.afters → made.properties ≡ read.properties → made ≡ grown read level d
-grown_is read level d made tree path scripts afters properties = λ i. record { tree = tree i; path = path i; scripts = scripts i; afters = afters i; properties = properties i }
+  -- what the line has made, part by part
+  pub grown_is : (made : LinesRead) → refusal old.tree parent node ≡ None → made.tree ≡ appended old.tree parent node
+      → made.path ≡ take level read.path ++ record { node = size read.tree; word = d.word } ∷ [] → made.scripts ≡ read.scripts ++ option_to_list (script_declared d (size read.tree))
+      → made.afters ≡ old.afters → made.properties ≡ old.properties → made ≡ grown read level d
+  grown_is made none tree path scripts afters properties =
+      let kept : made.afters ≡ read.afters = afters ∙ ap (λ (r : LinesRead). r.afters) same in
+      let said : made.properties ≡ read.properties = properties ∙ ap (λ (r : LinesRead). r.properties) same in
+      let all : made.tree ≡ appended read.tree (parent_on read level) (node_on read level d) = added made.tree none tree in
+      λ i. record { tree = all i; path = path i; scripts = scripts i; afters = kept i; properties = said i }
