@@ -1,76 +1,164 @@
 //! What the program does with a row.
 
+use crate::cutting::Cutting;
 use crate::rows::push_line;
-use command_line::{message_of, run_console};
-use launcher::{ExitStatus, LaunchFault};
+use command_line::{Ending, run_words};
 use std::alloc::{AllocError, Global};
 use std::sync::Wait;
 use std::thread::Threads;
 
-/// Runs the program with these words on a suite, and appends what it writes.
-fn run<T: Threads + Wait + Sync>(
-    rt: &T,
-    alloc: Global,
-    answers: &mut Vec<u8>,
-    words: &[String],
-    mut suite: &[u8],
-) -> Result<ExitStatus, LaunchFault> {
-    run_console(rt, alloc, words, &mut suite, answers)
+/// What a row asks for besides what the program writes and how it ends.
+#[derive(Clone, Copy, PartialEq, Eq)]
+enum Asks {
+    Nothing,
+    /// What stands on standard error.
+    Errors,
+    /// The same, where the output takes so many bytes, and then fails.
+    Cut(usize),
+    /// Whether a second worker does something, in one of a hundred runs.
+    SecondWorker,
 }
 
-/// The line that says how a run ended: its status or its refusal.
-fn end_line(alloc: Global, end: Result<ExitStatus, LaunchFault>) -> Result<String, AllocError> {
-    match end {
-        Ok(status) => format!(in alloc; "status {}\n", status.number()),
-        Err(fault) => format!(in alloc; "{fault}\n"),
+/// The words of a row, and what it asks for, if the line begins one.
+fn row_of(line: &str) -> Option<(&str, Asks)> {
+    if let Some(words) = line.strip_prefix("== ") {
+        return Some((words, Asks::Nothing));
     }
-}
-
-/// Appends what stands on standard error after this end.
-fn push_message(
-    alloc: Global,
-    answers: &mut Vec<u8>,
-    words: &[String],
-    suite: &[u8],
-    end: Result<ExitStatus, LaunchFault>,
-) -> Result<(), AllocError> {
-    if let Err(fault) = end {
-        let message = message_of(alloc, fault, words, suite);
-        answers.extend_from_slice(format!(in alloc; "{message}")?.as_bytes())?;
+    if let Some(words) = line.strip_prefix("=? ") {
+        return Some((words, Asks::Errors));
     }
-    Ok(())
+    if let Some(words) = line.strip_prefix("=2 ") {
+        return Some((words, Asks::SecondWorker));
+    }
+    let (room, words) = line.strip_prefix("=< ")?.split_once(' ')?;
+    Some((words, Asks::Cut(room.parse().unwrap_or(0))))
 }
 
-/// Appends what the program writes, and how it ends; where `tells`, what stands on standard error too.
+/// Whether a line begins a row.
+pub(crate) fn begins_row(line: &str) -> bool {
+    row_of(line).is_some()
+}
+
+/// The line that says how a run ended. A refusal has printed its own, unless the output failed.
+fn end_line(alloc: Global, ending: Ending) -> Result<String, AllocError> {
+    let Ending {
+        status,
+        is_printed,
+        is_told,
+    } = ending;
+    if !is_printed || !is_told {
+        return String::from_str(alloc, "not all was said\n");
+    }
+    format!(in alloc; "status {status}\n")
+}
+
+/// Runs the program with these words on a suite, and appends what it writes, and how it ends where no line of a refusal says so.
 fn push_run<T: Threads + Wait + Sync>(
     rt: &T,
     alloc: Global,
     answers: &mut Vec<u8>,
+    errors: &mut Vec<u8>,
     words: &[String],
-    suite: &[u8],
-    tells: bool,
+    mut suite: &[u8],
 ) -> Result<(), AllocError> {
-    let end = run(rt, alloc, answers, words, suite);
-    answers.extend_from_slice(end_line(alloc, end)?.as_bytes())?;
-    if tells {
-        push_message(alloc, answers, words, suite, end)?;
+    let ending = run_words(rt, alloc, words, &mut suite, answers, errors);
+    if ending.status == 255 && ending.is_printed && ending.is_told {
+        return Ok(());
     }
-    Ok(())
+    answers.extend_from_slice(end_line(alloc, ending)?.as_bytes())
 }
 
-/// Appends the words of a row, what the program writes, and how it ends; where `tells`, what stands on standard error too.
+/// The same, with an output that takes so many bytes, and then fails.
+fn push_cut<T: Threads + Wait + Sync>(
+    rt: &T,
+    alloc: Global,
+    answers: &mut Vec<u8>,
+    errors: &mut Vec<u8>,
+    words: &[String],
+    mut suite: &[u8],
+    room: usize,
+) -> Result<(), AllocError> {
+    let mut output = Cutting {
+        taken: Vec::new(alloc),
+        room,
+    };
+    let ending = run_words(rt, alloc, words, &mut suite, &mut output, errors);
+    answers.extend_from_slice(output.taken.as_slice())?;
+    answers.extend_from_slice(end_line(alloc, ending)?.as_bytes())
+}
+
+/// Whether a line of the feed is of the second worker.
+fn is_of_second(feed: &[u8]) -> bool {
+    match std::str::from_utf8(feed) {
+        Ok(text) => text.lines().any(|line| line.starts_with("w2 ")),
+        Err(_) => false,
+    }
+}
+
+/// Whether the feed of one of so many runs has a line of the second worker.
+fn has_second<T: Threads + Wait + Sync>(
+    rt: &T,
+    alloc: Global,
+    words: &[String],
+    suite: &[u8],
+    runs: u32,
+) -> Result<bool, AllocError> {
+    for _ in 0..runs {
+        let mut feed = Vec::new(alloc);
+        let mut errors = Vec::new(alloc);
+        push_run(rt, alloc, &mut feed, &mut errors, words, suite)?;
+        if is_of_second(feed.as_slice()) {
+            return Ok(true);
+        }
+    }
+    Ok(false)
+}
+
+/// Appends what a row asks for.
+fn push_asked<T: Threads + Wait + Sync>(
+    rt: &T,
+    alloc: Global,
+    answers: &mut Vec<u8>,
+    words: &[String],
+    suite: &[u8],
+    asks: Asks,
+) -> Result<(), AllocError> {
+    let mut errors = Vec::new(alloc);
+    match asks {
+        Asks::Nothing => push_run(rt, alloc, answers, &mut errors, words, suite),
+        Asks::Errors => {
+            push_run(rt, alloc, answers, &mut errors, words, suite)?;
+            answers.extend_from_slice(errors.as_slice())
+        }
+        Asks::Cut(room) => {
+            push_cut(rt, alloc, answers, &mut errors, words, suite, room)?;
+            answers.extend_from_slice(errors.as_slice())
+        }
+        Asks::SecondWorker => {
+            let said = if has_second(rt, alloc, words, suite, 100)? {
+                "a second worker\n"
+            } else {
+                "no second worker\n"
+            };
+            answers.extend_from_slice(said.as_bytes())
+        }
+    }
+}
+
+/// Appends a row's line, and what it asks for.
 pub(crate) fn push_answer<T: Threads + Wait + Sync>(
     rt: &T,
     alloc: Global,
     answers: &mut Vec<u8>,
     line: &str,
     suite: &[u8],
-    tells: bool,
 ) -> Result<(), AllocError> {
-    answers.extend_from_slice(if tells { b"=? " } else { b"== " })?;
+    let Some((said, asks)) = row_of(line) else {
+        return Ok(());
+    };
     answers.extend_from_slice(line.as_bytes())?;
     answers.push(b'\n')?;
     let mut words = Vec::new(alloc);
-    push_line(alloc, &mut words, line)?;
-    push_run(rt, alloc, answers, words.as_slice(), suite, tells)
+    push_line(alloc, &mut words, said)?;
+    push_asked(rt, alloc, answers, words.as_slice(), suite, asks)
 }
