@@ -19,8 +19,9 @@ use Rattle.scheduling.specs.State.{State, status_at}
 use Rattle.scheduling.specs.Rows.{row, after, read_event, Step, Works, Dispatches}
 use Rattle.scheduling.specs.Runs.{opening, or_stays, next, run}
 use Rattle.scheduling.proofs.GoingBasics.{settled_claimed}
+use Rattle.resource_locks.specs.Held.{plan_of}
 use Rattle.resource_locks.specs.Plans.{PlanParts}
-use Rattle.never_stuck.specs.LockedSpare.{GetsStuck, locked_plan, asks_for_one, reply_at, does, to_the_dead_end}
+use Rattle.never_stuck.specs.LockedSpare.{GetsStuck, locked_tree, locked_modes, locked_plan, asks_for_one, reply_at, does, to_the_dead_end}
 use Rattle.never_stuck.specs.Reaching.{AllGiven, only, IsEnded}
 use Rattle.never_stuck.proofs.Reach.{run_append, replied_all}
 
@@ -133,3 +134,7 @@ gets_stuck = record {
         let first = run locked_plan (opening locked_plan 1) steps in
         let stays : Stays (Some (run locked_plan first more)) = subst (λ (s : State). Stays (Some (run locked_plan s more))) (sym is_dead_end) (run_stays Waits first more) in
         never_ends stays.0 stays.1 (ap (λ (s : State). status_at s 0) (sym stays.2) ∙ ap (λ (s : State). status_at s 0) (sym (run_append locked_plan (opening locked_plan 1) steps more)) ∙ ended.settled)
+
+-- it is the plan that is made of its tree
+pub is_made : plan_of locked_tree locked_modes ≡ locked_plan
+is_made = refl
