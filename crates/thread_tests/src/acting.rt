@@ -7,17 +7,24 @@ use crate::board::Board;
 use plan_events::{Job, Outcome, Pull, Status};
 use std::hint::spin_loop;
 use std::sync::Arc;
+use std::thread::yield_now;
 use unique_id::Text;
 
 /// How often a job looks for what it waits for.
 const MOST_TURNS: u64 = 200_000_000;
+
+/// How often a listener looks for what must not come: some 50 milliseconds long.
+const SOME_TURNS: u64 = 5_000_000;
+
+/// So often one looks before it gives the processor up, which those who are waited for may want.
+const SPINS: u64 = 1024;
 
 /// What a job does when it is run.
 #[derive(Clone, Copy)]
 pub enum Act {
     /// It ends as it is told.
     Ends,
-    /// It sets its own flag, and ends well if it sees those of the nodes from the first to the last.
+    /// It sets its own flag, and ends well; if it is of one of the nodes from the first to the last, once it sees those of all.
     Meets(usize, usize),
     /// It ends well if it sees its own flag, and is the only job at work.
     Waits,
@@ -53,15 +60,24 @@ fn are_set(board: &Board, first: usize, last: usize) -> bool {
     true
 }
 
-/// Looks for the flags of these nodes, and says whether it saw all of them set.
-fn sees(board: &Board, first: usize, last: usize) -> bool {
-    for _turn in 0..MOST_TURNS {
+/// Looks so often for the flags of these nodes, and says whether it saw all of them set.
+fn sees(board: &Board, first: usize, last: usize, turns: u64) -> bool {
+    for turn in 0..turns {
         if are_set(board, first, last) {
             return true;
         }
-        spin_loop();
+        if turn % SPINS == 0 {
+            yield_now();
+        } else {
+            spin_loop();
+        }
     }
     false
+}
+
+/// Looks for the flag of this node for a while, and says whether it saw it set.
+pub(crate) fn sees_begin(board: &Board, node: usize) -> bool {
+    sees(board, node, node, SOME_TURNS)
 }
 
 impl Actor {
@@ -71,11 +87,12 @@ impl Actor {
             Act::Ends => true,
             Act::Meets(first, last) => {
                 self.board.set(self.node);
-                sees(&self.board, first, last)
+                let is_one = first <= self.node && self.node <= last;
+                !is_one || sees(&self.board, first, last, MOST_TURNS)
             }
             Act::Waits => {
                 let is_first = self.board.begin() == 0;
-                let has_seen = sees(&self.board, self.node, self.node);
+                let has_seen = sees(&self.board, self.node, self.node, MOST_TURNS);
                 self.board.end();
                 is_first && has_seen
             }

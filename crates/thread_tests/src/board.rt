@@ -3,14 +3,15 @@
 use std::alloc::{AllocError, Global};
 use std::sync::atomic::{AtomicBool, AtomicU64, Ordering};
 
-/// A flag for each of the first nodes, how many jobs are at work, how often a job was asked for a dynamic test, and how many
-/// bytes of texts the listener was told.
+/// A flag for each of the first nodes, how many jobs are at work, how often a job was asked for a dynamic test, how many bytes of
+/// texts the listener was told, and whether a body began too early.
 #[derive(Drop)]
 pub struct Board {
     flags: Vec<AtomicBool>,
     at_work: AtomicU64,
     asked: AtomicU64,
     heard: AtomicU64,
+    early: AtomicBool,
 }
 
 impl Board {
@@ -21,6 +22,7 @@ impl Board {
             at_work: AtomicU64::new(0),
             asked: AtomicU64::new(0),
             heard: AtomicU64::new(0),
+            early: AtomicBool::new(false),
         };
         for _flag in 0..flags {
             board.flags.push(AtomicBool::new(false))?;
@@ -71,5 +73,15 @@ impl Board {
     /// How many bytes of texts the listener was told.
     pub fn heard(&self) -> u64 {
         self.heard.load(Ordering::SeqCst)
+    }
+
+    /// A body began before its start could be shown.
+    pub(crate) fn hurry(&self) {
+        self.early.store(true, Ordering::SeqCst);
+    }
+
+    /// Whether a body began before its start could be shown.
+    pub fn is_early(&self) -> bool {
+        self.early.load(Ordering::SeqCst)
     }
 }

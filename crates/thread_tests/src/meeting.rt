@@ -2,29 +2,10 @@
 
 use crate::acting::Act;
 use crate::running::{WIDE, run_of_suite};
-use std::alloc::Global;
+use std::alloc::{AllocError, Global};
 use std::sync::Wait;
 use std::test::Fail;
 use std::thread::Threads;
-
-/// Two tests that may run side by side.
-const TWO: &str = "property junit.jupiter.execution.parallel.enabled=true
-property junit.jupiter.execution.parallel.mode.default=concurrent
-engine e
-  class a.B
-    test t() pass
-    test u() pass
-";
-
-/// Three of them.
-const THREE: &str = "property junit.jupiter.execution.parallel.enabled=true
-property junit.jupiter.execution.parallel.mode.default=concurrent
-engine e
-  class a.B
-    test t() pass
-    test u() pass
-    test v() pass
-";
 
 /// Two tests that write one key.
 const WRITERS: &str = "property junit.jupiter.execution.parallel.enabled=true
@@ -45,6 +26,33 @@ engine e
     test b() pass
 ";
 
+/// A class that reads a key, with two classes in its own thread, and one that writes the key. Who ends the last test of the first
+/// class offers the second to the worker of the class around it alone, which tries the writer meanwhile.
+const BUSY: &str = "property junit.jupiter.execution.parallel.enabled=true
+property junit.jupiter.execution.parallel.mode.default=concurrent
+engine e
+  class A lock=k:r
+    class First @same_thread
+      test a() @concurrent pass
+      test b() @concurrent pass
+    class Second @same_thread
+      test c() pass
+  class B lock=k:rw
+    test d() pass
+";
+
+/// A class of so many tests, from node 3 on, that may run side by side.
+fn suite_of(alloc: Global, tests: u32) -> Result<String, AllocError> {
+    let mut text = String::new(alloc);
+    text.push_str("property junit.jupiter.execution.parallel.enabled=true\n")?;
+    text.push_str("property junit.jupiter.execution.parallel.mode.default=concurrent\n")?;
+    text.push_str("engine e\n  class a.B\n")?;
+    for number in 0..tests {
+        write!(text, "    test t{number}() pass\n")?;
+    }
+    Ok(text)
+}
+
 /// Whether a run of this suite, whose bodies do this, has so many events, and the last part of what is said of it is this.
 fn ends_well<R: Threads + Wait + Sync>(
     rt: &R,
@@ -61,6 +69,20 @@ fn ends_well<R: Threads + Wait + Sync>(
     Ok(rest == "asked 0 told 0" && told.split_whitespace().count() == events && !told.contains('!'))
 }
 
+/// Whether a run of so many tests that may run side by side ends so.
+pub(crate) fn tests_end_well<R: Threads + Wait + Sync>(
+    rt: &R,
+    alloc: Global,
+    tests: u32,
+    act: Act,
+    workers: u32,
+    ring: u32,
+    events: usize,
+) -> Result<bool, Fail> {
+    let suite = suite_of(alloc, tests)?;
+    ends_well(rt, alloc, suite.as_str(), act, workers, ring, events)
+}
+
 /// Whether one part of what is said stands before another.
 fn stands_before(said: &str, one: &str, other: &str) -> bool {
     match (said.find(one), said.find(other)) {
@@ -74,33 +96,43 @@ fn keeps_apart<R: Threads + Wait + Sync>(
     rt: &R,
     alloc: Global,
     workers: u32,
+    ring: u32,
 ) -> Result<bool, Fail> {
-    let said = run_of_suite(rt, alloc, ISOLATED, false, Act::Ends, workers, WIDE)?;
+    let said = run_of_suite(rt, alloc, ISOLATED, false, Act::Ends, workers, ring)?;
     let all = said.as_str();
     let first = stands_before(all, "-2 ", "+4 ") && stands_before(all, "-2 ", "+5 ");
     let last = stands_before(all, "-4 ", "+2 ") && stands_before(all, "-5 ", "+2 ");
     Ok(first || last)
 }
 
-/// Whether bodies meet that may, and those of one key and an isolated one do not.
-fn all_end_well<R: Threads + Wait + Sync>(rt: &R, alloc: Global) -> Result<bool, Fail> {
+/// Whether two, three and four bodies meet where as many workers, or one more, run them, with a ring of so many words.
+fn all_meet<R: Threads + Wait + Sync>(rt: &R, alloc: Global, ring: u32) -> Result<bool, Fail> {
     Ok(
-        ends_well(rt, alloc, TWO, Act::Meets(3, 4), 2, WIDE, 10)?
-            && ends_well(rt, alloc, THREE, Act::Meets(3, 5), 3, WIDE, 12)?
-            && ends_well(rt, alloc, WRITERS, Act::Waits, 2, WIDE, 10)?
-            && keeps_apart(rt, alloc, 4)?,
+        tests_end_well(rt, alloc, 2, Act::Meets(3, 4), 2, ring, 10)?
+            && tests_end_well(rt, alloc, 2, Act::Meets(3, 4), 3, ring, 10)?
+            && tests_end_well(rt, alloc, 3, Act::Meets(3, 5), 3, ring, 12)?
+            && tests_end_well(rt, alloc, 4, Act::Meets(3, 6), 4, ring, 14)?,
     )
 }
 
-/// Whether two bodies meet where three workers hand each event through a ring of one word.
-pub(crate) fn two_end_well<R: Threads + Wait + Sync>(rt: &R, alloc: Global) -> Result<bool, Fail> {
-    ends_well(rt, alloc, TWO, Act::Meets(3, 4), 3, 1, 10)
+/// Whether bodies of one key and an isolated one meet none, those of one worker see that their start is told, and a worker comes to
+/// the node that is offered to it alone.
+fn all_end_well<R: Threads + Wait + Sync>(rt: &R, alloc: Global, ring: u32) -> Result<bool, Fail> {
+    Ok(
+        ends_well(rt, alloc, WRITERS, Act::Waits, 2, ring, 10)?
+            && keeps_apart(rt, alloc, 4, ring)?
+            && tests_end_well(rt, alloc, 2, Act::Waits, 1, ring, 10)?
+            && ends_well(rt, alloc, BUSY, Act::Meets(4, 5), 2, ring, 20)?,
+    )
 }
 
 #[test]
 fn bodies_run_side_by_side_where_they_may(rt: HostRuntime) -> Result<(), Fail> {
     for _round in 0..100 {
-        assert!(rt; all_end_well(&rt, rt.alloc())?);
+        assert!(rt; all_meet(&rt, rt.alloc(), WIDE)?);
+        assert!(rt; all_end_well(&rt, rt.alloc(), WIDE)?);
+        assert!(rt; all_meet(&rt, rt.alloc(), 1)?);
+        assert!(rt; all_end_well(&rt, rt.alloc(), 1)?);
     }
     Ok(())
 }

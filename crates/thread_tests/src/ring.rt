@@ -1,13 +1,14 @@
-//! One worker and the dispatcher, both on the calling thread, at a ring of one word; and rings that are refused.
+//! One worker and the dispatcher, both on the calling thread, at a ring of one word; a body that waits for it; and rings that are
+//! refused.
 
 ghost use Rattle.std.specs.Prelude.{[]};
 ghost use Rattle.run_table.specs.Seats.{IsSeatOf};
 
 use crate::acting::Act;
-use crate::meeting::two_end_well;
-use crate::running::run_of_suite;
+use crate::running::{run_of_suite, run_with_a_look};
+use crate::stepping::{ONE, comes_to_the_engine, is_start};
 use descriptor::{Kind, Mode, Node, NodeId, TreeBuilder};
-use plan_events::{Event, EventKind, Job, Outcome, Pull, Status};
+use plan_events::{Job, Outcome, Pull, Status};
 use resource_locks::Plan;
 use run_table::{DispatcherSeat, RunTable, WorkerSeat};
 use std::alloc::Global;
@@ -50,32 +51,6 @@ fn engine_plan(alloc: Global) -> Result<Plan, Fail> {
     Ok(Plan::of(alloc, tree, modes)?)
 }
 
-/// Whether it is the start of this node.
-fn is_start(event: Option<Event>, node: u16) -> bool {
-    match event {
-        Some(event) => {
-            let kind = event.kind;
-            let started = event.node;
-            matches!(kind, EventKind::Started) && started == NodeId::new(node)
-        }
-        None => false,
-    }
-}
-
-/// Whether the worker comes to the engine's start, with the plan's start shown in the only word of the ring.
-fn comes_to_the_engine(table: &RunTable<AnyJob>, worker: &mut WorkerSeat<AnyJob>) -> bool
-    requires { IsSeatOf table.now.table worker.old.seat }
-    ensures { IsSeatOf table.now.table worker.new.seat }
-{
-    worker.claim(table, NodeId::ROOT).is_ok()
-        && worker.draw(table).is_ok()
-        && worker.show(table).is_ok()
-        && worker.admit(table).is_ok()
-        && worker.done(table).is_ok()
-        && worker.own(table, NodeId::new(1)).is_ok()
-        && worker.draw(table).is_ok()
-}
-
 /// Whether the engine's start has room once the plan's start is read and that is told, and not before.
 fn room_is_made(
     table: &RunTable<AnyJob>,
@@ -85,7 +60,10 @@ fn room_is_made(
     requires worker { IsSeatOf table.now.table worker.old.seat }
     requires desk { IsSeatOf table.now.table desk.old.seat }
 {
-    let came = comes_to_the_engine(table, worker);
+    let came = worker.claim(table, NodeId::ROOT).is_ok()
+        && worker.draw(table).is_ok()
+        && worker.show(table).is_ok()
+        && comes_to_the_engine(table, worker);
     let full = worker.room(table) == Ok(false);
     let early = worker.show(table).is_err();
     let first = is_start(desk.read(table), 0);
@@ -134,12 +112,18 @@ fn others_are_refused<R: Threads + Wait + Sync>(rt: &R, alloc: Global) -> Result
     )
 }
 
+/// Whether the body of the test has not begun while the listener is still told the start of its class.
+fn body_waits<R: Threads + Wait + Sync>(rt: &R, alloc: Global, workers: u32) -> Result<bool, Fail> {
+    let said = run_with_a_look(rt, alloc, ONE, workers, 3)?;
+    Ok(said.as_str() == "+0 +1 +2 +3 -3 -2 -1 -0 unused asked 0 told 0")
+}
+
 #[test]
 fn room_is_made_by_reading(rt: HostRuntime) -> Result<(), Fail> {
     assert!(rt; room_is_made_in_one_word(rt.alloc())?);
     assert!(rt; others_are_refused(&rt, rt.alloc())?);
-    for _round in 0..10 {
-        assert!(rt; two_end_well(&rt, rt.alloc())?);
+    for workers in 1..=3 {
+        assert!(rt; body_waits(&rt, rt.alloc(), workers)?);
     }
     Ok(())
 }

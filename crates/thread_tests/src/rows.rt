@@ -1,21 +1,27 @@
 //! Runs whose events stand in one order, whoever takes the nodes.
 
 use crate::acting::Act;
+use crate::meeting::tests_end_well;
 use crate::running::{WIDE, run_of_suite};
 use std::alloc::Global;
 use std::sync::Wait;
 use std::test::Fail;
 use std::thread::Threads;
 
-/// What is to happen, and below it the suite: nothing; a test; a class whose body fails, and the same before an after-body; a
-/// disabled class; a test that fails; a factory, one that asks for too many dynamic tests, and one that does so without end;
-/// nodes below one that writes; a run that fails fast; an after-body that fails.
+/// What is to happen, and below it the suite: nothing; a test; a test that is aborted; a class whose body fails, and the same
+/// before an after-body; a disabled class; a test that fails; a factory, one that asks for too many dynamic tests, and one that
+/// does so without end; nodes below one that writes; a run that fails fast; an after-body that fails.
 const ROWS: &str = "+0 -0 unused asked 0 told 0
 ==
 +0 +1 +2 +3 -3 -2 -1 -0 unused asked 0 told 0
 engine e
   class a.B
     test t() pass
+==
++0 +1 +2 +3 -3? -2 -1 -0 unused asked 0 told 12
+engine e
+  class a.B
+    test t() abort closed today
 ==
 +0 +1 +2 -2! -1 -0 unused 3 4 asked 0 told 4
 engine e
@@ -127,18 +133,30 @@ fn all_go_alike<R: Threads + Wait + Sync>(rt: &R, alloc: Global, ring: u32) -> R
     )
 }
 
+/// Whether a plan of 4,095 nodes below its own runs to its end, with a ring of so many words.
+fn large_ends_well<R: Threads + Wait + Sync>(
+    rt: &R,
+    alloc: Global,
+    ring: u32,
+) -> Result<bool, Fail> {
+    tests_end_well(rt, alloc, 4093, Act::Ends, 4, ring, 8192)
+}
+
 #[test]
 fn runs_go_alike_whatever_the_number_of_workers(rt: HostRuntime) -> Result<(), Fail> {
     for _round in 0..100 {
         assert!(rt; all_go_alike(&rt, rt.alloc(), WIDE)?);
     }
+    assert!(rt; large_ends_well(&rt, rt.alloc(), WIDE)?);
+    assert!(rt; large_ends_well(&rt, rt.alloc(), 16_384)?);
     Ok(())
 }
 
 #[test]
 fn runs_go_alike_in_a_ring_of_one_word(rt: HostRuntime) -> Result<(), Fail> {
-    for _round in 0..10 {
+    for _round in 0..100 {
         assert!(rt; all_go_alike(&rt, rt.alloc(), 1)?);
     }
+    assert!(rt; large_ends_well(&rt, rt.alloc(), 1)?);
     Ok(())
 }

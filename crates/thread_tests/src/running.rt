@@ -5,7 +5,7 @@ ghost use Rattle.thread_tests.specs.Acting.{replies_left};
 ghost use Rattle.worker_pool.specs.Premises.{JobsMayAnswer};
 ghost use Rattle.worker_pool.specs.Reports.{run_of};
 
-use crate::acting::{Act, Actor};
+use crate::acting::{Act, Actor, sees_begin};
 use crate::board::Board;
 use crate::casting::cast;
 use config_params::Settings;
@@ -24,17 +24,34 @@ use worker_pool::{Report, RunFault, run_plan};
 /// More nodes than a plan of these tests has.
 const FLAGS: usize = 16;
 
-/// A ring in which all events of a plan of these tests have room at once.
+/// A ring in which all events of a plan of these tests have room at once, but for the large ones.
 pub(crate) const WIDE: u32 = 1024;
 
-/// Keeps events, counts the bytes of their texts, and sets the flag of each node that starts.
+/// More events than a run has.
+const MOST_EVENTS: usize = 16_384;
+
+/// Keeps events, counts the bytes of their texts, and sets the flag of each node that starts. While it is told the start of the
+/// node before the one that it looks for, it looks whether that one's body begins.
 #[derive(Drop)]
 pub(crate) struct Watcher {
     pub(crate) events: Vec<Event>,
     pub(crate) room: usize,
     pub(crate) flags: Arc<Board>,
     pub(crate) board: Arc<Board>,
+    pub(crate) looks_for: Option<usize>,
     pub(crate) ghost has_room: { length events.items + room ≤ vec_capacity events },
+}
+
+impl Watcher {
+    /// Looks whether the body of the node behind this one begins, if it looks for that one.
+    fn look_behind(&self, node: usize) {
+        match self.looks_for {
+            Some(next) if next > node && next - node == 1 && sees_begin(&self.board, next) => {
+                self.board.hurry()
+            }
+            _ => {}
+        }
+    }
 }
 
 impl Listener for Watcher {
@@ -56,6 +73,7 @@ impl Listener for Watcher {
         }
         if event.kind == EventKind::Started {
             self.flags.set(event.node.index());
+            self.look_behind(event.node.index());
         }
     }
 
@@ -128,7 +146,8 @@ fn push_jobs(alloc: Global, text: &mut String, jobs: &Jobs<Actor>) -> Result<(),
     Ok(())
 }
 
-/// What was reported, how often jobs were asked for a dynamic test, and how many bytes of texts the listener was told.
+/// What was reported, how often jobs were asked for a dynamic test, and how many bytes of texts the first listener was told; and
+/// whether a body began too early.
 fn said(
     alloc: Global,
     ran: &Result<Report<Actor>, RunFault<Actor>>,
@@ -144,7 +163,24 @@ fn said(
         }
         Err(fault) => write!(text, "refused {}", fault.cause.number())?,
     }
+    if board.is_early() {
+        text.push_str(" early")?;
+    }
     Ok(text)
+}
+
+/// Whether the two listeners come back in their order, and were told these events, and texts of as many bytes.
+fn are_told_alike(audience: Audience, events: &[Event], board: &Board, other: &Board) -> bool {
+    let listeners = audience.into_listeners();
+    match listeners.as_slice() {
+        [first, second] => {
+            first.room() < second.room()
+                && first.got() == events
+                && second.got() == events
+                && board.heard() == other.heard()
+        }
+        _ => false,
+    }
 }
 
 /// Runs a plan before this audience.
@@ -157,6 +193,7 @@ fn run_before<R: Threads + Wait + Sync>(
     ring: u32,
     mut audience: Audience,
     board: &Board,
+    other: &Board,
 ) -> Result<String, AllocError>
     requires { JobsMayAnswer replies_left (run_of plan workers ring jobs.items) }
 {
@@ -164,10 +201,18 @@ fn run_before<R: Threads + Wait + Sync>(
         return Ok(String::new(alloc));
     }
     let ran = run_plan(rt, alloc, plan, jobs, workers, ring, &mut audience);
-    said(alloc, &ran, board)
+    let mut text = said(alloc, &ran, board)?;
+    let events = match &ran {
+        Ok(report) => report.events.as_slice(),
+        Err(_) => &[],
+    };
+    if !are_told_alike(audience, events, board, other) {
+        text.push_str(" otherwise")?;
+    }
+    Ok(text)
 }
 
-/// Runs a plan before this watcher.
+/// Runs a plan before this watcher, and before another, with more room.
 fn run_watched<R: Threads + Wait + Sync>(
     rt: &R,
     alloc: Global,
@@ -180,10 +225,14 @@ fn run_watched<R: Threads + Wait + Sync>(
 ) -> Result<String, AllocError>
     requires { JobsMayAnswer replies_left (run_of plan workers ring jobs.items) }
 {
+    let other = Arc::new(alloc, Board::new(alloc, 0)?)?;
     let mut listeners: Vec<Box<dyn Listener>> = Vec::new(alloc);
     listeners.push(Box::new(alloc, watcher)?)?;
+    listeners.push(Box::new(alloc, roomy_watcher(alloc, &other)?)?)?;
     match Audience::new(listeners) {
-        Ok(audience) => run_before(rt, alloc, plan, jobs, workers, ring, audience, board),
+        Ok(audience) => run_before(
+            rt, alloc, plan, jobs, workers, ring, audience, board, &other,
+        ),
         Err(_) => Ok(String::new(alloc)),
     }
 }
@@ -203,6 +252,18 @@ pub(crate) fn one_watcher(
         room: 0,
         flags,
         board: Arc::try_clone(board)?,
+        looks_for: None,
+    })
+}
+
+/// A watcher that has more room than it is asked for.
+fn roomy_watcher(alloc: Global, board: &Arc<Board>) -> Result<Watcher, AllocError> {
+    Ok(Watcher {
+        events: Vec::with_capacity(alloc, MOST_EVENTS)?,
+        room: MOST_EVENTS,
+        flags: Arc::try_clone(board)?,
+        board: Arc::try_clone(board)?,
+        looks_for: None,
     })
 }
 
@@ -222,4 +283,22 @@ pub(crate) fn run_of_suite<R: Threads + Wait + Sync>(
     let watcher = one_watcher(alloc, act, &board)?;
     let jobs = cast(alloc, &plan, scripts.as_slice(), act, &board)?;
     Ok(run_watched(rt, alloc, plan, jobs, workers, ring, watcher, &board)?)
+}
+
+/// What happens in such a run of this suite with a ring of one word, in which the body of this node sets its flag, and the
+/// listener looks for that while it is told the start before.
+pub(crate) fn run_with_a_look<R: Threads + Wait + Sync>(
+    rt: &R,
+    alloc: Global,
+    text: &str,
+    workers: u32,
+    node: usize,
+) -> Result<String, Fail> {
+    let act = Act::Meets(node, node);
+    let (plan, scripts) = staged(alloc, text, false)?;
+    let board = Arc::new(alloc, Board::new(alloc, FLAGS)?)?;
+    let mut watcher = one_watcher(alloc, act, &board)?;
+    watcher.looks_for = Some(node);
+    let jobs = cast(alloc, &plan, scripts.as_slice(), act, &board)?;
+    Ok(run_watched(rt, alloc, plan, jobs, workers, 1, watcher, &board)?)
 }

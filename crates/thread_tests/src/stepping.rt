@@ -14,10 +14,10 @@ ghost use Rattle.worker_pool.specs.Telling.{KeepsTexts, left_to_read};
 use crate::acting::{Act, Actor};
 use crate::board::Board;
 use crate::casting::cast;
-use crate::running::{one_watcher, push_events, staged};
+use crate::running::{WIDE, one_watcher, push_events, staged};
 use descriptor::NodeId;
 use listeners::{Audience, Listener};
-use plan_events::{Event, EventKind, Texts};
+use plan_events::{Event, EventKind, Job, Texts};
 use resource_locks::Plan;
 use run_table::{DispatcherSeat, Jobs, RunTable, WorkerSeat};
 use std::alloc::{AllocError, Global};
@@ -26,7 +26,7 @@ use std::test::Fail;
 use worker_pool::{Beds, Sources, dispatch_one, work};
 
 /// One test.
-const ONE: &str = "engine e
+pub(crate) const ONE: &str = "engine e
   class a.B
     test t() pass
 ";
@@ -37,25 +37,47 @@ const EVENTS: &str = "+0 +1 +2 +3 -3 -2 -1 -0 ";
 /// What the worker does before the dispatcher is called.
 #[derive(Clone, Copy)]
 enum Course {
-    /// Its first steps, and the dispatcher is called between them.
+    /// Its steps up to the second event, with a ring of one word, and the dispatcher is called between them.
     Begins,
     /// All its work; and then the dispatcher is called so often.
     Works(usize),
 }
 
-/// Whether this is the plan's start, by the only worker.
-fn is_start(event: Option<Event>) -> bool {
+impl Course {
+    /// How many words the ring has.
+    fn ring(self) -> u32 {
+        match self {
+            Course::Begins => 1,
+            Course::Works(_) => WIDE,
+        }
+    }
+}
+
+/// Whether this is the start of this node, by the only worker.
+pub(crate) fn is_start(event: Option<Event>, node: u16) -> bool {
     let start = Event {
         kind: EventKind::Started,
-        node: NodeId::ROOT,
+        node: NodeId::new(node),
         status: None,
         worker: 1,
     };
     event == Some(start)
 }
 
-/// Whether the plan's start is told once it is shown, and not before, and nothing behind it.
-fn start_is_told_when_shown(
+/// Whether the worker, which has shown the plan's start, comes to the engine's.
+pub(crate) fn comes_to_the_engine<B: Job>(table: &RunTable<B>, worker: &mut WorkerSeat<B>) -> bool
+    requires { IsSeatOf table.now.table worker.old.seat }
+    ensures { IsSeatOf table.now.table worker.new.seat }
+{
+    worker.admit(table).is_ok()
+        && worker.done(table).is_ok()
+        && worker.own(table, NodeId::new(1)).is_ok()
+        && worker.draw(table).is_ok()
+}
+
+/// Whether the plan's start is told once it is shown, and not before, and nothing behind it; and whether the engine's start has room
+/// in a ring of one word once that is told, and not before.
+fn starts_are_told_when_shown(
     table: &RunTable<Actor>,
     worker: &mut WorkerSeat<Actor>,
     desk: &mut DispatcherSeat<Actor>,
@@ -70,10 +92,20 @@ fn start_is_told_when_shown(
 {
     let is_drawn = worker.claim(table, NodeId::ROOT).is_ok() && worker.draw(table).is_ok();
     let early = dispatch_one(table, desk, audience, texts);
-    let is_shown = worker.show(table).is_ok();
+    let is_shown = worker.show(table).is_ok() && comes_to_the_engine(table, worker);
+    let is_full = worker.room(table) == Ok(false);
     let start = dispatch_one(table, desk, audience, texts);
     let late = dispatch_one(table, desk, audience, texts);
-    is_drawn && early.is_none() && is_shown && is_start(start) && late.is_none()
+    let is_free = worker.room(table) == Ok(true) && worker.show(table).is_ok();
+    let next = dispatch_one(table, desk, audience, texts);
+    is_drawn
+        && early.is_none()
+        && is_shown
+        && is_full
+        && is_start(start, 0)
+        && late.is_none()
+        && is_free
+        && is_start(next, 1)
 }
 
 /// Calls the dispatcher so often, and says whether the last call told an event.
@@ -130,7 +162,7 @@ fn is_told_at<R: Wait>(
     requires texts { KeepsTexts replies_left desk.old.seat.me.0 texts.old }
 {
     match course {
-        Course::Begins => Ok(start_is_told_when_shown(table, worker, desk, audience, texts)),
+        Course::Begins => Ok(starts_are_told_when_shown(table, worker, desk, audience, texts)),
         Course::Works(calls) => {
             let beds = Arc::new(alloc, Beds::new(alloc, 1)?)?;
             let mut sources = Sources::new(alloc, &beds, 0)?;
@@ -149,15 +181,16 @@ fn is_told_of<R: Wait>(
     jobs: Jobs<Actor>,
     mut audience: Audience,
     course: Course,
+    ring: u32,
 ) -> Result<bool, AllocError>
-    requires { JobsMayAnswer replies_left (run_of plan 1 1024 jobs.items) }
+    requires { JobsMayAnswer replies_left (run_of plan 1 ring jobs.items) }
 {
     if !audience.fresh() {
         return Ok(false);
     }
     audience.prepare(&plan)?;
     let mut texts = Texts::new(alloc, plan.tree())?;
-    let Ok((table, mut desk)) = RunTable::prepare(alloc, plan, jobs, 1, 1024) else {
+    let Ok((table, mut desk)) = RunTable::prepare(alloc, plan, jobs, 1, ring) else {
         return Ok(false);
     };
     let Some(mut worker) = desk.split(&table) else {
@@ -184,7 +217,10 @@ fn is_told<R: Wait>(rt: &R, alloc: Global, course: Course) -> Result<bool, Fail>
     let mut listeners: Vec<Box<dyn Listener>> = Vec::new(alloc);
     listeners.push(Box::new(alloc, watcher)?)?;
     match Audience::new(listeners) {
-        Ok(audience) => Ok(is_told_of(rt, alloc, plan, jobs, audience, course)?),
+        Ok(audience) => {
+            let ring = course.ring();
+            Ok(is_told_of(rt, alloc, plan, jobs, audience, course, ring)?)
+        }
         Err(_) => Ok(false),
     }
 }

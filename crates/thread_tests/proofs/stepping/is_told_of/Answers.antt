@@ -13,7 +13,7 @@ use Rattle.thread_tests.proofs.stepping.is_told_of.Goals as goal
 pub is_told_at-requires-clause-jobs : goal.is_told_at-requires-clause-jobs
 is_told_at-requires-clause-jobs g c =
     carried c.in-Ok.ensures.about (λ about. MayAnswer replies_left about)
-    (may_answer replies_left (run_of c.args.plan 1 1024 c.args.jobs.items) c.tree.ensures.tree c.in-Ok.ensures.accepted.2 c.requires)
+    (may_answer replies_left (run_of c.args.plan 1 c.args.ring c.args.jobs.items) c.tree.ensures.tree c.in-Ok.ensures.accepted.2 c.requires)
 
 pub is_told_at-requires-clause-told : goal.is_told_at-requires-clause-told
 is_told_at-requires-clause-told g c =
