@@ -1,0 +1,82 @@
+//! What is handed in: suites, and what is made of them.
+
+use config_params::Settings;
+use descriptor::BodyId;
+use exec_mode::modes;
+use plan_events::Reply;
+use resource_locks::Plan;
+use sched_core::Answers;
+use std::alloc::{AllocError, Global};
+use suite_text::{Script, Suite};
+
+/// A suite with all that a line may declare.
+pub(crate) const SHOP: &str = "# Two workers; the database is locked, and mail is sent alone.
+property junit.jupiter.execution.parallel.enabled=true
+property junit.jupiter.execution.parallel.mode.default=concurrent
+property junit.jupiter.execution.parallel.config.strategy=fixed
+property junit.jupiter.execution.parallel.config.fixed.parallelism=2
+engine shop
+  class shop.Orders lock=db:rw
+    test places() spin=10 pass
+    test cancels() fail no such order
+    after pass
+  class shop.Reports lock=db:r lock=a/b:r
+    test daily() #slow pass
+    factory each() #slow #db @same_thread pulls=2 pass
+      dyn north pass
+      dyn south abort closed today
+      dyn west pass
+  class shop.Mail
+    test sends() isolated pass
+    test retries() disabled until the queue is up
+    class Inner
+      test t[1]() lock=net:rw pass
+";
+
+/// A suite of two tests that two workers may run side by side.
+pub(crate) const PAIR: &str = "property junit.jupiter.execution.parallel.enabled=true
+property junit.jupiter.execution.parallel.mode.default=concurrent
+property junit.jupiter.execution.parallel.config.strategy=fixed
+property junit.jupiter.execution.parallel.config.fixed.parallelism=2
+engine e
+  class a.B
+    test t() pass
+    test u() pass
+";
+
+/// Steps of its run, one of which is not possible.
+pub(crate) const STEPS: &str =
+    "w1:claim:0 w1:draw w1:show w1:admit w1:done w1:own:1 w1:draw w1:show w1:admit w1:done w1:claim:2 \
+     w1:weigh w1:take w1:draw w1:show w1:admit w1:admit w1:done w1:claim:3 w1:draw w2:claim:4 w2:draw w2:show d:read d:read d:read d:read";
+
+/// The suite of a text.
+pub(crate) fn suite_of(alloc: Global, text: &str) -> Result<Suite, AllocError> {
+    Suite::parse(alloc, text).map_err(|_| AllocError)
+}
+
+/// The settings that a suite has.
+pub(crate) fn settings_of(suite: &Suite) -> Result<Settings, AllocError> {
+    Settings::read(&suite.properties, 4).map_err(|_| AllocError)
+}
+
+/// The plan of a suite.
+pub(crate) fn plan_of(alloc: Global, text: &str) -> Result<Plan, AllocError> {
+    let suite = suite_of(alloc, text)?;
+    let settings = settings_of(&suite)?;
+    let modes = modes(alloc, &suite.tree, &settings)?;
+    Plan::of(alloc, suite.tree, modes).map_err(|_| AllocError)
+}
+
+/// The scripts of a suite.
+pub(crate) fn scripts_of(alloc: Global, text: &str) -> Result<Vec<Script>, AllocError> {
+    Ok(suite_of(alloc, text)?.scripts)
+}
+
+/// What the bodies of a suite answer.
+pub(crate) fn answers_of(alloc: Global, text: &str) -> Result<Answers, AllocError> {
+    let mut replies: Vec<(BodyId, Reply)> = Vec::new(alloc);
+    for script in scripts_of(alloc, text)? {
+        replies.push((script.body, script.reply))?;
+    }
+    Ok(Answers::of(replies))
+}

@@ -1,0 +1,54 @@
+//! Which call a line names.
+
+use crate::inputs::{PAIR, SHOP};
+use crate::lists::{of_two, prepares};
+use crate::plans::{copy, drives, hoists, mode, takes_steps};
+use crate::printing::{Print, prints};
+use crate::reading::{find, options, parse};
+use crate::runs::run_twice;
+use crate::tables::table;
+use listeners::{Recorder, Summary};
+use std::alloc::Global;
+use std::io::{Result as IoResult, Write};
+use std::sync::Wait;
+use std::thread::Threads;
+
+/// A call that leaves what it is given as it was.
+fn once<W: Write>(alloc: Global, out: &mut W, name: &str) -> IoResult<()> {
+    match name {
+        "Suite::parse" => parse(alloc, out),
+        "read_options" => options(alloc, out),
+        "discover" => find(alloc, out),
+        "modes" => mode(alloc, out),
+        "hoist" => hoists(alloc, out),
+        "Plan::copy" => copy(alloc, out),
+        "drive" => drives(alloc, out),
+        "run_steps" => takes_steps(alloc, out),
+        "feed_text" => prints(alloc, out, Print::Feed),
+        "tree_text" => prints(alloc, out, Print::Tree),
+        "summary_text" => prints(alloc, out, Print::Summary),
+        "Audience::new" => of_two(alloc, out, false),
+        _ => out.write_all(b"no such call\n"),
+    }
+}
+
+/// Makes the call that a line names, twice, and says what was answered.
+pub(crate) fn answer<T: Threads + Wait + Sync, W: Write>(
+    rt: &T,
+    alloc: Global,
+    out: &mut W,
+    name: &str,
+) -> IoResult<()> {
+    match name {
+        "Recorder::prepare" => prepares(alloc, out, Recorder::new(alloc)),
+        "Summary::prepare" => prepares(alloc, out, Summary::new(alloc)),
+        "Audience::prepare" => of_two(alloc, out, true),
+        "RunTable::prepare" => table(alloc, out),
+        "run_plan" => run_twice(rt, alloc, out, PAIR, 2),
+        "run_plan by eight" => run_twice(rt, alloc, out, SHOP, 8),
+        _ => {
+            once(alloc, out, name)?;
+            once(alloc, out, name)
+        }
+    }
+}
