@@ -1,0 +1,38 @@
+-- How a text grows piece by piece.
+use Rattle.std.proofs.Common.{◌≡◌, ℕ, zero, suc, ◌+◌, ◌<◌, List, [], ◌∷◌, ◌++◌, length, take, get_or, ap, sym, ◌∙◌, arith, append_assoc, append-nil}
+use Rattle.std.specs.List.{flat_map, range_with_len}
+use Rattle.std.proofs.lemmas.Grind.{flat_map-append}
+use Rattle.std.proofs.lemmas.List.{take_more}
+
+-- two pieces, one behind the other
+pub then : {A : Type 0} (old a b : List A) {mid new : List A} → mid ≡ old ++ a → new ≡ mid ++ b → new ≡ old ++ (a ++ b)
+then {A} old a b first second = second ∙ ap (λ (l : List A). l ++ b) first ∙ append_assoc old a b
+
+-- a piece behind what is known whole
+pub behind : (whole a : List ℕ) {old new : List ℕ} → old ≡ whole → new ≡ old ++ a → new ≡ whole ++ a
+behind whole a is more = more ∙ ap (λ (l : List ℕ). l ++ a) is
+
+-- what one element more gives
+pub element_more : {X A : Type 0} (f : X → List A) (xs : List X) (i : ℕ) (d : X) (old : List A) {text new : List A} → i < length xs → text ≡ old ++ flat_map f (take i xs) → new ≡ text ++ f (get_or xs i d) → new ≡ old ++ flat_map f (take (i + 1) xs)
+element_more {X} {A} f xs i d old inside before grown =
+    then old (flat_map f (take i xs)) (f (get_or xs i d)) before grown
+    ∙ ap (λ (l : List A). old ++ l) (
+    ap (λ (l : List A). flat_map f (take i xs) ++ l) (sym (append-nil (f (get_or xs i d))))
+    ∙ sym (flat_map-append f (take i xs) (get_or xs i d ∷ []))
+    ∙ ap (λ (ys : List X). flat_map f ys) (sym (take_more xs i d inside)))
+
+longer : (n : ℕ) → suc n + 1 ≡ suc (n + 1)
+longer n = omega arith
+
+-- of numbers from a on, what one number more gives
+number_more : {A : Type 0} (f : ℕ → List A) (a n m : ℕ) → a + n ≡ m → flat_map f (range_with_len a (n + 1)) ≡ flat_map f (range_with_len a n) ++ f m
+number_more {A} f a zero m is = append-nil (f a) ∙ ap f (omega (arith, is))
+number_more {A} f a (suc n) m is =
+    ap (λ (k : ℕ). flat_map f (range_with_len a k)) (longer n)
+    ∙ ap (λ (l : List A). f a ++ l) (number_more f (a + 1) n m (omega (arith, is)))
+    ∙ sym (append_assoc (f a) (flat_map f (range_with_len (a + 1) n)) (f m))
+
+-- and of a text that grows by it
+pub numbers_more : {A : Type 0} (f : ℕ → List A) (n : ℕ) (old : List A) {text new : List A} → text ≡ old ++ flat_map f (range_with_len 0 n) → new ≡ text ++ f n → new ≡ old ++ flat_map f (range_with_len 0 (n + 1))
+numbers_more {A} f n old before grown =
+    then old (flat_map f (range_with_len 0 n)) (f n) before grown ∙ ap (λ (l : List A). old ++ l) (sym (number_more f 0 n n (omega arith)))

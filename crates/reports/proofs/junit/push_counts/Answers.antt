@@ -1,0 +1,15 @@
+-- One attribute behind the other.
+use Rattle.std.proofs.Common.{◌∙◌, ◌++◌, ℕ, codes, string_bytes, ap}
+use Rattle.reports.specs.XmlStrings.{number_attribute}
+use Rattle.reports.proofs.Growing.{then}
+use Rattle.reports.proofs.junit.push_counts.Goals as goal
+
+pub returns : goal.returns
+returns c =
+    let named = string_bytes c.push_attribute.new.xml in
+    let counted = string_bytes c.push_number.new.xml in
+    let judged = string_bytes c.push_number-2.new.xml in
+    let zero = string_bytes c.push_number-3.new.xml in
+    let failed = c.in_ok-push_number-2.ensures ∙ ap (λ (n : ℕ). counted ++ number_attribute (codes "failures") n) c.failures.ensures in
+    let skipped = c.in_ok-push_number-4.ensures ∙ ap (λ (n : ℕ). zero ++ number_attribute (codes "skipped") n) c.skips.ensures in
+    then (string_bytes c.args.xml.now) _ _ c.in_ok-push_attribute.ensures (then named _ _ c.in_ok-push_number.ensures (then counted _ _ failed (then judged _ _ c.in_ok-push_number-3.ensures skipped)))

@@ -1,0 +1,19 @@
+-- The list of what would be run.
+use Rattle.std.specs.Prelude.{ℕ, ◌&&◌, ◌||◌, not, Bool, cond, List, [], ◌++◌, codes}
+use Rattle.std.specs.List.{flat_map, range_with_len}
+use Rattle.descriptor.specs.Kinds.{is_test}
+use Rattle.descriptor.specs.Nodes.{Nodes, size, kind_of, is_spare_at, is_factory_at}
+use Rattle.resource_locks.specs.Plans.{PlanParts}
+use Rattle.listeners.specs.Feed.{id_at}
+
+-- whether a list names node n: it is a test that is no spare, or a factory, which finds its tests while it runs
+abbrev pub is_listed : Nodes → ℕ → Bool
+is_listed t n = (is_test (kind_of t n) && not (is_spare_at t n)) || is_factory_at t n
+
+-- the line of node n: its canonical id
+abbrev pub list_line : PlanParts → ℕ → List ℕ
+list_line plan n = cond (is_listed plan.tree n) (id_at plan n ++ codes "\n") []
+
+-- the whole text: the lines of all nodes, in the plan's order
+abbrev pub list_of : PlanParts → List ℕ
+list_of plan = flat_map (list_line plan) (range_with_len 0 (size plan.tree))

@@ -1,0 +1,106 @@
+//! The JSON of a run: an object for each event.
+
+ghost use Rattle.std.specs.Prelude.{◌≡◌, ◌++◌, OnOk, IfOk, codes, string_bytes};
+ghost use Rattle.listeners.specs.Feed.{kind_word};
+ghost use Rattle.reports.specs.Json.{type_word, status_members, ending_members, node_members, event_object, json_of};
+ghost use Rattle.reports.specs.JsonStrings.{behind_commas};
+
+use crate::json_strings::{push_further, push_member, push_number};
+use crate::nodes::{id_of, kind_of, name_of, text_of};
+use descriptor::{Kind, NodeId};
+use plan_events::{Event, EventKind, Status, Texts};
+use resource_locks::Plan;
+use std::alloc::{AllocError, Global};
+
+fn event_word(kind: EventKind) -> &'static str
+    ensures { result.now ≡ kind_word kind }
+{
+    match kind {
+        EventKind::Started => "started",
+        EventKind::Finished => "finished",
+        EventKind::Skipped => "skipped",
+        EventKind::Registered => "registered",
+    }
+}
+
+fn type_word(kind: Kind) -> &'static str
+    ensures { result.now ≡ type_word kind }
+{
+    match kind {
+        Kind::Container => "CONTAINER",
+        Kind::Test => "TEST",
+        Kind::ContainerAndTest => "CONTAINER_AND_TEST",
+    }
+}
+
+/// Appends how a node ended.
+fn push_status(json: &mut String, status: Status, text: &str) -> Result<(), AllocError>
+    ensures { OnOk result (string_bytes json.new ≡ string_bytes json.old ++ behind_commas (status_members status text.now)) }
+{
+    match status {
+        Status::Successful => push_further(json, "status", "SUCCESSFUL"),
+        Status::Aborted => {
+            push_further(json, "status", "ABORTED")?;
+            push_further(json, "text", text)
+        }
+        Status::Failed => {
+            push_further(json, "status", "FAILED")?;
+            push_further(json, "text", text)
+        }
+    }
+}
+
+/// Appends what stands behind the name.
+fn push_ending(json: &mut String, event: Event, text: &str) -> Result<(), AllocError>
+    ensures { OnOk result (string_bytes json.new ≡ string_bytes json.old ++ behind_commas (ending_members event.kind event.status text.now)) }
+{
+    match (event.kind, event.status) {
+        (EventKind::Skipped, _) => push_further(json, "text", text),
+        (EventKind::Finished, Some(status)) => push_status(json, status, text),
+        _ => Ok(()),
+    }
+}
+
+/// Appends of which node an event tells, and what stands behind its name.
+fn push_node(json: &mut String, plan: &Plan, texts: &Texts, event: Event) -> Result<(), AllocError>
+    ensures { OnOk result (string_bytes json.new ≡ string_bytes json.old ++ behind_commas (node_members plan.now texts.now event)) }
+{
+    let node = event.node;
+    if node == NodeId::ROOT {
+        return push_further(json, "type", "PLAN");
+    }
+    push_further(json, "type", type_word(kind_of(plan.tree(), node)))?;
+    push_further(json, "id", id_of(plan, node))?;
+    push_further(json, "name", name_of(plan.tree(), node))?;
+    push_ending(json, event, text_of(texts, node))
+}
+
+/// Appends the line of an event.
+fn push_event(json: &mut String, plan: &Plan, texts: &Texts, event: Event) -> Result<(), AllocError>
+    ensures { OnOk result (string_bytes json.new ≡ string_bytes json.old ++ (event_object plan.now texts.now event ++ codes "\n")) }
+{
+    json.push_str("{")?;
+    push_member(json, "event", event_word(event.kind))?;
+    push_number(json, "worker", event.worker)?;
+    push_node(json, plan, texts, event)?;
+    json.push_str("}")?;
+    json.push_str("\n")?;
+    Ok(())
+}
+
+/// The JSON of these events: an object for each, in their order, each on a line of its own. Of a
+/// node that the plan lacks, id and name are empty.
+pub fn json_text(
+    alloc: Global,
+    plan: &Plan,
+    events: &[Event],
+    texts: &Texts,
+) -> Result<String, AllocError>
+    ensures { IfOk result (λ json. string_bytes json ≡ json_of plan.now texts.now events.now) }
+{
+    let mut json = String::new(alloc);
+    for event in events {
+        push_event(&mut json, plan, texts, *event)?;
+    }
+    Ok(json)
+}

@@ -1,0 +1,93 @@
+//! Strings and members of JSON.
+
+ghost use Rattle.std.specs.Prelude.{◌≡◌, ◌<◌, ◌++◌, OnOk, codes, string_bytes, encode_utf8};
+ghost use Rattle.std.specs.Char.{digit_char};
+ghost use Rattle.std.specs.List.{flat_map};
+ghost use Rattle.std.specs.Str.{chars};
+ghost use Rattle.reports.specs.JsonStrings.{code_escape, json_char, quoted, text_member, number_member};
+
+use std::alloc::AllocError;
+
+/// The base of hexadecimal digits.
+const BASE: u32 = 16;
+
+/// The hexadecimal digit of this value.
+fn hex_digit(value: u32) -> char
+    requires { value < 16 }
+    ensures { result ≡ digit_char value }
+{
+    char::from_digit(value, BASE).unwrap_or('0')
+}
+
+/// Appends a control character by its number.
+fn push_code(json: &mut String, c: char) -> Result<(), AllocError>
+    requires { c < 32 }
+    ensures { OnOk result (string_bytes json.new ≡ string_bytes json.old ++ code_escape c) }
+{
+    let code = c as u32;
+    json.push_str("\\u00")?;
+    json.push(hex_digit(code / BASE))?;
+    json.push(hex_digit(code % BASE))
+}
+
+/// Appends a character as it stands in a string.
+fn push_char(json: &mut String, c: char) -> Result<(), AllocError>
+    ensures { OnOk result (string_bytes json.new ≡ string_bytes json.old ++ json_char c) }
+{
+    match c {
+        '"' => json.push_str("\\\""),
+        '\\' => json.push_str("\\\\"),
+        '\u{8}' => json.push_str("\\b"),
+        '\t' => json.push_str("\\t"),
+        '\n' => json.push_str("\\n"),
+        '\u{c}' => json.push_str("\\f"),
+        '\r' => json.push_str("\\r"),
+        _ if c < ' ' => push_code(json, c),
+        _ => json.push(c),
+    }
+}
+
+/// Appends the characters of a text as they stand in a string.
+fn push_escaped(json: &mut String, text: &str) -> Result<(), AllocError>
+    ensures { OnOk result (string_bytes json.new ≡ string_bytes json.old ++ flat_map json_char (chars text.now)) }
+{
+    for c in text.chars() {
+        push_char(json, c)?;
+    }
+    Ok(())
+}
+
+/// Appends a text as a string.
+fn push_quoted(json: &mut String, text: &str) -> Result<(), AllocError>
+    ensures { OnOk result (string_bytes json.new ≡ string_bytes json.old ++ quoted text.now) }
+{
+    json.push_str("\"")?;
+    push_escaped(json, text)?;
+    json.push_str("\"")
+}
+
+/// Appends a member whose value is a text.
+pub(crate) fn push_member(json: &mut String, name: &str, text: &str) -> Result<(), AllocError>
+    ensures { OnOk result (string_bytes json.new ≡ string_bytes json.old ++ text_member name.now text.now) }
+{
+    push_quoted(json, name)?;
+    json.push_str(":")?;
+    push_quoted(json, text)
+}
+
+/// Appends a member whose value is a text, behind another one.
+pub(crate) fn push_further(json: &mut String, name: &str, text: &str) -> Result<(), AllocError>
+    ensures { OnOk result (string_bytes json.new ≡ string_bytes json.old ++ (codes "," ++ text_member name.now text.now)) }
+{
+    json.push_str(",")?;
+    push_member(json, name, text)
+}
+
+/// Appends a member whose value is a number, behind another one.
+pub(crate) fn push_number(json: &mut String, name: &str, number: u8) -> Result<(), AllocError>
+    ensures { OnOk result (string_bytes json.new ≡ string_bytes json.old ++ (codes "," ++ number_member name.now number)) }
+{
+    json.push_str(",")?;
+    push_quoted(json, name)?;
+    write!(json, ":{number}")
+}

@@ -1,0 +1,15 @@
+//! What a run tells in forms that other programs read: JSON lines, JUnit's XML, and the list of what would be run.
+#![tactic(auto)]
+
+mod cases;
+mod class_names;
+mod json;
+mod json_strings;
+mod junit;
+mod list;
+mod nodes;
+mod xml_strings;
+
+pub use json::json_text;
+pub use junit::junit_text;
+pub use list::list_text;
