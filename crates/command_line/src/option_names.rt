@@ -183,7 +183,7 @@ pub(crate) fn command<'a>(alloc: Global) -> Result<Command<'a>, AllocError>
         single(
             alloc,
             DETAILS,
-            "What is printed: none, summary, tree or testfeed [default: tree]",
+            "What is printed: none, summary, tree, testfeed, json, xml or list [default: tree]",
         ),
     )?;
     let command = with(

@@ -96,6 +96,9 @@ module _ (theme : Theme) (p : PlanParts) (answers : List (ℕ × Reply)) (histor
   expected_text details.Summary text so = ap summary_of is.counts ∙ same_Some _ _ so
   expected_text details.Tree text so = ap₂ (λ a b. a ++ b) (is.tree theme) (ap summary_of is.counts) ∙ same_Some _ _ so
   expected_text details.Testfeed text so = absurd (none-some text so)
+  expected_text details.Json text so = absurd (none-some text so)
+  expected_text details.Xml text so = absurd (none-some text so)
+  expected_text details.List text so = absurd (none-some text so)
 
 -- it is, where the plan does not fail fast
 module _ (asked : Asked) (settings : Settings) (p : PlanParts) (answers : List (ℕ × Reply)) (history : List Event) (texts : TextParts) (told : IsTold settings.workers p answers history texts) (calm : p.fail_fast ≡ false) where

@@ -52,14 +52,17 @@ asked_by options = record {
   replay = option_map (λ steps. steps.items) options.replay;
 }
 
--- what `--details` asks for: there are four, and it is the tree where it is not given
+-- what `--details` asks for: there are seven, and it is the tree where it is not given
 abbrev pub details_named : Option Text → Option Details
 details_named None = Some details.Tree
 details_named (Some name) =
     if bytes_eq name (codes "none") then Some details.None
     else (if bytes_eq name (codes "summary") then Some details.Summary
     else (if bytes_eq name (codes "tree") then Some details.Tree
-    else (if bytes_eq name (codes "testfeed") then Some details.Testfeed else None)))
+    else (if bytes_eq name (codes "testfeed") then Some details.Testfeed
+    else (if bytes_eq name (codes "json") then Some details.Json
+    else (if bytes_eq name (codes "xml") then Some details.Xml
+    else (if bytes_eq name (codes "list") then Some details.List else None))))))
 
 -- what `--details-theme` asks for: there are two, and it is Unicode where it is not given
 abbrev pub theme_named : Option Text → Option Theme

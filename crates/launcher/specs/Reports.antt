@@ -26,6 +26,9 @@ use Rattle.listeners.specs.Feed.{feed_of}
 use Rattle.listeners.specs.Results.{tests_found, has_failed}
 use Rattle.listeners.specs.SummaryTexts.{summary_of}
 use Rattle.listeners.specs.TreeTexts.{tree_of}
+use Rattle.reports.specs.Json.{json_of}
+use Rattle.reports.specs.Junit.{junit_of}
+use Rattle.reports.specs.Lists.{list_of}
 use Rattle.launcher.specs.declared.details.Details.{Details}
 use Rattle.launcher.specs.declared.exit_status.ExitStatus.{ExitStatus}
 use Rattle.launcher.specs.declared.exit_status.ExitStatus.TheVariants.{Success}
@@ -52,12 +55,16 @@ pub record IsHistory (workers : ℕ) (p : PlanParts) (answers : List (ℕ × Rep
   -- and unless the plan fails fast each node ends as it is expected to, whatever the number of workers
   pub as_expected : p.fail_fast ≡ false → (n : ℕ) → n < size p.tree → IsAsExpected p (replies_of answers) history n (expected p (reply_of answers) n)
 
--- what is printed of these events with these texts: nothing; the summary; the tree, and then the summary; or the feed
+-- what is printed of these events with these texts: nothing; the summary; the tree, and then the summary; the feed; the same as
+-- JSON; the report in XML; or, whatever they are, the list of what would be run
 abbrev pub details_of : Details → Theme → PlanParts → TextParts → List Event → List ℕ
 details_of details.None theme p texts events = []
 details_of details.Summary theme p texts events = summary_of (node_counts p events)
 details_of details.Tree theme p texts events = tree_of theme p texts events ++ summary_of (node_counts p events)
 details_of details.Testfeed theme p texts events = feed_of p texts events
+details_of details.Json theme p texts events = json_of p texts events
+details_of details.Xml theme p texts events = junit_of p texts events
+details_of details.List theme p texts events = list_of p
 
 -- the text is what is printed of a history, with the texts of its nodes, by what the suite has its bodies answer
 pub record ArePrinted (details : Details) (theme : Theme) (p : PlanParts) (answers : List (ℕ × Reply)) (history : List Event) (text : List ℕ) : Type 0 where
@@ -65,13 +72,16 @@ pub record ArePrinted (details : Details) (theme : Theme) (p : PlanParts) (answe
   pub are : AreRunTexts p (replies_of answers) history texts
   pub printed : text ≡ details_of details theme p texts history
 
--- what is expected to be printed of a tree whose bodies answer so, where nothing fails fast; of a feed nothing is, since it tells in
--- which order things happened
+-- what is expected to be printed of a tree whose bodies answer so, where nothing fails fast; of a feed and of JSON nothing is, since
+-- they tell in which order things happened; of the report in XML, and of the list, for which nothing is run, nothing is said here
 abbrev pub expected_details : Details → Theme → Nodes → (ℕ → Reply) → Option (List ℕ)
 expected_details details.None theme t reply = Some []
 expected_details details.Summary theme t reply = Some (summary_of (expected_counts t reply))
 expected_details details.Tree theme t reply = Some (expected_tree theme t reply ++ summary_of (expected_counts t reply))
 expected_details details.Testfeed theme t reply = None
+expected_details details.Json theme t reply = None
+expected_details details.Xml theme t reply = None
+expected_details details.List theme t reply = None
 
 -- the status that is expected
 abbrev pub expected_status : Bool → Nodes → (ℕ → Reply) → ExitStatus
@@ -117,10 +127,25 @@ pub record IsReplayOutput (steps : List Step) (workers : ℕ) (p : PlanParts) (a
   pub printed : text ≡ feed_of p texts (replayed workers p answers steps).given ++ replay_line (replay_counts workers p answers steps)
   pub exits : status ≡ Success
 
+-- nothing is run: what would be is listed, and the status is success
+pub record IsListing (p : PlanParts) (text : List ℕ) (status : ExitStatus) : Type 0 where
+  pub listed : text ≡ list_of p
+  pub exits : status ≡ Success
+
+-- what is printed of a plan where there are no steps to be replayed, and the status: it is run, unless its list is asked for
+abbrev pub IsPlanOutput : Details → Asked → Settings → PlanParts → List (ℕ × Reply) → List ℕ → ExitStatus → Type 0
+IsPlanOutput details.None asked settings p answers text status = IsRunOutput asked settings p answers text status
+IsPlanOutput details.Summary asked settings p answers text status = IsRunOutput asked settings p answers text status
+IsPlanOutput details.Tree asked settings p answers text status = IsRunOutput asked settings p answers text status
+IsPlanOutput details.Testfeed asked settings p answers text status = IsRunOutput asked settings p answers text status
+IsPlanOutput details.Json asked settings p answers text status = IsRunOutput asked settings p answers text status
+IsPlanOutput details.Xml asked settings p answers text status = IsRunOutput asked settings p answers text status
+IsPlanOutput details.List asked settings p answers text status = IsListing p text status
+
 -- what is printed of a plan, and the status: where there are steps to be replayed the settings' workers take them, and
 -- nothing else counts
 abbrev pub IsOutputWith : Option (List Step) → Asked → Settings → PlanParts → List (ℕ × Reply) → List ℕ → ExitStatus → Type 0
-IsOutputWith None asked settings p answers text status = IsRunOutput asked settings p answers text status
+IsOutputWith None asked settings p answers text status = IsPlanOutput asked.details asked settings p answers text status
 IsOutputWith (Some steps) asked settings p answers text status = IsReplayOutput steps settings.workers p answers text status
 
 abbrev pub IsOutput : Asked → Settings → PlanParts → List (ℕ × Reply) → List ℕ → ExitStatus → Type 0

@@ -10,4 +10,10 @@ pub enum Details {
     Tree,
     /// A line for each event.
     Testfeed,
+    /// The same as JSON: an object for each event.
+    Json,
+    /// The report that build servers read: a case for each test, in XML.
+    Xml,
+    /// The tests and factories that would be run; nothing is run.
+    List,
 }

@@ -30,6 +30,9 @@ fn details_named(name: Option<&str>) -> Result<Details, LaunchFault>
         Some("none") => Ok(Details::None),
         Some("summary") => Ok(Details::Summary),
         Some("testfeed") => Ok(Details::Testfeed),
+        Some("json") => Ok(Details::Json),
+        Some("xml") => Ok(Details::Xml),
+        Some("list") => Ok(Details::List),
         Some(_) => Err(LaunchFault::BadWords),
     }
 }

@@ -5,7 +5,7 @@ ghost use Rattle.listeners.specs.Results.{tests_found, has_failed};
 ghost use Rattle.launcher.specs.Asked.{asked_by};
 ghost use Rattle.launcher.specs.ExitStatuses.{status_of_run};
 ghost use Rattle.launcher.specs.Faults.{unrun_fault};
-ghost use Rattle.launcher.specs.Reports.{details_of, ArePrinted, IsRunOutput, IsReplayOutput, IsOutput};
+ghost use Rattle.launcher.specs.Reports.{details_of, ArePrinted, IsRunOutput, IsReplayOutput, IsListing, IsPlanOutput, IsOutput};
 ghost use Rattle.launcher.specs.Runs.{IsUnrun};
 ghost use Rattle.launcher.specs.WarningTexts.{warning_lines};
 ghost use Rattle.resource_locks.specs.Declarations.{declared_of};
@@ -19,8 +19,9 @@ use crate::replay::{ReplayCounts, push_replay_line};
 use crate::scripted::scripted_jobs;
 use crate::warning_lines::push_warnings;
 use config_params::{Settings, Warnings};
-use listeners::{Audience, Results, Theme, feed_text};
+use listeners::{Audience, Results, feed_text};
 use plan_events::{Event, Texts};
+use reports::{json_text, junit_text, list_text};
 use resource_locks::Plan;
 use run_table::TableFault;
 use sched_core::{Answers, run_steps, texts_of};
@@ -37,26 +38,32 @@ pub(crate) struct Report {
     pub(crate) status: ExitStatus,
 }
 
-/// What is printed of these results.
+/// What is printed of these results, which are those of this history on the plan.
 fn details_text(
     alloc: Global,
-    details: Details,
-    theme: Theme,
+    options: &Options,
+    plan: &Plan,
+    history: &[Event],
     results: &Results<'_>,
     texts: &Texts,
 ) -> Result<String, AllocError>
-    ensures { IfOk result (λ text. string_bytes text ≡ details_of details theme results.now.plan texts.now results.now.events) }
+    requires plan { plan.now ≡ results.now.plan }
+    requires events { history.now ≡ results.now.events }
+    ensures { IfOk result (λ text. string_bytes text ≡ details_of options.now.details options.now.theme results.now.plan texts.now results.now.events) }
 {
-    match details {
+    match options.details {
         Details::None => Ok(String::new(alloc)),
         Details::Summary => results.summary_text(alloc),
         Details::Tree => {
-            let mut text = results.tree_text(alloc, texts, theme)?;
+            let mut text = results.tree_text(alloc, texts, options.theme)?;
             let summary = results.summary_text(alloc)?;
             text.push_str(summary.as_str())?;
             Ok(text)
         }
         Details::Testfeed => results.feed_text(alloc, texts),
+        Details::Json => json_text(alloc, plan, history, texts),
+        Details::Xml => junit_text(alloc, plan, history, texts),
+        Details::List => list_text(alloc, plan),
     }
 }
 
@@ -65,14 +72,18 @@ fn run_text(
     alloc: Global,
     options: &Options,
     warnings: Warnings,
+    plan: &Plan,
+    history: &[Event],
     results: &Results<'_>,
     texts: &Texts,
 ) -> Result<String, AllocError>
+    requires plan { plan.now ≡ results.now.plan }
+    requires events { history.now ≡ results.now.events }
     ensures { IfOk result (λ text. string_bytes text ≡ warning_lines warnings ++ details_of options.now.details options.now.theme results.now.plan texts.now results.now.events) }
 {
     let mut text = String::new(alloc);
     push_warnings(&mut text, warnings)?;
-    let details = details_text(alloc, options.details, options.theme, results, texts)?;
+    let details = details_text(alloc, options, plan, history, results, texts)?;
     text.push_str(details.as_str())?;
     Ok(text)
 }
@@ -90,7 +101,7 @@ fn history_report(
     ensures status { IfOk result (λ report. report.status ≡ status_of_run options.now.fail_if_no_tests (tests_found plan.now history.now) (has_failed plan.now history.now)) }
 {
     let results = Results::of(alloc, plan, history)?;
-    let text = run_text(alloc, options, warnings, &results, texts)?;
+    let text = run_text(alloc, options, warnings, plan, history, &results, texts)?;
     let needs_tests = options.fail_if_no_tests;
     // a pass over the nodes, which is spared where the number says nothing
     let tests = if needs_tests {
@@ -188,6 +199,43 @@ fn replay_report(
     })
 }
 
+/// The list of what would be run.
+fn listing(alloc: Global, plan: &Plan) -> Result<Report, AllocError>
+    ensures { IfOk result (λ report. IsListing plan.now (string_bytes report.text) report.status) }
+{
+    Ok(Report {
+        text: list_text(alloc, plan)?,
+        status: ExitStatus::of_replay(),
+    })
+}
+
+/// What the options print of a plan where there are no steps to be replayed: it is run, unless its list is asked for.
+fn plan_report<T: Threads + Wait + Sync>(
+    rt: &T,
+    alloc: Global,
+    options: &Options,
+    settings: &Settings,
+    plan: Plan,
+    answers: &Answers,
+    spins: &[u32],
+) -> Result<Report, LaunchFault>
+    requires some { 1 ≤ settings.now.workers }
+    requires few { settings.now.workers ≤ 64 }
+    requires guarded { IsGuarded (declared_of plan.tree) plan }
+    ensures output { IfOk result (λ report. IsPlanOutput options.now.details (asked_by options.now) settings.now plan answers.now (string_bytes report.text) report.status) }
+    ensures refused { IfErr result (λ fault. (fault ≡ LaunchFault.NoMemory) ⊎ (fault ≡ LaunchFault.NoWorker)) }
+{
+    match options.details {
+        Details::List => Ok(listing(alloc, &plan)?),
+        Details::None
+        | Details::Summary
+        | Details::Tree
+        | Details::Testfeed
+        | Details::Json
+        | Details::Xml => run_report(rt, alloc, options, settings, plan, answers, spins),
+    }
+}
+
 /// What these options print of a plan with these answers under these settings, and the status. Want of memory is refused, and
 /// where there are no steps to be replayed that no thread could be started.
 pub(crate) fn report_of<T: Threads + Wait + Sync>(
@@ -210,6 +258,6 @@ pub(crate) fn report_of<T: Threads + Wait + Sync>(
             let report = replay_report(alloc, steps.as_slice(), &plan, answers, settings.workers)?;
             Ok(report)
         }
-        None => run_report(rt, alloc, options, settings, plan, answers, spins),
+        None => plan_report(rt, alloc, options, settings, plan, answers, spins),
     }
 }

@@ -2,7 +2,9 @@
 
 use selectors::SelectorKind;
 
-pub(crate) const DETAILS: [&str; 4] = ["none", "summary", "tree", "testfeed"];
+pub(crate) const DETAILS: [&str; 7] = [
+    "none", "summary", "tree", "testfeed", "json", "xml", "list",
+];
 
 pub(crate) const THEMES: [&str; 2] = ["unicode", "ascii"];
 
