@@ -38,17 +38,6 @@ impl Job for Passing {
     }
 }
 
-/// Two listeners that keep what they are told.
-fn two_recorders(alloc: Global) -> Result<Audience, AllocError> {
-    let mut listeners: Vec<Box<dyn Listener>> = Vec::new(alloc);
-    listeners.push(Box::new(alloc, Recorder::new(alloc))?)?;
-    listeners.push(Box::new(alloc, Recorder::new(alloc))?)?;
-    match Audience::new(listeners) {
-        Ok(audience) => Ok(audience),
-        Err(_) => Err(AllocError),
-    }
-}
-
 /// A job for each of these bodies.
 fn two_jobs(alloc: Global, first: BodyId, second: BodyId) -> Result<Jobs<Passing>, AllocError>
     ensures { IfOk result (λ jobs. AllPass jobs.items) }
@@ -73,7 +62,12 @@ pub fn run_two<R: Threads + Wait + Sync>(
     let Ok(jobs) = two_jobs(alloc, first, second) else {
         return None;
     };
-    let Ok(mut audience) = two_recorders(alloc) else {
+    let mut listeners: Vec<Box<dyn Listener>> = Vec::new(alloc);
+    for _listener in 0..2 {
+        let recorder = Box::new(alloc, Recorder::new(alloc)).ok()?;
+        listeners.push(recorder).ok()?;
+    }
+    let Ok(mut audience) = Audience::new(listeners) else {
         return None;
     };
     if !audience.fresh() {
