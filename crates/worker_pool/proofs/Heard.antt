@@ -1,0 +1,134 @@
+-- What listeners have heard, one event after the other: the texts of what they have heard stay.
+use Rattle.std.proofs.Common.{◌≡◌, ◌≢◌, ◌⊎◌, inl, inr, ℕ, zero, suc, ◌<◌, ◌≤◌, List, [], ◌∷◌, ◌++◌, length, map, Option, Some, None, slice_get, get_or, refl, sym, ap, ◌∙◌, subst, arith, append-nil, append_assoc}
+use Rattle.std.proofs.lemmas.List.{map-append}
+use Rattle.std.proofs.lemmas.Option.{slice_get_within}
+use Rattle.plan_events.specs.declared.event.EventKind.{EventKind}
+use Rattle.plan_events.specs.declared.event.EventKind.TheVariants.{Started, Finished, Skipped, Registered}
+use Rattle.plan_events.specs.declared.event.Event.{Event}
+use Rattle.plan_events.specs.declared.note.Note.{Note}
+use Rattle.plan_events.specs.declared.outcome.Reply.{Reply}
+use Rattle.plan_events.specs.Texts.{TextParts, text_at}
+use Rattle.resource_locks.specs.Plans.{PlanParts, most_events}
+use Rattle.table_rule.specs.declared.view.View.{View}
+use Rattle.table_rule.specs.Plays.{dispatcher}
+use Rattle.worker_pool.specs.Telling.{IsNoted}
+use Rattle.event_history.specs.Places.{StandsAt}
+use Rattle.event_history.specs.History.{IsLegal}
+use Rattle.event_history.proofs.Places.{stands_later}
+use Rattle.listeners.specs.Listeners.{Telling, text_by, text_told, telling, tellings_of, HasHeardMore, EachPlace}
+use Rattle.worker_pool.specs.Hearings.{HaveHeard, HaveHeardNothing, HaveHeardSince}
+use Rattle.worker_pool.proofs.Reported.{last_stands}
+
+-- where each of these events has one text in both, the tellings are the same
+same_tellings : (old new : TextParts) (es : List Event) → ((i : ℕ) (f : Event) → slice_get es i ≡ Some f → text_told new f ≡ text_told old f) → tellings_of new es ≡ tellings_of old es
+same_tellings old new [] same = refl
+same_tellings old new (f ∷ es) same =
+    ap (λ (t : Option (List ℕ)). record { event = f; text = t } ∷ tellings_of new es) (same 0 f refl)
+    ∙ ap (λ (ts : List Telling). telling old f ∷ ts) (same_tellings old new es (λ i g q. same (suc i) g q))
+
+-- the event that is read last changes the text of its node alone, if it skips or finishes that
+module _ (p : PlanParts) (replies : ℕ → List Reply) (workers : ℕ) (h : List Event) (e : Event) (legal : IsLegal p replies workers (h ++ e ∷ [])) where
+  abbrev now : List Event
+  now = h ++ e ∷ []
+
+  last : (k : EventKind) → e.kind ≡ k → StandsAt now (length h) k e.node
+  last k kind = record { event = e; here = last_stands h e; kind = kind; node = refl }
+
+  earlier : (i : ℕ) (f : Event) (k : EventKind) → slice_get h i ≡ Some f → f.kind ≡ k → f.node ≡ e.node → StandsAt now i k e.node
+  earlier i f k here kind node = stands_later (e ∷ []) (record { event = f; here = here; kind = kind; node = node })
+
+  twice : (i : ℕ) (f : Event) (k : EventKind) → slice_get h i ≡ Some f → f.kind ≡ k → f.node ≡ e.node → e.kind ≡ k → ⊥
+  twice i f k here kind node is =
+      let low = slice_get_within h i f here in
+      let same = legal.once i (length h) e.node k (earlier i f k here kind node) (last k is) in
+      omega (arith, low, same)
+
+  both : (i j : ℕ) → StandsAt now i Skipped e.node → StandsAt now j Finished e.node → ⊥
+  both i j s f = (let start = legal.after_start j e.node f in legal.apart start.place i e.node start.stands s)
+
+  -- so none of those before was of its node
+  fresh : (i : ℕ) (f : Event) (k : EventKind) → slice_get h i ≡ Some f → f.node ≡ e.node → (f.kind ≡ Finished) ⊎ (f.kind ≡ Skipped) → (e.kind ≡ Finished) ⊎ (e.kind ≡ Skipped) → ⊥
+  fresh i f k here node was is = elim was [
+    | inl a ↦ elim is [
+      | inl b ↦ twice i f Finished here a node b
+      | inr b ↦ both (length h) i (last Skipped b) (earlier i f Finished here a node)
+    ]
+    | inr a ↦ elim is [
+      | inl b ↦ both i (length h) (earlier i f Skipped here a node) (last Finished b)
+      | inr b ↦ twice i f Skipped here a node b
+    ]
+  ]
+
+  module _ (old new : TextParts) (others : (n : ℕ) → n ≢ e.node → text_at new n ≡ text_at old n) (silent : e.kind ≢ Finished → e.kind ≢ Skipped → new ≡ old) where
+    quiet : (k : EventKind) → e.kind ≡ k → (Finished ≡ k → ⊥) → (Skipped ≡ k → ⊥) → tellings_of new h ≡ tellings_of old h
+    quiet k is no_finish no_skip = ap (λ (t : TextParts). tellings_of t h) (silent (λ q. no_finish (sym q ∙ is)) (λ q. no_skip (sym q ∙ is)))
+
+    one : (e.kind ≡ Finished) ⊎ (e.kind ≡ Skipped) → (i : ℕ) (f : Event) → slice_get h i ≡ Some f → text_told new f ≡ text_told old f
+    one ends i f here = by f.kind refl
+      where
+        by : (k : EventKind) → f.kind ≡ k → text_by k (text_at new f.node) ≡ text_by k (text_at old f.node)
+        by Started is = refl
+        by Registered is = refl
+        by Finished is = others f.node (λ node. fresh i f Finished here node (inl is) ends)
+        by Skipped is = others f.node (λ node. fresh i f Skipped here node (inr is) ends)
+
+    pub tellings_stay : tellings_of new h ≡ tellings_of old h
+    tellings_stay = by e.kind refl
+      where
+        by : (k : EventKind) → e.kind ≡ k → tellings_of new h ≡ tellings_of old h
+        by Started is = quiet Started is (λ x. cc) (λ x. cc)
+        by Registered is = quiet Registered is (λ x. cc) (λ x. cc)
+        by Finished is = same_tellings old new h (one (inl is))
+        by Skipped is = same_tellings old new h (one (inr is))
+
+abbrev rest : {X : Type 0} → List X → List X
+rest [] = []
+rest (x ∷ xs) = xs
+
+-- where the tellings of all are the same, so are those of the last
+last_tellings : (old new : TextParts) (was more : List Event) → tellings_of new (was ++ more) ≡ tellings_of old (was ++ more) → tellings_of new more ≡ tellings_of old more
+last_tellings old new [] more same = same
+last_tellings old new (e ∷ was) more same = last_tellings old new was more (ap rest same)
+
+module _ {L : Type 0} (heard : L → List Telling → Type 0) where
+  -- who are as they were have heard nothing more
+  pub heard_nothing : (items : List L) → HaveHeardNothing heard items items
+  heard_nothing items k d lt before h = subst (heard (get_or items k d)) (sym (append-nil before)) h
+
+  pub since_none : (texts : TextParts) (was : List Event) (items : List L) → HaveHeardSince heard texts was was items items
+  since_none texts was items = record { more = []; is = sym (append-nil was); each = heard_nothing items }
+
+  -- one event more
+  pub since_more : (old new : TextParts) (was read now : List Event) (e : Event) (first items next : List L) → length items ≡ length first → now ≡ read ++ e ∷ [] → tellings_of new read ≡ tellings_of old read
+      → EachPlace (λ a b. HasHeardMore heard (telling new e ∷ []) a b) items next → HaveHeardSince heard old was read first items → HaveHeardSince heard new was now first next
+  since_more old new was read now e first items next len is stay one so =
+      let front : tellings_of new so.more ≡ tellings_of old so.more = last_tellings old new was so.more (subst (λ (l : List Event). tellings_of new l ≡ tellings_of old l) so.is stay) in
+      record {
+        more = so.more ++ e ∷ [];
+        is = is ∙ ap (λ (l : List Event). l ++ e ∷ []) so.is ∙ append_assoc was so.more (e ∷ []);
+        each = λ k d lt before h. subst (heard (get_or next k d))
+            (append_assoc before (tellings_of old so.more) (telling new e ∷ [])
+            ∙ ap (λ (ts : List Telling). before ++ (ts ++ telling new e ∷ [])) (sym front)
+            ∙ ap (λ (ts : List Telling). before ++ ts) (sym (map-append (telling new) so.more (e ∷ []))))
+            (one k d (omega (arith, lt, len)) (before ++ tellings_of old so.more) (so.each k d lt before h));
+      }
+
+  -- no event: all is as it was
+  pub since_same : (old new : TextParts) (was read later : List Event) (first items next : List L) → later ≡ read → new ≡ old → next ≡ items → HaveHeardSince heard old was read first items → HaveHeardSince heard new was later first next
+  since_same old new was read later first items next same texts audience so =
+      subst (λ (z : TextParts × List Event × List L). HaveHeardSince heard z.0 was z.1 first z.2) (λ k. (sym texts k, sym same k, sym audience k)) so
+
+  -- of a run from its start, behind what nobody was told of
+  pub heard_whole : (texts : TextParts) (was read events : List Event) (first items next : List L) → length items ≡ length first → was ≡ [] → events ≡ read → HaveHeardNothing heard first items
+      → HaveHeardSince heard texts was read items next → HaveHeard heard texts events first next
+  heard_whole texts was read events first items next len none same nothing so k d lt before h =
+      let all : events ≡ so.more = same ∙ so.is ∙ ap (λ (l : List Event). l ++ so.more) none in
+      subst (λ (es : List Event). heard (get_or next k d) (before ++ tellings_of texts es)) (sym all)
+      (so.each k d (omega (arith, lt, len)) before (subst (heard (get_or items k d)) (append-nil before) (nothing k d lt before h)))
+
+-- one event more is noted, where there is room as before
+pub noted_more : {B : Type 0} (old new : View B) (noted later : List Event) (e : Event) (room wide : ℕ) → new.about ≡ old.about → (dispatcher new).read ≡ (dispatcher old).read ++ e ∷ [] → later ≡ noted ++ e ∷ [] → wide ≡ room → IsNoted old noted room → IsNoted new later wide
+noted_more old new noted later e room wide about read more same is = record {
+  read = more ∙ ap (λ (l : List Event). l ++ e ∷ []) is.read ∙ sym read;
+  enough = subst (λ (n : ℕ). most_events new.about.plan ≤ n) (sym same) (subst (λ a. most_events a.plan ≤ room) (sym about) is.enough);
+}
