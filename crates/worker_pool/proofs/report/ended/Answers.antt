@@ -1,5 +1,5 @@
 -- What the dispatcher has read is what is reported.
-use Rattle.std.proofs.Common.{◌≡◌, ◌∙◌, ◌≤◌, List, length, vec_capacity, sym}
+use Rattle.std.proofs.Common.{◌≤◌, List, length, vec_capacity, sym}
 use Rattle.plan_events.specs.declared.event.Event.{Event}
 use Rattle.resource_locks.specs.Plans.{most_events}
 use Rattle.event_history.proofs.Few.{legal_few}

@@ -1,5 +1,5 @@
 -- One node less is left of the circle.
-use Rattle.std.proofs.Common.{◌≡◌, ◌∙◌, arith}
+use Rattle.std.proofs.Common.{◌∙◌, arith}
 use Rattle.descriptor.specs.Nodes.{size}
 use Rattle.worker_pool.proofs.Circles.{first_inside, others_inside}
 use Rattle.worker_pool.proofs.Outgoing.{then_goes}

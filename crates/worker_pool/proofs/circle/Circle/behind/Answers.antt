@@ -1,8 +1,8 @@
 -- The numbers behind the node, and then the others.
-use Rattle.std.proofs.Common.{◌≡◌, ◌+◌, ◌<◌, ◌∙◌, ℕ, List, sym, ap, subst, arith, IsPermutation}
+use Rattle.std.proofs.Common.{◌+◌, ◌<◌, ◌∙◌, ℕ, sym, ap, subst, arith, IsPermutation}
 use Rattle.std.specs.List.{All, range_with_len}
 use Rattle.std.proofs.lemmas.Grind.{common_steps}
-use Rattle.worker_pool.specs.Inside.Circles.{left_of_circle, circle_behind}
+use Rattle.worker_pool.specs.Inside.Circles.{left_of_circle}
 use Rattle.worker_pool.proofs.Circles.{behind_is, each_once, all_inside}
 use Rattle.worker_pool.proofs.circle.Circle.behind.Goals as goal
 
