@@ -2,7 +2,7 @@
 
 use crate::acting::Act;
 use crate::meeting::tests_end_well;
-use crate::running::{WIDE, run_of_suite};
+use crate::running::{WIDE, run_of_suite, run_without_jobs};
 use std::alloc::Global;
 use std::sync::Wait;
 use std::test::Fail;
@@ -10,7 +10,8 @@ use std::thread::Threads;
 
 /// What is to happen, and below it the suite: nothing; a test; a test that is aborted; a class whose body fails, and the same
 /// before an after-body; a disabled class; a test that fails; a factory, one that asks for too many dynamic tests, and one that
-/// does so without end; nodes below one that writes; a run that fails fast; an after-body that fails.
+/// does so without end; nodes below one that writes; a run that fails fast; an after-body that fails; a plan that is handed in
+/// without its jobs.
 const ROWS: &str = "+0 -0 unused asked 0 told 0
 ==
 +0 +1 +2 +3 -3 -2 -1 -0 unused asked 0 told 0
@@ -90,6 +91,11 @@ engine e
   class a.B
     test t() pass
     after fail late
+==
+without jobs refused 70 at 3
+engine e
+  class a.B
+    test t() pass
 ";
 
 /// Whether this row's suite, run by so many workers with a ring of so many words, does what stands in its first line.
@@ -101,6 +107,10 @@ fn goes_as_wanted<R: Threads + Wait + Sync>(
     ring: u32,
 ) -> Result<bool, Fail> {
     let (wanted, suite) = row.split_once('\n').unwrap_or((row, ""));
+    if let Some(wanted) = wanted.strip_prefix("without jobs ") {
+        let said = run_without_jobs(rt, alloc, suite, workers, ring)?;
+        return Ok(said.as_str() == wanted);
+    }
     let (fail_fast, wanted) = match wanted.strip_prefix("fail-fast ") {
         Some(rest) => (true, rest),
         None => (false, wanted),

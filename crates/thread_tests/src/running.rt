@@ -1,6 +1,7 @@
 //! Suites are run on threads, and what happened is said in one line.
 
-ghost use Rattle.std.specs.Prelude.{◌+◌, ◌≤◌, length, vec_capacity};
+ghost use Rattle.std.specs.Prelude.{◌+◌, ◌≤◌, ℕ, length, vec_capacity};
+ghost use Rattle.resource_locks.specs.Plans.{PlanParts};
 ghost use Rattle.thread_tests.specs.Acting.{replies_left};
 ghost use Rattle.worker_pool.specs.Premises.{JobsMayAnswer};
 ghost use Rattle.worker_pool.specs.Reports.{run_of};
@@ -13,13 +14,13 @@ use exec_mode::modes;
 use listeners::{Audience, Listener};
 use plan_events::{Event, EventKind, Status};
 use resource_locks::Plan;
-use run_table::Jobs;
+use run_table::{Jobs, TableFault};
 use std::alloc::{AllocError, Global};
 use std::sync::{Arc, Wait};
 use std::test::Fail;
 use std::thread::Threads;
 use suite_text::{Script, Suite};
-use worker_pool::{Report, RunFault, run_plan};
+use worker_pool::{Report, RunCause, RunFault, run_plan};
 
 /// More nodes than a plan of these tests has.
 const FLAGS: usize = 16;
@@ -146,6 +147,26 @@ fn push_jobs(alloc: Global, text: &mut String, jobs: &Jobs<Actor>) -> Result<(),
     Ok(())
 }
 
+/// The number of the body that has no job, if a run is refused for that.
+fn without_job(cause: RunCause) -> Option<usize> {
+    let RunCause::Table(fault) = cause else {
+        return None;
+    };
+    match fault {
+        TableFault::JobsMissing(body) => Some(body.index()),
+        _ => None,
+    }
+}
+
+/// That a run was refused with this number, and the body that has no job, if it was for that.
+fn push_refusal(text: &mut String, number: u8, missing: Option<usize>) -> Result<(), AllocError> {
+    write!(text, "refused {number}")?;
+    match missing {
+        Some(body) => write!(text, " at {body}"),
+        None => Ok(()),
+    }
+}
+
 /// What was reported, how often jobs were asked for a dynamic test, and how many bytes of texts the first listener was told; and
 /// whether a body began too early.
 fn said(
@@ -161,7 +182,7 @@ fn said(
             push_jobs(alloc, &mut text, &report.unused_jobs)?;
             write!(text, "asked {} told {}", board.asked(), board.heard())?;
         }
-        Err(fault) => write!(text, "refused {}", fault.cause.number())?,
+        Err(fault) => push_refusal(&mut text, fault.cause.number(), without_job(fault.cause))?,
     }
     if board.is_early() {
         text.push_str(" early")?;
@@ -282,6 +303,29 @@ pub(crate) fn run_of_suite<R: Threads + Wait + Sync>(
     let board = Arc::new(alloc, Board::new(alloc, FLAGS)?)?;
     let watcher = one_watcher(alloc, act, &board)?;
     let jobs = cast(alloc, &plan, scripts.as_slice(), act, &board)?;
+    Ok(run_watched(rt, alloc, plan, jobs, workers, ring, watcher, &board)?)
+}
+
+/// No job of any plan.
+#[tactic(auto, using(crate::proofs::Replying::none_fresh, crate::proofs::Replying::may_answer))]
+fn no_jobs(alloc: Global) -> Jobs<Actor>
+    ensures { (plan : PlanParts) (workers ring : ℕ) → JobsMayAnswer replies_left (run_of plan workers ring result.items) }
+{
+    Vec::new(alloc)
+}
+
+/// What happens if the plan of this suite is handed in without its jobs.
+pub(crate) fn run_without_jobs<R: Threads + Wait + Sync>(
+    rt: &R,
+    alloc: Global,
+    text: &str,
+    workers: u32,
+    ring: u32,
+) -> Result<String, Fail> {
+    let (plan, _scripts) = staged(alloc, text, false)?;
+    let board = Arc::new(alloc, Board::new(alloc, FLAGS)?)?;
+    let watcher = one_watcher(alloc, Act::Ends, &board)?;
+    let jobs = no_jobs(alloc);
     Ok(run_watched(rt, alloc, plan, jobs, workers, ring, watcher, &board)?)
 }
 
