@@ -55,7 +55,11 @@ fn closed(alloc: Global, made: Prepared) -> Result<(Plan, String), AllocError>
 {
     match made {
         Ok((table, desk)) => {
-            let Closed { plan, jobs } = table.close(desk);
+            let Closed {
+                plan,
+                jobs,
+                notes: _,
+            } = table.close(desk);
             let said = handed_said(alloc, &plan, jobs)?;
             Ok((plan, said))
         }
