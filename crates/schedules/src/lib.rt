@@ -2,7 +2,12 @@
 
 //! A list of steps that leads to a history, found from the history alone.
 
+mod events;
+mod facts;
+mod order;
+mod same;
 mod schedule;
 mod search;
+mod silent;
 
 pub use schedule::schedule_of;

@@ -3,19 +3,13 @@
 ghost use Rattle.std.specs.Prelude.{◌≡◌, IfOk, IfSome, IsTrue};
 ghost use Rattle.schedules.specs.Schedules.{IsSchedule};
 
+use crate::same::are_same;
 use crate::search::steps_toward;
 use plan_events::Event;
 use resource_locks::Plan;
 use sched_core::{Answers, CoreFault, Trace, run_steps};
 use scheduling::Step;
 use std::alloc::{AllocError, Global};
-
-/// Whether these are the same events in the same order.
-fn are_same(some: &[Event], others: &[Event]) -> bool
-    ensures { IsTrue result → some.now ≡ others.now }
-{
-    some == others
-}
 
 /// Whether none of a run's steps was passed over, and the run published this history and gave all of it.
 fn leads_to(trace: &Trace, history: &[Event]) -> bool

@@ -1,18 +1,148 @@
-//! The search for steps that lead to a history.
+//! The search for steps that lead to a history, event by event.
+//!
+//! A worker takes at once what needs no event, but for three steps that it puts off: to cancel the plan, to take one off a
+//! node's counter, and to claim a node. It cancels the plan once the next event cannot stand before; then each other worker
+//! has claimed the node that it starts next, and has looked whether the plan is cancelled. It takes one off a counter once it
+//! goes on, or once another worker takes the last one off, who then finishes the node.
 
+use crate::order::{Places, next_in_turn, places_of};
 use plan_events::Event;
 use resource_locks::Plan;
 use sched_core::Answers;
-use scheduling::Step;
+use scheduling::{Action, Step};
 use std::alloc::{AllocError, Global};
 
-/// Steps that may lead to this history.
+/// The greatest number of workers.
+const MOST_WORKERS: u32 = 64;
+
+/// What a worker has to do yet that needs no event, and what it has.
+#[derive(Clone, Copy)]
+pub(crate) struct Worker {
+    /// Its node that failed and is finished: it is to cancel the plan, and then to close the node.
+    pub(crate) raising: Option<u16>,
+    /// The node off whose counter it is to take one.
+    pub(crate) counting: Option<u16>,
+    /// The factory in its hand.
+    pub(crate) hand: Option<u16>,
+    /// Whether it has claimed the node that it starts next, and has looked whether the plan is cancelled.
+    pub(crate) is_ahead: bool,
+    /// The place of its next event.
+    pub(crate) next: usize,
+}
+
+/// A worker that has nothing to do yet, whose next event stands at this place.
+fn free_worker(next: usize) -> Worker {
+    Worker {
+        raising: None,
+        counting: None,
+        hand: None,
+        is_ahead: false,
+        next,
+    }
+}
+
+/// The steps so far, and what they have made.
+#[derive(Drop)]
+pub(crate) struct Search {
+    pub(crate) steps: Vec<Step>,
+    /// The greatest number of a worker.
+    pub(crate) last: u8,
+    /// The worker of number k stands at k.
+    pub(crate) workers: Vec<Worker>,
+    /// Of each event the place of the next one of its worker.
+    pub(crate) follows: Vec<usize>,
+    /// For each node the number of the sibling whose turn is next.
+    pub(crate) turns: Vec<Option<u16>>,
+    /// For each node whether it was offered.
+    pub(crate) offered: Vec<bool>,
+    pub(crate) is_cancelled: bool,
+}
+
+/// Workers whose next events stand at these places.
+fn workers_at(alloc: Global, places: &[usize]) -> Result<Vec<Worker>, AllocError> {
+    let mut workers = Vec::new(alloc);
+    for place in places {
+        workers.push(free_worker(*place))?;
+    }
+    Ok(workers)
+}
+
+impl Search {
+    /// No step so far.
+    fn new(alloc: Global, plan: &Plan, last: u8, history: &[Event]) -> Result<Search, AllocError> {
+        // no worker has number 0
+        let Places { first, next } = places_of(alloc, 1 + usize::from(last), history)?;
+        let mut offered = vec![in alloc; false; plan.tree().len()]?;
+        if let Some(root) = offered.get_mut(0) {
+            *root = true;
+        }
+        Ok(Search {
+            steps: Vec::new(alloc),
+            last,
+            workers: workers_at(alloc, first.as_slice())?,
+            follows: next,
+            turns: next_in_turn(alloc, plan)?,
+            offered,
+            is_cancelled: false,
+        })
+    }
+
+    /// One more step of a worker.
+    pub(crate) fn push(&mut self, worker: u8, action: Action) -> Result<(), AllocError> {
+        self.steps.push(Step::Worker(worker, action))?;
+        Ok(())
+    }
+
+    /// The worker of this number.
+    pub(crate) fn worker(&self, worker: u8) -> Worker {
+        match self.workers.get(usize::from(worker)) {
+            Some(found) => *found,
+            None => free_worker(usize::MAX),
+        }
+    }
+
+    /// What the worker of this number has from now on.
+    pub(crate) fn set_worker(&mut self, worker: u8, becomes: Worker) {
+        if let Some(found) = self.workers.get_mut(usize::from(worker)) {
+            *found = becomes;
+        }
+    }
+
+    /// A node was offered.
+    pub(crate) fn offer(&mut self, node: u16) {
+        if let Some(offered) = self.offered.get_mut(usize::from(node)) {
+            *offered = true;
+        }
+    }
+
+    /// Whether a node was offered.
+    pub(crate) fn is_offered(&self, node: u16) -> bool {
+        self.offered
+            .get(usize::from(node))
+            .copied()
+            .unwrap_or(false)
+    }
+
+    /// The sibling whose turn is after that of a node.
+    pub(crate) fn turn_after(&self, node: u16) -> Option<u16> {
+        self.turns.get(usize::from(node)).copied().unwrap_or(None)
+    }
+}
+
+/// Steps which, taken by so many workers of the plan, may publish this history and give all of it. That they do is not proved here.
 pub(crate) fn steps_toward(
     alloc: Global,
-    _plan: &Plan,
-    _answers: &Answers,
-    _workers: u32,
-    _history: &[Event],
+    plan: &Plan,
+    answers: &Answers,
+    workers: u32,
+    history: &[Event],
 ) -> Result<Vec<Step>, AllocError> {
-    Ok(Vec::new(alloc))
+    if workers > MOST_WORKERS {
+        return Ok(Vec::new(alloc));
+    }
+    let mut search = Search::new(alloc, plan, workers as u8, history)?;
+    for place in 0..history.len() {
+        search.follow(plan, answers, history, place)?;
+    }
+    Ok(search.steps)
 }
