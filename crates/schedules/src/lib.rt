@@ -2,7 +2,9 @@
 
 //! A list of steps that leads to a history, found from the history alone.
 
-mod events;
+mod after;
+mod before;
+mod cancelling;
 mod facts;
 mod order;
 mod same;

@@ -1,4 +1,4 @@
-//! What each event of a history asks for.
+//! What a worker does from its event on.
 
 use crate::facts::{cancels, child_at, child_count, has_turn, is_spare, opens, pulls};
 use crate::search::Search;
@@ -82,23 +82,6 @@ impl Search {
             self.raise(plan, worker)?;
         }
         Ok(())
-    }
-
-    /// The steps before an event.
-    fn come_before(
-        &mut self,
-        plan: &Plan,
-        history: &[Event],
-        event: &Event,
-    ) -> Result<(), AllocError> {
-        let worker = event.worker;
-        let node = event.node.number();
-        match event.kind {
-            EventKind::Started => self.begin(plan, history, worker, node, true),
-            EventKind::Skipped => self.begin(plan, history, worker, node, false),
-            EventKind::Finished => self.end(plan, history, worker, node),
-            EventKind::Registered => self.add(plan, history, worker),
-        }
     }
 
     /// The steps after an event.
