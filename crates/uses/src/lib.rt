@@ -30,7 +30,7 @@ pub use held_locks::exclude_each_other;
 pub use key_word::take_key;
 pub use legal_history::published_by;
 pub use node_mode::mode_given;
-pub use run_again::run_again;
+pub use run_again::history_again;
 pub use run_log::log_text;
 pub use selected_tree::select_by;
 pub use small_tree::one_engine;

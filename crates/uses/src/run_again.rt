@@ -9,7 +9,7 @@ use schedules::schedule_of;
 use std::alloc::Global;
 
 /// What the same plan publishes once more, which is this history; or None, if no steps of it were found.
-pub fn run_again(
+pub fn history_again(
     alloc: Global,
     plan: &Plan,
     answers: &Answers,
