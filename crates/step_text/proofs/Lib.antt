@@ -2,3 +2,4 @@
 mod ReadBack
 mod Spelled
 mod SpelledWords
+pub mod Written

@@ -101,7 +101,7 @@ step_back (Worker k a) h =
     ∙ ap (option_and_then (λ w. option_map (Worker w) (action_of (after_first is_colon text)))) worker ∙ ap (option_map (Worker k)) action
 
 -- the words of steps
-none_bad : (steps : List Step) → AreNamable steps → length (map spelled_step steps) ≤ position_or_len is_bad_word (map spelled_step steps)
+pub none_bad : (steps : List Step) → AreNamable steps → length (map spelled_step steps) ≤ position_or_len is_bad_word (map spelled_step steps)
 none_bad [] h = omega arith
 none_bad (s ∷ more) h =
     let at : position_or_len is_bad_word (map spelled_step (s ∷ more)) ≡ 1 + position_or_len is_bad_word (map spelled_step more) =

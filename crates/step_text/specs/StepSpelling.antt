@@ -1,6 +1,7 @@
 -- How steps are written.
 use Rattle.std.specs.Prelude.{ℕ, ◌≤◌, List, [], ◌∷◌, ◌++◌, codes}
 use Rattle.std.specs.Fmt.{decimal}
+use Rattle.std.specs.List.{join_by}
 use Rattle.scheduling.specs.declared.step.Action.{Action}
 use Rattle.scheduling.specs.declared.step.Action.TheVariants.{Claim, Own, Draw, Show, Admit, Done, Settle, Look, Weigh, Take, Give, GiveUp, AddChild, Notice, Raise}
 use Rattle.scheduling.specs.declared.step.Step.{Step}
@@ -28,6 +29,10 @@ spelled_action Raise = codes "raise"
 abbrev pub spelled_step : Step → List ℕ
 spelled_step Read = codes "d:read"
 spelled_step (Worker k a) = codes "w" ++ (decimal k ++ (codes ":" ++ spelled_action a))
+
+-- the text of steps: their words, with a blank between each two
+abbrev pub steps_text : List Step → List ℕ
+steps_text steps = join_by spelled_step (codes " ") steps
 
 -- the node that a step names, if any, is one that a text can name
 abbrev pub NamesNode : Action → Type 0

@@ -4,5 +4,7 @@
 
 mod step_words;
 mod steps;
+mod writing;
 
 pub use steps::{StepsFault, parse_steps};
+pub use writing::{are_namable, push_steps};

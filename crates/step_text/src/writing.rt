@@ -1,0 +1,96 @@
+//! Steps, written as a text that names them.
+
+ghost use Rattle.std.specs.Prelude.{◌≡◌, ◌++◌, ◌↔◌, IsTrue, OnOk, Ok, codes, string_bytes};
+ghost use Rattle.std.specs.List.{All, flat_map};
+ghost use Rattle.step_text.specs.StepSpelling.{spelled_action, spelled_step, steps_text, IsNamable, AreNamable};
+ghost use Rattle.step_text.specs.StepTexts.{steps_of};
+
+use scheduling::{Action, Step};
+use std::alloc::AllocError;
+
+/// The greatest number of a worker that a text can name.
+const LAST_WORKER: u8 = 64;
+
+/// Appends what a worker does.
+fn push_action(text: &mut String, action: Action) -> Result<(), AllocError>
+    ensures { OnOk result (string_bytes text.new ≡ string_bytes text.old ++ spelled_action action) }
+{
+    match action {
+        Action::Claim(node) => write!(text, "claim:{}", node.number()),
+        Action::Own(node) => write!(text, "own:{}", node.number()),
+        Action::Draw => text.push_str("draw"),
+        Action::Show => text.push_str("show"),
+        Action::Admit => text.push_str("admit"),
+        Action::Done => text.push_str("done"),
+        Action::Settle => text.push_str("settle"),
+        Action::Look => text.push_str("look"),
+        Action::Weigh => text.push_str("weigh"),
+        Action::Take => text.push_str("take"),
+        Action::Give => text.push_str("give"),
+        Action::GiveUp => text.push_str("give_up"),
+        Action::AddChild => text.push_str("add_child"),
+        Action::Notice => text.push_str("notice"),
+        Action::Raise => text.push_str("raise"),
+    }
+}
+
+/// Appends the word of a step.
+fn push_step(text: &mut String, step: Step) -> Result<(), AllocError>
+    ensures { OnOk result (string_bytes text.new ≡ string_bytes text.old ++ spelled_step step) }
+{
+    match step {
+        Step::Read => text.push_str("d:read"),
+        Step::Worker(worker, action) => {
+            write!(text, "w{worker}:")?;
+            push_action(text, action)
+        }
+    }
+}
+
+/// Appends the words of steps, each behind a blank.
+fn push_others(text: &mut String, steps: &[Step]) -> Result<(), AllocError>
+    ensures { OnOk result (string_bytes text.new ≡ string_bytes text.old ++ flat_map (λ step. codes " " ++ spelled_step step) steps.now) }
+{
+    for step in steps {
+        text.push_str(" ")?;
+        push_step(text, *step)?;
+    }
+    Ok(())
+}
+
+/// Appends the text of steps: their words, with a blank between each two.
+pub fn push_steps(text: &mut String, steps: &[Step]) -> Result<(), AllocError>
+    ensures { OnOk result (string_bytes text.new ≡ string_bytes text.old ++ steps_text steps.now) }
+{
+    let Some((first, others)) = steps.split_first() else {
+        return Ok(());
+    };
+    push_step(text, *first)?;
+    push_others(text, others)
+}
+
+/// Whether a text can name a step.
+fn is_namable(step: Step) -> bool
+    ensures { IsTrue result ↔ IsNamable step }
+{
+    match step {
+        Step::Read => true,
+        // a node's number has 16 bits, and a text can name each of these
+        Step::Worker(worker, _) => 1 <= worker && worker <= LAST_WORKER,
+    }
+}
+
+/// Whether a text can name each of these steps.
+fn each_is_namable(steps: &[Step]) -> bool
+    ensures { IsTrue result ↔ All IsNamable steps.now }
+{
+    steps.iter().all(|step| is_namable(*step))
+}
+
+/// Whether a text can name these steps. Then their text is read as just these.
+pub fn are_namable(steps: &[Step]) -> bool
+    ensures exact { IsTrue result ↔ AreNamable steps.now }
+    ensures read_back { IsTrue result → steps_of (steps_text steps.now) ≡ Ok steps.now }
+{
+    each_is_namable(steps)
+}
