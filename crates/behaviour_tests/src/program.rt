@@ -61,6 +61,7 @@ fn feed_options(alloc: Global) -> Options {
         theme: Theme::Unicode,
         fail_if_no_tests: false,
         fail_fast: false,
+        schedule: false,
         replay: None,
     }
 }

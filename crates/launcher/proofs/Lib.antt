@@ -2,6 +2,7 @@ pub mod Launching
 pub mod Pairing
 pub mod Planning
 pub mod Reading
+pub mod Replaying
 pub mod Requesting
 pub mod Reporting
 pub mod Scripting

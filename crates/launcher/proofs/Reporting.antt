@@ -33,7 +33,7 @@ use Rattle.launcher.specs.declared.exit_status.ExitStatus.{ExitStatus}
 use Rattle.launcher.specs.declared.scripted.ScriptedJob.{ScriptedJob}
 use Rattle.launcher.specs.Asked.{Asked}
 use Rattle.launcher.specs.ExitStatuses.{status_of_run}
-use Rattle.launcher.specs.Reports.{details_of, expected_details, expected_status, IsExpectedOutput, IsHistory, IsRunOutput}
+use Rattle.launcher.specs.Reports.{details_of, expected_details, expected_status, IsBehindDetails, IsExpectedOutput, IsHistory, IsRunOutput}
 use Rattle.launcher.specs.Scripted.{replies_left, AreScripted}
 use Rattle.launcher.specs.WarningTexts.{warning_lines}
 use Rattle.launcher.proofs.Scripting.{all_there, legal_as_said, text_as_said}
@@ -105,24 +105,26 @@ module _ (asked : Asked) (settings : Settings) (p : PlanParts) (answers : List (
   printed_so : IsPrintedAsExpected p (reply_of answers) history texts
   printed_so = printed_as_expected p told.tree (reply_of answers) (replies_by answers) (λ job. refl) calm settings.workers history told.published.legal told.published.complete texts told.are
 
-  expected_output : (text : List ℕ) (status : ExitStatus) → text ≡ warning_lines settings.warnings ++ details_of asked.details asked.theme p texts history
-      → status ≡ status_of_run asked.fail_if_no_tests (tests_found p history) (has_failed p history) → IsExpectedOutput asked settings p.tree (reply_of answers) text status
-  expected_output text status printed exits = record {
-    printed = λ shown so. printed ∙ ap (λ (xs : List ℕ). warning_lines settings.warnings ++ xs) (expected_text asked.theme p answers history texts printed_so asked.details shown so);
+  expected_output : (schedule text : List ℕ) (status : ExitStatus) → text ≡ warning_lines settings.warnings ++ (details_of asked.details asked.theme p texts history ++ schedule)
+      → status ≡ status_of_run asked.fail_if_no_tests (tests_found p history) (has_failed p history) → IsExpectedOutput asked settings p.tree (reply_of answers) schedule text status
+  expected_output schedule text status printed exits = record {
+    printed = λ shown so. printed ∙ ap (λ (xs : List ℕ). warning_lines settings.warnings ++ (xs ++ schedule)) (expected_text asked.theme p answers history texts printed_so asked.details shown so);
     exits = exits ∙ ap₂ (λ (tests : ℕ) (failed : Bool). status_of_run asked.fail_if_no_tests tests failed) printed_so.tests printed_so.failure;
   }
 
 -- what is printed of a history is what is printed of the run
-pub ran : (text : List ℕ) (status : ExitStatus) (asked : Asked) (settings : Settings) (p : PlanParts) (answers : List (ℕ × Reply)) (history : List Event) (texts : TextParts) → IsTold settings.workers p answers history texts
-    → text ≡ warning_lines settings.warnings ++ details_of asked.details asked.theme p texts history → status ≡ status_of_run asked.fail_if_no_tests (tests_found p history) (has_failed p history) → IsRunOutput asked settings p answers text status
-ran text status asked settings p answers history texts told printed exits = record {
+pub ran : (schedule text : List ℕ) (status : ExitStatus) (asked : Asked) (settings : Settings) (p : PlanParts) (answers : List (ℕ × Reply)) (history : List Event) (texts : TextParts) → IsTold settings.workers p answers history texts
+    → IsBehindDetails asked.schedule settings.workers p answers history schedule → text ≡ warning_lines settings.warnings ++ (details_of asked.details asked.theme p texts history ++ schedule) → status ≡ status_of_run asked.fail_if_no_tests (tests_found p history) (has_failed p history) → IsRunOutput asked settings p answers text status
+ran schedule text status asked settings p answers history texts told behind printed exits = record {
   history = history;
   published = told.published;
   lists = told.lists;
   mine = told.mine;
   details = details_of asked.details asked.theme p texts history;
   printed = record { texts = texts; are = told.are; printed = refl };
+  schedule = schedule;
+  behind_details = behind;
   behind_warnings = printed;
   exits = exits;
-  as_expected = λ calm. expected_output asked settings p answers history texts told calm text status printed exits;
+  as_expected = λ calm. expected_output asked settings p answers history texts told calm schedule text status printed exits;
 }

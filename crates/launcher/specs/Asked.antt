@@ -25,8 +25,8 @@ use Rattle.launcher.specs.Given.{Text, Values}
 use Rattle.launcher.specs.Parameters.{processors_named, ring_named, params_said, params_refusal}
 
 -- what is asked for: what is to run, with which parameters and how many processors, how many events may be shown that are not
--- told yet, what is printed and how, whether there have to be tests, whether nothing more is to start once a node has failed, and
--- the steps that are to be replayed, if any are
+-- told yet, what is printed and how, whether there have to be tests, whether nothing more is to start once a node has failed, whether
+-- the steps of a run are to be printed, and the steps that are to be replayed, if any are
 pub record Asked : Type 0 where
   pub request : Request
   pub params : Parameters
@@ -36,6 +36,7 @@ pub record Asked : Type 0 where
   pub theme : Theme
   pub fail_if_no_tests : Bool
   pub fail_fast : Bool
+  pub schedule : Bool
   pub replay : Option (List Step)
 
 -- options, without where they lie in memory
@@ -49,6 +50,7 @@ asked_by options = record {
   theme = options.theme;
   fail_if_no_tests = options.fail_if_no_tests;
   fail_fast = options.fail_fast;
+  schedule = options.schedule;
   replay = option_map (λ steps. steps.items) options.replay;
 }
 
@@ -149,6 +151,7 @@ pub record AreAsked (given : Values) (asked : Asked) : Type 0 where
   pub ring : ring_named given.ring ≡ Some asked.ring
   pub tests : asked.fail_if_no_tests ≡ given.fail_if_no_tests
   pub fail_fast : asked.fail_fast ≡ given.fail_fast
+  pub schedule : asked.schedule ≡ given.schedule
   pub replay : IsReplay given.replay asked.replay
   pub selectors : asked.request.selectors.items ≡ filter_map spelled given.selectors
   pub include : AreExpressions given.include_tags asked.request.include.items

@@ -22,6 +22,7 @@ pub record Values : Type 0 where
   pub replay : Option Text
   pub fail_if_no_tests : Bool
   pub fail_fast : Bool
+  pub schedule : Bool
 
 -- the texts behind references
 abbrev pub behind : List (Bor Text) → List Text
@@ -50,4 +51,5 @@ values_of given = record {
   replay = maybe_behind given.replay;
   fail_if_no_tests = given.fail_if_no_tests;
   fail_fast = given.fail_fast;
+  schedule = given.schedule;
 }

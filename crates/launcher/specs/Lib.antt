@@ -8,5 +8,6 @@ pub mod Parameters
 pub mod ReplayTexts
 pub mod Reports
 pub mod Runs
+pub mod ScheduleTexts
 pub mod Scripted
 pub mod WarningTexts

@@ -1,5 +1,5 @@
 -- What is printed of a run or of a replay, and its status.
-use Rattle.std.specs.Prelude.{◌≡◌, ℕ, ◌<◌, Bool, true, false, List, [], ◌++◌, length, Option, Some, None}
+use Rattle.std.specs.Prelude.{◌≡◌, ℕ, ◌<◌, Bool, true, false, List, [], ◌++◌, length, Option, Some, None, IfSome}
 use Rattle.config_params.specs.declared.settings.Settings.{Settings}
 use Rattle.descriptor.specs.Nodes.{Nodes, size}
 use Rattle.plan_events.specs.declared.event.Event.{Event}
@@ -19,6 +19,8 @@ use Rattle.scheduling.specs.State.{State}
 use Rattle.sched_core.specs.Replies.{reply_of, replies_of}
 use Rattle.sched_core.specs.Runs.{run, passed_over}
 use Rattle.sched_core.specs.Texts.{AreTexts}
+use Rattle.schedules.specs.Schedules.{IsSchedule}
+use Rattle.step_text.specs.StepSpelling.{AreNamable}
 use Rattle.worker_pool.specs.Reports.{AreParts, AreTexts as AreRunTexts}
 use Rattle.listeners.specs.declared.theme.Theme.{Theme}
 use Rattle.listeners.specs.Counts.{counts_of as node_counts}
@@ -37,6 +39,7 @@ use Rattle.expected_output.specs.Expectations.{expected_tree, expected_counts, e
 use Rattle.launcher.specs.declared.details.Details.TheVariants as details
 use Rattle.launcher.specs.declared.replay.ReplayCounts.{ReplayCounts}
 use Rattle.launcher.specs.ReplayTexts.{replay_line}
+use Rattle.launcher.specs.ScheduleTexts.{schedule_line}
 use Rattle.launcher.specs.WarningTexts.{warning_lines}
 use Rattle.launcher.specs.Asked.{Asked}
 
@@ -87,14 +90,27 @@ expected_details details.List theme t reply = None
 abbrev pub expected_status : Bool → Nodes → (ℕ → Reply) → ExitStatus
 expected_status needs_tests t reply = status_of_run needs_tests (expected_tests t reply) (expects_failure t reply)
 
--- The text and the status are those that are expected of the tree. Neither the workers nor the modes of the nodes nor their locks are
--- spoken of.
-pub record IsExpectedOutput (asked : Asked) (settings : Settings) (t : Nodes) (reply : ℕ → Reply) (text : List ℕ) (status : ExitStatus) : Type 0 where
-  pub printed : (shown : List ℕ) → expected_details asked.details asked.theme t reply ≡ Some shown → text ≡ warning_lines settings.warnings ++ shown
+-- The text before the schedule, and the status, are those that are expected of the tree. Neither the workers nor the modes of the
+-- nodes nor their locks are spoken of.
+pub record IsExpectedOutput (asked : Asked) (settings : Settings) (t : Nodes) (reply : ℕ → Reply) (schedule text : List ℕ) (status : ExitStatus) : Type 0 where
+  pub printed : (shown : List ℕ) → expected_details asked.details asked.theme t reply ≡ Some shown → text ≡ warning_lines settings.warnings ++ (shown ++ schedule)
   pub exits : status ≡ expected_status asked.fail_if_no_tests t reply
 
--- the settings' workers run the plan: a line for each warning, then its history as the options say, and its failures make the
--- status
+-- The line of a schedule: it names steps by which so many workers come to just this history, or says that none were found.
+pub record IsScheduleLine (workers : ℕ) (p : PlanParts) (answers : List (ℕ × Reply)) (history : List Event) (line : List ℕ) : Type 0 where
+  pub found : Option (List Step)
+  pub schedule : IfSome found (IsSchedule p answers workers history)
+  -- and a text can name them, so that the line is read as just these steps
+  pub namable : IfSome found AreNamable
+  pub printed : line ≡ schedule_line found
+
+-- what is printed behind the details of a run: nothing, unless a schedule is asked for
+abbrev pub IsBehindDetails : Bool → ℕ → PlanParts → List (ℕ × Reply) → List Event → List ℕ → Type 0
+IsBehindDetails false workers p answers history schedule = schedule ≡ []
+IsBehindDetails true workers p answers history schedule = IsScheduleLine workers p answers history schedule
+
+-- the settings' workers run the plan: a line for each warning, then its history as the options say, then its schedule, if one is
+-- asked for, and its failures make the status
 pub record IsRunOutput (asked : Asked) (settings : Settings) (p : PlanParts) (answers : List (ℕ × Reply)) (text : List ℕ) (status : ExitStatus) : Type 0 where
   pub history : List Event
   pub published : IsHistory settings.workers p answers history
@@ -103,10 +119,12 @@ pub record IsRunOutput (asked : Asked) (settings : Settings) (p : PlanParts) (an
   pub mine : AreParts settings.workers history lists
   pub details : List ℕ
   pub printed : ArePrinted asked.details asked.theme p answers history details
-  pub behind_warnings : text ≡ warning_lines settings.warnings ++ details
+  pub schedule : List ℕ
+  pub behind_details : IsBehindDetails asked.schedule settings.workers p answers history schedule
+  pub behind_warnings : text ≡ warning_lines settings.warnings ++ (details ++ schedule)
   pub exits : status ≡ status_of_run asked.fail_if_no_tests (tests_found p history) (has_failed p history)
-  -- and unless the plan fails fast all this but a feed is what is expected, whatever the workers did
-  pub as_expected : p.fail_fast ≡ false → IsExpectedOutput asked settings p.tree (reply_of answers) text status
+  -- and unless the plan fails fast all this but a feed and the schedule is what is expected, whatever the workers did
+  pub as_expected : p.fail_fast ≡ false → IsExpectedOutput asked settings p.tree (reply_of answers) schedule text status
 
 -- the state in which a replay of these steps by so many workers ends
 abbrev pub replayed : ℕ → PlanParts → List (ℕ × Reply) → List Step → State

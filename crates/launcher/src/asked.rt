@@ -27,6 +27,8 @@ pub struct Options {
     pub fail_if_no_tests: bool,
     /// Whether nothing more starts once a node has failed.
     pub fail_fast: bool,
+    /// Whether the steps that led to the history of a run are printed behind its details.
+    pub schedule: bool,
     /// The steps that are run in place of the fixed schedule. Then their text alone is printed,
     /// whatever the details are.
     pub replay: Option<Vec<Step>>,

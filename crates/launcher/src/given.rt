@@ -31,4 +31,6 @@ pub struct Given<'a> {
     pub fail_if_no_tests: bool,
     /// `--fail-fast`.
     pub fail_fast: bool,
+    /// `--schedule`.
+    pub schedule: bool,
 }

@@ -14,6 +14,7 @@ mod parameters;
 mod replay;
 mod report;
 mod run;
+mod schedule_line;
 mod scripted;
 mod warning_lines;
 

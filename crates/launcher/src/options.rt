@@ -148,6 +148,7 @@ impl Options {
             theme,
             fail_if_no_tests: given.fail_if_no_tests,
             fail_fast: given.fail_fast,
+            schedule: given.schedule,
             replay: replay_named(alloc, given.replay)?,
         })
     }

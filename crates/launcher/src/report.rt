@@ -16,6 +16,7 @@ use crate::details::Details;
 use crate::exit_status::ExitStatus;
 use crate::fault::LaunchFault;
 use crate::replay::{ReplayCounts, push_replay_line};
+use crate::schedule_line::behind_details;
 use crate::scripted::scripted_jobs;
 use crate::warning_lines::push_warnings;
 use config_params::{Settings, Warnings};
@@ -67,7 +68,7 @@ fn details_text(
     }
 }
 
-/// What is printed of a run: a line for each warning, and what is printed of its results.
+/// What is printed of a run: a line for each warning, what is printed of its results, and the schedule behind it.
 fn run_text(
     alloc: Global,
     options: &Options,
@@ -76,15 +77,17 @@ fn run_text(
     history: &[Event],
     results: &Results<'_>,
     texts: &Texts,
+    schedule: &str,
 ) -> Result<String, AllocError>
     requires plan { plan.now ≡ results.now.plan }
     requires events { history.now ≡ results.now.events }
-    ensures { IfOk result (λ text. string_bytes text ≡ warning_lines warnings ++ details_of options.now.details options.now.theme results.now.plan texts.now results.now.events) }
+    ensures { IfOk result (λ text. string_bytes text ≡ warning_lines warnings ++ (details_of options.now.details options.now.theme results.now.plan texts.now results.now.events ++ schedule.now)) }
 {
     let mut text = String::new(alloc);
     push_warnings(&mut text, warnings)?;
     let details = details_text(alloc, options, plan, history, results, texts)?;
     text.push_str(details.as_str())?;
+    text.push_str(schedule)?;
     Ok(text)
 }
 
@@ -96,12 +99,15 @@ fn history_report(
     plan: &Plan,
     texts: &Texts,
     history: &[Event],
+    schedule: &str,
 ) -> Result<Report, AllocError>
-    ensures text { IfOk result (λ report. string_bytes report.text ≡ warning_lines warnings ++ details_of options.now.details options.now.theme plan.now texts.now history.now) }
+    ensures text { IfOk result (λ report. string_bytes report.text ≡ warning_lines warnings ++ (details_of options.now.details options.now.theme plan.now texts.now history.now ++ schedule.now)) }
     ensures status { IfOk result (λ report. report.status ≡ status_of_run options.now.fail_if_no_tests (tests_found plan.now history.now) (has_failed plan.now history.now)) }
 {
     let results = Results::of(alloc, plan, history)?;
-    let text = run_text(alloc, options, warnings, plan, history, &results, texts)?;
+    let text = run_text(
+        alloc, options, warnings, plan, history, &results, texts, schedule,
+    )?;
     let needs_tests = options.fail_if_no_tests;
     // a pass over the nodes, which is spared where the number says nothing
     let tests = if needs_tests {
@@ -156,6 +162,14 @@ fn run_report<T: Threads + Wait + Sync>(
     ) {
         Ok(ran) => {
             let history = ran.events.as_slice();
+            let schedule = behind_details(
+                alloc,
+                options.schedule,
+                &ran.plan,
+                answers,
+                settings.workers,
+                history,
+            )?;
             Ok(history_report(
                 alloc,
                 options,
@@ -163,6 +177,7 @@ fn run_report<T: Threads + Wait + Sync>(
                 &ran.plan,
                 &ran.texts,
                 history,
+                schedule.as_str(),
             )?)
         }
         Err(fault) => Err(unrun(fault.cause)),

@@ -5,7 +5,7 @@ use Rattle.descriptor.specs.Nodes.{IsTree}
 use Rattle.plan_events.specs.declared.event.Event.{Event}
 use Rattle.resource_locks.specs.Plans.{PlanParts}
 use Rattle.launcher.specs.Asked.{asked_by}
-use Rattle.launcher.specs.Reports.{IsRunOutput}
+use Rattle.launcher.specs.Reports.{IsBehindDetails, IsRunOutput}
 use Rattle.launcher.proofs.Reporting.{IsTold, told_of, ran, unrun}
 use Rattle.launcher.proofs.Scripting.{all_there, may_answer}
 use Rattle.launcher.proofs.report.run_report.Goals as goal
@@ -30,9 +30,11 @@ returns-in-Ok-run_plan-clause-output g c =
     let told = told_of p tree c.requires.guarded answers c.in_ok-jobs.jobs.items c.in_ok-jobs.ensures settings.workers asked.ring history c.in-Ok-run_plan.ran.texts c.in-Ok-run_plan.ensures.report c.in-Ok-run_plan.ensures.texts (map (λ l. l.items) c.in-Ok-run_plan.ran.mine.items) c.in-Ok-run_plan.ensures.mine in
     let there : IsTold settings.workers c.in-Ok-run_plan.ran.plan answers c.as_slice-history.result.now c.in-Ok-run_plan.ran.texts =
     subst (λ (h : List Event). IsTold settings.workers c.in-Ok-run_plan.ran.plan answers h c.in-Ok-run_plan.ran.texts) shown (subst (λ (q : PlanParts). IsTold settings.workers q answers history c.in-Ok-run_plan.ran.texts) (sym same) told) in
+    let behind : IsBehindDetails asked.schedule settings.workers c.in-Ok-run_plan.ran.plan answers c.as_slice-history.result.now c.as_str.result.now =
+    subst (IsBehindDetails asked.schedule settings.workers c.in-Ok-run_plan.ran.plan answers c.as_slice-history.result.now) (sym c.as_str.ensures.value) c.in_ok-schedule-in-Ok-run_plan.ensures in
     subst (λ (q : PlanParts). IsRunOutput asked settings q answers (string_bytes report.text) report.status) same
-    (ran (string_bytes report.text) report.status asked settings c.in-Ok-run_plan.ran.plan answers c.as_slice-history.result.now c.in-Ok-run_plan.ran.texts
-    there c.in_ok-history_report-in-Ok-run_plan.ensures.text c.in_ok-history_report-in-Ok-run_plan.ensures.status)
+    (ran c.as_str.result.now (string_bytes report.text) report.status asked settings c.in-Ok-run_plan.ran.plan answers c.as_slice-history.result.now c.in-Ok-run_plan.ran.texts
+    there behind c.in_ok-history_report-in-Ok-run_plan.ensures.text c.in_ok-history_report-in-Ok-run_plan.ensures.status)
 
 pub unrun-requires : goal.unrun-requires
 unrun-requires g c =
