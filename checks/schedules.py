@@ -1,0 +1,102 @@
+#!/usr/bin/env python3
+"""Holds the steps that --schedule prints behind a run against --replay: it has to print the same feed.
+
+checks/schedules.py [SUITES] [SEED]   100 suites and the seed 1 where they are not given
+  --program PATH                      another program than crates/console/out/console
+Each suite is made at random, and run by 2, 4 and 8 workers. Its steps are split off and replayed: none may
+be passed over, and the feeds have to be the same bytes. The last line is 'N passed, M failed': the runs.
+"""
+
+import argparse
+import sys
+from random import Random
+
+sys.dont_write_bytecode = True
+
+from programs import Hangs, built_console, config, ran
+from suites import Maker, text_of
+
+WORKERS = [2, 4, 8]
+SECONDS_A_RUN = 60
+MOST_SHOWN = 10
+
+
+class Wrong(Exception):
+    """What is wrong with a run or with its replay."""
+
+
+def settings(random, workers):
+    """The words that say how a suite is run by so many workers."""
+    words = config("enabled", "true") + config("config.strategy", "fixed")
+    words += config("config.fixed.parallelism", workers)
+    for key in ("mode.default", "mode.classes.default"):
+        words += config(key, random.choice(["concurrent", "concurrent", "same_thread"]))
+    return words + (["--fail-fast"] if random.random() < 0.25 else [])
+
+
+def split(text):
+    """A text without its last line, and that line without its end."""
+    front, _, last = text[:-1].rpartition(b"\n")
+    return front + b"\n", last
+
+
+class Schedules:
+    """The runs that were replayed, and what was wrong with them."""
+
+    def __init__(self, program):
+        self.program = program
+        self.passed = self.failed = 0
+
+    def text(self, words, suite):
+        """What the program prints."""
+        status, text, said = ran(self.program, words, suite, SECONDS_A_RUN)
+        if said or status not in (0, 1) or not text.endswith(b"\n"):
+            raise Wrong(f"status {status}: {said.decode(errors='replace')}")
+        return text
+
+    def replay(self, words, suite):
+        """Runs a suite, and replays its steps."""
+        feed, steps = split(self.text([*words, "--schedule", "--details", "testfeed"], suite))
+        if steps == b"no schedule was found":
+            raise Wrong("no schedule was found")
+        again, counts = split(self.text([*words, "--replay", steps.decode()], suite))
+        events = feed.count(b"\n")
+        wanted = f"steps {len(steps.split())} passed-over 0 published {events} given {events}"
+        if counts.decode() != wanted:
+            raise Wrong(f"the replay ends in {counts.decode()!r} and not in {wanted!r}")
+        if again != feed:
+            raise Wrong("the replay has another feed")
+
+    def judge(self, what, words, suite):
+        try:
+            self.replay(words, suite)
+            self.passed += 1
+        except (Wrong, Hangs) as why:
+            self.failed += 1
+            if self.failed <= MOST_SHOWN:
+                print(f"FAILED {what}: {why}", flush=True)
+
+    def suite(self, seed, number):
+        """Makes the suite of this number, and judges a run of it by each number of workers."""
+        random = Random(f"{seed}/{number}")
+        suite = text_of(Maker(random).plan()).encode()
+        for workers in WORKERS:
+            words = settings(random, workers)
+            self.judge(f"suite {number} of seed {seed}, {workers} workers", words, suite)
+
+
+def main():
+    words = argparse.ArgumentParser(description=__doc__, formatter_class=argparse.RawDescriptionHelpFormatter)
+    words.add_argument("suites", nargs="?", type=int, default=100)
+    words.add_argument("seed", nargs="?", default="1")
+    words.add_argument("--program")
+    given = words.parse_args()
+    schedules = Schedules(given.program or built_console())
+    for number in range(1, given.suites + 1):
+        schedules.suite(given.seed, number)
+    print(f"{schedules.passed} passed, {schedules.failed} failed")
+    return 1 if schedules.failed else 0
+
+
+if __name__ == "__main__":
+    sys.exit(main())
