@@ -20,8 +20,10 @@ use Rattle.expected_output.specs.Expectations.{IsPrintedAsExpected}
 use Rattle.expected_output.proofs.PrintedAsExpected.{printed_as_expected}
 use Rattle.scheduling.proofs.OnlyHistory.{only_history, as_expected}
 use Rattle.sched_core.specs.Replies.{reply_of, replies_of as replies_by}
-use Rattle.table_rule.specs.Picture.{replies_of}
+use Rattle.table_rule.specs.Picture.{replies_in, replies_of}
 use Rattle.table_rule.specs.Slots.{slot_count}
+use Rattle.table_rule.proofs.ThatCount.{counted_among}
+use Rattle.table_rule.proofs.Widening.{wide_legal, wide_text}
 use Rattle.worker_pool.specs.Reports.{run_of, AreParts, AreTexts, IsReport, IsRefusedRun}
 use Rattle.worker_pool.specs.declared.report.RunCause.{RunCause}
 use Rattle.worker_pool.specs.declared.report.RunCause.TheVariants.{Table, NoWorker}
@@ -42,7 +44,9 @@ use Rattle.launcher.proofs.Scripting.{all_there, legal_as_said, text_as_said}
 pub history_of : (p : PlanParts) → IsTree p.tree → IsGuarded (declared_of p.tree) p → (answers : List (ℕ × Reply)) (jobs : List (ℕ × ScriptedJob)) → AreScripted p answers (slot_count p) jobs → (workers ring : ℕ) (history : List Event)
     → IsReport (run_of p workers ring jobs) (replies_of replies_left (run_of p workers ring jobs)) history → IsHistory workers p answers history
 history_of p tree safe answers jobs are workers ring history report =
-    let legal : IsLegal p (replies_by answers) workers history = legal_as_said p tree answers jobs are workers history report.legal in
+    let run = run_of p workers ring jobs in
+    let given : IsLegal p (replies_in replies_left jobs) workers history = wide_legal (replies_of replies_left run) (replies_in replies_left jobs) (counted_among replies_left run) p workers history report.legal in
+    let legal : IsLegal p (replies_by answers) workers history = legal_as_said p tree answers jobs are workers history given in
     record {
       legal = legal;
       order = report.order;
@@ -67,13 +71,16 @@ pub record IsTold (workers : ℕ) (p : PlanParts) (answers : List (ℕ × Reply)
 pub told_of : (p : PlanParts) → IsTree p.tree → IsGuarded (declared_of p.tree) p → (answers : List (ℕ × Reply)) (jobs : List (ℕ × ScriptedJob)) → AreScripted p answers (slot_count p) jobs → (workers ring : ℕ) (history : List Event) (texts : TextParts)
     → IsReport (run_of p workers ring jobs) (replies_of replies_left (run_of p workers ring jobs)) history → AreTexts p (replies_of replies_left (run_of p workers ring jobs)) history texts
     → (lists : List (List Event)) → AreParts workers history lists → IsTold workers p answers history texts
-told_of p tree safe answers jobs are workers ring history texts report told lists mine = record {
-  tree = tree;
-  published = history_of p tree safe answers jobs are workers ring history report;
-  are = λ n low. text_as_said p tree answers jobs are history n (text_at texts n) (told n low);
-  lists = lists;
-  mine = mine;
-}
+told_of p tree safe answers jobs are workers ring history texts report told lists mine =
+    let run = run_of p workers ring jobs in
+    let given : AreTexts p (replies_in replies_left jobs) history texts = λ n low. wide_text (replies_of replies_left run) (replies_in replies_left jobs) (counted_among replies_left run) p history n (text_at texts n) (told n low) in
+    record {
+      tree = tree;
+      published = history_of p tree safe answers jobs are workers ring history report;
+      are = λ n low. text_as_said p tree answers jobs are history n (text_at texts n) (given n low);
+      lists = lists;
+      mine = mine;
+    }
 
 -- a ring that is right is none that is refused
 not_right : (ring : ℕ) → IsRightRing ring → (ring ≡ 0) ⊎ (16384 < ring) → ⊥
