@@ -53,7 +53,7 @@ pub fn read_suite<R: Read>(alloc: Global, reader: &mut R) -> Result<Suite, Launc
 fn answers_of(alloc: Global, scripts: Vec<Script>) -> Result<Answers, AllocError>
     ensures { IfOk result (λ answers. answers ≡ answers_in scripts.items) }
 {
-    let mut replies = Vec::new(alloc);
+    let mut replies = Vec::with_capacity(alloc, scripts.len())?;
     for script in scripts {
         replies.push((script.body, script.reply))?;
     }

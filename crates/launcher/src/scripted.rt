@@ -83,7 +83,7 @@ fn put_spin(spins: &mut Vec<u32>, place: usize, spin: u32) -> Result<(), AllocEr
 pub(crate) fn spins_of(alloc: Global, scripts: &[Script]) -> Result<Vec<u32>, AllocError>
     ensures { IfOk result (λ spins. (body : ℕ) → get_or spins.items body 0 ≡ spin_of scripts.now body) }
 {
-    let mut spins = Vec::new(alloc);
+    let mut spins = Vec::with_capacity(alloc, scripts.len())?;
     for script in scripts {
         put_spin(&mut spins, script.body.index(), script.spin)?;
     }
