@@ -40,12 +40,18 @@ configuring = fold with_rule filtering (
     ∷ single (codes "ring")
     ∷ [])
 
--- the program and its options
-abbrev pub program : App
-program = fold with_rule configuring (
+-- and those that say what is printed of what happened
+abbrev pub printing : App
+printing = fold with_rule configuring (
     single (codes "details")
     ∷ single (codes "details-theme")
-    ∷ flag (codes "fail-if-no-tests")
+    ∷ [])
+
+-- the program and its options
+abbrev pub program : App
+program = fold with_rule printing (
+    flag (codes "fail-if-no-tests")
     ∷ flag (codes "fail-fast")
+    ∷ flag (codes "schedule")
     ∷ single (codes "replay")
     ∷ [])

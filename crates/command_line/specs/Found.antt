@@ -51,4 +51,5 @@ values_in rows = record {
   replay = first_of (codes "replay") rows;
   fail_if_no_tests = is_found (codes "fail-if-no-tests") rows;
   fail_fast = is_found (codes "fail-fast") rows;
+  schedule = is_found (codes "schedule") rows;
 }

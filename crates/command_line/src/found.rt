@@ -7,8 +7,8 @@ ghost use Rattle.command_line.specs.Found.{all_found as all_in, is_found, of_kin
 
 use crate::option_names::{
     CONFIG, DETAILS, DETAILS_THEME, EXCLUDE_TAG, FAIL_FAST, FAIL_IF_NO_TESTS, INCLUDE_TAG,
-    PROCESSORS, REPLAY, RING, SELECT_CLASS, SELECT_METHOD, SELECT_PACKAGE, SELECT_UNIQUE_ID,
-    SYSTEM,
+    PROCESSORS, REPLAY, RING, SCHEDULE, SELECT_CLASS, SELECT_METHOD, SELECT_PACKAGE,
+    SELECT_UNIQUE_ID, SYSTEM,
 };
 use clap::ArgMatches;
 use launcher::Given;
@@ -109,5 +109,6 @@ pub(crate) fn given_in<'a>(alloc: Global, matches: &ArgMatches<'a>) -> Result<Gi
         replay: found(matches, REPLAY),
         fail_if_no_tests: is_found(matches, FAIL_IF_NO_TESTS),
         fail_fast: is_found(matches, FAIL_FAST),
+        schedule: is_found(matches, SCHEDULE),
     })
 }

@@ -2,7 +2,7 @@
 
 ghost use Rattle.std.specs.Prelude.{◌≡◌, IfOk, false};
 ghost use Rattle.clap.specs.Words.{app_of, rule_of, with_rule};
-ghost use Rattle.command_line.specs.Commands.{program, configuring, filtering, selecting, single, repeated, flag};
+ghost use Rattle.command_line.specs.Commands.{program, printing, configuring, filtering, selecting, single, repeated, flag};
 
 use clap::{Arg, ArgAction, Command};
 use std::alloc::{AllocError, Global};
@@ -34,6 +34,8 @@ pub(crate) const DETAILS_THEME: &str = "details-theme";
 pub(crate) const FAIL_IF_NO_TESTS: &str = "fail-if-no-tests";
 
 pub(crate) const FAIL_FAST: &str = "fail-fast";
+
+pub(crate) const SCHEDULE: &str = "schedule";
 
 pub(crate) const REPLAY: &str = "replay";
 
@@ -173,9 +175,9 @@ fn configuring<'a>(alloc: Global) -> Result<Command<'a>, AllocError>
     )
 }
 
-/// The program and its options.
-pub(crate) fn command<'a>(alloc: Global) -> Result<Command<'a>, AllocError>
-    ensures { IfOk result (λ command. app_of command ≡ program) }
+/// The same, and the options that say what is printed of what happened.
+fn printing<'a>(alloc: Global) -> Result<Command<'a>, AllocError>
+    ensures { IfOk result (λ command. app_of command ≡ printing) }
 {
     let command = configuring(alloc)?;
     let command = with(
@@ -186,14 +188,21 @@ pub(crate) fn command<'a>(alloc: Global) -> Result<Command<'a>, AllocError>
             "What is printed: none, summary, tree, testfeed, json, xml or list [default: tree]",
         ),
     )?;
-    let command = with(
+    with(
         command,
         single(
             alloc,
             DETAILS_THEME,
             "The signs of the tree: unicode or ascii [default: unicode]",
         ),
-    )?;
+    )
+}
+
+/// The program and its options.
+pub(crate) fn command<'a>(alloc: Global) -> Result<Command<'a>, AllocError>
+    ensures { IfOk result (λ command. app_of command ≡ program) }
+{
+    let command = printing(alloc)?;
     let command = with(
         command,
         flag(
@@ -208,6 +217,14 @@ pub(crate) fn command<'a>(alloc: Global) -> Result<Command<'a>, AllocError>
             alloc,
             FAIL_FAST,
             "Starts nothing more once a node has failed",
+        ),
+    )?;
+    let command = with(
+        command,
+        flag(
+            alloc,
+            SCHEDULE,
+            "Prints, behind a run, steps that --replay takes to just what happened",
         ),
     )?;
     with(

@@ -50,6 +50,7 @@ fn words(alloc: Global) -> Result<Vec<String>, AllocError> {
         "--details",
         "testfeed",
         "--fail-fast",
+        "--schedule",
         "--replay",
         STEPS,
     ] {

@@ -43,6 +43,7 @@ pub(crate) fn options_said(alloc: Global, options: &Options) -> Result<String, A
     writeln!(text, "{:?} {:?}", options.details, options.theme)?;
     writeln!(text, "{} {}", options.processors, options.ring)?;
     writeln!(text, "{} {}", options.fail_if_no_tests, options.fail_fast)?;
+    writeln!(text, "{}", options.schedule)?;
     Ok(text)
 }
 
