@@ -6,6 +6,7 @@ use crate::values::{plan_said, trace_said};
 use exec_mode::modes;
 use resource_locks::{Plan, PlanFault, hoist};
 use sched_core::{CoreFault, Trace, drive, run_steps};
+use schedules::schedule_of;
 use scheduling::Step;
 use std::alloc::{AllocError, Global};
 use std::io::{Result as IoResult, Write};
@@ -108,4 +109,26 @@ pub(crate) fn takes_steps<W: Write>(alloc: Global, out: &mut W) -> IoResult<()> 
     let trace = run_steps(alloc, &plan, &answers, 2, steps.as_slice());
     end(out)?;
     tell(out, stepped(alloc, &trace))
+}
+
+/// What is said of the steps of a history, if some were found.
+fn found(
+    alloc: Global,
+    steps: &Result<Option<Vec<Step>>, AllocError>,
+) -> Result<String, AllocError> {
+    match steps {
+        Ok(steps) => format!(in alloc; "{steps:?}"),
+        Err(_) => format!(in alloc; "refused 0"),
+    }
+}
+
+/// `schedule_of`, of the history that the fixed schedule publishes.
+pub(crate) fn finds_steps<W: Write>(alloc: Global, out: &mut W) -> IoResult<()> {
+    let plan = plan_of(alloc, SHOP)?;
+    let answers = answers_of(alloc, SHOP)?;
+    let history = drive(alloc, &plan, &answers)?.published;
+    begin(out, "")?;
+    let steps = schedule_of(alloc, &plan, &answers, 1, history.as_slice());
+    end(out)?;
+    tell(out, found(alloc, &steps))
 }

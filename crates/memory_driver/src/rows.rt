@@ -2,7 +2,7 @@
 
 use crate::inputs::{PAIR, SHOP};
 use crate::lists::{of_two, prepares};
-use crate::plans::{copy, drives, hoists, mode, takes_steps};
+use crate::plans::{copy, drives, finds_steps, hoists, mode, takes_steps};
 use crate::printing::{Print, prints};
 use crate::reading::{find, options, parse};
 use crate::runs::run_twice;
@@ -24,6 +24,7 @@ fn once<W: Write>(alloc: Global, out: &mut W, name: &str) -> IoResult<()> {
         "Plan::copy" => copy(alloc, out),
         "drive" => drives(alloc, out),
         "run_steps" => takes_steps(alloc, out),
+        "schedule_of" => finds_steps(alloc, out),
         "feed_text" => prints(alloc, out, Print::Feed),
         "tree_text" => prints(alloc, out, Print::Tree),
         "summary_text" => prints(alloc, out, Print::Summary),
