@@ -1,4 +1,4 @@
--- What listeners have heard, one event after the other: the texts of what they have heard stay.
+-- What listeners have heard and a watcher has seen, one event after the other: the texts of what they have heard stay.
 use Rattle.std.proofs.Common.{◌≡◌, ◌≢◌, ◌⊎◌, inl, inr, ℕ, suc, ◌≤◌, List, [], ◌∷◌, ◌++◌, length, Option, Some, slice_get, get_or, refl, sym, ap, ◌∙◌, subst, arith, append-nil, append_assoc}
 use Rattle.std.proofs.lemmas.List.{map-append}
 use Rattle.std.proofs.lemmas.Option.{slice_get_within}
@@ -16,6 +16,7 @@ use Rattle.event_history.specs.History.{IsLegal}
 use Rattle.event_history.proofs.Places.{stands_later}
 use Rattle.listeners.specs.Listeners.{Telling, text_by, text_told, telling, tellings_of, HasHeardMore, EachPlace}
 use Rattle.worker_pool.specs.Hearings.{HaveHeard, HaveHeardNothing, HaveHeardSince}
+use Rattle.worker_pool.specs.Watching.{HasSeenMore, HasSeenSince}
 use Rattle.worker_pool.proofs.Reported.{last_stands}
 
 -- where each of these events has one text in both, the tellings are the same
@@ -89,10 +90,34 @@ last_tellings : (old new : TextParts) (was more : List Event) → tellings_of ne
 last_tellings old new [] more same = same
 last_tellings old new (e ∷ was) more same = last_tellings old new was more (ap rest same)
 
+-- what was read since, one event later; its texts stay with those of all; and from a start it is all
+module _ (was read more : List Event) (so : read ≡ was ++ more) where
+  since_is : (later : List Event) (e : Event) → later ≡ read ++ e ∷ [] → later ≡ was ++ (more ++ e ∷ [])
+  since_is later e is = is ∙ ap (λ (l : List Event). l ++ e ∷ []) so ∙ append_assoc was more (e ∷ [])
+
+  since_stay : (old new : TextParts) → tellings_of new read ≡ tellings_of old read → tellings_of new more ≡ tellings_of old more
+  since_stay old new stay = last_tellings old new was more (subst (λ (l : List Event). tellings_of new l ≡ tellings_of old l) so stay)
+
+  since_all : (events : List Event) → was ≡ [] → events ≡ read → events ≡ more
+  since_all events none same = same ∙ so ∙ ap (λ (l : List Event). l ++ more) none
+
+-- one who hears: who is as it was has heard nothing more, and one event more is behind what it had heard
+module _ {X : Type 0} (heard : X → List Telling → Type 0) where
+  more_none : (x : X) → HasHeardMore heard [] x x
+  more_none x before h = subst (heard x) (sym (append-nil before)) h
+
+  more_one : (old new : TextParts) (more : List Event) (e : Event) (a b c : X) → tellings_of new more ≡ tellings_of old more
+      → HasHeardMore heard (telling new e ∷ []) b c → HasHeardMore heard (tellings_of old more) a b → HasHeardMore heard (tellings_of new (more ++ e ∷ [])) a c
+  more_one old new more e a b c front one so before h = subst (heard c)
+      (append_assoc before (tellings_of old more) (telling new e ∷ [])
+      ∙ ap (λ (ts : List Telling). before ++ (ts ++ telling new e ∷ [])) (sym front)
+      ∙ ap (λ (ts : List Telling). before ++ ts) (sym (map-append (telling new) more (e ∷ []))))
+      (one (before ++ tellings_of old more) (so before h))
+
 module _ {L : Type 0} (heard : L → List Telling → Type 0) where
   -- who are as they were have heard nothing more
   pub heard_nothing : (items : List L) → HaveHeardNothing heard items items
-  heard_nothing items k d lt before h = subst (heard (get_or items k d)) (sym (append-nil before)) h
+  heard_nothing items k d lt = more_none heard (get_or items k d)
 
   pub since_none : (texts : TextParts) (was : List Event) (items : List L) → HaveHeardSince heard texts was was items items
   since_none texts was items = record { more = []; is = sym (append-nil was); each = heard_nothing items }
@@ -101,15 +126,11 @@ module _ {L : Type 0} (heard : L → List Telling → Type 0) where
   pub since_more : (old new : TextParts) (was read now : List Event) (e : Event) (first items next : List L) → length items ≡ length first → now ≡ read ++ e ∷ [] → tellings_of new read ≡ tellings_of old read
       → EachPlace (λ a b. HasHeardMore heard (telling new e ∷ []) a b) items next → HaveHeardSince heard old was read first items → HaveHeardSince heard new was now first next
   since_more old new was read now e first items next len is stay one so =
-      let front : tellings_of new so.more ≡ tellings_of old so.more = last_tellings old new was so.more (subst (λ (l : List Event). tellings_of new l ≡ tellings_of old l) so.is stay) in
+      let front = since_stay was read so.more so.is old new stay in
       record {
         more = so.more ++ e ∷ [];
-        is = is ∙ ap (λ (l : List Event). l ++ e ∷ []) so.is ∙ append_assoc was so.more (e ∷ []);
-        each = λ k d lt before h. subst (heard (get_or next k d))
-            (append_assoc before (tellings_of old so.more) (telling new e ∷ [])
-            ∙ ap (λ (ts : List Telling). before ++ (ts ++ telling new e ∷ [])) (sym front)
-            ∙ ap (λ (ts : List Telling). before ++ ts) (sym (map-append (telling new) so.more (e ∷ []))))
-            (one k d (omega (arith, lt, len)) (before ++ tellings_of old so.more) (so.each k d lt before h));
+        is = since_is was read so.more so.is now e is;
+        each = λ k d lt. more_one heard old new so.more e (get_or first k d) (get_or items k d) (get_or next k d) front (one k d (omega (arith, lt, len))) (so.each k d lt);
       }
 
   -- no event: all is as it was
@@ -121,9 +142,29 @@ module _ {L : Type 0} (heard : L → List Telling → Type 0) where
   pub heard_whole : (texts : TextParts) (was read events : List Event) (first items next : List L) → length items ≡ length first → was ≡ [] → events ≡ read → HaveHeardNothing heard first items
       → HaveHeardSince heard texts was read items next → HaveHeard heard texts events first next
   heard_whole texts was read events first items next len none same nothing so k d lt before h =
-      let all : events ≡ so.more = same ∙ so.is ∙ ap (λ (l : List Event). l ++ so.more) none in
-      subst (λ (es : List Event). heard (get_or next k d) (before ++ tellings_of texts es)) (sym all)
+      subst (λ (es : List Event). heard (get_or next k d) (before ++ tellings_of texts es)) (sym (since_all was read so.more so.is events none same))
       (so.each k d (omega (arith, lt, len)) before (subst (heard (get_or items k d)) (append-nil before) (nothing k d lt before h)))
+
+-- the same of one who watches a plan
+module _ {L : Type 0} (saw : PlanParts → L → L → List Telling → Type 0) (p : PlanParts) where
+  pub seen_none : (texts : TextParts) (was : List Event) (v : L) → HasSeenSince saw p texts was was v v
+  seen_none texts was v = record { more = []; is = sym (append-nil was); seen = λ first. more_none (saw p first) v }
+
+  -- one event more, of a plan that is this one
+  pub seen_more : (old new : TextParts) (was read now : List Event) (e : Event) (a b c : L) (q : PlanParts) → now ≡ read ++ e ∷ [] → tellings_of new read ≡ tellings_of old read
+      → p ≡ q → HasSeenMore saw q (telling new e ∷ []) b c → HasSeenSince saw p old was read a b → HasSeenSince saw p new was now a c
+  seen_more old new was read now e a b c q is stay plan shown so =
+      let front = since_stay was read so.more so.is old new stay in
+      let one : HasSeenMore saw p (telling new e ∷ []) b c = subst (λ (r : PlanParts). HasSeenMore saw r (telling new e ∷ []) b c) (sym plan) shown in
+      record {
+        more = so.more ++ e ∷ [];
+        is = since_is was read so.more so.is now e is;
+        seen = λ first. more_one (saw p first) old new so.more e a b c front (one first) (so.seen first);
+      }
+
+  -- of a run from its start
+  pub seen_whole : (texts : TextParts) (was read events : List Event) (a b : L) → was ≡ [] → events ≡ read → HasSeenSince saw p texts was read a b → HasSeenMore saw p (tellings_of texts events) a b
+  seen_whole texts was read events a b none same so = subst (λ (es : List Event). HasSeenMore saw p (tellings_of texts es) a b) (sym (since_all was read so.more so.is events none same)) so.seen
 
 -- one event more is noted, where there is room as before
 pub noted_more : {B : Type 0} (old new : View B) (noted later : List Event) (e : Event) (room wide : ℕ) → new.about ≡ old.about → (dispatcher new).read ≡ (dispatcher old).read ++ e ∷ [] → later ≡ noted ++ e ∷ [] → wide ≡ room → IsNoted old noted room → IsNoted new later wide

@@ -1,14 +1,37 @@
--- One event more is read and told.
-use Rattle.std.proofs.Common.{◌∙◌}
+-- One event more is read, told and shown.
+use Rattle.std.proofs.Common.{◌∙◌, refl, sym}
 use Rattle.table_rule.specs.Plays.{dispatcher}
-use Rattle.worker_pool.proofs.Heard.{noted_more, since_more}
+use Rattle.run_table.proofs.Facts.{plan_is}
+use Rattle.worker_pool.proofs.Heard.{noted_more, seen_more, seen_none, since_more, since_none}
 use Rattle.worker_pool.proofs.desk.dispatch.Goals as goal
+
+pub loop-init : goal.loop-init
+loop-init g c =
+    let v = c.args.desk.now.seat.me.0 in
+    let q = c.requires in
+    record {
+      seat = q.seat;
+      same = record { table = refl; about = refl };
+      many = refl;
+      told = q.told;
+      heard = since_none (λ b ts. (goal.Listener-dyn g (b.vtable, b.value)).heard b.value ts) c.args.texts.now (dispatcher v).read c.args.audience.now.listeners.items;
+      seen = seen_none g.V.Watcher.saw v.about.plan c.args.texts.now (dispatcher v).read c.args.watcher.now;
+      room = q.room;
+      texts = q.texts;
+      noted = q.noted;
+    }
 
 pub returns-then-ends_plan-clause-heard : goal.returns-then-ends_plan-clause-heard
 returns-then-ends_plan-clause-heard g c =
     since_more (λ b ts. (goal.Listener-dyn g (b.vtable, b.value)).heard b.value ts) c.loop.texts c.dispatch_one.new.texts (dispatcher c.args.desk.now.seat.me.0).read (dispatcher c.loop.desk.seat.me.0).read (dispatcher c.dispatch_one.new.desk.seat.me.0).read
     c.in-Some-dispatch_one.read c.args.audience.now.listeners.items c.loop.audience.listeners.items c.dispatch_one.new.audience.listeners.items
     c.loop.invariant.many c.in-Some-dispatch_one.ensures.some c.dispatch_one.ensures.kept c.in-Some-dispatch_one.ensures.heard c.loop.invariant.heard
+
+pub returns-then-ends_plan-clause-seen : goal.returns-then-ends_plan-clause-seen
+returns-then-ends_plan-clause-seen g c =
+    seen_more g.V.Watcher.saw c.args.desk.now.seat.me.0.about.plan c.loop.texts c.dispatch_one.new.texts (dispatcher c.args.desk.now.seat.me.0).read (dispatcher c.loop.desk.seat.me.0).read (dispatcher c.dispatch_one.new.desk.seat.me.0).read
+    c.in-Some-dispatch_one.read c.args.watcher.now c.loop.watcher c.show.new.watcher c.plan.result.now c.in-Some-dispatch_one.ensures.some c.dispatch_one.ensures.kept
+    (plan_is _ _ _ c.args.desk.now.seat c.args.table.now.fitting c.requires.seat ∙ sym c.plan.ensures) c.show.ensures c.loop.invariant.seen
 
 pub loop-preserved-then-len-eq0 : goal.loop-preserved-then-len-eq0
 loop-preserved-then-len-eq0 g c =
@@ -22,6 +45,9 @@ loop-preserved-then-len-eq0 g c =
       heard = since_more (λ b ts. (goal.Listener-dyn g (b.vtable, b.value)).heard b.value ts) c.loop.texts c.dispatch_one.new.texts (dispatcher c.args.desk.now.seat.me.0).read (dispatcher c.loop.desk.seat.me.0).read (dispatcher c.dispatch_one.new.desk.seat.me.0).read
           c.in-Some-dispatch_one.read c.args.audience.now.listeners.items c.loop.audience.listeners.items c.dispatch_one.new.audience.listeners.items
           c.loop.invariant.many c.in-Some-dispatch_one.ensures.some c.dispatch_one.ensures.kept c.in-Some-dispatch_one.ensures.heard c.loop.invariant.heard;
+      seen = seen_more g.V.Watcher.saw c.args.desk.now.seat.me.0.about.plan c.loop.texts c.dispatch_one.new.texts (dispatcher c.args.desk.now.seat.me.0).read (dispatcher c.loop.desk.seat.me.0).read (dispatcher c.dispatch_one.new.desk.seat.me.0).read
+          c.in-Some-dispatch_one.read c.args.watcher.now c.loop.watcher c.show.new.watcher c.plan.result.now c.in-Some-dispatch_one.ensures.some c.dispatch_one.ensures.kept
+          (plan_is _ _ _ c.args.desk.now.seat c.args.table.now.fitting c.requires.seat ∙ sym c.plan.ensures) c.show.ensures c.loop.invariant.seen;
       room = q.room;
       texts = q.texts;
       noted = noted_more c.loop.desk.seat.me.0 c.dispatch_one.new.desk.seat.me.0 c.loop.events.items c.push_reserved.new.self.items c.in-Some-dispatch_one.read _ _ q.same.about c.in-Some-dispatch_one.ensures.some c.push_reserved.ensures.items c.push_reserved.ensures.capacity was.noted;
@@ -39,6 +65,9 @@ loop-preserved-else-len-eq0 g c =
       heard = since_more (λ b ts. (goal.Listener-dyn g (b.vtable, b.value)).heard b.value ts) c.loop.texts c.dispatch_one.new.texts (dispatcher c.args.desk.now.seat.me.0).read (dispatcher c.loop.desk.seat.me.0).read (dispatcher c.dispatch_one.new.desk.seat.me.0).read
           c.in-Some-dispatch_one.read c.args.audience.now.listeners.items c.loop.audience.listeners.items c.dispatch_one.new.audience.listeners.items
           c.loop.invariant.many c.in-Some-dispatch_one.ensures.some c.dispatch_one.ensures.kept c.in-Some-dispatch_one.ensures.heard c.loop.invariant.heard;
+      seen = seen_more g.V.Watcher.saw c.args.desk.now.seat.me.0.about.plan c.loop.texts c.dispatch_one.new.texts (dispatcher c.args.desk.now.seat.me.0).read (dispatcher c.loop.desk.seat.me.0).read (dispatcher c.dispatch_one.new.desk.seat.me.0).read
+          c.in-Some-dispatch_one.read c.args.watcher.now c.loop.watcher c.show.new.watcher c.plan.result.now c.in-Some-dispatch_one.ensures.some c.dispatch_one.ensures.kept
+          (plan_is _ _ _ c.args.desk.now.seat c.args.table.now.fitting c.requires.seat ∙ sym c.plan.ensures) c.show.ensures c.loop.invariant.seen;
       room = q.room;
       texts = q.texts;
       noted = noted_more c.loop.desk.seat.me.0 c.dispatch_one.new.desk.seat.me.0 c.loop.events.items c.push_reserved.new.self.items c.in-Some-dispatch_one.read _ _ q.same.about c.in-Some-dispatch_one.ensures.some c.push_reserved.ensures.items c.push_reserved.ensures.capacity was.noted;
