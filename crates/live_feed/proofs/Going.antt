@@ -1,0 +1,153 @@
+-- One event more: what was printed is a front of what is printed now.
+use Rattle.std.proofs.Common.{◌≡◌, ◌∙◌, ℕ, ◌<◌, ◌≤◌, ◌+◌, ◌⊎◌, inl, inr, false, List, [], ◌∷◌, ◌++◌, length, take, Option, refl, sym, ap, subst, arith, append-nil, append_assoc, length-append}
+use Rattle.std.specs.List.{flat_map}
+use Rattle.std.specs.Io.KnownBytes.{Appends}
+use Rattle.std.proofs.KnownBytes.{Appends-nil, Appends-trans}
+use Rattle.std.proofs.Math.Seq.{take-append_seam, take-append-add, take-length}
+use Rattle.std.proofs.lemmas.List.{take-append-le}
+use Rattle.std.proofs.lemmas.List.Concat.{flat_map-append}
+use Rattle.resource_locks.specs.Plans.{PlanParts}
+use Rattle.listeners.specs.Listeners.{Telling}
+use Rattle.live_feed.specs.LiveFeeds.{telling_line, output_of, has_end, ends_plan, front_of, IsSoFar, IsPrinted, IsHandedOn}
+use Rattle.live_feed.specs.declared.live_feed.LiveFeed.{LiveFeed}
+use Rattle.live_feed.specs.declared.live_feed.Outlet.{Outlet}
+use Rattle.live_feed.specs.declared.live_feed.Outlet.TheVariants.{Waiting, Open, Closed, Failed}
+use Rattle.live_feed.proofs.Lines.{line_long, no_end_behind}
+
+-- What is to be printed grows by a text, and of what was to be printed all was.
+module _ (a b c : Option (List ℕ)) (done text whole : List ℕ) (was now : ℕ) (grown : whole ≡ done ++ text) (all : was ≡ length done) (printed : Appends a b done) where
+  wide : length whole ≡ length done + length text
+  wide = ap length grown ∙ length-append done text
+
+  all_printed : Appends b c text → now ≡ was + length text → (now ≡ length whole) × Appends a c (take now whole)
+  all_printed more is =
+      let count : now ≡ length whole = omega (arith, is, all, wide) in
+      (count, subst (Appends a c) (sym grown ∙ sym (take-length whole) ∙ ap (λ (n : ℕ). take n whole) (sym count)) (Appends-trans a b c done text printed more))
+
+  none_printed : Appends b c [] → now ≡ was → 0 < length text → (now < length whole) × Appends a c (take now whole)
+  none_printed same is long =
+      let shown : take now whole ≡ done = ap (λ (n : ℕ). take n whole) (is ∙ all) ∙ ap (take (length done)) grown ∙ take-append_seam done text in
+      (omega (arith, is, all, wide, long), subst (Appends a c) (append-nil done ∙ sym shown) (Appends-trans a b c done [] printed same))
+
+  some_printed : (n : ℕ) → n < length text → Appends b c (take n text) → now ≡ was + n → (now < length whole) × Appends a c (take now whole)
+  some_printed n low more is =
+      let shown : take now whole ≡ done ++ take n text = ap (λ (k : ℕ). take k whole) (is ∙ ap (λ (k : ℕ). k + n) all) ∙ ap (take (length done + n)) grown ∙ take-append-add done text n in
+      (omega (arith, is, all, wide, low), subst (Appends a c) (sym shown) (Appends-trans a b c done (take n text) printed more))
+
+  -- what was done with the text
+  handed_on : (o : Outlet) (ts : List Telling) → has_end ts ≡ false → 0 < length text → IsHandedOn o b c was now text → IsSoFar o now whole ts × Appends a c (take now whole)
+  handed_on Waiting ts none long is = absurd is
+  handed_on Open ts none long is = (let so = all_printed is.0 is.1 in ((so.0, none), so.1))
+  handed_on Closed ts none long is = (let so = none_printed is.0 is.1 long in (inr so.0, so.1))
+  handed_on Failed ts none long is = some_printed is.0 is.1 is.2 is.3
+
+-- what was printed stays, where no more is
+stays_so_far : (o : Outlet) (a b : Option (List ℕ)) (sent : ℕ) (whole more : List ℕ) (ts later : List Telling) → (o ≡ Closed) ⊎ (o ≡ Failed) → IsSoFar o sent whole ts → Appends a b (take sent whole)
+    → IsSoFar o sent (whole ++ more) later × Appends a b (take sent (whole ++ more))
+stays_so_far o a b sent whole more ts later over so printed = (kept o over so, subst (Appends a b) (sym (take-append-le sent whole more (low o over so))) printed)
+  where
+    longer : length whole ≤ length (whole ++ more)
+    longer = omega (arith, length-append whole more)
+
+    low : (o : Outlet) → (o ≡ Closed) ⊎ (o ≡ Failed) → IsSoFar o sent whole ts → sent ≤ length whole
+    low Waiting over so = omega (arith, so.0)
+    low Open over so = omega (arith, so.0)
+    low Closed over so = elim so [ inl none ↦ omega (arith, none) | inr few ↦ omega (arith, few) ]
+    low Failed over so = omega (arith, so)
+
+    kept : (o : Outlet) → (o ≡ Closed) ⊎ (o ≡ Failed) → IsSoFar o sent whole ts → IsSoFar o sent (whole ++ more) later
+    kept Waiting over so = elim over [ inl q ↦ cc | inr q ↦ cc ]
+    kept Open over so = elim over [ inl q ↦ cc | inr q ↦ cc ]
+    kept Closed over so = elim so [ inl none ↦ inl none | inr few ↦ inr (omega (arith, few, longer)) ]
+    kept Failed over so = omega (arith, so, longer)
+
+-- All that was to be printed was, and the plan has not finished: so a line more is to be printed behind that.
+record IsGoing (p : PlanParts) (head front : List ℕ) (sent : ℕ) (a b : Option (List ℕ)) (before : List Telling) (t : Telling) : Type 0 where
+  done : List ℕ
+  grown : output_of head p (before ++ t ∷ []) ≡ done ++ (front ++ telling_line p t)
+  all : sent ≡ length done
+  printed : Appends a b done
+  none : has_end before ≡ false
+
+module _ {W : Type 0} (contents : W → Option (List ℕ)) (p : PlanParts) (first old new : LiveFeed W) (before : List Telling) (t : Telling) (is : IsPrinted contents p first old before) where
+  abbrev head : List ℕ
+  head = first.head.now
+
+  more_lines : output_of head p (before ++ t ∷ []) ≡ output_of head p before ++ telling_line p t
+  more_lines =
+      ap (λ (xs : List ℕ). head ++ xs) (flat_map-append (telling_line p) before (t ∷ []) ∙ ap (λ (xs : List ℕ). flat_map (telling_line p) before ++ xs) (append-nil (telling_line p t)))
+      ∙ sym (append_assoc head (flat_map (telling_line p) before) (telling_line p t))
+
+  going : (o : Outlet) → o ≡ old.outlet → (o ≡ Waiting) ⊎ (o ≡ Open) → IsSoFar o old.sent (output_of head p before) before → IsGoing p head (front_of o head) old.sent (contents first.writer.now) (contents old.writer.now) before t
+  going Waiting same on so = record {
+    done = [];
+    grown = ap (λ (ts : List Telling). output_of head p (ts ++ t ∷ [])) so.1 ∙ ap (λ (xs : List ℕ). head ++ xs) (append-nil (telling_line p t));
+    all = so.0;
+    printed = subst (λ (n : ℕ). Appends (contents first.writer.now) (contents old.writer.now) (take n (output_of head p before))) so.0 is.printed;
+    none = ap has_end so.1;
+  }
+  going Open same on so = record {
+    done = output_of head p before;
+    grown = more_lines;
+    all = so.0;
+    printed = subst (Appends (contents first.writer.now) (contents old.writer.now)) (ap (λ (n : ℕ). take n (output_of head p before)) so.0 ∙ take-length (output_of head p before)) is.printed;
+    none = so.1;
+  }
+  going Closed same on so = elim on [ inl q ↦ cc | inr q ↦ cc ]
+  going Failed same on so = elim on [ inl q ↦ cc | inr q ↦ cc ]
+
+  -- no more is printed, and nothing was done
+  pub passed_over : (old.outlet ≡ Closed) ⊎ (old.outlet ≡ Failed) → new ≡ old → IsPrinted contents p first new (before ++ t ∷ [])
+  passed_over over same =
+      let so = stays_so_far old.outlet (contents first.writer.now) (contents old.writer.now) old.sent (output_of head p before) (telling_line p t) before (before ++ t ∷ []) over is.so_far is.printed in
+      subst (λ (now : LiveFeed W). IsPrinted contents p first now (before ++ t ∷ [])) (sym same) (record {
+        same = is.same;
+        head = is.head;
+        closed = is.closed;
+        so_far = subst (λ (xs : List ℕ). IsSoFar old.outlet old.sent xs (before ++ t ∷ [])) (sym more_lines) so.0;
+        printed = subst (λ (xs : List ℕ). Appends (contents first.writer.now) (contents old.writer.now) (take old.sent xs)) (sym more_lines) so.1;
+      })
+
+  open_first : (old.outlet ≡ Waiting) ⊎ (old.outlet ≡ Open) → first.outlet ≡ Closed → ⊥
+  open_first on was = (let now = (is.closed was).0 in elim on [ inl waits ↦ different (sym waits ∙ now) | inr opens ↦ other (sym opens ∙ now) ])
+    where
+      different : Waiting ≡ Closed → ⊥
+      different q = cc
+
+      other : Open ≡ Closed → ⊥
+      other q = cc
+
+  module _ (on : (old.outlet ≡ Waiting) ⊎ (old.outlet ≡ Open)) (same : new.writer.ghost_name ≡ old.writer.ghost_name) (as_first : new.head ≡ old.head) where
+    go : IsGoing p head (front_of old.outlet head) old.sent (contents first.writer.now) (contents old.writer.now) before t
+    go = going old.outlet refl on is.so_far
+
+    text_long : 0 < length (front_of old.outlet head ++ telling_line p t)
+    text_long = omega (arith, line_long p t, length-append (front_of old.outlet head) (telling_line p t))
+
+    -- it ends here, and nothing was handed to the writer
+    pub stops : new.outlet ≡ Closed → new.sent ≡ old.sent → new.writer.now ≡ old.writer.now → IsPrinted contents p first new (before ++ t ∷ [])
+    stops closed sent kept =
+        let so = none_printed (contents first.writer.now) (contents old.writer.now) (contents new.writer.now) go.done (front_of old.outlet head ++ telling_line p t) (output_of head p (before ++ t ∷ [])) old.sent new.sent go.grown go.all go.printed
+        (subst (λ (w : W). Appends (contents old.writer.now) (contents w) []) (sym kept) (Appends-nil _)) sent text_long in
+        record {
+          same = same ∙ is.same;
+          head = as_first ∙ is.head;
+          closed = λ was. absurd (open_first on was);
+          so_far = subst (λ (o : Outlet). IsSoFar o new.sent (output_of head p (before ++ t ∷ [])) (before ++ t ∷ [])) (sym closed) (inr so.0);
+          printed = so.1;
+        }
+
+    -- the text was handed on
+    pub goes_on : ends_plan t.event ≡ false → (text : List ℕ) → text ≡ front_of old.outlet old.head.now ++ telling_line p t
+        → IsHandedOn new.outlet (contents old.writer.now) (contents new.writer.now) old.sent new.sent text → IsPrinted contents p first new (before ++ t ∷ [])
+    goes_on goes text is_text handed =
+        let text_is : text ≡ front_of old.outlet head ++ telling_line p t = is_text ∙ ap (λ h. front_of old.outlet h.now ++ telling_line p t) is.head in
+        let so = handed_on (contents first.writer.now) (contents old.writer.now) (contents new.writer.now) go.done (front_of old.outlet head ++ telling_line p t) (output_of head p (before ++ t ∷ [])) old.sent new.sent go.grown go.all go.printed
+        new.outlet (before ++ t ∷ []) (no_end_behind before t go.none goes) text_long (subst (IsHandedOn new.outlet (contents old.writer.now) (contents new.writer.now) old.sent new.sent) text_is handed) in
+        record {
+          same = same ∙ is.same;
+          head = as_first ∙ is.head;
+          closed = λ was. absurd (open_first on was);
+          so_far = so.0;
+          printed = so.1;
+        }

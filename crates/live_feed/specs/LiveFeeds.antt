@@ -1,0 +1,72 @@
+-- What a writer was given of the feed of a run that goes on.
+use Rattle.std.specs.Prelude.{◌≡◌, ℕ, ◌+◌, ◌<◌, ◌≤◌, ◌⊎◌, ◌==◌, ◌&&◌, ◌||◌, Bool, true, false, List, [], ◌∷◌, ◌++◌, length, take, Option}
+use Rattle.std.specs.List.{flat_map}
+use Rattle.std.specs.Io.KnownBytes.{Appends}
+use Rattle.plan_events.specs.declared.event.Event.{Event}
+use Rattle.plan_events.specs.declared.event.EventKind.{EventKind}
+use Rattle.plan_events.specs.declared.event.EventKind.TheVariants.{Started, Finished, Skipped, Registered}
+use Rattle.resource_locks.specs.Plans.{PlanParts}
+use Rattle.listeners.specs.Feed.{event_line, id_at, text_or}
+use Rattle.listeners.specs.Listeners.{Telling}
+use Rattle.live_feed.specs.declared.live_feed.LiveFeed.{LiveFeed}
+use Rattle.live_feed.specs.declared.live_feed.Outlet.{Outlet}
+use Rattle.live_feed.specs.declared.live_feed.Outlet.TheVariants.{Waiting, Open, Closed, Failed}
+
+-- the line of an event, with the text that is told with it
+abbrev pub telling_line : PlanParts → Telling → List ℕ
+telling_line p t = event_line t.event (id_at p t.event.node) (text_or t.text)
+
+-- what is printed of these events: what stands in front, then a line for each
+abbrev pub output_of : List ℕ → PlanParts → List Telling → List ℕ
+output_of head p ts = head ++ flat_map (telling_line p) ts
+
+abbrev pub is_finish : EventKind → Bool
+is_finish Started = false
+is_finish Finished = true
+is_finish Skipped = false
+is_finish Registered = false
+
+-- the event is the plan's finish
+abbrev pub ends_plan : Event → Bool
+ends_plan e = is_finish e.kind && (e.node == 0)
+
+-- one of them is
+abbrev pub has_end : List Telling → Bool
+has_end [] = false
+has_end (t ∷ ts) = ends_plan t.event || has_end ts
+
+-- what stands in front of the line that is printed next
+abbrev pub front_of : Outlet → List ℕ → List ℕ
+front_of Waiting head = head
+front_of Open head = []
+front_of Closed head = []
+front_of Failed head = []
+
+-- How far the printing has come of this output, which is that of these events: nothing was printed, as nothing happened; all was, and
+-- the plan has not finished; or, for good, the first so many bytes were, and not all unless nothing was. The plan's finish is never printed.
+abbrev pub IsSoFar : Outlet → ℕ → List ℕ → List Telling → Type 0
+IsSoFar Waiting sent output ts = (sent ≡ 0) × (ts ≡ [])
+IsSoFar Open sent output ts = (sent ≡ length output) × (has_end ts ≡ false)
+IsSoFar Closed sent output ts = (sent ≡ 0) ⊎ (sent < length output)
+IsSoFar Failed sent output ts = sent < length output
+
+-- The writer is that of the feed at first, and has taken besides the first so many bytes of what is printed of these events. A feed that is closed from the first prints nothing.
+pub record IsPrinted {W : Type 0} (contents : W → Option (List ℕ)) (p : PlanParts) (first now : LiveFeed W) (ts : List Telling) : Type 0 where
+  pub same : now.writer.ghost_name ≡ first.writer.ghost_name
+  pub head : now.head ≡ first.head
+  pub closed : first.outlet ≡ Closed → (now.outlet ≡ Closed) × (now.sent ≡ first.sent)
+  pub so_far : IsSoFar now.outlet now.sent (output_of first.head.now p ts) ts
+  pub printed : Appends (contents first.writer.now) (contents now.writer.now) (take now.sent (output_of first.head.now p ts))
+
+-- What was done with bytes that were to be printed next: the writer took all, or none was handed to it, or it failed behind the first so many.
+abbrev pub IsHandedOn : Outlet → Option (List ℕ) → Option (List ℕ) → (was now : ℕ) → List ℕ → Type 0
+IsHandedOn Waiting old new was now bytes = ⊥
+IsHandedOn Open old new was now bytes = Appends old new bytes × (now ≡ was + length bytes)
+IsHandedOn Closed old new was now bytes = Appends old new [] × (now ≡ was)
+IsHandedOn Failed old new was now bytes = (n : ℕ) × (n < length bytes) × Appends old new (take n bytes) × (now ≡ was + n)
+
+-- The writer took the first so many bytes of the text, and not all if it failed.
+pub record IsFront (old new : Option (List ℕ)) (outlet : Outlet) (sent : ℕ) (text : List ℕ) : Type 0 where
+  pub fits : sent ≤ length text
+  pub failed : outlet ≡ Failed → sent < length text
+  pub printed : Appends old new (take sent text)

@@ -1,0 +1,152 @@
+//! A feed that goes to a writer line by line, when its events are told.
+
+ghost use Rattle.std.specs.Prelude.{◌≡◌, ◌≤◌, ◌<◌, ◌++◌, ℕ, List, Option, IfOk, length, take, string_bytes};
+ghost use Rattle.std.specs.Io.KnownBytes.{Appends};
+ghost use Rattle.listeners.specs.Listeners.{telling};
+ghost use Rattle.listeners.specs.Sending.{SendsExactly};
+ghost use Rattle.live_feed.specs.LiveFeeds.{ends_plan as is_end, front_of, telling_line};
+
+use descriptor::NodeId;
+use listeners::{WriteFault, feed_text, print_to};
+use plan_events::{Event, EventKind, Texts};
+use resource_locks::Plan;
+use std::alloc::{AllocError, Global};
+use std::io::Write;
+use worker_pool::Watcher;
+
+/// How the printing goes.
+#[derive(Clone, Copy, PartialEq, Eq, Debug)]
+pub enum Outlet {
+    /// Nothing happened yet.
+    Waiting,
+    /// The line of each event is printed.
+    Open,
+    /// What is left is printed when the run is over.
+    Closed,
+    /// The writer failed: nothing more is printed.
+    Failed,
+}
+
+/// The feed of a run, on its way to a writer: the line of each event but the plan's finish is handed to the writer when the event is
+/// told. The rest is printed by `finish`, when all is known to go well.
+#[derive(Drop)]
+pub struct LiveFeed<'w, W: Write> {
+    alloc: Global,
+    writer: &'w mut W,
+    head: &'w str,
+    outlet: Outlet,
+    sent: usize,
+}
+
+/// Whether it is the plan's finish.
+fn ends_plan(event: Event) -> bool
+    ensures { result ≡ is_end event }
+{
+    matches!(event.kind, EventKind::Finished) && event.node == NodeId::ROOT
+}
+
+impl<'w, W: Write> LiveFeed<'w, W> {
+    ghost use Rattle.live_feed.specs.LiveFeeds.{IsHandedOn};
+
+    /// A feed behind this text, of which nothing was printed. One that is closed prints nothing before `finish`.
+    pub fn new(alloc: Global, writer: &'w mut W, head: &'w str, outlet: Outlet) -> LiveFeed<'w, W>
+        ensures same { result.writer.ghost_name ≡ writer.entry.ghost_name }
+        ensures writer { result.writer.now ≡ writer.old }
+        ensures head { result.head.now ≡ head.now }
+        ensures outlet { result.outlet ≡ outlet }
+        ensures none { result.sent ≡ 0 }
+    {
+        LiveFeed {
+            alloc,
+            writer,
+            head,
+            outlet,
+            sent: 0,
+        }
+    }
+
+    /// How many bytes the writer took.
+    pub fn sent(&self) -> usize
+        ensures { result ≡ self.now.sent }
+    {
+        self.sent
+    }
+
+    /// The line of an event, behind what stands in front of the first.
+    fn next_lines(&self, plan: &Plan, texts: &Texts, event: Event) -> Result<String, AllocError>
+        ensures { IfOk result (λ text. string_bytes text ≡ front_of self.now.outlet self.now.head.now ++ telling_line plan.now (telling texts.now event)) }
+    {
+        let line = feed_text(self.alloc, plan, &[event], texts)?;
+        match self.outlet {
+            Outlet::Waiting => {
+                let mut text = String::from_str(self.alloc, self.head)?;
+                text.push_str(line.as_str())?;
+                Ok(text)
+            }
+            Outlet::Open | Outlet::Closed | Outlet::Failed => Ok(line),
+        }
+    }
+
+    /// Hands these bytes to the writer.
+    fn hand_on(&mut self, bytes: &[u8])
+        ensures same { self.new.writer.ghost_name ≡ self.old.writer.ghost_name }
+        ensures head { self.new.head ≡ self.old.head }
+        ensures handed { IsHandedOn self.new.outlet (W.contents self.old.writer.now) (W.contents self.new.writer.now) self.old.sent self.new.sent bytes.now }
+    {
+        // More bytes than can be counted are not printed before the end.
+        if self.sent.checked_add(bytes.len()).is_none() {
+            self.outlet = Outlet::Closed;
+            return;
+        }
+        match print_to(&mut *self.writer, bytes) {
+            Ok(()) => {
+                self.sent += bytes.len();
+                self.outlet = Outlet::Open;
+            }
+            Err(fault) => {
+                self.sent += fault.sent;
+                self.outlet = Outlet::Failed;
+            }
+        }
+    }
+
+    /// Prints what is left of the whole output, which begins with what was printed. A writer that failed is left alone.
+    pub fn finish(&mut self, whole: &[u8]) -> Result<(), WriteFault>
+        requires fits { self.old.sent ≤ length whole.now }
+        requires short { self.old.outlet ≡ Outlet.Failed → self.old.sent < length whole.now }
+        ensures same { self.new.writer.ghost_name ≡ self.old.writer.ghost_name }
+        ensures whole { (first : Option (List ℕ)) → Appends first (W.contents self.old.writer.now) (take self.old.sent whole.now) → SendsExactly first (W.contents self.new.writer.now) whole.now result }
+    {
+        if self.outlet == Outlet::Failed {
+            return Err(WriteFault { sent: self.sent });
+        }
+        match print_to(&mut *self.writer, &whole[self.sent..]) {
+            Ok(()) => Ok(()),
+            Err(fault) => Err(WriteFault {
+                sent: self.sent + fault.sent,
+            }),
+        }
+    }
+}
+
+impl<'w, W: Write> Watcher for LiveFeed<'w, W> {
+    ghost use Rattle.live_feed.specs.LiveFeeds.{IsPrinted};
+
+    ghost saw = { IsPrinted W.contents };
+
+    fn watch(&mut self, plan: &Plan, texts: &Texts, event: Event) {
+        let event = &event;
+        match self.outlet {
+            Outlet::Closed | Outlet::Failed => return,
+            Outlet::Waiting | Outlet::Open => {}
+        }
+        if ends_plan(*event) {
+            self.outlet = Outlet::Closed;
+            return;
+        }
+        match self.next_lines(plan, texts, *event) {
+            Ok(text) => self.hand_on(text.as_bytes()),
+            Err(AllocError) => self.outlet = Outlet::Closed,
+        }
+    }
+}
