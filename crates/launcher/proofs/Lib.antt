@@ -7,3 +7,4 @@ pub mod Requesting
 pub mod Reporting
 pub mod Scripting
 pub mod Selected
+pub mod Showing

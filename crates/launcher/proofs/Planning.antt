@@ -1,6 +1,6 @@
 -- From the refusals of each part of a run to the first one of all, and to the plan that is run.
 use Rattle.std.proofs.Common.{◌≡◌, ◌≢◌, ℕ, ◌<◌, ◌≤◌, List, length, Bool, true, false, Option, Some, None, option_map, Result, Ok, Err, IfErr, refl, sym, ap, subst, ◌∙◌, arith, inl, inr}
-use Rattle.std.specs.Prelude.{IfOk, string_bytes, nat_lt, if◌then◌else◌, unwrap_or}
+use Rattle.std.specs.Prelude.{nat_lt, if◌then◌else◌, unwrap_or}
 use Rattle.std.specs.Option.{option_or}
 use Rattle.std.specs.Result.{IsErrAnd}
 use Rattle.std.proofs.lemmas.Bool.{lt-ltb}
@@ -28,9 +28,8 @@ use Rattle.suite_text.specs.Reading.Parts.{SuiteParts}
 use Rattle.launcher.specs.Asked.{Asked}
 use Rattle.launcher.specs.Faults.{IsPlanFault, IsSelectFault}
 use Rattle.launcher.specs.Reports.{IsOutput}
-use Rattle.launcher.specs.Runs.{FailsSuite, IsSuiteOutput, IsUnrun, TakesMemory, answers_of, crowd_refusal, keys_refusal, plan_of, plan_refusal, run_refusal, selection_fault, selection_refusal, settings_in, settings_refusal, workers_refusal}
+use Rattle.launcher.specs.Runs.{FailsSuite, IsReady, IsSuiteOutput, IsUnrun, TakesMemory, answers_of, crowd_refusal, keys_refusal, plan_of, plan_refusal, run_refusal, selection_fault, selection_refusal, settings_in, settings_refusal, workers_refusal}
 use Rattle.launcher.specs.declared.exit_status.ExitStatus.{ExitStatus}
-use Rattle.launcher.specs.declared.report.Report.{Report}
 use Rattle.launcher.specs.declared.fault.LaunchFault.{LaunchFault}
 use Rattle.launcher.specs.declared.fault.LaunchFault.TheVariants.{NoMemory, Suite as OfSuite, BadWords, BadStep, BadSelector, BadTags, BadPair, BadSettings, NothingMatches, TooManyKeys, TooManyWorkers, NoWorker, Reading, Writing}
 
@@ -165,26 +164,42 @@ module _ (asked : Asked) (suite : SuiteParts) where
       memory_fails (Ok x) same = absurd same
       memory_fails (Err e) same = rw same (takes (or_none _ _ accepted))
 
-      -- a run that is not begun
-      unrun_fails : (fault : LaunchFault) → workers_refusal settings.workers ≡ None → IsUnrun asked fault → FailsSuite asked suite fault
-      unrun_fails fault few why = elim why [ inl memory ↦ rw memory (takes (or_none _ _ accepted)) | inr none ↦ rw none.0 (run_left ∙ few, none.1) ]
-
-      pub ends_unrun : {X : Type 0} (result : Result X LaunchFault) → workers_refusal settings.workers ≡ None → IfErr result (IsUnrun asked) → IfErr result (FailsSuite asked suite)
-      ends_unrun (Ok x) few why = why
-      ends_unrun (Err fault) few why = unrun_fails fault few why
-
-      -- the output of the plan is the suite's
-      pub is_output : (plan : PlanParts) (answers : List (ℕ × Reply)) (text : List ℕ) (status : ExitStatus) → workers_refusal settings.workers ≡ None → plan ≡ plan_of asked.fail_fast settings (answer suite.tree asked.request) → answers ≡ answers_of suite.scripts
-          → (HasBareSpares suite.tree → NeverStuck plan) → IsOutput asked settings plan answers text status → IsSuiteOutput asked suite text status
-      is_output plan answers text status few same replies never output = record {
-        accepted = run_left ∙ few;
-        settings = settings;
+      -- nothing refuses the suite
+      pub made_ready : (plan : PlanParts) (answers : List (ℕ × Reply)) → workers_refusal settings.workers ≡ None → plan ≡ plan_of asked.fail_fast settings (answer suite.tree asked.request) → answers ≡ answers_of suite.scripts
+          → 1 ≤ settings.workers → settings.workers ≤ 64 → IsGuarded (declared_of plan.tree) plan → (HasBareSpares suite.tree → NeverStuck plan) → IsReady asked suite settings plan answers
+      made_ready plan answers count same replies some few safe never = record {
+        accepted = run_left ∙ count;
         are = sym are;
-        output = subst (λ (p : PlanParts). IsOutput asked settings p (answers_of suite.scripts) text status) same (subst (λ (a : List (ℕ × Reply)). IsOutput asked settings plan a text status) replies output);
-        never_stuck = λ bare. subst NeverStuck same (never bare);
+        plan_is = same;
+        replies_are = replies;
+        some = some;
+        few = few;
+        guarded = safe;
+        never_stuck = never;
       }
 
-      pub outputs : {E : Type 0} (result : Result Report E) (plan : PlanParts) (answers : List (ℕ × Reply)) → workers_refusal settings.workers ≡ None → plan ≡ plan_of asked.fail_fast settings (answer suite.tree asked.request) → answers ≡ answers_of suite.scripts
-          → (HasBareSpares suite.tree → NeverStuck plan) → IfOk result (λ report. IsOutput asked settings plan answers (string_bytes report.text) report.status) → IfOk result (λ report. IsSuiteOutput asked suite (string_bytes report.text) report.status)
-      outputs (Ok report) plan answers few same replies never output = is_output plan answers (string_bytes report.text) report.status few same replies never output
-      outputs (Err e) plan answers few same replies never output = tt
+module _ (asked : Asked) (suite : SuiteParts) (settings : Settings) (plan : PlanParts) (answers : List (ℕ × Reply)) (ready : IsReady asked suite settings plan answers) where
+  -- nothing that is judged before memory is taken refuses it
+  pub ready_takes : TakesMemory asked suite
+  ready_takes = record {
+    settings = ap settings_refusal ready.are;
+    selection = or_none _ _ (or_none _ _ (after_settings (settings_in asked suite) ready.are ready.accepted));
+  }
+    where
+      after_settings : (r : Result Settings SettingsFault) → r ≡ Ok settings → option_or (settings_refusal r) (option_or (plan_refusal suite.tree asked.request) (crowd_refusal r)) ≡ None → option_or (plan_refusal suite.tree asked.request) (crowd_refusal r) ≡ None
+      after_settings (Ok s) is none = none
+      after_settings (Err f) is none = cc
+
+  -- a run that is not begun
+  pub ready_unrun : (fault : LaunchFault) → IsUnrun asked fault → FailsSuite asked suite fault
+  ready_unrun fault why = elim why [ inl memory ↦ rw memory ready_takes | inr none ↦ rw none.0 (ready.accepted, none.1) ]
+
+  -- the output of the plan is the suite's
+  pub ready_output : (text : List ℕ) (status : ExitStatus) → IsOutput asked settings plan answers text status → IsSuiteOutput asked suite text status
+  ready_output text status output = record {
+    accepted = ready.accepted;
+    settings = settings;
+    are = ready.are;
+    output = subst (λ (p : PlanParts). IsOutput asked settings p (answers_of suite.scripts) text status) ready.plan_is (subst (λ (a : List (ℕ × Reply)). IsOutput asked settings plan a text status) ready.replies_are output);
+    never_stuck = λ bare. subst NeverStuck ready.plan_is (ready.never_stuck bare);
+  }

@@ -1,5 +1,5 @@
 -- What a run prints, from what each of its parts says.
-use Rattle.std.proofs.Common.{◌≡◌, ◌∙◌, ◌<◌, ◌≤◌, ℕ, Bool, false, arith, List, ◌++◌, Some, refl, sym, ap, ap₂, subst, inl, inr}
+use Rattle.std.proofs.Common.{◌≡◌, ◌∙◌, ◌<◌, ◌≤◌, ℕ, Bool, true, false, arith, List, [], ◌++◌, Some, None, Result, Ok, Err, refl, ap, ap₂, subst, inl, inr}
 use Rattle.std.specs.Prelude.{◌⊎◌}
 use Rattle.std.proofs.lemmas.Option.{none-some, same_Some}
 use Rattle.config_params.specs.declared.settings.Settings.{Settings}
@@ -10,8 +10,7 @@ use Rattle.plan_events.specs.Texts.{TextParts, text_at}
 use Rattle.resource_locks.specs.Declarations.{declared_of}
 use Rattle.resource_locks.specs.Hoisted.{IsGuarded}
 use Rattle.resource_locks.specs.Plans.{PlanParts}
-use Rattle.event_history.specs.History.{IsLegal, IsComplete}
-use Rattle.event_history.specs.Order.{IsInOrder}
+use Rattle.event_history.specs.History.{IsLegal}
 use Rattle.event_history.proofs.Apart.{apart}
 use Rattle.listeners.specs.declared.theme.Theme.{Theme}
 use Rattle.listeners.specs.Results.{tests_found, has_failed}
@@ -35,10 +34,17 @@ use Rattle.launcher.specs.declared.exit_status.ExitStatus.{ExitStatus}
 use Rattle.launcher.specs.declared.scripted.ScriptedJob.{ScriptedJob}
 use Rattle.launcher.specs.Asked.{Asked}
 use Rattle.launcher.specs.ExitStatuses.{status_of_run}
-use Rattle.launcher.specs.Reports.{details_of, expected_details, expected_status, IsBehindDetails, IsExpectedOutput, IsHistory, IsRunOutput}
+use Rattle.launcher.specs.Reports.{details_of, expected_details, IsBehindDetails, IsExpectedOutput, IsHistory, IsRunOutput}
 use Rattle.launcher.specs.Scripted.{replies_left, AreScripted}
 use Rattle.launcher.specs.WarningTexts.{warning_lines}
-use Rattle.launcher.proofs.Scripting.{all_there, legal_as_said, text_as_said}
+use Rattle.launcher.specs.ScheduleTexts.{schedule_line}
+use Rattle.launcher.specs.Watched.{HasWatchedInVain, Watches}
+use Rattle.launcher.specs.declared.fault.LaunchFault.{LaunchFault}
+use Rattle.launcher.specs.declared.report.Report.{Report}
+use Rattle.listeners.specs.Listeners.{Telling, tellings_of}
+use Rattle.worker_pool.specs.Watching.{HasSeenMore}
+use Rattle.std.specs.Result.{IsErrAnd}
+use Rattle.launcher.proofs.Scripting.{legal_as_said, text_as_said}
 
 -- what the threads report of the suite's jobs is a history of what the suite says
 pub history_of : (p : PlanParts) → IsTree p.tree → IsGuarded (declared_of p.tree) p → (answers : List (ℕ × Reply)) (jobs : List (ℕ × ScriptedJob)) → AreScripted p answers (slot_count p) jobs → (workers ring : ℕ) (history : List Event)
@@ -135,3 +141,27 @@ ran schedule text status asked settings p answers history texts told behind prin
   exits = exits;
   as_expected = λ calm. expected_output asked settings p answers history texts told calm schedule text status printed exits;
 }
+
+-- where there is no memory for a schedule, the line that says so would have been printed
+schedule_behind : (asked : Bool) (workers : ℕ) (p : PlanParts) (answers : List (ℕ × Reply)) (history : List Event) → (schedule : List ℕ) × IsBehindDetails asked workers p answers history schedule
+schedule_behind false workers p answers history = ([], refl)
+schedule_behind true workers p answers history = (schedule_line None, record { found = None; schedule = tt; namable = tt; printed = refl })
+
+-- whoever watches has seen a run of which no report was made
+pub in_vain : {L : Type 0} (saw : PlanParts → L → L → List Telling → Type 0) (asked : Asked) (settings : Settings) (p : PlanParts) (answers : List (ℕ × Reply)) (history : List Event) (texts : TextParts) → IsTold settings.workers p answers history texts
+    → (first now : L) → HasSeenMore saw p (tellings_of texts history) first now → HasWatchedInVain saw asked settings p answers first now
+in_vain saw asked settings p answers history texts told first now seen =
+    let behind = schedule_behind asked.schedule settings.workers p answers history in
+    let text = warning_lines settings.warnings ++ (details_of asked.details asked.theme p texts history ++ behind.0) in
+    let status = status_of_run asked.fail_if_no_tests (tests_found p history) (has_failed p history) in
+    record {
+      text = text;
+      status = status;
+      output = ran behind.0 text status asked settings p answers history texts told behind.1 refl refl;
+      watched = record { history = history; texts = texts; behind = behind.0; ends = told.published.ends; printed = refl; seen = seen };
+    }
+
+pub watches_in_vain : {L : Type 0} (saw : PlanParts → L → L → List Telling → Type 0) (asked : Asked) (settings : Settings) (p : PlanParts) (answers : List (ℕ × Reply)) (first now : L) (fault : LaunchFault) (result : Result Report LaunchFault)
+    → IsErrAnd result (λ e. e ≡ fault) → HasWatchedInVain saw asked settings p answers first now → Watches saw asked settings p answers first now result
+watches_in_vain saw asked settings p answers first now fault (Ok report) same vain = absurd same
+watches_in_vain saw asked settings p answers first now fault (Err e) same vain = inr vain

@@ -1,14 +1,13 @@
 -- The jobs of a suite are those that a run asks for, and what is legal by their replies is legal by what the suite says.
-use Rattle.std.proofs.Common.{◌≡◌, ◌∙◌, ℕ, zero, suc, ◌+◌, ◌<◌, ◌==◌, ◌&&◌, ◌≢◌, not, nat_lt, cond, Bool, true, false, List, [], ◌∷◌, ◌++◌, length, Option, Some, None, slice_get, refl, sym, ap, subst, arith, inl, inr}
+use Rattle.std.proofs.Common.{◌≡◌, ◌∙◌, ℕ, zero, suc, ◌+◌, ◌<◌, ◌==◌, ◌&&◌, not, nat_lt, cond, Bool, true, false, List, [], ◌∷◌, ◌++◌, length, Option, Some, None, slice_get, refl, sym, ap, subst, arith, inl, inr}
 use Rattle.std.specs.List.{All}
 use Rattle.std.proofs.lemmas.Bool.{eqb-true}
 use Rattle.std.proofs.lemmas.List.Elements.{All-append, All-cons, All-head, All-nil, All-tail}
 use mathlib.Core.Logic.{dite}
 use native.Mathlib.Decide.{ℕ_discrete}
-use Rattle.std.proofs.lemmas.Option.{none-some, same_Some, slice_get_within}
+use Rattle.std.proofs.lemmas.Option.{none-some, same_Some}
 use Rattle.std.specs.Option.{is_some}
-use Rattle.descriptor.specs.Nodes.{Nodes, IsTree, size, node_at, body_of, after_of, body_or, after_or, kind_of, role_of}
-use Rattle.descriptor.specs.declared.node.Node.{Node}
+use Rattle.descriptor.specs.Nodes.{IsTree, size, body_of, after_of, kind_of, role_of}
 use Rattle.descriptor.specs.Roles.{is_factory}
 use Rattle.descriptor.specs.declared.kind.Kind.{Kind}
 use Rattle.descriptor.specs.declared.kind.Kind.TheVariants.{Test, Container, ContainerAndTest}
@@ -22,14 +21,13 @@ use Rattle.plan_events.specs.declared.status.Status.TheVariants.{Successful}
 use Rattle.resource_locks.specs.Plans.{PlanParts}
 use Rattle.event_history.specs.History.{HasResult, IsLegal, IsTextOf}
 use Rattle.event_history.specs.Plans.{Sort, Leaf, Holder, Maker, pulls_job, sort_by, sort_of, spare_count}
-use Rattle.event_history.specs.Results.{Jobs, NoJob, Alone, Pulled, Around, jobs_by, jobs_of, after_run, HasReply, HasPulls, HasTooMany, HasAnswer, EndsAfter, Ends}
+use Rattle.event_history.specs.Results.{Jobs, NoJob, Alone, Pulled, Around, jobs_by, jobs_of, after_run, HasReply, HasAnswer, EndsAfter, Ends}
 use Rattle.event_history.proofs.Histories.{legal_by}
-use Rattle.scheduling.specs.Choices.{after_job}
 use Rattle.sched_core.specs.Replies.{reply_of, replies_of as replies_by}
 use Rattle.table_rule.specs.Picture.{replies_in}
 use Rattle.table_rule.specs.Slots.{slot_count, is_body_slot, after_slot, job_at, job_with}
 use Rattle.table_rule.proofs.Jobs.{body_job, after_job_at, after_is, one_slot_each, far}
-use Rattle.run_table.specs.Prepared.{IsMissing, HasAllJobs}
+use Rattle.run_table.specs.Prepared.{HasAllJobs}
 use Rattle.run_table.proofs.Filled.{first_counts, one_more}
 use Rattle.worker_pool.proofs.Handed.{body_inside, after_inside, replies_found}
 use Rattle.worker_pool.specs.Premises.{JobsMayAnswer}

@@ -1,8 +1,7 @@
 -- What a request selects of a tree in which no spare declares a lock, and no engine is a factory, is such a tree.
-use Rattle.std.proofs.Common.{◌≡◌, ℕ, zero, suc, ◌+◌, ◌<◌, Bool, true, false, List, [], refl, sym, ap, ◌∙◌, subst, arith, inl, inr}
+use Rattle.std.proofs.Common.{◌≡◌, ℕ, zero, suc, ◌<◌, Bool, true, false, List, [], refl, sym, ap, ◌∙◌, subst, arith, inl, inr}
 use Rattle.std.proofs.lemmas.Bool.{cases_lt, false≢true}
 use Rattle.std.proofs.lemmas.Option.{slice_get_past}
-use Rattle.descriptor.specs.declared.node.Node.{Node}
 use Rattle.descriptor.specs.Nodes.{Nodes, IsTree, IsChild, size, parent_of, node_at, role_or, locks_or, is_spare_at, is_factory_at, locks_of}
 use Rattle.descriptor.specs.Pruned.{IsClosed, KeepsNodes, pruned, is_kept, new_number}
 use Rattle.descriptor.specs.Roles.{is_spare, is_factory}

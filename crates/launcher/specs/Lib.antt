@@ -11,3 +11,4 @@ pub mod Runs
 pub mod ScheduleTexts
 pub mod Scripted
 pub mod WarningTexts
+pub mod Watched

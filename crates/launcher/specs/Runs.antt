@@ -11,6 +11,7 @@ use Rattle.exec_mode.specs.GivenModes.{given_modes}
 use Rattle.plan_events.specs.declared.outcome.Reply.{Reply}
 use Rattle.resource_locks.specs.Declarations.{declared_of}
 use Rattle.resource_locks.specs.Held as hoisted
+use Rattle.resource_locks.specs.Hoisted.{IsGuarded}
 use Rattle.resource_locks.specs.Keys.{keys_of}
 use Rattle.resource_locks.specs.Plans.{PlanParts}
 use Rattle.resource_locks.specs.Spares.{HasBareSpares}
@@ -106,6 +107,17 @@ FailsSuite asked suite TooManyKeys = run_refusal asked suite ≡ Some TooManyKey
 FailsSuite asked suite TooManyWorkers = run_refusal asked suite ≡ Some TooManyWorkers
 FailsSuite asked suite NoWorker = (run_refusal asked suite ≡ None) × (asked.replay ≡ None)
 FailsSuite asked suite _ = ⊥
+
+-- The suite is accepted: these are the settings of its run, its plan and what its bodies answer.
+pub record IsReady (asked : Asked) (suite : SuiteParts) (settings : Settings) (plan : PlanParts) (answers : List (ℕ × Reply)) : Type 0 where
+  pub accepted : run_refusal asked suite ≡ None
+  pub are : settings_in asked suite ≡ Ok settings
+  pub plan_is : plan ≡ plan_of asked.fail_fast settings (answer suite.tree asked.request)
+  pub replies_are : answers ≡ answers_of suite.scripts
+  pub some : 1 ≤ settings.workers
+  pub few : settings.workers ≤ 64
+  pub guarded : IsGuarded (declared_of plan.tree) plan
+  pub never_stuck : HasBareSpares suite.tree → NeverStuck plan
 
 -- why a plan is not run that nothing refuses: for want of memory; or, where there is no replay, no thread could be started
 abbrev pub IsUnrun : Asked → LaunchFault → Type 0

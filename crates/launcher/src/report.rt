@@ -1,12 +1,13 @@
 //! What is printed of a run or of a replay, and its status.
 
-ghost use Rattle.std.specs.Prelude.{◌≡◌, ◌≤◌, ◌++◌, ◌⊎◌, IfOk, IfErr, string_bytes};
+ghost use Rattle.std.specs.Prelude.{◌≡◌, ℕ, ◌≤◌, List, ◌++◌, ◌⊎◌, IfOk, IfErr, string_bytes};
 ghost use Rattle.listeners.specs.Results.{tests_found, has_failed};
 ghost use Rattle.launcher.specs.Asked.{asked_by};
 ghost use Rattle.launcher.specs.ExitStatuses.{status_of_run};
 ghost use Rattle.launcher.specs.Faults.{unrun_fault};
-ghost use Rattle.launcher.specs.Reports.{details_of, ArePrinted, IsRunOutput, IsReplayOutput, IsListing, IsPlanOutput, IsOutput};
+ghost use Rattle.launcher.specs.Reports.{details_of, ArePrinted, IsBehindDetails, IsRunOutput, IsReplayOutput, IsListing, IsPlanOutput, IsOutput};
 ghost use Rattle.launcher.specs.Runs.{IsUnrun};
+ghost use Rattle.launcher.specs.Watched.{Watches};
 ghost use Rattle.launcher.specs.WarningTexts.{warning_lines};
 ghost use Rattle.resource_locks.specs.Declarations.{declared_of};
 ghost use Rattle.resource_locks.specs.Hoisted.{IsGuarded};
@@ -17,7 +18,7 @@ use crate::exit_status::ExitStatus;
 use crate::fault::LaunchFault;
 use crate::replay::{ReplayCounts, push_replay_line};
 use crate::schedule_line::behind_details;
-use crate::scripted::scripted_jobs;
+use crate::scripted::{ScriptedJob, scripted_jobs};
 use crate::warning_lines::push_warnings;
 use config_params::{Settings, Warnings};
 use listeners::{Audience, Results, feed_text};
@@ -30,7 +31,7 @@ use scheduling::Step;
 use std::alloc::{AllocError, Global};
 use std::sync::Wait;
 use std::thread::Threads;
-use worker_pool::{RunCause, run_plan};
+use worker_pool::{Report as PoolReport, RunCause, Watcher, run_watched};
 
 /// What is printed, and the status.
 #[derive(Debug, Drop)]
@@ -131,8 +132,39 @@ fn unrun(cause: RunCause) -> LaunchFault
     }
 }
 
-/// The report of a run by the settings' workers, on threads of their own.
-fn run_report<T: Threads + Wait + Sync>(
+/// The report of a run that is over.
+fn ended_report(
+    alloc: Global,
+    options: &Options,
+    settings: &Settings,
+    answers: &Answers,
+    ran: &PoolReport<ScriptedJob>,
+) -> Result<Report, AllocError>
+    ensures text { IfOk result (λ report. (schedule : List ℕ) × IsBehindDetails options.now.schedule settings.now.workers ran.now.plan answers.now ran.now.events.items schedule × (string_bytes report.text ≡ warning_lines settings.now.warnings ++ (details_of options.now.details options.now.theme ran.now.plan ran.now.texts ran.now.events.items ++ schedule))) }
+    ensures status { IfOk result (λ report. report.status ≡ status_of_run options.now.fail_if_no_tests (tests_found ran.now.plan ran.now.events.items) (has_failed ran.now.plan ran.now.events.items)) }
+{
+    let history = ran.events.as_slice();
+    let schedule = behind_details(
+        alloc,
+        options.schedule,
+        &ran.plan,
+        answers,
+        settings.workers,
+        history,
+    )?;
+    history_report(
+        alloc,
+        options,
+        settings.warnings,
+        &ran.plan,
+        &ran.texts,
+        history,
+        schedule.as_str(),
+    )
+}
+
+/// The report of a run by the settings' workers, on threads of their own, which is shown to whoever watches.
+fn run_report<T: Threads + Wait + Sync, V: Watcher>(
     rt: &T,
     alloc: Global,
     options: &Options,
@@ -140,18 +172,20 @@ fn run_report<T: Threads + Wait + Sync>(
     plan: Plan,
     answers: &Answers,
     spins: &[u32],
+    watcher: &mut V,
 ) -> Result<Report, LaunchFault>
     requires some { 1 ≤ settings.now.workers }
     requires few { settings.now.workers ≤ 64 }
     requires guarded { IsGuarded (declared_of plan.tree) plan }
     ensures output { IfOk result (λ report. IsRunOutput (asked_by options.now) settings.now plan answers.now (string_bytes report.text) report.status) }
+    ensures watched { Watches V.saw (asked_by options.now) settings.now plan answers.now watcher.old watcher.new result }
     ensures refused { IfErr result (λ fault. (fault ≡ LaunchFault.NoMemory) ⊎ (fault ≡ LaunchFault.NoWorker)) }
 {
     let jobs = scripted_jobs(alloc, &plan, answers, spins)?;
     let Ok(mut nobody) = Audience::new(Vec::new(alloc)) else {
         unreachable!()
     };
-    match run_plan(
+    match run_watched(
         rt,
         alloc,
         plan,
@@ -159,27 +193,9 @@ fn run_report<T: Threads + Wait + Sync>(
         settings.workers,
         options.ring,
         &mut nobody,
+        watcher,
     ) {
-        Ok(ran) => {
-            let history = ran.events.as_slice();
-            let schedule = behind_details(
-                alloc,
-                options.schedule,
-                &ran.plan,
-                answers,
-                settings.workers,
-                history,
-            )?;
-            Ok(history_report(
-                alloc,
-                options,
-                settings.warnings,
-                &ran.plan,
-                &ran.texts,
-                history,
-                schedule.as_str(),
-            )?)
-        }
+        Ok(ran) => Ok(ended_report(alloc, options, settings, answers, &ran)?),
         Err(fault) => Err(unrun(fault.cause)),
     }
 }
@@ -225,7 +241,7 @@ fn listing(alloc: Global, plan: &Plan) -> Result<Report, AllocError>
 }
 
 /// What the options print of a plan where there are no steps to be replayed: it is run, unless its list is asked for.
-fn plan_report<T: Threads + Wait + Sync>(
+fn plan_report<T: Threads + Wait + Sync, V: Watcher>(
     rt: &T,
     alloc: Global,
     options: &Options,
@@ -233,11 +249,13 @@ fn plan_report<T: Threads + Wait + Sync>(
     plan: Plan,
     answers: &Answers,
     spins: &[u32],
+    watcher: &mut V,
 ) -> Result<Report, LaunchFault>
     requires some { 1 ≤ settings.now.workers }
     requires few { settings.now.workers ≤ 64 }
     requires guarded { IsGuarded (declared_of plan.tree) plan }
     ensures output { IfOk result (λ report. IsPlanOutput options.now.details (asked_by options.now) settings.now plan answers.now (string_bytes report.text) report.status) }
+    ensures watched { Watches V.saw (asked_by options.now) settings.now plan answers.now watcher.old watcher.new result }
     ensures refused { IfErr result (λ fault. (fault ≡ LaunchFault.NoMemory) ⊎ (fault ≡ LaunchFault.NoWorker)) }
 {
     match options.details {
@@ -247,13 +265,13 @@ fn plan_report<T: Threads + Wait + Sync>(
         | Details::Tree
         | Details::Testfeed
         | Details::Json
-        | Details::Xml => run_report(rt, alloc, options, settings, plan, answers, spins),
+        | Details::Xml => run_report(rt, alloc, options, settings, plan, answers, spins, watcher),
     }
 }
 
 /// What these options print of a plan with these answers under these settings, and the status. Want of memory is refused, and
 /// where there are no steps to be replayed that no thread could be started.
-pub(crate) fn report_of<T: Threads + Wait + Sync>(
+pub(crate) fn report_of<T: Threads + Wait + Sync, V: Watcher>(
     rt: &T,
     alloc: Global,
     options: &Options,
@@ -261,11 +279,13 @@ pub(crate) fn report_of<T: Threads + Wait + Sync>(
     plan: Plan,
     answers: &Answers,
     spins: &[u32],
+    watcher: &mut V,
 ) -> Result<Report, LaunchFault>
     requires some { 1 ≤ settings.now.workers }
     requires few { settings.now.workers ≤ 64 }
     requires guarded { IsGuarded (declared_of plan.tree) plan }
     ensures output { IfOk result (λ report. IsOutput (asked_by options.now) settings.now plan answers.now (string_bytes report.text) report.status) }
+    ensures watched { Watches V.saw (asked_by options.now) settings.now plan answers.now watcher.old watcher.new result }
     ensures refused { IfErr result (IsUnrun (asked_by options.now)) }
 {
     match &options.replay {
@@ -273,6 +293,6 @@ pub(crate) fn report_of<T: Threads + Wait + Sync>(
             let report = replay_report(alloc, steps.as_slice(), &plan, answers, settings.workers)?;
             Ok(report)
         }
-        None => plan_report(rt, alloc, options, settings, plan, answers, spins),
+        None => plan_report(rt, alloc, options, settings, plan, answers, spins, watcher),
     }
 }

@@ -1,27 +1,34 @@
 //! A run: from the bytes of a reader to the bytes of a writer.
 
-ghost use Rattle.std.specs.Prelude.{◌≡◌, ◌≢◌, ◌≤◌, None, Some, IfOk, IfErr, IfSome, false, take, string_bytes};
+ghost use Rattle.std.specs.Prelude.{◌≡◌, ◌≢◌, ◌<◌, ◌≤◌, None, Some, IfOk, IfErr, IfSome, false, take, string_bytes};
 ghost use Rattle.std.specs.Io.KnownBytes.{Keeps};
 ghost use Rattle.resource_locks.specs.Spares.{HasBareSpares};
 ghost use Rattle.never_stuck.specs.Reaching.{NeverStuck};
 ghost use Rattle.suite_text.specs.Reading.Bytes.{suite_read};
 ghost use Rattle.suite_text.specs.Suites.{suite_parts};
-ghost use Rattle.launcher.specs.Runs.{IsRun, IsSuiteOutput, IsSuiteRun, FailsSuite, ReadsSuite, TakesFrom, TakesMemory, answers_of as answers_in, fault_in, is_writing, plan_of as plan_in, plan_refusal, selection_refusal, workers_refusal};
+ghost use Rattle.launcher.specs.Runs.{IsReady, IsRun, IsSuiteRun, IsUnrun, FailsSuite, ReadsSuite, TakesFrom, TakesMemory, answers_of as answers_in, fault_in, is_writing, plan_of as plan_in, plan_refusal, selection_refusal, workers_refusal};
 ghost use Rattle.resource_locks.specs.Declarations.{declared_of};
 ghost use Rattle.resource_locks.specs.Hoisted.{IsGuarded};
 ghost use Rattle.selectors.specs.Selections.{answer};
 ghost use Rattle.launcher.specs.Asked.{asked_by};
+ghost use Rattle.launcher.specs.Reports.{IsOutput};
+ghost use Rattle.launcher.specs.Watched.{IsBrokenOff, outlet_by};
+ghost use Rattle.launcher.specs.WarningTexts.{warning_lines};
+ghost use Rattle.live_feed.specs.LiveFeeds.{IsFront};
 
 use crate::asked::Options;
 use crate::bytes::{ReadFault, read_front};
+use crate::details::Details;
 use crate::exit_status::ExitStatus;
 use crate::fault::LaunchFault;
 use crate::report::{Report, report_of};
 use crate::scripted::spins_of;
+use crate::warning_lines::push_warnings;
 use config_params::Settings;
 use descriptor::Tree;
 use exec_mode::modes;
-use listeners::print_to;
+use listeners::WriteFault;
+use live_feed::{LiveFeed, Outlet};
 use resource_locks::Plan;
 use sched_core::Answers;
 use selectors::discover;
@@ -100,21 +107,69 @@ fn judge_workers(workers: u32) -> Result<(), LaunchFault>
     Ok(())
 }
 
-/// What the options print of a suite, and the program's status.
-fn suite_report<T: Threads + Wait + Sync>(
-    rt: &T,
-    alloc: Global,
-    options: &Options,
-    suite: Suite,
-) -> Result<Report, LaunchFault>
-    ensures report { IfOk result (λ report. IsSuiteOutput (asked_by options.now) (suite_parts suite) (string_bytes report.text) report.status) }
-    ensures refused { IfErr result (λ fault. FailsSuite (asked_by options.now) (suite_parts suite) fault) }
+/// What a suite comes to by the options: the settings of its run, its plan, what its bodies answer, and how far they count.
+#[derive(Drop)]
+struct ReadyRun {
+    settings: Settings,
+    plan: Plan,
+    answers: Answers,
+    spins: Vec<u32>,
+}
+
+/// Makes a suite ready to be run.
+fn ready_run(alloc: Global, options: &Options, suite: Suite) -> Result<ReadyRun, LaunchFault>
+    ensures ready { IfOk result (λ ready. IsReady (asked_by options.now) (suite_parts suite) ready.settings ready.plan ready.answers) }
+    ensures refused { IfErr result (FailsSuite (asked_by options.now) (suite_parts suite)) }
 {
     let settings = Settings::read_over(&options.params, &suite.properties, options.processors)?;
     let plan = plan_of(alloc, options, &settings, suite.tree)?;
     judge_workers(settings.workers)?;
     let spins = spins_of(alloc, suite.scripts.as_slice())?;
     let answers = answers_of(alloc, suite.scripts)?;
+    Ok(ReadyRun {
+        settings,
+        plan,
+        answers,
+        spins,
+    })
+}
+
+/// Whether lines are printed while the run goes on: those of the feed are.
+fn outlet_for(options: &Options) -> Outlet
+    ensures { result ≡ outlet_by options.now.details (asked_by options.now).replay }
+{
+    match (options.details, &options.replay) {
+        (Details::Testfeed, None) => Outlet::Waiting,
+        _ => Outlet::Closed,
+    }
+}
+
+/// What the options print of a suite, and the program's status, of which a feed may have printed a part.
+fn shown_report<T: Threads + Wait + Sync, W: Write>(
+    rt: &T,
+    alloc: Global,
+    options: &Options,
+    ready: ReadyRun,
+    live: &mut LiveFeed<'_, W>,
+) -> Result<Report, LaunchFault>
+    requires some { 1 ≤ ready.settings.workers }
+    requires few { ready.settings.workers ≤ 64 }
+    requires guarded { IsGuarded (declared_of ready.plan.tree) ready.plan }
+    requires head { live.old.head.now ≡ warning_lines ready.settings.warnings }
+    requires outlet { live.old.outlet ≡ outlet_by options.now.details (asked_by options.now).replay }
+    requires none { live.old.sent ≡ 0 }
+    ensures same { live.new.writer.ghost_name ≡ live.old.writer.ghost_name }
+    ensures output { IfOk result (λ report. IsOutput (asked_by options.now) ready.settings ready.plan ready.answers (string_bytes report.text) report.status) }
+    ensures front { IfOk result (λ report. IsFront (W.contents live.old.writer.now) (W.contents live.new.writer.now) live.new.outlet live.new.sent (string_bytes report.text)) }
+    ensures refused { IfErr result (IsUnrun (asked_by options.now)) }
+    ensures broken_off { IfErr result (λ _. IsBrokenOff (IsOutput (asked_by options.now) ready.settings ready.plan ready.answers) (W.contents live.old.writer.now) (W.contents live.new.writer.now) live.new.sent) }
+{
+    let ReadyRun {
+        settings,
+        plan,
+        answers,
+        spins,
+    } = ready;
     report_of(
         rt,
         alloc,
@@ -123,15 +178,29 @@ fn suite_report<T: Threads + Wait + Sync>(
         plan,
         &answers,
         spins.as_slice(),
+        live,
     )
 }
 
+/// What is answered for this fault where so many bytes were written before.
+fn broken_off(fault: LaunchFault, sent: usize) -> LaunchFault
+    ensures none { sent ≡ 0 → result ≡ fault }
+    ensures some { 0 < sent → result ≡ LaunchFault.Writing (record { sent = sent }) }
+{
+    if sent > 0 {
+        LaunchFault::Writing(WriteFault { sent })
+    } else {
+        fault
+    }
+}
+
 /// Runs what the request selects of a suite with its settings, on as many threads as these have
-/// workers, or by the steps of a replay, and writes what the options ask for. Refused are, in this
-/// order, what gives no settings (34, 32, 33) and a selector that covers nothing (41), which are
-/// judged before any memory is taken; more than 256 keys (50), more than 64 workers (61), that no
-/// thread could be started (90), and a writer that fails (81, when the first bytes of the output are
-/// written). On any refusal but 81 nothing is written.
+/// workers, or by the steps of a replay, and writes what the options ask for: the lines of a feed
+/// while the run goes on, and all else when it is over. Refused are, in this order, what gives no
+/// settings (34, 32, 33) and a selector that covers nothing (41), which are judged before any
+/// memory is taken; more than 256 keys (50), more than 64 workers (61), that no thread could be
+/// started (90), and an output of which the writer has only the first bytes (81), since it failed or
+/// since there was no memory for the rest. On any refusal but 81 nothing is written.
 pub fn run_suite<T: Threads + Wait + Sync, W: Write>(
     rt: &T,
     alloc: Global,
@@ -143,9 +212,17 @@ pub fn run_suite<T: Threads + Wait + Sync, W: Write>(
     ensures no_memory { IfErr result (λ fault. fault ≡ LaunchFault.NoMemory → TakesMemory (asked_by options.now) (suite_parts suite)) }
     ensures quiet { IfErr result (λ fault. is_writing fault ≡ false → Keeps (W.contents writer.old) (W.contents writer.new)) }
 {
-    let report = suite_report(rt, alloc, options, suite)?;
-    print_to(writer, report.text.as_bytes())?;
-    Ok(report.status)
+    let ready = ready_run(alloc, options, suite)?;
+    let mut head = String::new(alloc);
+    push_warnings(&mut head, ready.settings.warnings)?;
+    let mut live = LiveFeed::new(alloc, writer, head.as_str(), outlet_for(options));
+    match shown_report(rt, alloc, options, ready, &mut live) {
+        Ok(report) => {
+            live.finish(report.text.as_bytes())?;
+            Ok(report.status)
+        }
+        Err(fault) => Err(broken_off(fault, live.sent())),
+    }
 }
 
 /// Reads a suite and runs it, as `read_suite` and `run_suite` say. The reading takes memory before

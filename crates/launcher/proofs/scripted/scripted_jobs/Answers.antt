@@ -1,9 +1,8 @@
 -- Slot by slot each job is the plan's, and answers what the suite says.
 use Rattle.std.proofs.Common.{◌≡◌, ℕ, ◌+◌, List, Option, Some, None, refl, sym, ap, ◌∙◌, subst, arith, length}
-use Rattle.table_rule.specs.Slots.{slot_count}
 use Rattle.launcher.specs.Scripted.{AreScripted}
 use Rattle.launcher.specs.declared.scripted.ScriptedJob.{ScriptedJob}
-use Rattle.launcher.proofs.Scripting.{none_scripted, slot_with_job, slot_without}
+use Rattle.launcher.proofs.Scripting.{slot_with_job, slot_without}
 use Rattle.launcher.proofs.scripted.scripted_jobs.Goals.{in-Some+in_ok-job_for+in_ok-push, in_default}
 use Rattle.launcher.proofs.scripted.scripted_jobs.Goals as goal
 
