@@ -1,5 +1,6 @@
-//! Answers questions about texts from standard input, one a line: what is asked, a blank and the text. Each line is printed
-//! with its answer behind it, so the output is a table that a person can read; a line that begins with `#` heads a part of it.
+//! Answers questions about texts from standard input, one a line: what is asked, a blank and the
+//! text. Each line is printed with its answer behind it, so the output is a table that a person can
+//! read; a line that begins with `#` heads a part of it.
 #![tactic(auto)]
 
 mod answers;

@@ -1,5 +1,5 @@
-//! Questions about configurations. Behind the question stand, each behind a bar, the words (`R:`, `S:`) and the texts of
-//! properties (`F:`) that are put in first.
+//! Questions about configurations. Behind the question stand, each behind a bar, the words (`R:`,
+//! `S:`) and the texts of properties (`F:`) that are put in first.
 
 use crate::configuration::put_items;
 use config_params::{Params, Settings};

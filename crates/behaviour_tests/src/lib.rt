@@ -1,5 +1,6 @@
-//! What no row of a table can say: readers and writers that fail, a listener of one's own, values that no text spells, and
-//! copies. Tests alone, in a crate of their own, since a crate with tests is proved once with them and once without.
+//! What no row of a table can say: readers and writers that fail, a listener of one's own, values
+//! that no text spells, and copies. Tests alone, in a crate of their own, since a crate with tests
+//! is proved once with them and once without.
 
 #![tactic(auto)]
 

@@ -66,7 +66,8 @@ fn feed_options(alloc: Global) -> Options {
     }
 }
 
-/// What is read of at most so many bytes from a reader that gives a line, two bytes at a time, and fails behind so many reads.
+/// What is read of at most so many bytes from a reader that gives a line, two bytes at a time, and
+/// fails behind so many reads.
 fn front_of(alloc: Global, most: usize, reads: usize) -> Result<Vec<u8>, ReadFault> {
     let mut reader = Broken {
         text: b"engine e\n",
@@ -76,7 +77,8 @@ fn front_of(alloc: Global, most: usize, reads: usize) -> Result<Vec<u8>, ReadFau
     read_front(alloc, &mut reader, most)
 }
 
-/// Whether a reader that fails ends the reading, whichever of its reads it is: five give the line, and the sixth its end.
+/// Whether a reader that fails ends the reading, whichever of its reads it is: five give the line,
+/// and the sixth its end.
 fn is_never_read(alloc: Global) -> bool {
     for reads in 0..6 {
         if front_of(alloc, 99, reads).err() != Some(ReadFault::Failed) {
@@ -195,8 +197,8 @@ fn is_cut<T: Threads + Wait + Sync>(
     }
 }
 
-/// Whether the output is cut at each of its bytes, where a writer that takes one byte a write fails, or one that takes all at once is
-/// interrupted.
+/// Whether the output is cut at each of its bytes, where a writer that takes one byte a write
+/// fails, or one that takes all at once is interrupted.
 fn is_cut_anywhere<T: Threads + Wait + Sync>(rt: &T, alloc: Global) -> bool {
     for room in 0..TREE.len() {
         if !is_cut(rt, alloc, room, 1, Full::Fails) {

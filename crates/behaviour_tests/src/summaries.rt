@@ -1,4 +1,5 @@
-//! Summaries of what no suite's text gives: a node that is a container and a test, a dynamic test, and a change of plans.
+//! Summaries of what no suite's text gives: a node that is a container and a test, a dynamic test,
+//! and a change of plans.
 
 use crate::plans::{event, factory_plan, finished, plan_of, plan_of_one, started};
 use descriptor::Kind;
@@ -46,8 +47,8 @@ fn counts_a_node_that_is_both_twice_and_a_double_event_once(rt: HostRuntime) -> 
     Ok(())
 }
 
-/// Whether the only spare of a factory is not found where the factory was skipped, and is found and counts as skipped where
-/// it was registered and skipped itself.
+/// Whether the only spare of a factory is not found where the factory was skipped, and is found and
+/// counts as skipped where it was registered and skipped itself.
 fn counts_spare(alloc: Global, plan: &Plan) -> Result<bool, AllocError> {
     let never = [event(EventKind::Skipped, 1, None)];
     let without = [1, 1, 0, 0, 0, 0, 0, 0, 0, 0, 0, 0];

@@ -17,8 +17,8 @@ const TESTS: &str = "engine e
     test waits disabled
 ";
 
-/// Whether a node has no text at first, and then after each of four notes that of the note: one of its own, that there were
-/// too many dynamic tests, that the plan was cancelled, and its reason.
+/// Whether a node has no text at first, and then after each of four notes that of the note: one of
+/// its own, that there were too many dynamic tests, that the plan was cancelled, and its reason.
 fn has_texts(
     alloc: Global,
     plan: &Plan,

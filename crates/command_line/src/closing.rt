@@ -38,8 +38,8 @@ fn print_message<W: Write>(writer: &mut W, message: Option<Message>) -> bool
     }
 }
 
-/// Says what there is to say after this answer: the line of a refusal on the one writer, unless that failed, and the message on the
-/// other.
+/// Says what there is to say after this answer: the line of a refusal on the one writer, unless
+/// that failed, and the message on the other.
 pub(crate) fn close<W: Write, E: Write>(
     answer: Result<ExitStatus, LaunchFault>,
     message: Option<Message>,

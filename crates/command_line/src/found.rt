@@ -17,7 +17,8 @@ use std::alloc::{AllocError, Global};
 
 /// The values of an option that may be given again, if it is given.
 fn values<'m, 'a>(matches: &'m ArgMatches<'a>, name: &str) -> Option<&'m [&'a str]>
-    ensures { option_map (λ texts. map (λ text. text.now) texts.now) result ≡ all_of name.now (rows_of (found_of matches.now)) }
+    ensures { option_map (λ texts. map (λ text. text.now) texts.now) result ≡ all_of name.now
+        (rows_of (found_of matches.now)) }
 {
     matches.get_strs(name)
 }
@@ -44,7 +45,8 @@ fn push_found<'a>(
     kind: SelectorKind,
     name: &str,
 ) -> Result<(), AllocError>
-    ensures { OnOk result (texts_of texts.new.items ≡ texts_of texts.old.items ++ of_kind kind name.now (rows_of (found_of matches.now))) }
+    ensures { OnOk result (texts_of texts.new.items ≡ texts_of texts.old.items
+        ++ of_kind kind name.now (rows_of (found_of matches.now))) }
 {
     let Some(values) = values(matches, name) else {
         return Ok(());

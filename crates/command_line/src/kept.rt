@@ -13,8 +13,8 @@ pub(crate) struct Kept<'r, R> {
     pub(crate) bytes: Vec<u8>,
 }
 
-/// Nothing yet, with room for the longest suite, so that what is kept is not moved again; where there is no such room it is made
-/// as it is needed.
+/// Nothing yet, with room for the longest suite, so that what is kept is not moved again; where
+/// there is no such room it is made as it is needed.
 pub(crate) fn nothing_kept(alloc: Global) -> Vec<u8> {
     Vec::with_capacity(alloc, LONGEST_SUITE).unwrap_or_else(|_| Vec::new(alloc))
 }

@@ -2,7 +2,8 @@
 
 ghost use Rattle.std.specs.Prelude.{◌≡◌, IfOk, false};
 ghost use Rattle.clap.specs.Words.{app_of, rule_of, with_rule};
-ghost use Rattle.command_line.specs.Commands.{program, printing, configuring, filtering, selecting, single, repeated, flag};
+ghost use Rattle.command_line.specs.Commands.{program, printing, configuring, filtering, selecting, single, repeated};
+ghost use Rattle.command_line.specs.Commands.{flag};
 
 use clap::{Arg, ArgAction, Command};
 use std::alloc::{AllocError, Global};

@@ -30,7 +30,8 @@ pub fn run_console<T: Threads + Wait + Sync, R: Read, W: Write>(
     reader: &mut R,
     writer: &mut W,
 ) -> Result<ExitStatus, LaunchFault>
-    ensures { IsConsoleRun R.remaining W.contents (map string_bytes words.now) reader.old reader.new (R.remaining reader.new) writer.old writer.new result }
+    ensures { IsConsoleRun R.remaining W.contents (map string_bytes words.now) reader.old reader.new
+        (R.remaining reader.new) writer.old writer.new result }
 {
     let options = read_options(alloc, words)?;
     run_options(rt, alloc, &options, reader, writer)
@@ -61,7 +62,9 @@ fn run_read<T: Threads + Wait + Sync, R: Read, W: Write, E: Write>(
     writer: &mut W,
     errors: &mut E,
 ) -> Ending
-    ensures { ReadsWords (map string_bytes words.now) (Ok options.now) → IsProgramRun R.remaining W.contents E.contents (map string_bytes words.now) reader.old reader.new writer.old writer.new errors.old errors.new result }
+    ensures { ReadsWords (map string_bytes words.now) (Ok options.now) → IsProgramRun R.remaining W.contents
+        E.contents (map string_bytes words.now) reader.old reader.new writer.old writer.new errors.old errors.new
+        result }
 {
     let mut kept = Kept {
         reader,
@@ -72,8 +75,8 @@ fn run_read<T: Threads + Wait + Sync, R: Read, W: Write, E: Write>(
     close(answer, message, writer, errors)
 }
 
-/// Runs what `run_console` runs, and then prints the line of a refusal, unless the writer failed, and its message on the other
-/// writer.
+/// Runs what `run_console` runs, and then prints the line of a refusal, unless the writer failed,
+/// and its message on the other writer.
 pub fn run_words<T: Threads + Wait + Sync, R: Read, W: Write, E: Write>(
     rt: &T,
     alloc: Global,
@@ -82,7 +85,8 @@ pub fn run_words<T: Threads + Wait + Sync, R: Read, W: Write, E: Write>(
     writer: &mut W,
     errors: &mut E,
 ) -> Ending
-    ensures { IsProgramRun R.remaining W.contents E.contents (map string_bytes words.now) reader.old reader.new writer.old writer.new errors.old errors.new result }
+    ensures { IsProgramRun R.remaining W.contents E.contents (map string_bytes words.now) reader.old reader.new
+        writer.old writer.new errors.old errors.new result }
 {
     match read_options(alloc, words) {
         Ok(options) => run_read(rt, alloc, &options, words, reader, writer, errors),
@@ -106,8 +110,8 @@ fn refuse<W: Write, E: Write>(
     close(Err(fault), Some(message), writer, errors)
 }
 
-/// The program: what `run_words` does with the words that the system gave. Where it gave none, that is what is refused. All that is
-/// left to do is to end with the status.
+/// The program: what `run_words` does with the words that the system gave. Where it gave none, that
+/// is what is refused. All that is left to do is to end with the status.
 pub fn run_program<T: Threads + Wait + Sync, R: Read, W: Write, E: Write>(
     rt: &T,
     alloc: Global,
@@ -116,8 +120,12 @@ pub fn run_program<T: Threads + Wait + Sync, R: Read, W: Write, E: Write>(
     writer: &mut W,
     errors: &mut E,
 ) -> Ending
-    ensures run { IfOk words (λ given. IsProgramRun R.remaining W.contents E.contents (map string_bytes (into_iter_items given)) reader.old reader.new writer.old writer.new errors.old errors.new result) }
-    ensures refused { IfErr words (λ error. (fault : LaunchFault) × IsGivenFault (error_kind error) fault × (reader.new ≡ reader.old) × Closes W.contents E.contents (Err fault) writer.old writer.new errors.old errors.new result) }
+    ensures run { IfOk words (λ given. IsProgramRun R.remaining W.contents E.contents
+        (map string_bytes (into_iter_items given)) reader.old reader.new writer.old writer.new errors.old errors.new
+        result) }
+    ensures refused { IfErr words (λ error. (fault : LaunchFault) × IsGivenFault (error_kind error) fault
+        × (reader.new ≡ reader.old) × Closes W.contents E.contents (Err fault) writer.old writer.new errors.old
+        errors.new result) }
 {
     match given_words(alloc, words) {
         Ok(words) => run_words(rt, alloc, words.as_slice(), reader, writer, errors),

@@ -36,8 +36,8 @@ fn said_by_clap(alloc: Global, words: &[String]) -> Result<String, AllocError> {
     }
 }
 
-/// The message of a refusal of these words, or of the suite of these bytes that they were to run. It begins with the refusal's
-/// sentence; below it is as much as there was memory for.
+/// The message of a refusal of these words, or of the suite of these bytes that they were to run.
+/// It begins with the refusal's sentence; below it is as much as there was memory for.
 pub fn message_of(alloc: Global, fault: LaunchFault, words: &[String], suite: &[u8]) -> Message
     ensures { result.sentence.now ≡ sentence_of fault }
 {

@@ -32,8 +32,10 @@ fn listed(alloc: Global, words: Args) -> Result<Vec<String>, AllocError>
 /// The words that the system gave, all of them, the program's own name first. Words that are not
 /// UTF-8 are refusal 105.
 pub fn given_words(alloc: Global, words: io::Result<Args>) -> Result<Vec<String>, LaunchFault>
-    ensures all { IfOk words (λ given. MatchResult result (λ all. all.items ≡ into_iter_items given) (λ fault. fault ≡ NoMemory)) }
-    ensures refused { IfErr words (λ error. MatchResult result (λ _. ⊥) (λ fault. IsGivenFault (error_kind error) fault)) }
+    ensures all { IfOk words (λ given. MatchResult result (λ all. all.items ≡ into_iter_items given)
+        (λ fault. fault ≡ NoMemory)) }
+    ensures refused { IfErr words (λ error. MatchResult result (λ _. ⊥)
+        (λ fault. IsGivenFault (error_kind error) fault)) }
 {
     match words {
         Ok(words) => Ok(listed(alloc, words)?),

@@ -28,9 +28,11 @@ fn words_fault(error: &clap::Error) -> LaunchFault
 
 /// What clap finds in the words.
 fn matches_of<'a>(alloc: Global, words: &'a [String]) -> Result<ArgMatches<'a>, LaunchFault>
-    ensures found { IfOk result (λ matches. values_in (rows_of (found_of matches)) ≡ values_given (map string_bytes words.entry.now)) }
+    ensures found { IfOk result (λ matches. values_in (rows_of (found_of matches)) ≡ values_given
+        (map string_bytes words.entry.now)) }
     ensures accepted { IfOk result (λ _. fault_of program (map string_bytes words.entry.now) ≡ []) }
-    ensures refused { IfErr result (λ fault. fault ≢ NoMemory → (fault ≡ LaunchFault.BadWords) × (fault_of program (map string_bytes words.entry.now) ≢ [])) }
+    ensures refused { IfErr result (λ fault. fault ≢ NoMemory → (fault ≡ LaunchFault.BadWords)
+        × (fault_of program (map string_bytes words.entry.now) ≢ [])) }
 {
     match command(alloc)?.try_get_matches_from(words) {
         Ok(matches) => Ok(matches),
@@ -42,7 +44,8 @@ fn matches_of<'a>(alloc: Global, words: &'a [String]) -> Result<ArgMatches<'a>, 
 pub(crate) fn given_by<'a>(alloc: Global, words: &'a [String]) -> Result<Given<'a>, LaunchFault>
     ensures given { IfOk result (λ given. values_of given ≡ values_given (map string_bytes words.entry.now)) }
     ensures accepted { IfOk result (λ _. fault_of program (map string_bytes words.entry.now) ≡ []) }
-    ensures refused { IfErr result (λ fault. fault ≢ NoMemory → (fault ≡ LaunchFault.BadWords) × (fault_of program (map string_bytes words.entry.now) ≢ [])) }
+    ensures refused { IfErr result (λ fault. fault ≢ NoMemory → (fault ≡ LaunchFault.BadWords)
+        × (fault_of program (map string_bytes words.entry.now) ≢ [])) }
 {
     let matches = matches_of(alloc, words)?;
     Ok(given_in(alloc, &matches)?)
@@ -55,7 +58,8 @@ pub(crate) fn given_by<'a>(alloc: Global, words: &'a [String]) -> Result<Given<'
 pub fn read_options(alloc: Global, words: &[String]) -> Result<Options, LaunchFault>
     ensures asked { IfOk result (λ options. AreAsked (values_given (map string_bytes words.now)) (asked_by options)) }
     ensures accepted { IfOk result (λ _. words_refusal (map string_bytes words.now) ≡ None) }
-    ensures refused { IfErr result (λ fault. fault ≢ NoMemory → words_refusal (map string_bytes words.now) ≡ Some fault) }
+    ensures refused { IfErr result (λ fault. fault ≢ NoMemory → words_refusal (map string_bytes words.now) ≡ Some
+        fault) }
     // Clap takes memory first; where it had enough, want of memory hides no refusal of `Options::of`.
     ensures read { ReadsWords (map string_bytes words.now) result }
 {

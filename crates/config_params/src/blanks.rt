@@ -12,7 +12,8 @@ pub(crate) enum Blanks {
 
 /// The text after its first character, where that is a blank.
 fn after_blank(blanks: Blanks, text: &str) -> Option<&str>
-    ensures { MatchOption result ((b : ℕ) (rest : List ℕ) → text.now ≡ b ∷ rest → is_blank blanks b ≡ false) (λ rest. (b : ℕ) × (is_blank blanks b ≡ true) × (text.now ≡ b ∷ rest.now)) }
+    ensures { MatchOption result ((b : ℕ) (rest : List ℕ) → text.now ≡ b ∷ rest → is_blank blanks b ≡ false)
+        (λ rest. (b : ℕ) × (is_blank blanks b ≡ true) × (text.now ≡ b ∷ rest.now)) }
 {
     match text.strip_prefix(' ') {
         Some(rest) => Some(rest),
@@ -25,7 +26,8 @@ fn after_blank(blanks: Blanks, text: &str) -> Option<&str>
 
 /// The text before its last character, where that is a blank.
 fn before_blank(blanks: Blanks, text: &str) -> Option<&str>
-    ensures { MatchOption result ((b : ℕ) (front : List ℕ) → text.now ≡ front ++ b ∷ [] → is_blank blanks b ≡ false) (λ front. (b : ℕ) × (is_blank blanks b ≡ true) × (text.now ≡ front.now ++ b ∷ [])) }
+    ensures { MatchOption result ((b : ℕ) (front : List ℕ) → text.now ≡ front ++ b ∷ [] → is_blank blanks b ≡ false)
+        (λ front. (b : ℕ) × (is_blank blanks b ≡ true) × (text.now ≡ front.now ++ b ∷ [])) }
 {
     match text.strip_suffix(' ') {
         Some(front) => Some(front),

@@ -35,7 +35,8 @@ pub(crate) fn parallelism_in(text: &str) -> Option<u32>
 
 /// The ten-thousandths that some decimals are.
 fn ten_thousandths(decimals: &str) -> Option<u32>
-    ensures value { result ≡ (if is_number 4 decimals.now then Some (digits_value 10 decimals.now * 10 ^ (4 - length decimals.now)) else None) }
+    ensures value { result ≡ (if is_number 4 decimals.now then Some
+        (digits_value 10 decimals.now * 10 ^ (4 - length decimals.now)) else None) }
     ensures small { IfSome result (λ n. n < 100000000) }
 {
     let number = number_in(4, decimals)?;

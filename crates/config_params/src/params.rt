@@ -3,7 +3,8 @@
 ghost use Rattle.std.specs.Prelude.{◌≡◌, ◌≢◌, List, ℕ, None, Some, IfErr, OnOk, OnErr};
 ghost use Rattle.std.specs.Option.{option_map, option_or};
 ghost use Rattle.std.specs.Str.Lines.{lines};
-ghost use Rattle.config_params.specs.Parameters.{nothing_said, with_value, with_table, answer, answer_before, answer_over};
+ghost use Rattle.config_params.specs.Parameters.{nothing_said, with_value, with_table, answer, answer_before};
+ghost use Rattle.config_params.specs.Parameters.{answer_over};
 ghost use Rattle.config_params.specs.Properties.{refusal_of, pairs_of};
 ghost use Rattle.config_params.specs.Tables.{table_of, value_in, last_value};
 ghost use Rattle.config_params.specs.declared.source.Source.TheVariants.{File};
@@ -75,9 +76,11 @@ impl Params {
         ensures ok { OnOk result (self.new ≡ with_value self.old source (key.now, value.now)) }
         ensures err { OnErr result (self.new ≡ self.old) }
         // The key has this value then, unless a source before this one has the key.
-        ensures seen { OnOk result (answer self.new key.now ≡ option_or (answer_before self.old source key.now) (Some value.now)) }
+        ensures seen { OnOk result (answer self.new key.now ≡ option_or (answer_before self.old source key.now)
+            (Some value.now)) }
         // Other keys have the values that they had.
-        ensures others { OnOk result ((other : List ℕ) → other ≢ key.now → answer self.new other ≡ answer self.old other) }
+        ensures others { OnOk result ((other : List ℕ) → other ≢ key.now → answer self.new other ≡ answer self.old
+            other) }
     {
         self.put(alloc, source, key, value)
     }

@@ -26,7 +26,8 @@ pub(crate) fn refusal_of(text: &str) -> Option<ParamsFault>
 
 /// Puts the pair of a line into a table, where the line says one.
 fn put_line(alloc: Global, table: &mut Table, line: &str) -> Result<(), AllocError>
-    ensures { OnOk result (pairs_in table.new ≡ fold with_pair (pairs_in table.old) (pairs_said (property_of 1 line.now))) }
+    ensures { OnOk result (pairs_in table.new ≡ fold with_pair (pairs_in table.old)
+        (pairs_said (property_of 1 line.now))) }
 {
     match property_of(1, line) {
         Ok(Some(pair)) => put(alloc, table, pair.key, pair.value),

@@ -2,7 +2,8 @@
 
 ghost use Rattle.std.specs.Prelude.{◌≡◌, ◌≤◌, IfOk, false};
 ghost use Rattle.config_params.specs.Parameters.{answer, answer_over};
-ghost use Rattle.config_params.specs.Settings.{settings_of, is_enabled, mode_spelled, mode_named, mode_or, is_no_mode, enabled_key};
+ghost use Rattle.config_params.specs.Settings.{settings_of, is_enabled, mode_spelled, mode_named, mode_or};
+ghost use Rattle.config_params.specs.Settings.{is_no_mode, enabled_key};
 
 use crate::blanks::{Blanks, without_ends};
 use crate::params::{Params, get_over};
@@ -75,7 +76,8 @@ impl Settings {
     pub fn read(params: &Params, processors: u32) -> Result<Settings, SettingsFault>
         ensures exact { result ≡ settings_of (answer params.now) processors }
         // Where parallel execution is not enabled, one worker takes every node in its turn.
-        ensures off { IfOk result (λ s. s.parallel ≡ false → (s.workers ≡ 1) × (s.default_mode ≡ Mode.SameThread) × (s.classes_mode ≡ Mode.SameThread)) }
+        ensures off { IfOk result (λ s. s.parallel ≡ false → (s.workers ≡ 1) × (s.default_mode ≡ Mode.SameThread)
+            × (s.classes_mode ≡ Mode.SameThread)) }
         ensures some { IfOk result (λ s. 1 ≤ s.workers) }
     {
         Settings::read_over(params, params, processors)
@@ -90,7 +92,8 @@ impl Settings {
     ) -> Result<Settings, SettingsFault>
         ensures exact { result ≡ settings_of (answer_over over.now under.now) processors }
         // Where parallel execution is not enabled, one worker takes every node in its turn.
-        ensures off { IfOk result (λ s. s.parallel ≡ false → (s.workers ≡ 1) × (s.default_mode ≡ Mode.SameThread) × (s.classes_mode ≡ Mode.SameThread)) }
+        ensures off { IfOk result (λ s. s.parallel ≡ false → (s.workers ≡ 1) × (s.default_mode ≡ Mode.SameThread)
+            × (s.classes_mode ≡ Mode.SameThread)) }
         ensures some { IfOk result (λ s. 1 ≤ s.workers) }
     {
         let (default_mode, bad_default) = mode_at(over, under, DEFAULT_MODE, Mode::SameThread);

@@ -2,7 +2,8 @@
 
 ghost use Rattle.std.specs.Prelude.{◌≡◌, ◌≤◌, ◌<◌, IfOk};
 ghost use Rattle.config_params.specs.Parameters.{answer_over};
-ghost use Rattle.config_params.specs.Settings.{strategy_of, fixed_workers, factor_of, scaled, workers_of, strategy_key, parallelism_key, factor_key};
+ghost use Rattle.config_params.specs.Settings.{strategy_of, fixed_workers, factor_of, scaled, workers_of};
+ghost use Rattle.config_params.specs.Settings.{strategy_key, parallelism_key, factor_key};
 
 use crate::blanks::{Blanks, without_ends};
 use crate::numbers::{factor_in, parallelism_in};

@@ -83,7 +83,8 @@ impl TreeBuilder {
         requires { MayTake self.old parent }
         ensures ok { IfOk result (λ number. (number ≡ size self.old) × (refusal self.old parent node ≡ None)) }
         ensures added { OnOk result (self.new ≡ appended self.old parent node) }
-        ensures refused { IfErr result (λ fault. fault ≢ TreeFault.NoMemory → refusal self.old parent node ≡ Some fault) }
+        ensures refused { IfErr result (λ fault. fault ≢ TreeFault.NoMemory → refusal self.old parent node ≡ Some
+            fault) }
         ensures no_memory { IfErr result (λ fault. fault ≡ TreeFault.NoMemory → refusal self.old parent node ≡ None) }
         ensures err { OnErr result (self.new ≡ self.old) }
     {
@@ -207,7 +208,8 @@ ghost use Rattle.descriptor.specs.Bodies.{is_body};
 fn put_body(bodies: &mut Vec<bool>, body: Option<BodyId>)
     requires { length bodies.old.items ≡ 65536 }
     ensures many { length bodies.new.items ≡ 65536 }
-    ensures has { (b : ℕ) → b < 65536 → get_or bodies.new.items b false ≡ cond (is_body b body) true (get_or bodies.old.items b false) }
+    ensures has { (b : ℕ) → b < 65536 → get_or bodies.new.items b false ≡ cond (is_body b body) true
+        (get_or bodies.old.items b false) }
 {
     if let Some(body) = body {
         bodies[body.index()] = true;

@@ -1,6 +1,7 @@
 //! A tree of nodes.
 
-ghost use Rattle.std.specs.Prelude.{◌≡◌, ℕ, ◌<◌, ◌≤◌, ◌-◌, ◌↔◌, length, IsTrue, None, Some, OnOk, OnErr, IfSome, IfOk, IsNone, All, true};
+ghost use Rattle.std.specs.Prelude.{◌≡◌, ℕ, ◌<◌, ◌≤◌, ◌-◌, ◌↔◌, length, IsTrue, None, Some, OnOk, OnErr, IfSome};
+ghost use Rattle.std.specs.Prelude.{IfOk, IsNone, All, true};
 
 use crate::body_id::BodyId;
 use crate::kind::Kind;
@@ -43,7 +44,10 @@ impl Tree {
     ghost use Rattle.descriptor.specs.Pruned.{IsClosed, KeepsNodes, pruned};
     ghost use Rattle.descriptor.specs.Bodies.{with_after};
     ghost use Rattle.descriptor.specs.Refusals.{refusal, after_refusal};
-    ghost use Rattle.descriptor.specs.Nodes.{size, plan_alone, parent_of, children_of, node_at, kind_of, role_of, mode_of, locks_of, is_isolated_at, body_of, after_of, reason_of, is_disabled, tags_of, depth_of, appended, Below, MayTake, IsTree, IsChild};
+    ghost use Rattle.descriptor.specs.Nodes.{size, plan_alone, parent_of, children_of, node_at, kind_of, role_of};
+    ghost use Rattle.descriptor.specs.Nodes.{mode_of, locks_of, is_isolated_at, body_of, after_of, reason_of};
+    ghost use Rattle.descriptor.specs.Nodes.{is_disabled, tags_of, depth_of, appended, Below, MayTake, IsTree};
+    ghost use Rattle.descriptor.specs.Nodes.{IsChild};
 
     /// How many nodes there are, the plan included.
     pub fn len(&self) -> usize

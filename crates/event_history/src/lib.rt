@@ -1,2 +1,3 @@
-//! What a history of a run is, and what follows from a history alone. There is no code here, only definitions and theorems.
+//! What a history of a run is, and what follows from a history alone. There is no code here, only
+//! definitions and theorems.
 #![tactic(auto)]

@@ -46,11 +46,14 @@ pub fn modes(alloc: Global, tree: &Tree, settings: &Settings) -> Result<Vec<Mode
     // Each node has the mode that the rules give it, and they give it no other.
     ensures right { IfOk result (λ modes. AreGiven tree.now settings.now modes.items) }
     // Where parallel execution is not enabled nothing leaves its parent's thread, whatever is declared.
-    ensures off { IfOk result (λ modes. settings.now.parallel ≡ false → modes.items ≡ replicate (size tree.now) SameThread) }
+    ensures off { IfOk result (λ modes. settings.now.parallel ≡ false → modes.items ≡ replicate (size tree.now)
+        SameThread) }
     // Else a node that declares a mode has that mode.
-    ensures own { IfOk result (λ modes. settings.now.parallel ≡ true → (n : ℕ) (mode : Mode) → mode_of tree.now n ≡ Some mode → slice_get modes.items n ≡ Some mode) }
+    ensures own { IfOk result (λ modes. settings.now.parallel ≡ true → (n : ℕ) (mode : Mode) →
+        mode_of tree.now n ≡ Some mode → slice_get modes.items n ≡ Some mode) }
     // Engines are executed in the thread of the plan.
-    ensures engines { IfOk result (λ modes. (e : ℕ) → IsChild tree.now 0 e → slice_get modes.items e ≡ Some SameThread) }
+    ensures engines { IfOk result (λ modes. (e : ℕ) → IsChild tree.now 0 e →
+        slice_get modes.items e ≡ Some SameThread) }
 {
     let mut nearest = Vec::new(alloc);
     let mut modes = Vec::new(alloc);

@@ -46,8 +46,8 @@ impl ExitStatus {
         }
     }
 
-    /// The status of a replay, which tells what the steps do and not whether the suite passes; of a list, too, for which
-    /// nothing is run.
+    /// The status of a replay, which tells what the steps do and not whether the suite passes; of a
+    /// list, too, for which nothing is run.
     pub fn of_replay() -> ExitStatus
         ensures { result ≡ Success }
     {

@@ -1,7 +1,8 @@
 //! The refusals of a launch, with their numbers and places.
 
 ghost use Rattle.std.specs.Prelude.{◌≡◌};
-ghost use Rattle.launcher.specs.Faults.{number_of, place_of, IsPlanFault, IsReadFault, IsSelectFault, IsStepsFault, IsSuiteFault, IsTagFault};
+ghost use Rattle.launcher.specs.Faults.{number_of, place_of, IsPlanFault, IsReadFault, IsSelectFault, IsStepsFault};
+ghost use Rattle.launcher.specs.Faults.{IsSuiteFault, IsTagFault};
 ghost use Rattle.launcher.specs.declared.fault.LaunchFault.TheVariants.{NoMemory, BadSettings, Writing};
 
 use crate::bytes::ReadFault;

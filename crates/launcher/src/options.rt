@@ -4,7 +4,9 @@ ghost use Rattle.std.specs.Prelude.{◌≡◌, ◌≢◌, Some, None, option_map
 ghost use Rattle.std.specs.List.{filter_map};
 ghost use Rattle.launcher.specs.declared.fault.LaunchFault.TheVariants.{NoMemory};
 ghost use Rattle.launcher.specs.Given.{behind, maybe_behind, texts_of, values_of};
-ghost use Rattle.launcher.specs.Asked.{asked_by, details_named as details_of_name, theme_named as theme_of_name, unless_named, IsReplay, refusal_of, AreAsked, spelled, IsExpression, AreExpressions};
+ghost use Rattle.launcher.specs.Asked.{asked_by, details_named as details_of_name, theme_named as theme_of_name};
+ghost use Rattle.launcher.specs.Asked.{unless_named, IsReplay, refusal_of, AreAsked, spelled, IsExpression};
+ghost use Rattle.launcher.specs.Asked.{AreExpressions};
 
 use crate::asked::Options;
 use crate::details::Details;
@@ -106,9 +108,12 @@ fn expressions_of(alloc: Global, texts: &[&str]) -> Result<Vec<TagExpr>, AllocEr
 
 /// What is to run.
 fn request_of(alloc: Global, given: &Given<'_>) -> Result<Request, AllocError>
-    ensures selectors { IfOk result (λ request. request.selectors.items ≡ filter_map spelled (texts_of given.now.selectors.items)) }
-    ensures include { IfOk result (λ request. AreExpressions (behind given.now.include_tags.items) request.include.items) }
-    ensures exclude { IfOk result (λ request. AreExpressions (behind given.now.exclude_tags.items) request.exclude.items) }
+    ensures selectors { IfOk result
+        (λ request. request.selectors.items ≡ filter_map spelled (texts_of given.now.selectors.items)) }
+    ensures include { IfOk result (λ request. AreExpressions (behind given.now.include_tags.items)
+        request.include.items) }
+    ensures exclude { IfOk result (λ request. AreExpressions (behind given.now.exclude_tags.items)
+        request.exclude.items) }
 {
     Ok(Request {
         selectors: selectors_of(alloc, given.selectors.as_slice())?,
@@ -120,13 +125,13 @@ fn request_of(alloc: Global, given: &Given<'_>) -> Result<Request, AllocError>
 impl Options {
     /// The options that these values ask for. Details and themes that are none of ours are refusal
     /// 105, and so is what is no number of processors from 1 to 1,024, and what is no number of
-    /// places of the ring from 1 to 16,384; then a word in the text of `--replay` that names no step
-    /// is refusal 104, at its number; then a text that spells no selector is refusal 40, at the
-    /// selector's number; then an expression of `--include-tag`, and then of `--exclude-tag`, is one
-    /// of 20 to 26, at a place in it; then a word of `--config` or `--system` that has no equals
-    /// sign or an empty key is refusal 30 or 31, at its number, those of `--config` counted first. Selectors are numbered from
-    /// 1 in the order of `Given`. All of these are judged before any of them is kept, so want of memory
-    /// stands in their place nowhere.
+    /// places of the ring from 1 to 16,384; then a word in the text of `--replay` that names no
+    /// step is refusal 104, at its number; then a text that spells no selector is refusal 40, at
+    /// the selector's number; then an expression of `--include-tag`, and then of `--exclude-tag`,
+    /// is one of 20 to 26, at a place in it; then a word of `--config` or `--system` that has no
+    /// equals sign or an empty key is refusal 30 or 31, at its number, those of `--config` counted
+    /// first. Selectors are numbered from 1 in the order of `Given`. All of these are judged before
+    /// any of them is kept, so want of memory stands in their place nowhere.
     pub fn of(alloc: Global, given: &Given<'_>) -> Result<Options, LaunchFault>
         ensures asked { IfOk result (λ options. AreAsked (values_of given.now) (asked_by options)) }
         ensures accepted { IfOk result (λ _. refusal_of (values_of given.now) ≡ None) }

@@ -5,7 +5,9 @@ ghost use Rattle.config_params.specs.Parameters.{with_value};
 ghost use Rattle.launcher.specs.declared.fault.LaunchFault.TheVariants.{NoMemory};
 ghost use Rattle.launcher.specs.Asked.{unless_named};
 ghost use Rattle.launcher.specs.Given.{behind, maybe_behind, values_of};
-ghost use Rattle.launcher.specs.Parameters.{without_plus, number_named as number_of_name, processors_named as processors_of_name, ring_named as ring_of_name, pairs_in, params_said, pairs_refusal, params_refusal};
+ghost use Rattle.launcher.specs.Parameters.{without_plus, number_named as number_of_name};
+ghost use Rattle.launcher.specs.Parameters.{processors_named as processors_of_name, ring_named as ring_of_name};
+ghost use Rattle.launcher.specs.Parameters.{pairs_in, params_said, pairs_refusal, params_refusal};
 ghost use Rattle.run_table.specs.Prepared.{IsRightRing};
 
 use crate::fault::LaunchFault;
@@ -41,7 +43,8 @@ fn number_named(most: u32, otherwise: u32, text: Option<&str>) -> Result<u32, La
     requires some { 0 < otherwise }
     requires few { otherwise ≤ most }
     ensures named { IfOk result (λ number. number_of_name most otherwise (maybe_behind text.entry) ≡ Some number) }
-    ensures refused { IfErr result (λ fault. unless_named (number_of_name most otherwise (maybe_behind text.entry)) ≡ Some fault) }
+    ensures refused { IfErr result (λ fault. unless_named (number_of_name most otherwise (maybe_behind text.entry))
+        ≡ Some fault) }
     ensures some { IfOk result (λ number. 0 < number) }
     ensures few { IfOk result (λ number. number ≤ most) }
 {
@@ -105,7 +108,8 @@ fn add_pairs(
     source: Source,
     words: &[&str],
 ) -> Result<(), AllocError>
-    ensures said { OnOk result (params.new ≡ fold (λ all pair. with_value all source pair) params.old (pairs_in (behind words.now))) }
+    ensures said { OnOk result (params.new ≡ fold (λ all pair. with_value all source pair) params.old
+        (pairs_in (behind words.now))) }
 {
     for word in words {
         // every word was judged

@@ -5,7 +5,8 @@ ghost use Rattle.listeners.specs.Results.{tests_found, has_failed};
 ghost use Rattle.launcher.specs.Asked.{asked_by};
 ghost use Rattle.launcher.specs.ExitStatuses.{status_of_run};
 ghost use Rattle.launcher.specs.Faults.{unrun_fault};
-ghost use Rattle.launcher.specs.Reports.{details_of, ArePrinted, IsBehindDetails, IsRunOutput, IsReplayOutput, IsListing, IsPlanOutput, IsOutput};
+ghost use Rattle.launcher.specs.Reports.{details_of, ArePrinted, IsBehindDetails, IsRunOutput, IsReplayOutput};
+ghost use Rattle.launcher.specs.Reports.{IsListing, IsPlanOutput, IsOutput};
 ghost use Rattle.launcher.specs.Runs.{IsUnrun};
 ghost use Rattle.launcher.specs.Watched.{Watches};
 ghost use Rattle.launcher.specs.WarningTexts.{warning_lines};
@@ -51,7 +52,8 @@ fn details_text(
 ) -> Result<String, AllocError>
     requires plan { plan.now ≡ results.now.plan }
     requires events { history.now ≡ results.now.events }
-    ensures { IfOk result (λ text. string_bytes text ≡ details_of options.now.details options.now.theme results.now.plan texts.now results.now.events) }
+    ensures { IfOk result (λ text. string_bytes text ≡ details_of options.now.details options.now.theme
+        results.now.plan texts.now results.now.events) }
 {
     match options.details {
         Details::None => Ok(String::new(alloc)),
@@ -82,7 +84,9 @@ fn run_text(
 ) -> Result<String, AllocError>
     requires plan { plan.now ≡ results.now.plan }
     requires events { history.now ≡ results.now.events }
-    ensures { IfOk result (λ text. string_bytes text ≡ warning_lines warnings ++ (details_of options.now.details options.now.theme results.now.plan texts.now results.now.events ++ schedule.now)) }
+    ensures { IfOk result (λ text. string_bytes text ≡ warning_lines warnings
+        ++ (details_of options.now.details options.now.theme results.now.plan texts.now results.now.events
+        ++ schedule.now)) }
 {
     let mut text = String::new(alloc);
     push_warnings(&mut text, warnings)?;
@@ -102,8 +106,10 @@ fn history_report(
     history: &[Event],
     schedule: &str,
 ) -> Result<Report, AllocError>
-    ensures text { IfOk result (λ report. string_bytes report.text ≡ warning_lines warnings ++ (details_of options.now.details options.now.theme plan.now texts.now history.now ++ schedule.now)) }
-    ensures status { IfOk result (λ report. report.status ≡ status_of_run options.now.fail_if_no_tests (tests_found plan.now history.now) (has_failed plan.now history.now)) }
+    ensures text { IfOk result (λ report. string_bytes report.text ≡ warning_lines warnings
+        ++ (details_of options.now.details options.now.theme plan.now texts.now history.now ++ schedule.now)) }
+    ensures status { IfOk result (λ report. report.status ≡ status_of_run options.now.fail_if_no_tests
+        (tests_found plan.now history.now) (has_failed plan.now history.now)) }
 {
     let results = Results::of(alloc, plan, history)?;
     let text = run_text(
@@ -140,8 +146,13 @@ fn ended_report(
     answers: &Answers,
     ran: &PoolReport<ScriptedJob>,
 ) -> Result<Report, AllocError>
-    ensures text { IfOk result (λ report. (schedule : List ℕ) × IsBehindDetails options.now.schedule settings.now.workers ran.now.plan answers.now ran.now.events.items schedule × (string_bytes report.text ≡ warning_lines settings.now.warnings ++ (details_of options.now.details options.now.theme ran.now.plan ran.now.texts ran.now.events.items ++ schedule))) }
-    ensures status { IfOk result (λ report. report.status ≡ status_of_run options.now.fail_if_no_tests (tests_found ran.now.plan ran.now.events.items) (has_failed ran.now.plan ran.now.events.items)) }
+    ensures text { IfOk result (λ report. (schedule : List ℕ) × IsBehindDetails options.now.schedule
+        settings.now.workers ran.now.plan answers.now ran.now.events.items schedule
+        × (string_bytes report.text ≡ warning_lines settings.now.warnings
+        ++ (details_of options.now.details options.now.theme ran.now.plan ran.now.texts ran.now.events.items
+        ++ schedule))) }
+    ensures status { IfOk result (λ report. report.status ≡ status_of_run options.now.fail_if_no_tests
+        (tests_found ran.now.plan ran.now.events.items) (has_failed ran.now.plan ran.now.events.items)) }
 {
     let history = ran.events.as_slice();
     let schedule = behind_details(
@@ -177,8 +188,10 @@ fn run_report<T: Threads + Wait + Sync, V: Watcher>(
     requires some { 1 ≤ settings.now.workers }
     requires few { settings.now.workers ≤ 64 }
     requires guarded { IsGuarded (declared_of plan.tree) plan }
-    ensures output { IfOk result (λ report. IsRunOutput (asked_by options.now) settings.now plan answers.now (string_bytes report.text) report.status) }
-    ensures watched { Watches V.saw (asked_by options.now) settings.now plan answers.now watcher.old watcher.new result }
+    ensures output { IfOk result (λ report. IsRunOutput (asked_by options.now) settings.now plan answers.now
+        (string_bytes report.text) report.status) }
+    ensures watched { Watches V.saw (asked_by options.now) settings.now plan answers.now watcher.old watcher.new
+        result }
     ensures refused { IfErr result (λ fault. (fault ≡ LaunchFault.NoMemory) ⊎ (fault ≡ LaunchFault.NoWorker)) }
 {
     let jobs = scripted_jobs(alloc, &plan, answers, spins)?;
@@ -208,7 +221,8 @@ fn replay_report(
     answers: &Answers,
     workers: u32,
 ) -> Result<Report, AllocError>
-    ensures { IfOk result (λ report. IsReplayOutput steps.now workers plan.now answers.now (string_bytes report.text) report.status) }
+    ensures { IfOk result (λ report. IsReplayOutput steps.now workers plan.now answers.now (string_bytes report.text)
+        report.status) }
 {
     // The number of workers was judged before.
     let Ok(trace) = run_steps(alloc, plan, answers, workers, steps) else {
@@ -254,8 +268,10 @@ fn plan_report<T: Threads + Wait + Sync, V: Watcher>(
     requires some { 1 ≤ settings.now.workers }
     requires few { settings.now.workers ≤ 64 }
     requires guarded { IsGuarded (declared_of plan.tree) plan }
-    ensures output { IfOk result (λ report. IsPlanOutput options.now.details (asked_by options.now) settings.now plan answers.now (string_bytes report.text) report.status) }
-    ensures watched { Watches V.saw (asked_by options.now) settings.now plan answers.now watcher.old watcher.new result }
+    ensures output { IfOk result (λ report. IsPlanOutput options.now.details (asked_by options.now) settings.now plan
+        answers.now (string_bytes report.text) report.status) }
+    ensures watched { Watches V.saw (asked_by options.now) settings.now plan answers.now watcher.old watcher.new
+        result }
     ensures refused { IfErr result (λ fault. (fault ≡ LaunchFault.NoMemory) ⊎ (fault ≡ LaunchFault.NoWorker)) }
 {
     match options.details {
@@ -269,8 +285,9 @@ fn plan_report<T: Threads + Wait + Sync, V: Watcher>(
     }
 }
 
-/// What these options print of a plan with these answers under these settings, and the status. Want of memory is refused, and
-/// where there are no steps to be replayed that no thread could be started.
+/// What these options print of a plan with these answers under these settings, and the status. Want
+/// of memory is refused, and where there are no steps to be replayed that no thread could be
+/// started.
 pub(crate) fn report_of<T: Threads + Wait + Sync, V: Watcher>(
     rt: &T,
     alloc: Global,
@@ -284,8 +301,10 @@ pub(crate) fn report_of<T: Threads + Wait + Sync, V: Watcher>(
     requires some { 1 ≤ settings.now.workers }
     requires few { settings.now.workers ≤ 64 }
     requires guarded { IsGuarded (declared_of plan.tree) plan }
-    ensures output { IfOk result (λ report. IsOutput (asked_by options.now) settings.now plan answers.now (string_bytes report.text) report.status) }
-    ensures watched { Watches V.saw (asked_by options.now) settings.now plan answers.now watcher.old watcher.new result }
+    ensures output { IfOk result (λ report. IsOutput (asked_by options.now) settings.now plan answers.now
+        (string_bytes report.text) report.status) }
+    ensures watched { Watches V.saw (asked_by options.now) settings.now plan answers.now watcher.old watcher.new
+        result }
     ensures refused { IfErr result (IsUnrun (asked_by options.now)) }
 {
     match &options.replay {

@@ -6,7 +6,9 @@ ghost use Rattle.resource_locks.specs.Spares.{HasBareSpares};
 ghost use Rattle.never_stuck.specs.Reaching.{NeverStuck};
 ghost use Rattle.suite_text.specs.Reading.Bytes.{suite_read};
 ghost use Rattle.suite_text.specs.Suites.{suite_parts};
-ghost use Rattle.launcher.specs.Runs.{IsReady, IsRun, IsSuiteRun, IsUnrun, FailsSuite, ReadsSuite, TakesFrom, TakesMemory, answers_of as answers_in, fault_in, is_writing, plan_of as plan_in, plan_refusal, selection_refusal, workers_refusal};
+ghost use Rattle.launcher.specs.Runs.{IsReady, IsRun, IsSuiteRun, IsUnrun, FailsSuite, ReadsSuite, TakesFrom};
+ghost use Rattle.launcher.specs.Runs.{TakesMemory, answers_of as answers_in, fault_in, is_writing};
+ghost use Rattle.launcher.specs.Runs.{plan_of as plan_in, plan_refusal, selection_refusal, workers_refusal};
 ghost use Rattle.resource_locks.specs.Declarations.{declared_of};
 ghost use Rattle.resource_locks.specs.Hoisted.{IsGuarded};
 ghost use Rattle.selectors.specs.Selections.{answer};
@@ -48,7 +50,8 @@ const MOST_WORKERS: u32 = 64;
 /// 17 and 100 to 103).
 pub fn read_suite<R: Read>(alloc: Global, reader: &mut R) -> Result<Suite, LaunchFault>
     ensures exact { IfSome (R.remaining reader.old) (λ bytes. ReadsSuite (suite_read (take 1048577 bytes)) result) }
-    ensures reads { TakesFrom (R.remaining reader.old) (R.remaining reader.new) (fault_in result) (λ bytes. ReadsSuite (suite_read bytes) result) }
+    ensures reads { TakesFrom (R.remaining reader.old) (R.remaining reader.new) (fault_in result)
+        (λ bytes. ReadsSuite (suite_read bytes) result) }
     // No dynamic test declares a lock, and no engine is a factory.
     ensures bare { IfOk result (λ suite. HasBareSpares suite.tree) }
 {
@@ -76,11 +79,14 @@ fn plan_of(
     settings: &Settings,
     tree: Tree,
 ) -> Result<Plan, LaunchFault>
-    ensures plan { IfOk result (λ plan. plan ≡ plan_in options.now.fail_fast settings.now (answer tree options.now.request)) }
+    ensures plan { IfOk result (λ plan. plan ≡ plan_in options.now.fail_fast settings.now
+        (answer tree options.now.request)) }
     ensures guarded { IfOk result (λ plan. IsGuarded (declared_of plan.tree) plan) }
     ensures accepted { IfOk result (λ _. plan_refusal tree options.now.request ≡ None) }
-    ensures refused { IfErr result (λ fault. fault ≢ LaunchFault.NoMemory → plan_refusal tree options.now.request ≡ Some fault) }
-    ensures no_memory { IfErr result (λ fault. fault ≡ LaunchFault.NoMemory → selection_refusal tree options.now.request ≡ None) }
+    ensures refused { IfErr result (λ fault. fault ≢ LaunchFault.NoMemory →
+        plan_refusal tree options.now.request ≡ Some fault) }
+    ensures no_memory { IfErr result
+        (λ fault. fault ≡ LaunchFault.NoMemory → selection_refusal tree options.now.request ≡ None) }
     // Whatever its workers do first, it can still be brought to its end.
     ensures never_stuck { IfOk result (λ plan. HasBareSpares tree → NeverStuck plan) }
 {
@@ -99,7 +105,8 @@ fn plan_of(
 fn judge_workers(workers: u32) -> Result<(), LaunchFault>
     ensures accepted { IfOk result (λ _. workers_refusal workers ≡ None) }
     ensures few { IfOk result (λ _. workers ≤ 64) }
-    ensures refused { IfErr result (λ fault. (fault ≡ LaunchFault.TooManyWorkers) × (workers_refusal workers ≡ Some fault)) }
+    ensures refused { IfErr result (λ fault. (fault ≡ LaunchFault.TooManyWorkers)
+        × (workers_refusal workers ≡ Some fault)) }
 {
     if workers > MOST_WORKERS {
         return Err(LaunchFault::TooManyWorkers);
@@ -107,7 +114,8 @@ fn judge_workers(workers: u32) -> Result<(), LaunchFault>
     Ok(())
 }
 
-/// What a suite comes to by the options: the settings of its run, its plan, what its bodies answer, and how far they count.
+/// What a suite comes to by the options: the settings of its run, its plan, what its bodies answer,
+/// and how far they count.
 #[derive(Drop)]
 struct ReadyRun {
     settings: Settings,
@@ -118,7 +126,8 @@ struct ReadyRun {
 
 /// Makes a suite ready to be run.
 fn ready_run(alloc: Global, options: &Options, suite: Suite) -> Result<ReadyRun, LaunchFault>
-    ensures ready { IfOk result (λ ready. IsReady (asked_by options.now) (suite_parts suite) ready.settings ready.plan ready.answers) }
+    ensures ready { IfOk result (λ ready. IsReady (asked_by options.now) (suite_parts suite) ready.settings ready.plan
+        ready.answers) }
     ensures refused { IfErr result (FailsSuite (asked_by options.now) (suite_parts suite)) }
 {
     let settings = Settings::read_over(&options.params, &suite.properties, options.processors)?;
@@ -159,10 +168,14 @@ fn shown_report<T: Threads + Wait + Sync, W: Write>(
     requires outlet { live.old.outlet ≡ outlet_by options.now.details (asked_by options.now).replay }
     requires none { live.old.sent ≡ 0 }
     ensures same { live.new.writer.ghost_name ≡ live.old.writer.ghost_name }
-    ensures output { IfOk result (λ report. IsOutput (asked_by options.now) ready.settings ready.plan ready.answers (string_bytes report.text) report.status) }
-    ensures front { IfOk result (λ report. IsFront (W.contents live.old.writer.now) (W.contents live.new.writer.now) live.new.outlet live.new.sent (string_bytes report.text)) }
+    ensures output { IfOk result (λ report. IsOutput (asked_by options.now) ready.settings ready.plan ready.answers
+        (string_bytes report.text) report.status) }
+    ensures front { IfOk result (λ report. IsFront (W.contents live.old.writer.now) (W.contents live.new.writer.now)
+        live.new.outlet live.new.sent (string_bytes report.text)) }
     ensures refused { IfErr result (IsUnrun (asked_by options.now)) }
-    ensures broken_off { IfErr result (λ _. IsBrokenOff (IsOutput (asked_by options.now) ready.settings ready.plan ready.answers) (W.contents live.old.writer.now) (W.contents live.new.writer.now) live.new.sent) }
+    ensures broken_off { IfErr result
+        (λ _. IsBrokenOff (IsOutput (asked_by options.now) ready.settings ready.plan ready.answers)
+        (W.contents live.old.writer.now) (W.contents live.new.writer.now) live.new.sent) }
 {
     let ReadyRun {
         settings,
@@ -208,9 +221,12 @@ pub fn run_suite<T: Threads + Wait + Sync, W: Write>(
     suite: Suite,
     writer: &mut W,
 ) -> Result<ExitStatus, LaunchFault>
-    ensures exact { IsSuiteRun (asked_by options.now) (suite_parts suite) (W.contents writer.old) (W.contents writer.new) result }
-    ensures no_memory { IfErr result (λ fault. fault ≡ LaunchFault.NoMemory → TakesMemory (asked_by options.now) (suite_parts suite)) }
-    ensures quiet { IfErr result (λ fault. is_writing fault ≡ false → Keeps (W.contents writer.old) (W.contents writer.new)) }
+    ensures exact { IsSuiteRun (asked_by options.now) (suite_parts suite) (W.contents writer.old)
+        (W.contents writer.new) result }
+    ensures no_memory { IfErr result
+        (λ fault. fault ≡ LaunchFault.NoMemory → TakesMemory (asked_by options.now) (suite_parts suite)) }
+    ensures quiet { IfErr result (λ fault. is_writing fault ≡ false →
+        Keeps (W.contents writer.old) (W.contents writer.new)) }
 {
     let ready = ready_run(alloc, options, suite)?;
     let mut head = String::new(alloc);
@@ -236,10 +252,15 @@ pub fn run_options<T: Threads + Wait + Sync, R: Read, W: Write>(
     reader: &mut R,
     writer: &mut W,
 ) -> Result<ExitStatus, LaunchFault>
-    ensures exact { IfSome (R.remaining reader.old) (λ bytes. IsRun (asked_by options.now) (suite_read (take 1048577 bytes)) (W.contents writer.old) (W.contents writer.new) result) }
+    ensures exact { IfSome (R.remaining reader.old)
+        (λ bytes. IsRun (asked_by options.now) (suite_read (take 1048577 bytes)) (W.contents writer.old)
+        (W.contents writer.new) result) }
     // Also of a reader that tells nothing of its bytes: what is judged is what it gave, at most so many bytes.
-    ensures reads { TakesFrom (R.remaining reader.old) (R.remaining reader.new) (fault_in result) (λ bytes. IsRun (asked_by options.now) (suite_read bytes) (W.contents writer.old) (W.contents writer.new) result) }
-    ensures quiet { IfErr result (λ fault. is_writing fault ≡ false → Keeps (W.contents writer.old) (W.contents writer.new)) }
+    ensures reads { TakesFrom (R.remaining reader.old) (R.remaining reader.new) (fault_in result)
+        (λ bytes. IsRun (asked_by options.now) (suite_read bytes) (W.contents writer.old) (W.contents writer.new)
+        result) }
+    ensures quiet { IfErr result (λ fault. is_writing fault ≡ false →
+        Keeps (W.contents writer.old) (W.contents writer.new)) }
 {
     let suite = read_suite(alloc, reader)?;
     run_suite(rt, alloc, options, suite, writer)

@@ -22,7 +22,8 @@ fn namable_schedule(
     workers: u32,
     history: &[Event],
 ) -> Result<Option<Vec<Step>>, AllocError>
-    ensures schedule { IfOk result (λ found. IfSome (option_map (λ steps. steps.items) found) (IsSchedule plan.now answers.now workers history.now)) }
+    ensures schedule { IfOk result (λ found. IfSome (option_map (λ steps. steps.items) found)
+        (IsSchedule plan.now answers.now workers history.now)) }
     ensures namable { IfOk result (λ found. IfSome (option_map (λ steps. steps.items) found) AreNamable) }
 {
     let Some(steps) = schedule_of(alloc, plan, answers, workers, history)? else {

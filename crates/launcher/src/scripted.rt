@@ -72,7 +72,8 @@ fn make_place(spins: &mut Vec<u32>, place: usize) -> Result<(), AllocError>
 
 /// Keeps how far the body at this place counts.
 fn put_spin(spins: &mut Vec<u32>, place: usize, spin: u32) -> Result<(), AllocError>
-    ensures { OnOk result ((body : ℕ) → get_or spins.new.items body 0 ≡ (if place == body then spin else get_or spins.old.items body 0)) }
+    ensures { OnOk result ((body : ℕ) →
+        get_or spins.new.items body 0 ≡ (if place == body then spin else get_or spins.old.items body 0)) }
 {
     make_place(spins, place)?;
     spins[place] = spin;
@@ -139,7 +140,8 @@ fn job_for(
 ) -> Result<ScriptedJob, AllocError>
     requires inside { slot < slot_count plan.now }
     requires is { job_at plan.now slot ≡ Some number }
-    ensures reply { IfOk result (λ job. replies_left job ≡ asked_reply (is_pulled_slot plan.now slot) (reply_of answers.now number) ∷ []) }
+    ensures reply { IfOk result (λ job. replies_left job ≡ asked_reply (is_pulled_slot plan.now slot)
+        (reply_of answers.now number) ∷ []) }
     ensures spin { IfOk result (λ job. job.spin ≡ get_or spins.now number 0) }
 {
     let mut reply = reply_to(answers, number)?;

@@ -1,6 +1,7 @@
 //! All who are told of the events of a run.
 
-ghost use Rattle.std.specs.Prelude.{◌≡◌, ℕ, ◌<◌, ◌≤◌, ◌+◌, ◌-◌, ◌↔◌, ◌++◌, ◌∷◌, [], List, map, length, slice_get, IsTrue, IsNone, IfSome, Some, None, IfOk, IfErr, OnOk};
+ghost use Rattle.std.specs.Prelude.{◌≡◌, ℕ, ◌<◌, ◌≤◌, ◌+◌, ◌-◌, ◌↔◌, ◌++◌, ◌∷◌, [], List, map, length, slice_get};
+ghost use Rattle.std.specs.Prelude.{IsTrue, IsNone, IfSome, Some, None, IfOk, IfErr, OnOk};
 ghost use Rattle.std.specs.List.{All};
 ghost use Rattle.resource_locks.specs.Plans.{most_events};
 ghost use Rattle.plan_events.specs.declared.event.Event.{Event};
@@ -57,7 +58,8 @@ impl Audience {
     pub fn prepare(&mut self, plan: &Plan) -> Result<(), AllocError>
         ensures len { length self.new.listeners.items ≡ length self.old.listeners.items }
         ensures got { map got self.new.listeners.items ≡ map got self.old.listeners.items }
-        ensures all_got { (before : List Event) → All (λ l. got l ≡ before) self.old.listeners.items → All (λ l. got l ≡ before) self.new.listeners.items }
+        ensures all_got { (before : List Event) → All (λ l. got l ≡ before) self.old.listeners.items →
+            All (λ l. got l ≡ before) self.new.listeners.items }
         ensures room { OnOk result (All (λ l. most_events plan.now ≤ room l) self.new.listeners.items) }
         ensures grown { EachPlace (λ a b. room a ≤ room b) self.old.listeners.items self.new.listeners.items }
         ensures heard { EachPlace (λ a b. HasHeardMore heard [] a b) self.old.listeners.items self.new.listeners.items }
@@ -96,11 +98,16 @@ impl Audience {
     pub fn tell(&mut self, event: Event, text: Option<&str>)
         requires { All (λ l. 1 ≤ room l) self.old.listeners.items }
         ensures len { length self.new.listeners.items ≡ length self.old.listeners.items }
-        ensures got { map got self.new.listeners.items ≡ map (λ (before : List Event). before ++ event ∷ []) (map got self.old.listeners.items) }
+        ensures got { map got self.new.listeners.items ≡ map (λ (before : List Event). before ++ event ∷ [])
+            (map got self.old.listeners.items) }
         ensures room { map room self.new.listeners.items ≡ map (λ n. n - 1) (map room self.old.listeners.items) }
-        ensures all_got { (before : List Event) → All (λ l. got l ≡ before) self.old.listeners.items → All (λ l. got l ≡ before ++ event ∷ []) self.new.listeners.items }
-        ensures all_room { (n : ℕ) → All (λ l. n + 1 ≤ room l) self.old.listeners.items → All (λ l. n ≤ room l) self.new.listeners.items }
-        ensures heard { EachPlace (λ a b. HasHeardMore heard (record { event = event; text = option_map (λ t. t.now) text.entry } ∷ []) a b) self.old.listeners.items self.new.listeners.items }
+        ensures all_got { (before : List Event) → All (λ l. got l ≡ before) self.old.listeners.items →
+            All (λ l. got l ≡ before ++ event ∷ []) self.new.listeners.items }
+        ensures all_room { (n : ℕ) → All (λ l. n + 1 ≤ room l) self.old.listeners.items →
+            All (λ l. n ≤ room l) self.new.listeners.items }
+        ensures heard { EachPlace (λ a b. HasHeardMore heard
+            (record { event = event; text = option_map (λ t. t.now) text.entry } ∷ []) a b) self.old.listeners.items
+            self.new.listeners.items }
     {
         let event = &event;
         for index in 0..self.listeners.len() {
@@ -112,9 +119,12 @@ impl Audience {
     pub fn tell_all(&mut self, texts: &Texts, events: &[Event])
         requires { All (λ l. length events.now ≤ room l) self.old.listeners.items }
         ensures len { length self.new.listeners.items ≡ length self.old.listeners.items }
-        ensures got { map got self.new.listeners.items ≡ map (λ (before : List Event). before ++ events.now) (map got self.old.listeners.items) }
-        ensures room { map room self.new.listeners.items ≡ map (λ n. n - length events.now) (map room self.old.listeners.items) }
-        ensures heard { EachPlace (λ a b. HasHeardMore heard (tellings_of texts.now events.now) a b) self.old.listeners.items self.new.listeners.items }
+        ensures got { map got self.new.listeners.items ≡ map (λ (before : List Event). before ++ events.now)
+            (map got self.old.listeners.items) }
+        ensures room { map room self.new.listeners.items ≡ map (λ n. n - length events.now)
+            (map room self.old.listeners.items) }
+        ensures heard { EachPlace (λ a b. HasHeardMore heard (tellings_of texts.now events.now) a b)
+            self.old.listeners.items self.new.listeners.items }
     {
         for event in events {
             self.tell(*event, text_with(texts, *event));
@@ -161,7 +171,8 @@ fn tell_one(listener: &mut Box<dyn Listener>, event: Event, text: Option<&str>)
     requires { 0 < room listener.old }
     ensures got { got listener.new ≡ got listener.old ++ event ∷ [] }
     ensures room { room listener.new ≡ room listener.old - 1 }
-    ensures heard { HasHeardMore (λ l ts. heard l ts) (record { event = event; text = option_map (λ t. t.now) text.entry } ∷ []) listener.old listener.new }
+    ensures heard { HasHeardMore (λ l ts. heard l ts)
+        (record { event = event; text = option_map (λ t. t.now) text.entry } ∷ []) listener.old listener.new }
 {
     listener.told(event, text)
 }

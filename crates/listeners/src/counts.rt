@@ -3,7 +3,8 @@
 ghost use Rattle.std.specs.Prelude.{◌≡◌, ◌<◌, ◌≤◌, ◌++◌, length};
 ghost use Rattle.descriptor.specs.Kinds.{is_container, is_test};
 ghost use Rattle.descriptor.specs.Nodes.{bit};
-ghost use Rattle.listeners.specs.Counts.{is_counted, is_found, is_lost, counts_as_skipped, six, counts_below, FollowParents};
+ghost use Rattle.listeners.specs.Counts.{is_counted, is_found, is_lost, counts_as_skipped, six, counts_below};
+ghost use Rattle.listeners.specs.Counts.{FollowParents};
 
 use crate::node_places::Place;
 use crate::told::Told;

@@ -35,7 +35,8 @@ pub trait Listener: Drop {
         requires { 0 < room self.old }
         ensures got { got self.new ≡ got self.old ++ event ∷ [] }
         ensures room { room self.new + 1 ≡ room self.old }
-        ensures heard { HasHeardMore heard (record { event = event; text = option_map (λ t. t.now) text.entry } ∷ []) self.old self.new };
+        ensures heard { HasHeardMore heard (record { event = event; text = option_map (λ t. t.now) text.entry } ∷ [])
+            self.old self.new };
 
     /// The events that it was told, in order.
     fn got(&self) -> &[Event]

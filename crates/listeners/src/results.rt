@@ -52,9 +52,10 @@ impl<'a> Results<'a> {
         })
     }
 
-    /// Twelve counts: of containers those that were found, skipped, started, aborted, successful and failed, then the
-    /// same of tests. A node that is both counts in both, node 0 in none. Spares are found where they were registered. A
-    /// node below a skipped one counts as skipped, unless it is a spare. It takes no memory.
+    /// Twelve counts: of containers those that were found, skipped, started, aborted, successful
+    /// and failed, then the same of tests. A node that is both counts in both, node 0 in none.
+    /// Spares are found where they were registered. A node below a skipped one counts as skipped,
+    /// unless it is a spare. It takes no memory.
     pub fn counts(&self) -> [u32; 12]
         ensures counts { result ≡ counts_of self.now.plan self.now.events }
         ensures skipped { SkipsReachBelow self.now.plan.tree self.now.events }
@@ -96,7 +97,8 @@ impl<'a> Results<'a> {
         theme: Theme,
     ) -> Result<String, AllocError>
         ensures text { IfOk result (λ text. string_bytes text ≡ tree_of theme self.now.plan texts.now self.now.events) }
-        ensures levels { IfOk result (λ text. (levels : ℕ) → size self.now.plan.tree ≤ levels → string_bytes text ≡ lines_below (drawn_of theme self.now.plan texts.now self.now.events) levels [] 0) }
+        ensures levels { IfOk result (λ text. (levels : ℕ) → size self.now.plan.tree ≤ levels →
+            string_bytes text ≡ lines_below (drawn_of theme self.now.plan texts.now self.now.events) levels [] 0) }
     {
         draw(alloc, self.plan.tree(), self.tally.told(), texts, theme)
     }
@@ -127,7 +129,8 @@ pub fn tree_text(
     theme: Theme,
 ) -> Result<String, AllocError>
     ensures text { IfOk result (λ text. string_bytes text ≡ tree_of theme plan.now texts.now events.now) }
-    ensures levels { IfOk result (λ text. (levels : ℕ) → size plan.now.tree ≤ levels → string_bytes text ≡ lines_below (drawn_of theme plan.now texts.now events.now) levels [] 0) }
+    ensures levels { IfOk result (λ text. (levels : ℕ) → size plan.now.tree ≤ levels →
+        string_bytes text ≡ lines_below (drawn_of theme plan.now texts.now events.now) levels [] 0) }
 {
     Results::of(alloc, plan, events)?.tree_text(alloc, texts, theme)
 }

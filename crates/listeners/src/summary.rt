@@ -44,10 +44,10 @@ impl Summary {
         }
     }
 
-    /// Twelve counts on the plan last prepared, zeros before: of containers those that were found, skipped, started,
-    /// aborted, successful and failed, then the same of tests. A node that is both counts in both, node 0 in none. Spares
-    /// are found where they were registered. A node below a skipped one counts as skipped, unless it is a spare. It
-    /// takes no memory.
+    /// Twelve counts on the plan last prepared, zeros before: of containers those that were found,
+    /// skipped, started, aborted, successful and failed, then the same of tests. A node that is
+    /// both counts in both, node 0 in none. Spares are found where they were registered. A node
+    /// below a skipped one counts as skipped, unless it is a spare. It takes no memory.
     pub fn counts(&self) -> [u32; 12]
         ensures counts { result ≡ counts_on self.now.outline self.now.got }
         ensures skipped { (t : Nodes) → IsTree t → self.now.outline ≡ outline_of t → SkipsReachBelow t self.now.got }

@@ -61,7 +61,8 @@ impl Tally {
     /// Adds an event; one of a node that the plan lacks tells nothing. It takes no memory.
     pub(crate) fn tell(&mut self, event: &Event)
         ensures outline { self.new.outline ≡ self.old.outline }
-        ensures told { (events : List Event) → self.old.told ≡ all_told (length self.old.outline) events → self.new.told ≡ all_told (length self.old.outline) (events ++ event.now ∷ []) }
+        ensures told { (events : List Event) → self.old.told ≡ all_told (length self.old.outline) events →
+            self.new.told ≡ all_told (length self.old.outline) (events ++ event.now ∷ []) }
     {
         note(&mut self.told, *event);
     }
@@ -75,7 +76,8 @@ impl Tally {
 
     /// What there is of each sort, and what became of it. It takes no memory.
     pub(crate) fn counts(&self) -> Counts
-        ensures containers { result.containers ≡ counts_below is_container self.now.outline self.now.told (length self.now.outline) }
+        ensures containers { result.containers ≡ counts_below is_container self.now.outline self.now.told
+            (length self.now.outline) }
         ensures tests { result.tests ≡ counts_below is_test self.now.outline self.now.told (length self.now.outline) }
     {
         count(self.outline.as_slice(), self.told.as_slice())

@@ -71,7 +71,8 @@ impl Told {
 /// Adds an event to what was told; one of a node without a place tells nothing.
 pub(crate) fn note(told: &mut Vec<Told>, event: Event)
     ensures places { length told.new.items ≡ length told.old.items }
-    ensures more { (events : List Event) → told.old.items ≡ all_told (length told.old.items) events → told.new.items ≡ all_told (length told.old.items) (events ++ event ∷ []) }
+    ensures more { (events : List Event) → told.old.items ≡ all_told (length told.old.items) events →
+        told.new.items ≡ all_told (length told.old.items) (events ++ event ∷ []) }
 {
     let place = event.node.index();
     if place < told.len() {

@@ -47,7 +47,8 @@ fn push_end(
 
 /// Appends what stands behind a name.
 fn push_ending(text: &mut String, theme: Theme, told: Told, said: &str) -> Result<(), AllocError>
-    ensures { OnOk result (string_bytes text.new ≡ string_bytes text.old ++ ending theme told.skipped told.status said.now) }
+    ensures { OnOk result (string_bytes text.new ≡ string_bytes text.old ++ ending theme told.skipped told.status
+        said.now) }
 {
     if !told.skipped {
         return push_end(text, theme, told.status, said);
@@ -96,7 +97,8 @@ impl Drawing<'_> {
     ) -> Result<(), AllocError>
         requires above_zero { 0 < node }
         requires inside { node < size self.now.tree.now }
-        ensures { OnOk result (string_bytes text.new ≡ string_bytes text.old ++ line (drawn_by self.now) items.now node is_last) }
+        ensures { OnOk result (string_bytes text.new ≡ string_bytes text.old ++ line (drawn_by self.now) items.now
+            node is_last) }
     {
         let told = self.told(node);
         text.push_str(items)?;
@@ -118,7 +120,9 @@ impl Drawing<'_> {
     ) -> Result<(), AllocError>
         requires tree { IsTree self.now.tree.now }
         requires inside { node < size self.now.tree.now }
-        ensures { OnOk result ((levels : ℕ) → size self.now.tree.now - node ≤ levels → string_bytes text.new ≡ string_bytes text.old ++ lines_below (drawn_by self.now) levels (above.now ++ own.now) node) }
+        ensures { OnOk result ((levels : ℕ) → size self.now.tree.now - node ≤ levels →
+            string_bytes text.new ≡ string_bytes text.old ++ lines_below (drawn_by self.now) levels
+            (above.now ++ own.now) node) }
     {
         let children = self.children(alloc, node)?;
         if children.is_empty() {
@@ -151,7 +155,8 @@ pub(crate) fn draw(
     theme: Theme,
 ) -> Result<String, AllocError>
     requires { IsTree tree.now }
-    ensures { IfOk result (λ text. (levels : ℕ) → size tree.now ≤ levels → string_bytes text ≡ lines_below (drawn_from theme tree.now texts.now told.now) levels [] 0) }
+    ensures { IfOk result (λ text. (levels : ℕ) → size tree.now ≤ levels →
+        string_bytes text ≡ lines_below (drawn_from theme tree.now texts.now told.now) levels [] 0) }
 {
     let drawing = Drawing {
         theme,

@@ -27,8 +27,9 @@ pub enum Outlet {
     Failed,
 }
 
-/// The feed of a run, on its way to a writer: the line of each event but the plan's finish is handed to the writer when the event is
-/// told. The rest is printed by `finish`, when all is known to go well.
+/// The feed of a run, on its way to a writer: the line of each event but the plan's finish is
+/// handed to the writer when the event is told. The rest is printed by `finish`, when all is known
+/// to go well.
 #[derive(Drop)]
 pub struct LiveFeed<'w, W: Write> {
     alloc: Global,
@@ -74,7 +75,8 @@ impl<'w, W: Write> LiveFeed<'w, W> {
 
     /// The line of an event, behind what stands in front of the first.
     fn next_lines(&self, plan: &Plan, texts: &Texts, event: Event) -> Result<String, AllocError>
-        ensures { IfOk result (λ text. string_bytes text ≡ front_of self.now.outlet self.now.head.now ++ telling_line plan.now (telling texts.now event)) }
+        ensures { IfOk result (λ text. string_bytes text ≡ front_of self.now.outlet self.now.head.now
+            ++ telling_line plan.now (telling texts.now event)) }
     {
         let line = feed_text(self.alloc, plan, &[event], texts)?;
         match self.outlet {
@@ -91,7 +93,8 @@ impl<'w, W: Write> LiveFeed<'w, W> {
     fn hand_on(&mut self, bytes: &[u8])
         ensures same { self.new.writer.ghost_name ≡ self.old.writer.ghost_name }
         ensures head { self.new.head ≡ self.old.head }
-        ensures handed { IsHandedOn self.new.outlet (W.contents self.old.writer.now) (W.contents self.new.writer.now) self.old.sent self.new.sent bytes.now }
+        ensures handed { IsHandedOn self.new.outlet (W.contents self.old.writer.now) (W.contents self.new.writer.now)
+            self.old.sent self.new.sent bytes.now }
     {
         // More bytes than can be counted are not printed before the end.
         if self.sent.checked_add(bytes.len()).is_none() {
@@ -115,7 +118,8 @@ impl<'w, W: Write> LiveFeed<'w, W> {
         requires fits { self.old.sent ≤ length whole.now }
         requires short { self.old.outlet ≡ Outlet.Failed → self.old.sent < length whole.now }
         ensures same { self.new.writer.ghost_name ≡ self.old.writer.ghost_name }
-        ensures whole { (first : Option (List ℕ)) → Appends first (W.contents self.old.writer.now) (take self.old.sent whole.now) → SendsExactly first (W.contents self.new.writer.now) whole.now result }
+        ensures whole { (first : Option (List ℕ)) → Appends first (W.contents self.old.writer.now)
+            (take self.old.sent whole.now) → SendsExactly first (W.contents self.new.writer.now) whole.now result }
     {
         if self.outlet == Outlet::Failed {
             return Err(WriteFault { sent: self.sent });

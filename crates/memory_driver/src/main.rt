@@ -1,5 +1,6 @@
-//! Makes calls that take memory, each twice, by lines from standard input that name them. Before a call stands a line `call`, and behind
-//! it `answered`, so that who looks on from outside knows which growths are the call's.
+//! Makes calls that take memory, each twice, by lines from standard input that name them. Before a
+//! call stands a line `call`, and behind it `answered`, so that who looks on from outside knows
+//! which growths are the call's.
 #![tactic(auto)]
 
 mod inputs;

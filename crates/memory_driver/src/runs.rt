@@ -46,8 +46,9 @@ fn sum(mine: &[Vec<Event>]) -> usize {
     sum
 }
 
-/// What is said of a run whose order depends on the threads: how many events there are of each kind, and how many in the lists of the
-/// workers; the jobs that were not used; and on a line of its own how many of the last workers had nothing to do.
+/// What is said of a run whose order depends on the threads: how many events there are of each
+/// kind, and how many in the lists of the workers; the jobs that were not used; and on a line of
+/// its own how many of the last workers had nothing to do.
 fn reported(alloc: Global, report: Report<Actor>) -> Result<(Plan, String), AllocError> {
     let Report {
         plan,
@@ -127,8 +128,8 @@ fn run<T: Threads + Wait + Sync, W: Write>(
     Ok(plan)
 }
 
-/// `run_plan` before a recorder and a summary, and once more before the same ones where they were told nothing; answers the plan that came
-/// back, and whether it was run twice.
+/// `run_plan` before a recorder and a summary, and once more before the same ones where they were
+/// told nothing; answers the plan that came back, and whether it was run twice.
 fn run_before_two<T: Threads + Wait + Sync, W: Write>(
     rt: &T,
     alloc: Global,

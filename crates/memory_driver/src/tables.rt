@@ -19,7 +19,8 @@ use thread_tests::{Act, Actor, Board, cast};
 
 /// The jobs of a suite's plan, each of which ends as its line says.
 pub(crate) fn jobs_of(alloc: Global, plan: &Plan, text: &str) -> Result<Jobs<Actor>, AllocError>
-    ensures { IfOk result (λ jobs. (workers ring : ℕ) → JobsMayAnswer replies_left (run_of plan.now workers ring jobs.items)) }
+    ensures { IfOk result (λ jobs. (workers ring : ℕ) →
+        JobsMayAnswer replies_left (run_of plan.now workers ring jobs.items)) }
 {
     let board = Arc::new(alloc, Board::new(alloc, 0)?)?;
     let scripts = scripts_of(alloc, text)?;

@@ -81,7 +81,8 @@ fn lock_key(word: &str) -> Option<&str> {
     Some(lock.strip_suffix(":r").unwrap_or(lock))
 }
 
-/// Counts a key of these, of which so many were counted: where it is another, and none of the places is left, nothing changes.
+/// Counts a key of these, of which so many were counted: where it is another, and none of the
+/// places is left, nothing changes.
 fn counted<'a>(seen: &mut [&'a str; MOST_COUNTED], keys: usize, key: &'a str) -> usize {
     let before = seen.get(..keys).unwrap_or(&[]);
     if is_known(before, key) {
@@ -96,7 +97,8 @@ fn counted<'a>(seen: &mut [&'a str; MOST_COUNTED], keys: usize, key: &'a str) ->
     }
 }
 
-/// How many keys the words of a text lock, counted up to one more than a line may have, and how many bytes the longest has.
+/// How many keys the words of a text lock, counted up to one more than a line may have, and how
+/// many bytes the longest has.
 pub(crate) fn locks_in(text: &str) -> (usize, usize) {
     let mut seen = [""; MOST_COUNTED];
     let mut keys: usize = 0;
@@ -165,7 +167,8 @@ fn trouble_of(alloc: Global, front: &str, word: &str) -> Option<&'static str> {
     }
 }
 
-/// What stands in a text before this rest of it, whose length alone is looked at, so that a long line is not read again for each word.
+/// What stands in a text before this rest of it, whose length alone is looked at, so that a long
+/// line is not read again for each word.
 fn front_of<'a>(text: &'a str, rest: &str) -> &'a str {
     let at = text.len().saturating_sub(rest.len());
     match text.split_at_checked(at) {
@@ -174,8 +177,8 @@ fn front_of<'a>(text: &'a str, rest: &str) -> &'a str {
     }
 }
 
-/// What follows the attributes that are in order, of a line with this first word, whose attributes and verdict are this text; and
-/// what is wrong with the attribute that stands there, if one does.
+/// What follows the attributes that are in order, of a line with this first word, whose attributes
+/// and verdict are this text; and what is wrong with the attribute that stands there, if one does.
 pub(crate) fn first_trouble<'a>(
     alloc: Global,
     first: &str,

@@ -1,5 +1,6 @@
-//! What a refusal says on standard error: what is wrong, where, and what would be right. Each message is a function of the
-//! refusal and of what was given: the values of the options and the bytes of the suite.
+//! What a refusal says on standard error: what is wrong, where, and what would be right. Each
+//! message is a function of the refusal and of what was given: the values of the options and the
+//! bytes of the suite.
 #![tactic(auto)]
 
 mod attributes;

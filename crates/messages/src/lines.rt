@@ -61,7 +61,8 @@ pub(crate) fn class_names<'a>(
     Ok(names)
 }
 
-/// The number of the first line that declares the same node as that of this number, below the same parent; 0 where there is none.
+/// The number of the first line that declares the same node as that of this number, below the same
+/// parent; 0 where there is none.
 pub(crate) fn same_node(lines: &[&str], number: usize) -> usize {
     let line = line_at(lines, number);
     let (word, name) = named(line);

@@ -20,7 +20,8 @@ fn shown_char(c: char) -> char
 
 /// Appends a text as it is shown, and to the line below it a space for each of its characters.
 fn push_padded(text: &mut String, below: &mut String, part: &str) -> Result<(), AllocError>
-    ensures { OnOk result (IsPadded part.now (string_bytes text.old) (string_bytes text.new) (string_bytes below.old) (string_bytes below.new)) }
+    ensures { OnOk result (IsPadded part.now (string_bytes text.old) (string_bytes text.new) (string_bytes below.old)
+        (string_bytes below.new)) }
 {
     for c in part.chars() {
         text.push(shown_char(c))?;
@@ -64,8 +65,8 @@ fn front_shown(text: &str) -> &str
     }
 }
 
-/// Appends a text, or what of it is near to this byte, and a mark below the byte. Where no character begins there, the mark
-/// stands behind the text.
+/// Appends a text, or what of it is near to this byte, and a mark below the byte. Where no
+/// character begins there, the mark stands behind the text.
 pub(crate) fn push_marked(
     alloc: Global,
     text: &mut String,

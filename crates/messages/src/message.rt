@@ -12,8 +12,8 @@ use launcher::{Given, LaunchFault};
 use std::alloc::{AllocError, Global};
 use std::fmt;
 
-/// The message of a refusal. `{}` writes its sentence, and on the lines below what is known besides: where it is, and what would
-/// be right.
+/// The message of a refusal. `{}` writes its sentence, and on the lines below what is known
+/// besides: where it is, and what would be right.
 #[derive(Debug, Drop)]
 pub struct Message {
     pub sentence: &'static str,
@@ -80,7 +80,8 @@ fn push_details(
     }
 }
 
-/// What a refusal of these values, or of the suite of these bytes, says besides its sentence; as much of it as there was memory for.
+/// What a refusal of these values, or of the suite of these bytes, says besides its sentence; as
+/// much of it as there was memory for.
 fn details_of(alloc: Global, fault: LaunchFault, given: &Given<'_>, suite: &[u8]) -> String {
     let mut details = String::new(alloc);
     let _ = push_details(alloc, &mut details, fault, given, suite);

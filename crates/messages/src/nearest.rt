@@ -17,7 +17,8 @@ fn most_apart(word: &str) -> usize
     (word.len() / 3).max(2)
 }
 
-/// The known word that is nearest to this one, where one is near enough: the first of several. For a long word none is looked for.
+/// The known word that is nearest to this one, where one is near enough: the first of several. For
+/// a long word none is looked for.
 pub(crate) fn nearest<'a>(
     alloc: Global,
     known: &[&'a str],

@@ -69,8 +69,8 @@ fn push_workers(text: &mut String, options: &Options, suite: &Suite) -> Result<(
     Ok(())
 }
 
-/// Appends what the options and the suite of these bytes ask for that is none: the value that a fault is about, and without one the
-/// number of workers.
+/// Appends what the options and the suite of these bytes ask for that is none: the value that a
+/// fault is about, and without one the number of workers.
 fn push_over(
     alloc: Global,
     text: &mut String,

@@ -11,8 +11,8 @@ use descriptor::TreeFault;
 use std::alloc::{AllocError, Global};
 use suite_text::SuiteFault;
 
-/// Which limit the line of a node is over: that of its name, of a lock's key, of its locks, of its reason, or else of its unique
-/// id.
+/// Which limit the line of a node is over: that of its name, of a lock's key, of its locks, of its
+/// reason, or else of its unique id.
 fn limit_passed(alloc: Global, line: &str) -> &'static str {
     let (first, rest) = cut(without_front(line));
     let (name, more) = cut(rest);

@@ -52,7 +52,8 @@ fn end_line(alloc: Global, ending: Ending) -> Result<String, AllocError> {
     format!(in alloc; "status {status}\n")
 }
 
-/// Runs the program with these words on a suite, and appends what it writes, and how it ends where no line of a refusal says so.
+/// Runs the program with these words on a suite, and appends what it writes, and how it ends where
+/// no line of a refusal says so.
 fn push_run<T: Threads + Wait + Sync>(
     rt: &T,
     alloc: Global,

@@ -4,7 +4,8 @@ ghost use Rattle.std.specs.Prelude.{◌≡◌, ◌<◌, ◌++◌, IfOk, OnOk};
 ghost use Rattle.descriptor.specs.Nodes.{size};
 ghost use Rattle.listeners.specs.Counts.{was_found};
 ghost use Rattle.listeners.specs.Told.{is_skipped, is_registered, status_told, status_of};
-ghost use Rattle.reports.specs.Cases.{is_failure, is_skip, is_trouble, end_by, end_of, case_of, test_case, container_case, cases_of};
+ghost use Rattle.reports.specs.Cases.{is_failure, is_skip, is_trouble, end_by, end_of, case_of, test_case};
+ghost use Rattle.reports.specs.Cases.{container_case, cases_of};
 
 use crate::nodes::{kind_of, role_of};
 use descriptor::{NodeId, Tree};

@@ -22,7 +22,8 @@ fn is_high(tree: &Tree, node: NodeId) -> bool
 /// The names from the node below an engine down to this one, joined by `$`; of an engine its name.
 pub(crate) fn class_name(alloc: Global, tree: &Tree, node: NodeId) -> Result<String, AllocError>
     requires { node < size tree.now }
-    ensures { IfOk result (λ text. (steps : ℕ) → node ≤ steps → string_bytes text ≡ class_name_within tree.now steps node) }
+    ensures { IfOk result (λ text. (steps : ℕ) → node ≤ steps → string_bytes text ≡ class_name_within tree.now steps
+        node) }
 {
     let Some(parent) = tree.parent(node) else {
         return Ok(String::new(alloc));

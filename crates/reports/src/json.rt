@@ -35,7 +35,8 @@ fn type_word(kind: Kind) -> &'static str
 
 /// Appends how a node ended.
 fn push_status(json: &mut String, status: Status, text: &str) -> Result<(), AllocError>
-    ensures { OnOk result (string_bytes json.new ≡ string_bytes json.old ++ behind_commas (status_members status text.now)) }
+    ensures { OnOk result (string_bytes json.new ≡ string_bytes json.old
+        ++ behind_commas (status_members status text.now)) }
 {
     match status {
         Status::Successful => push_further(json, "status", "SUCCESSFUL"),
@@ -52,7 +53,8 @@ fn push_status(json: &mut String, status: Status, text: &str) -> Result<(), Allo
 
 /// Appends what stands behind the name.
 fn push_ending(json: &mut String, event: Event, text: &str) -> Result<(), AllocError>
-    ensures { OnOk result (string_bytes json.new ≡ string_bytes json.old ++ behind_commas (ending_members event.kind event.status text.now)) }
+    ensures { OnOk result (string_bytes json.new ≡ string_bytes json.old
+        ++ behind_commas (ending_members event.kind event.status text.now)) }
 {
     match (event.kind, event.status) {
         (EventKind::Skipped, _) => push_further(json, "text", text),
@@ -63,7 +65,8 @@ fn push_ending(json: &mut String, event: Event, text: &str) -> Result<(), AllocE
 
 /// Appends of which node an event tells, and what stands behind its name.
 fn push_node(json: &mut String, plan: &Plan, texts: &Texts, event: Event) -> Result<(), AllocError>
-    ensures { OnOk result (string_bytes json.new ≡ string_bytes json.old ++ behind_commas (node_members plan.now texts.now event)) }
+    ensures { OnOk result (string_bytes json.new ≡ string_bytes json.old
+        ++ behind_commas (node_members plan.now texts.now event)) }
 {
     let node = event.node;
     if node == NodeId::ROOT {
@@ -77,7 +80,8 @@ fn push_node(json: &mut String, plan: &Plan, texts: &Texts, event: Event) -> Res
 
 /// Appends the line of an event.
 fn push_event(json: &mut String, plan: &Plan, texts: &Texts, event: Event) -> Result<(), AllocError>
-    ensures { OnOk result (string_bytes json.new ≡ string_bytes json.old ++ (event_object plan.now texts.now event ++ codes "\n")) }
+    ensures { OnOk result (string_bytes json.new ≡ string_bytes json.old
+        ++ (event_object plan.now texts.now event ++ codes "\n")) }
 {
     json.push_str("{")?;
     push_member(json, "event", event_word(event.kind))?;

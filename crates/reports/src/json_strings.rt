@@ -77,7 +77,8 @@ pub(crate) fn push_member(json: &mut String, name: &str, text: &str) -> Result<(
 
 /// Appends a member whose value is a text, behind another one.
 pub(crate) fn push_further(json: &mut String, name: &str, text: &str) -> Result<(), AllocError>
-    ensures { OnOk result (string_bytes json.new ≡ string_bytes json.old ++ (codes "," ++ text_member name.now text.now)) }
+    ensures { OnOk result (string_bytes json.new ≡ string_bytes json.old
+        ++ (codes "," ++ text_member name.now text.now)) }
 {
     json.push_str(",")?;
     push_member(json, name, text)
@@ -85,7 +86,8 @@ pub(crate) fn push_further(json: &mut String, name: &str, text: &str) -> Result<
 
 /// Appends a member whose value is a number, behind another one.
 pub(crate) fn push_number(json: &mut String, name: &str, number: u8) -> Result<(), AllocError>
-    ensures { OnOk result (string_bytes json.new ≡ string_bytes json.old ++ (codes "," ++ number_member name.now number)) }
+    ensures { OnOk result (string_bytes json.new ≡ string_bytes json.old
+        ++ (codes "," ++ number_member name.now number)) }
 {
     json.push_str(",")?;
     push_quoted(json, name)?;

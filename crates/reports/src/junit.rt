@@ -4,7 +4,8 @@ ghost use Rattle.std.specs.Prelude.{◌≡◌, ◌<◌, ◌++◌, OnOk, IfOk, co
 ghost use Rattle.std.specs.List.{count_by, flat_map, range_with_len};
 ghost use Rattle.descriptor.specs.Nodes.{size};
 ghost use Rattle.reports.specs.Cases.{is_failure, is_skip};
-ghost use Rattle.reports.specs.Junit.{message_element, end_elements, case_element, case_line, suite_attributes, suite_element, suite_of, junit_of};
+ghost use Rattle.reports.specs.Junit.{message_element, end_elements, case_element, case_line, suite_attributes};
+ghost use Rattle.reports.specs.Junit.{suite_element, suite_of, junit_of};
 
 use crate::cases::{Case, CaseEnd, cases_of};
 use crate::class_names::class_name;
@@ -69,7 +70,8 @@ fn push_lines(
     class: &str,
     cases: &[Case],
 ) -> Result<(), AllocError>
-    ensures { OnOk result (string_bytes xml.new ≡ string_bytes xml.old ++ flat_map (case_line tree.now texts.now class.now) cases.now) }
+    ensures { OnOk result (string_bytes xml.new ≡ string_bytes xml.old
+        ++ flat_map (case_line tree.now texts.now class.now) cases.now) }
 {
     for case in cases {
         push_case(xml, tree, texts, class, *case)?;
@@ -111,7 +113,8 @@ fn push_cases(
     class: &str,
     cases: &[Case],
 ) -> Result<(), AllocError>
-    ensures { OnOk result (string_bytes xml.new ≡ string_bytes xml.old ++ suite_element tree.now texts.now class.now cases.now) }
+    ensures { OnOk result (string_bytes xml.new ≡ string_bytes xml.old ++ suite_element tree.now texts.now class.now
+        cases.now) }
 {
     xml.push_str("  <testsuite")?;
     push_counts(xml, class, cases)?;
@@ -153,7 +156,8 @@ fn push_suites(
     texts: &Texts,
     events: &[Event],
 ) -> Result<(), AllocError>
-    ensures { OnOk result (string_bytes xml.new ≡ string_bytes xml.old ++ flat_map (suite_of plan.now texts.now events.now) (range_with_len 0 (size plan.now.tree))) }
+    ensures { OnOk result (string_bytes xml.new ≡ string_bytes xml.old
+        ++ flat_map (suite_of plan.now texts.now events.now) (range_with_len 0 (size plan.now.tree))) }
 {
     let tree = plan.tree();
     for number in 0..tree.len() {

@@ -8,7 +8,8 @@ ghost use Rattle.std.specs.Prelude.{◌≡◌, ◌<◌, IfOk, length, cond, ◌&
 ghost use Rattle.descriptor.specs.Nodes.{size, parent_of, locks_of};
 ghost use Rattle.descriptor.specs.declared.lock_mode.LockMode.TheVariants.{Read, ReadWrite};
 ghost use Rattle.resource_locks.specs.Declarations.{declared_of, global, IsLockTree};
-ghost use Rattle.resource_locks.specs.Held.{walk, table, isolates, top_step, holder_step, is_whole, own, held, hoisted_mode};
+ghost use Rattle.resource_locks.specs.Held.{walk, table, isolates, top_step, holder_step, is_whole, own, held};
+ghost use Rattle.resource_locks.specs.Held.{hoisted_mode};
 ghost use Rattle.resource_locks.specs.Held.{own as own_at};
 ghost use Rattle.resource_locks.specs.Wants.{is_write};
 ghost use Rattle.std.specs.List.{list_any};
@@ -41,7 +42,8 @@ pub(crate) fn hoisted_modes(
     requires held { sets.now ≡ table (held (declared_of tree.now)) (size tree.now) }
     requires held_len { length sets.now ≡ size tree.now }
     requires given { length given.items ≡ size tree.now }
-    ensures modes { IfOk result (λ v. v.items ≡ table (hoisted_mode (declared_of tree.now) given.items) (size tree.now)) }
+    ensures modes { IfOk result (λ v. v.items ≡ table (hoisted_mode (declared_of tree.now) given.items)
+        (size tree.now)) }
     ensures len { IfOk result (λ v. length v.items ≡ size tree.now) }
 {
     let _ = node_count(tree);
@@ -161,7 +163,8 @@ fn holders(
     requires tops_len { length tops.now ≡ size tree.now }
     requires wholes { wholes.now ≡ table (is_whole (declared_of tree.now)) (size tree.now) }
     requires wholes_len { length wholes.now ≡ size tree.now }
-    ensures holders { IfOk result (λ v. v.items ≡ walk tree.now (holder_step (declared_of tree.now)) 0 (size tree.now)) }
+    ensures holders { IfOk result (λ v. v.items ≡ walk tree.now (holder_step (declared_of tree.now)) 0
+        (size tree.now)) }
     ensures len { IfOk result (λ v. length v.items ≡ size tree.now) }
 {
     let mut holders = vec![in alloc; 0usize]?;

@@ -1,6 +1,7 @@
 //! The keys of a plan and their numbers.
 
-ghost use Rattle.std.specs.Prelude.{◌≡◌, ◌<◌, ◌≤◌, ℕ, List, [], IfOk, IfErr, OnOk, IfSome, IsNone, length, map, slice_index_or};
+ghost use Rattle.std.specs.Prelude.{◌≡◌, ◌<◌, ◌≤◌, ℕ, List, [], IfOk, IfErr, OnOk, IfSome, IsNone, length, map};
+ghost use Rattle.std.specs.Prelude.{slice_index_or};
 ghost use Rattle.descriptor.specs.Nodes.{IsTree};
 ghost use Rattle.resource_locks.specs.Declarations.{declared_of};
 ghost use Rattle.resource_locks.specs.Keys.{with_key, with_keys, keys_of};
@@ -43,7 +44,8 @@ impl Keys {
     pub(crate) fn of(alloc: Global, tree: &Tree) -> Result<Keys, PlanFault>
         ensures keys { IfOk result (λ keys. keys ≡ keys_of (declared_of tree.now)) }
         ensures tree { OnOk result (IsTree tree.now) }
-        ensures refused { IfErr result (λ fault. fault ≡ PlanFault.TooManyKeys → 256 < length (keys_of (declared_of tree.now))) }
+        ensures refused { IfErr result (λ fault. fault ≡ PlanFault.TooManyKeys →
+            256 < length (keys_of (declared_of tree.now))) }
     {
         let mut keys = Keys {
             keys: IndexSet::new(alloc),
@@ -59,7 +61,8 @@ impl Keys {
     /// some of them there.
     fn add_all(&mut self, alloc: Global, locks: &[Lock]) -> Result<(), PlanFault>
         ensures ok { OnOk result (self.new ≡ with_keys self.old locks.now) }
-        ensures refused { IfErr result (λ fault. fault ≡ PlanFault.TooManyKeys → 256 < length (with_keys self.old locks.now)) }
+        ensures refused { IfErr result (λ fault. fault ≡ PlanFault.TooManyKeys →
+            256 < length (with_keys self.old locks.now)) }
     {
         for lock in locks {
             self.add(alloc, lock.key.as_str())?;
@@ -70,7 +73,8 @@ impl Keys {
     /// Adds a key. Refused where it would be the 257th.
     fn add(&mut self, alloc: Global, key: &str) -> Result<(), PlanFault>
         ensures ok { OnOk result (self.new ≡ with_key self.old key.now) }
-        ensures refused { IfErr result (λ fault. fault ≡ PlanFault.TooManyKeys → 256 < length (with_key self.old key.now)) }
+        ensures refused { IfErr result (λ fault. fault ≡ PlanFault.TooManyKeys →
+            256 < length (with_key self.old key.now)) }
     {
         if self.keys.contains(key) {
             return Ok(());
@@ -95,7 +99,8 @@ impl Keys {
 
     /// The numbers of the keys of locks, all of which are among these.
     fn numbers(&self, alloc: Global, locks: &[Lock]) -> Result<Vec<u8>, AllocError>
-        requires { (key : List ℕ) (mode : ModeValue) → HasLock locks.now key mode → number_of self.now key < length self.now }
+        requires { (key : List ℕ) (mode : ModeValue) → HasLock locks.now key mode →
+            number_of self.now key < length self.now }
         ensures { IfOk result (λ numbers. numbers.items ≡ numbers_of self.now locks.now) }
     {
         let mut numbers = Vec::with_capacity(alloc, locks.len())?;
@@ -114,7 +119,8 @@ impl Keys {
         alloc: Global,
         sets: &[LockSet],
     ) -> Result<Vec<Vec<u8>>, AllocError>
-        requires { (n : ℕ) (key : List ℕ) (mode : ModeValue) → HasLock (slice_index_or sets.now n []) key mode → number_of self.now key < length self.now }
+        requires { (n : ℕ) (key : List ℕ) (mode : ModeValue) → HasLock (slice_index_or sets.now n []) key mode →
+            number_of self.now key < length self.now }
         ensures { IfOk result (λ lists. map (λ v. v.items) lists.items ≡ map (numbers_of self.now) sets.now) }
     {
         let mut lists = Vec::new(alloc);

@@ -1,6 +1,7 @@
 //! Plans.
 
-ghost use Rattle.std.specs.Prelude.{◌≡◌, ◌<◌, ◌≤◌, ◌==◌, ◌&&◌, ◌↔◌, not, ℕ, IfOk, IfErr, IsTrue, OnOk, length, map, slice_index_or};
+ghost use Rattle.std.specs.Prelude.{◌≡◌, ◌<◌, ◌≤◌, ◌==◌, ◌&&◌, ◌↔◌, not, ℕ, IfOk, IfErr, IsTrue, OnOk, length, map};
+ghost use Rattle.std.specs.Prelude.{slice_index_or};
 ghost use Rattle.descriptor.specs.Nodes.{size, IsChild};
 ghost use Rattle.descriptor.specs.declared.mode.Mode.{Mode as ModeValue};
 ghost use Rattle.descriptor.specs.declared.mode.Mode.TheVariants.{SameThread};
@@ -41,9 +42,23 @@ impl Model for Plan {
 
     ghost Value = { PlanParts };
 
-    ghost view = { λ p. record { tree = p.tree; modes = p.modes.items; held = p.held.items; keys = p.keys.items; fail_fast = p.fail_fast } };
+    ghost view = { λ p. record {
+      tree = p.tree;
+      modes = p.modes.items;
+      held = p.held.items;
+      keys = p.keys.items;
+      fail_fast = p.fail_fast;
+    } };
 
-    ghost invariant = { λ p. IsSound (record { tree = p.tree; modes = p.modes.items; held = p.held.items; keys = p.keys.items; fail_fast = p.fail_fast }) (map (λ v. v.items) p.numbers.items) };
+    ghost invariant = { λ p. IsSound
+        (record {
+          tree = p.tree;
+          modes = p.modes.items;
+          held = p.held.items;
+          keys = p.keys.items;
+          fail_fast =
+              p.fail_fast;
+        }) (map (λ v. v.items) p.numbers.items) };
 }
 
 /// The plan of a tree whose nodes were given these modes, as `Plan::of` makes it of a copy of the tree.
@@ -52,11 +67,14 @@ pub fn hoist(alloc: Global, tree: &Tree, modes: Vec<Mode>) -> Result<Plan, PlanF
     requires { length modes.items ≡ size tree.now }
     ensures same { IfOk result (λ plan. plan ≡ plan_of tree.now modes.items) }
     ensures few { OnOk result (length (keys_of (declared_of tree.now)) ≤ 256) }
-    ensures refused { IfErr result (λ fault. fault ≡ PlanFault.TooManyKeys → 256 < length (keys_of (declared_of tree.now))) }
-    ensures hoisted { IfOk result (λ plan. IsHoisted (declared_of tree.now) (λ n. slice_index_or modes.items n SameThread) plan) }
+    ensures refused { IfErr result (λ fault. fault ≡ PlanFault.TooManyKeys →
+        256 < length (keys_of (declared_of tree.now))) }
+    ensures hoisted { IfOk result (λ plan. IsHoisted (declared_of tree.now)
+        (λ n. slice_index_or modes.items n SameThread) plan) }
     ensures guarded { IfOk result (λ plan. IsGuarded (declared_of tree.now) plan) }
     // An engine keeps the mode that it was given: nothing is held above it.
-    ensures engines { IfOk result (λ plan. (e : ℕ) → IsChild tree.now 0 e → mode_of plan e ≡ slice_index_or modes.items e SameThread) }
+    ensures engines { IfOk result (λ plan. (e : ℕ) → IsChild tree.now 0 e →
+        mode_of plan e ≡ slice_index_or modes.items e SameThread) }
     // Spares hold keys only by what they declare, or below an engine that is a factory.
     ensures free { IfOk result (λ plan. HasBareSpares tree.now → HasFreeSpares plan) }
 {
@@ -77,10 +95,13 @@ impl Plan {
         requires { length modes.items ≡ size tree }
         ensures same { IfOk result (λ plan. plan ≡ plan_of tree modes.items) }
         ensures few { OnOk result (length (keys_of (declared_of tree)) ≤ 256) }
-        ensures refused { IfErr result (λ fault. fault ≡ PlanFault.TooManyKeys → 256 < length (keys_of (declared_of tree))) }
-        ensures hoisted { IfOk result (λ plan. IsHoisted (declared_of tree) (λ n. slice_index_or modes.items n SameThread) plan) }
+        ensures refused { IfErr result (λ fault. fault ≡ PlanFault.TooManyKeys →
+            256 < length (keys_of (declared_of tree))) }
+        ensures hoisted { IfOk result (λ plan. IsHoisted (declared_of tree)
+            (λ n. slice_index_or modes.items n SameThread) plan) }
         ensures guarded { IfOk result (λ plan. IsGuarded (declared_of tree) plan) }
-        ensures engines { IfOk result (λ plan. (e : ℕ) → IsChild tree 0 e → mode_of plan e ≡ slice_index_or modes.items e SameThread) }
+        ensures engines { IfOk result (λ plan. (e : ℕ) → IsChild tree 0 e →
+            mode_of plan e ≡ slice_index_or modes.items e SameThread) }
         ensures free { IfOk result (λ plan. HasBareSpares tree → HasFreeSpares plan) }
     {
         let keys = Keys::of(alloc, &tree)?;
@@ -148,7 +169,8 @@ impl Plan {
     /// The same plan, but for whether nothing more is to start once a node has failed.
     pub fn with_fail_fast(self, fail_fast: bool) -> Plan
         ensures same { result ≡ record self { fail_fast = fail_fast } }
-        ensures hoisted { (given : ℕ → ModeValue) → IsHoisted (declared_of self.tree) given self → IsHoisted (declared_of self.tree) given result }
+        ensures hoisted { (given : ℕ → ModeValue) → IsHoisted (declared_of self.tree) given self →
+            IsHoisted (declared_of self.tree) given result }
         ensures guarded { IsGuarded (declared_of self.tree) self → IsGuarded (declared_of self.tree) result }
     {
         let mut plan = self;

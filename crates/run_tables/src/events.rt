@@ -1,5 +1,5 @@
-//! Events as words: the worker, `+` for a start, `-` for a finish, `~` for a skip and `*` for a registration, the node, and
-//! behind a finish `!` where it FAILED and `?` where it ABORTED.
+//! Events as words: the worker, `+` for a start, `-` for a finish, `~` for a skip and `*` for a
+//! registration, the node, and behind a finish `!` where it FAILED and `?` where it ABORTED.
 
 use descriptor::NodeId;
 use plan_events::{Event, EventKind, Status};

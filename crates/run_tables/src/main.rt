@@ -1,5 +1,6 @@
-//! Runs suites from standard input, and answers questions about the runs. `== TITLE` begins a suite; `? QUESTION` asks about
-//! the one so far; any other line is one of the suite. Each line is printed, with the answer behind or below a question.
+//! Runs suites from standard input, and answers questions about the runs. `== TITLE` begins a
+//! suite; `? QUESTION` asks about the one so far; any other line is one of the suite. Each line is
+//! printed, with the answer behind or below a question.
 #![tactic(auto)]
 
 mod answers;

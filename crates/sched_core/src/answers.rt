@@ -48,7 +48,8 @@ fn is_in_order(replies: &[(BodyId, Reply)]) -> bool
 /// The reply that stands with a body, where the bodies rise along the replies.
 fn found_by_halving(replies: &[(BodyId, Reply)], body: BodyId) -> Option<&Reply>
     requires { IsInOrder replies.now }
-    ensures { MatchOption result (reply_to replies.now body ≡ None) (λ reply. reply_to replies.now body ≡ Some reply.now) }
+    ensures { MatchOption result (reply_to replies.now body ≡ None)
+        (λ reply. reply_to replies.now body ≡ Some reply.now) }
 {
     match replies.binary_search_by_key(&body.number(), |answer| answer.0.number()) {
         Ok(place) => Some(&replies[place].1),
@@ -58,7 +59,8 @@ fn found_by_halving(replies: &[(BodyId, Reply)], body: BodyId) -> Option<&Reply>
 
 /// The first reply that stands with a body.
 fn found_in_a_row(replies: &[(BodyId, Reply)], body: BodyId) -> Option<&Reply>
-    ensures { MatchOption result (reply_to replies.now body ≡ None) (λ reply. reply_to replies.now body ≡ Some reply.now) }
+    ensures { MatchOption result (reply_to replies.now body ≡ None)
+        (λ reply. reply_to replies.now body ≡ Some reply.now) }
 {
     for answer in replies {
         if answer.0 == body {
@@ -80,7 +82,8 @@ impl Answers {
 
     /// The first reply that stands with the body, if one does.
     pub fn reply(&self, body: BodyId) -> Option<&Reply>
-        ensures { MatchOption result (reply_to self.now body ≡ None) (λ reply. reply_to self.now body ≡ Some reply.now) }
+        ensures { MatchOption result (reply_to self.now body ≡ None)
+            (λ reply. reply_to self.now body ≡ Some reply.now) }
     {
         if self.in_order {
             found_by_halving(self.replies.as_slice(), body)

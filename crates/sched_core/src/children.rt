@@ -5,7 +5,8 @@ ghost use Rattle.descriptor.specs.Nodes.{size, parent_of, IsChild};
 ghost use Rattle.scheduling.specs.Answers.{reply_by};
 ghost use Rattle.scheduling.specs.LinkLists.{AreTurns};
 ghost use Rattle.scheduling.specs.Choices.{admit_from, offered_to as offered_to_of};
-ghost use Rattle.scheduling.specs.Rows.{offers, admit_row, add_child_row, guard_given, counted_off, done_hand, done_row, settle_row, look_found, look_row};
+ghost use Rattle.scheduling.specs.Rows.{offers, admit_row, add_child_row, guard_given, counted_off, done_hand};
+ghost use Rattle.scheduling.specs.Rows.{done_row, settle_row, look_found, look_row};
 ghost use Rattle.scheduling.specs.State.{status_at};
 ghost use Rattle.scheduling.specs.declared.seat.Hand.{Hand as HandValue};
 ghost use Rattle.scheduling.specs.declared.task.Opening.{Opening as OpeningValue};
@@ -52,7 +53,9 @@ impl Machine {
         requires place { place < length self.old.seats.items }
         requires sizes { length self.old.statuses.items ≡ size plan.now.tree }
         requires child { IsChild plan.now.tree node child }
-        ensures state { state_of self.new ≡ offers (state_of self.old) place (seated (Opens node (admit_from plan.now node (suc child))) hand) child (offered_to_of plan.now place child) }
+        ensures state { state_of self.new ≡ offers (state_of self.old) place
+            (seated (Opens node (admit_from plan.now node (suc child))) hand) child
+            (offered_to_of plan.now place child) }
         ensures room { KeepsRoom self.old self.new }
     {
         let task = Task::Opens(node, turns.admit_after(child));
@@ -71,10 +74,13 @@ impl Machine {
         requires turns { AreTurns plan.now turns.now }
         requires place { place < length self.old.seats.items }
         requires sizes { length self.old.statuses.items ≡ size plan.now.tree }
-        requires admits { (n c : ℕ) (d : OpeningValue) → task ≡ Opens n d → d ≡ Admitting c → IsChild plan.now.tree n c }
+        requires admits { (n c : ℕ) (d : OpeningValue) → task ≡ Opens n d → d ≡ Admitting c →
+            IsChild plan.now.tree n c }
         requires offers { (n : ℕ) (d : OpeningValue) → task ≡ Opens n d → n < size plan.now.tree }
-        requires passes { (n m o : ℕ) (d : ClosingValue) → task ≡ Closes n d → d ≡ Passing m o → m < size plan.now.tree }
-        ensures { IsAnswered self.old (admit_row plan.now (state_of self.old) place (seated task hand) task) result self.new }
+        requires passes { (n m o : ℕ) (d : ClosingValue) → task ≡ Closes n d → d ≡ Passing m o →
+            m < size plan.now.tree }
+        ensures { IsAnswered self.old (admit_row plan.now (state_of self.old) place (seated task hand) task) result
+            self.new }
     {
         match task {
             Task::Free => return Err(NotEnabled),
@@ -118,7 +124,8 @@ impl Machine {
     ) -> Result<(), NotEnabled>
         requires place { place < length self.old.seats.items }
         requires hand { (h : HandValue) → hand ≡ Some h → IsFactory plan.now self.old h.factory }
-        ensures { IsAnswered self.old (add_child_row plan.now (state_of self.old) place (seated task hand) (reply_by answer) task) result self.new }
+        ensures { IsAnswered self.old (add_child_row plan.now (state_of self.old) place (seated task hand)
+            (reply_by answer) task) result self.new }
     {
         let (Task::Free, Some(held)) = (task, hand) else {
             return Err(NotEnabled);
@@ -165,7 +172,8 @@ impl Machine {
         requires inside { node < size plan.now.tree }
         requires counters { length self.old.counters.items ≡ size plan.now.tree }
         requires results { length self.old.results.items ≡ size plan.now.tree }
-        ensures state { state_of self.new ≡ counted_off plan.now (state_of self.old) place (seated Task.Free hand) node }
+        ensures state { state_of self.new ≡ counted_off plan.now (state_of self.old) place (seated Task.Free hand)
+            node }
         ensures room { KeepsRoom self.old self.new }
     {
         let outstanding = self.counters[node.index()];
@@ -186,7 +194,8 @@ impl Machine {
         requires hand { (h : HandValue) → hand ≡ Some h → IsFactory plan.now self.old h.factory }
         requires counters { length self.old.counters.items ≡ size plan.now.tree }
         requires results { length self.old.results.items ≡ size plan.now.tree }
-        ensures { IsAnswered self.old (done_hand plan.now (state_of self.old) place (reply_by answer) hand) result self.new }
+        ensures { IsAnswered self.old (done_hand plan.now (state_of self.old) place (reply_by answer) hand) result
+            self.new }
     {
         let Some(hand) = hand else {
             return Err(NotEnabled);
@@ -213,7 +222,8 @@ impl Machine {
         requires results { length self.old.results.items ≡ size plan.now.tree }
         requires guards { (n : ℕ) (d : OpeningValue) → task ≡ Opens n d → n < size plan.now.tree }
         requires counts { (c : ℕ) (d : ClosingValue) → task ≡ Closes c d → d ≡ CountingOff → HasParent plan.now c }
-        ensures { IsAnswered self.old (done_row plan.now (state_of self.old) place (seated task hand) (reply_by answer) task) result self.new }
+        ensures { IsAnswered self.old (done_row plan.now (state_of self.old) place (seated task hand)
+            (reply_by answer) task) result self.new }
     {
         match task {
             Task::Free => return self.done_by_hand(plan, place, hand, answer),
@@ -248,7 +258,8 @@ impl Machine {
         requires place { place < length self.old.seats.items }
         requires sizes { length self.old.statuses.items ≡ size plan.now.tree }
         requires inside { (n : ℕ) (d : ClosingValue) → task ≡ Closes n d → n < size plan.now.tree }
-        ensures { IsAnswered self.old (settle_row plan.now (state_of self.old) place (seated task hand) task) result self.new }
+        ensures { IsAnswered self.old (settle_row plan.now (state_of self.old) place (seated task hand) task) result
+            self.new }
     {
         let Task::Closes(node, closing) = task else {
             return Err(NotEnabled);
@@ -275,7 +286,8 @@ impl Machine {
     ) -> Result<(), NotEnabled>
         requires place { place < length self.old.seats.items }
         requires parent { HasParent plan.now node }
-        ensures { IsAnswered self.old (look_found (state_of self.old) place (seated Task.Free hand) node sibling (status_at (state_of self.old) (parent_of plan.now.tree node))) result self.new }
+        ensures { IsAnswered self.old (look_found (state_of self.old) place (seated Task.Free hand) node sibling
+            (status_at (state_of self.old) (parent_of plan.now.tree node))) result self.new }
     {
         let Some(parent) = plan.tree().parent(node) else {
             unreachable!()
@@ -300,7 +312,8 @@ impl Machine {
     ) -> Result<(), NotEnabled>
         requires place { place < length self.old.seats.items }
         requires looks { (n m : ℕ) (d : ClosingValue) → task ≡ Closes n d → d ≡ Looking m → HasParent plan.now n }
-        ensures { IsAnswered self.old (look_row plan.now (state_of self.old) place (seated task hand) task) result self.new }
+        ensures { IsAnswered self.old (look_row plan.now (state_of self.old) place (seated task hand) task) result
+            self.new }
     {
         match task {
             Task::Free => Ok(()),

@@ -17,7 +17,8 @@ const MOST_WORKERS: u32 = 64;
 
 /// The number of workers, if there may be so many.
 pub(crate) fn worker_count(workers: u32) -> Result<u8, CoreFault>
-    ensures count { IfOk result (λ count. (count ≡ workers) × (0 < count) × (count ≤ 64) × (workers_refusal workers ≡ None)) }
+    ensures count { IfOk result (λ count. (count ≡ workers) × (0 < count) × (count ≤ 64)
+        × (workers_refusal workers ≡ None)) }
     ensures refused { IfErr result (λ fault. (workers_refusal workers ≡ Some fault) × (fault ≢ CoreFault.NoMemory)) }
 {
     if workers == 0 {
@@ -60,7 +61,8 @@ impl Core {
     /// The run of a plan by so many workers, before its first step. It makes room for every event, so that no step
     /// wants memory. No workers are refusal 60, more than 64 are refusal 61, want of memory is refusal 0.
     pub fn new(alloc: Global, plan: Plan, answers: Answers, workers: u32) -> Result<Core, CoreFault>
-        ensures ok { IfOk result (λ core. core ≡ record { plan = plan; answers = answers; state = opening plan workers }) }
+        ensures ok { IfOk result (λ core. core ≡ record
+            { plan = plan; answers = answers; state = opening plan workers }) }
         ensures accepted { IfOk result (λ _. workers_refusal workers ≡ None) }
         ensures refused { IfErr result (λ fault. fault ≢ CoreFault.NoMemory → workers_refusal workers ≡ Some fault) }
         ensures no_memory { IfErr result (λ fault. fault ≡ CoreFault.NoMemory → workers_refusal workers ≡ None) }
@@ -87,7 +89,8 @@ impl Core {
     /// What the run has left so far. No step counts as passed over.
     pub fn trace(&self, alloc: Global) -> Result<Trace, AllocError>
         ensures exact { IfOk result (λ trace. IsTraceOf self.now.state 0 trace) }
-        ensures right { IfOk result (λ trace. IsRightTrace self.now.plan self.now.answers (length self.now.state.seats) trace) }
+        ensures right { IfOk result (λ trace. IsRightTrace self.now.plan self.now.answers
+            (length self.now.state.seats) trace) }
         ensures shown { IfOk result (λ trace. IsShown self.now.state trace.given.items) }
         ensures apart { IfOk result (λ trace. KeepsApart self.now.plan trace) }
         ensures expected { IfOk result (λ trace. HasExpected self.now.plan self.now.answers trace) }

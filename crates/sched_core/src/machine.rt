@@ -94,7 +94,8 @@ impl Machine {
     ) -> Result<(), NotEnabled>
         requires turns { AreTurns plan.now turns.now }
         requires bounds { InBounds plan.now self.old place (seated task hand) }
-        ensures { IsAnswered self.old (row plan.now (state_of self.old) place (seated task hand) (reply_by answer) action) result self.new }
+        ensures { IsAnswered self.old (row plan.now (state_of self.old) place (seated task hand) (reply_by answer)
+            action) result self.new }
     {
         match action {
             Action::Claim(node) => self.claim(plan, place, task, hand, node),
@@ -126,7 +127,8 @@ impl Machine {
     ) -> Result<(), NotEnabled>
         requires turns { AreTurns plan.now turns.now }
         requires sound { IsSound plan.now answers.now self.old }
-        ensures { IsAnswered self.old (worker_step plan.now answers.now (state_of self.old) worker action) result self.new }
+        ensures { IsAnswered self.old (worker_step plan.now answers.now (state_of self.old) worker action) result
+            self.new }
     {
         if worker == 0 {
             return Err(NotEnabled);
@@ -153,7 +155,8 @@ impl Machine {
         requires given { self.old.given ≤ length self.old.published.items }
         requires placed { IsPlaced (state_of self.old) }
         ensures answered { IsAnswered self.old (read_row (state_of self.old)) result self.new }
-        ensures shown { IsShown (state_of self.old) (state_of self.old).given → IsShown (state_of self.new) (state_of self.new).given }
+        ensures shown { IsShown (state_of self.old) (state_of self.old).given →
+            IsShown (state_of self.new) (state_of self.new).given }
     {
         if self.given == self.published.len() || !self.is_next_shown() {
             return Err(NotEnabled);
@@ -172,7 +175,8 @@ impl Machine {
     ) -> Result<(), NotEnabled>
         requires turns { AreTurns plan.now turns.now }
         requires sound { IsSound plan.now answers.now self.old }
-        ensures answered { IsAnswered self.old (after_step plan.now answers.now (state_of self.old) step) result self.new }
+        ensures answered { IsAnswered self.old (after_step plan.now answers.now (state_of self.old) step) result
+            self.new }
         ensures sound { IsSound plan.now answers.now self.new }
         ensures workers { self.new.workers ≡ self.old.workers }
     {

@@ -7,7 +7,8 @@ ghost use Rattle.scheduling.specs.Shown.{IsShown};
 ghost use Rattle.sched_core.specs.Snapshot.{workers_refusal};
 ghost use Rattle.sched_core.specs.Runs.{run, passed_over};
 ghost use Rattle.sched_core.specs.Endings.{IsNotStuck};
-ghost use Rattle.sched_core.specs.Traces.{IsTraceOf, IsRightTrace, IsDriven, IsOnlyDriven, IsShownAtEnd, IsWhole, KeepsApart, HasExpected, IsOnlyHistory};
+ghost use Rattle.sched_core.specs.Traces.{IsTraceOf, IsRightTrace, IsDriven, IsOnlyDriven, IsShownAtEnd, IsWhole};
+ghost use Rattle.sched_core.specs.Traces.{KeepsApart, HasExpected, IsOnlyHistory};
 ghost use Rattle.sched_core.specs.Inside.Fields.{state_of, IsSound};
 
 use crate::answers::Answers;
@@ -48,13 +49,16 @@ pub fn run_steps(
     workers: u32,
     steps: &[Step],
 ) -> Result<Trace, CoreFault>
-    ensures exact { IfOk result (λ trace. IsTraceOf (run plan.now answers.now (opening plan.now workers) steps.now) (passed_over plan.now answers.now (opening plan.now workers) steps.now) trace) }
+    ensures exact { IfOk result (λ trace. IsTraceOf (run plan.now answers.now (opening plan.now workers) steps.now)
+        (passed_over plan.now answers.now (opening plan.now workers) steps.now) trace) }
     ensures right { IfOk result (λ trace. IsRightTrace plan.now answers.now workers trace) }
-    ensures shown { IfOk result (λ trace. IsShown (run plan.now answers.now (opening plan.now workers) steps.now) trace.given.items) }
+    ensures shown { IfOk result (λ trace. IsShown (run plan.now answers.now (opening plan.now workers) steps.now)
+        trace.given.items) }
     ensures apart { IfOk result (λ trace. KeepsApart plan.now trace) }
     ensures expected { IfOk result (λ trace. HasExpected plan.now answers.now trace) }
     // Whatever the steps were, further ones bring the run to its end.
-    ensures never_stuck { OnOk result (IsNotStuck plan.now answers.now (run plan.now answers.now (opening plan.now workers) steps.now)) }
+    ensures never_stuck { OnOk result
+        (IsNotStuck plan.now answers.now (run plan.now answers.now (opening plan.now workers) steps.now)) }
     ensures accepted { IfOk result (λ _. workers_refusal workers ≡ None) }
     ensures refused { IfErr result (λ fault. fault ≢ CoreFault.NoMemory → workers_refusal workers ≡ Some fault) }
     ensures no_memory { IfErr result (λ fault. fault ≡ CoreFault.NoMemory → workers_refusal workers ≡ None) }
@@ -66,9 +70,9 @@ pub fn run_steps(
     Ok(machine.trace(alloc, missed)?)
 }
 
-/// Runs the plan to its end with one worker, by the fixed schedule: the dispatcher reads whatever is shown, and else the
-/// worker takes the one step that its task allows. A free worker goes on with the factory in its hand, or takes the least
-/// numbered node that is offered to it or to any.
+/// Runs the plan to its end with one worker, by the fixed schedule: the dispatcher reads whatever
+/// is shown, and else the worker takes the one step that its task allows. A free worker goes on
+/// with the factory in its hand, or takes the least numbered node that is offered to it or to any.
 pub fn drive(alloc: Global, plan: &Plan, answers: &Answers) -> Result<Trace, AllocError>
     ensures driven { IfOk result (λ trace. IsDriven plan.now answers.now trace) }
     ensures only { IfOk result (λ trace. IsOnlyDriven plan.now answers.now trace) }
@@ -79,7 +83,8 @@ pub fn drive(alloc: Global, plan: &Plan, answers: &Answers) -> Result<Trace, All
     ensures expected { IfOk result (λ trace. HasExpected plan.now answers.now trace) }
     ensures only_history { IfOk result (λ trace. IsOnlyHistory plan.now answers.now trace) }
     // So it is from wherever one worker's steps lead, also those that the schedule does not take.
-    ensures never_stuck { OnOk result ((steps : List Step) → IsNotStuck plan.now answers.now (run plan.now answers.now (opening plan.now 1) steps)) }
+    ensures never_stuck { OnOk result
+        ((steps : List Step) → IsNotStuck plan.now answers.now (run plan.now answers.now (opening plan.now 1) steps)) }
 {
     let turns = Turns::new(alloc, plan)?;
     let mut machine = Machine::new(alloc, plan, 1)?;

@@ -1,6 +1,7 @@
 //! The fixed schedule with one worker.
 
-ghost use Rattle.std.specs.Prelude.{◌≡◌, ◌≢◌, ◌<◌, ◌≤◌, ℕ, true, false, Some, None, IsTrue, IsNone, IfSome, ◌↔◌, length};
+ghost use Rattle.std.specs.Prelude.{◌≡◌, ◌≢◌, ◌<◌, ◌≤◌, ℕ, true, false, Some, None, IsTrue, IsNone, IfSome, ◌↔◌};
+ghost use Rattle.std.specs.Prelude.{length};
 ghost use Rattle.scheduling.specs.Answers.{reply_by};
 ghost use Rattle.scheduling.specs.LinkLists.{AreTurns};
 ghost use Rattle.scheduling.specs.Inside.Lowest.{NoneOpenBelow, lowest_after as lowest_then};
@@ -40,7 +41,8 @@ impl Machine {
     /// The number of the first node that is open, where none is below `lowest`.
     fn first_open(&self, lowest: usize) -> usize
         requires none_below { NoneOpenBelow (state_of self.now) lowest }
-        requires some { (m : ℕ) × (m < length self.now.statuses.items) × (is_open_of (status_at (state_of self.now) m) ≡ true) }
+        requires some { (m : ℕ) × (m < length self.now.statuses.items)
+            × (is_open_of (status_at (state_of self.now) m) ≡ true) }
         ensures first { IsFirstOpen (state_of self.now) result }
         ensures inside { result < length self.now.statuses.items }
     {
@@ -56,7 +58,8 @@ impl Machine {
     fn next_free(&self, lowest: usize) -> Next
         requires few { length self.now.statuses.items ≤ 4096 }
         requires none_below { NoneOpenBelow (state_of self.now) lowest }
-        requires some { (m : ℕ) × (m < length self.now.statuses.items) × (is_open_of (status_at (state_of self.now) m) ≡ true) }
+        requires some { (m : ℕ) × (m < length self.now.statuses.items)
+            × (is_open_of (status_at (state_of self.now) m) ≡ true) }
         ensures first { IsFirstOpen (state_of self.now) result.lowest }
         ensures action { result.action ≡ taking_of (status_at (state_of self.now) result.lowest) result.lowest }
     {
@@ -77,8 +80,10 @@ impl Machine {
         requires few { length self.now.statuses.items ≤ 4096 }
         requires none_below { NoneOpenBelow (state_of self.now) lowest }
         requires hand { (h : HandValue) → hand.now ≡ Some h → IsFactory plan.now self.now h.factory }
-        requires some { task.now ≡ Task.Free → hand.now ≡ None → (m : ℕ) × (m < length self.now.statuses.items) × (is_open_of (status_at (state_of self.now) m) ≡ true) }
-        ensures action { IsNext plan.now (state_of self.now) (seated task.now hand.now) (reply_by answer) result.action }
+        requires some { task.now ≡ Task.Free → hand.now ≡ None → (m : ℕ) × (m < length self.now.statuses.items)
+            × (is_open_of (status_at (state_of self.now) m) ≡ true) }
+        ensures action { IsNext plan.now (state_of self.now) (seated task.now hand.now) (reply_by answer)
+            result.action }
         ensures free { task.now ≡ Task.Free → hand.now ≡ None → IsFirstOpen (state_of self.now) result.lowest }
         ensures held { (h : HandValue) → task.now ≡ Task.Free → hand.now ≡ Some h → result.lowest ≡ lowest }
         ensures busy { (task.now ≡ Task.Free → ⊥) → result.lowest ≡ lowest_then task.now lowest }
@@ -114,7 +119,8 @@ impl Machine {
         ensures workers { self.new.workers ≡ self.old.workers }
         ensures going { IsOnSchedule plan.now answers.now (state_of self.new) }
         ensures none_below { NoneOpenBelow (state_of self.new) result }
-        ensures leads { (first : State) → LeadsTo plan.now answers.now first (state_of self.old) → LeadsTo plan.now answers.now first (state_of self.new) }
+        ensures leads { (first : State) → LeadsTo plan.now answers.now first (state_of self.old) →
+            LeadsTo plan.now answers.now first (state_of self.new) }
         ensures less { work_left plan.now (state_of self.new) < work_left plan.now (state_of self.old) }
     {
         let seat = &self.seats[0];
@@ -138,8 +144,8 @@ impl Machine {
         self.step(plan, turns, answers, Step::Read).is_ok()
     }
 
-    /// Goes on by one step of the schedule, and answers the number below which no node is open then, unless the schedule
-    /// has ended: then nothing changes.
+    /// Goes on by one step of the schedule, and answers the number below which no node is open
+    /// then, unless the schedule has ended: then nothing changes.
     fn goes_on(
         &mut self,
         plan: &Plan,
@@ -155,8 +161,10 @@ impl Machine {
         ensures workers { self.new.workers ≡ self.old.workers }
         ensures going { IsOnSchedule plan.now answers.now (state_of self.new) }
         ensures none_below { IfSome result (λ lowest. NoneOpenBelow (state_of self.new) lowest) }
-        ensures leads { (first : State) → LeadsTo plan.now answers.now first (state_of self.old) → LeadsTo plan.now answers.now first (state_of self.new) }
-        ensures less { IfSome result (λ _. work_left plan.now (state_of self.new) < work_left plan.now (state_of self.old)) }
+        ensures leads { (first : State) → LeadsTo plan.now answers.now first (state_of self.old) →
+            LeadsTo plan.now answers.now first (state_of self.new) }
+        ensures less { IfSome result (λ _. work_left plan.now (state_of self.new) < work_left plan.now
+            (state_of self.old)) }
         ensures unread { IsNone result → read_row (state_of self.new) ≡ None }
         ensures settled { IsNone result → status_at (state_of self.new) 0 ≡ Settled }
     {

@@ -3,7 +3,8 @@
 ghost use Rattle.std.specs.Prelude.{◌≡◌, ◌<◌, ◌-◌, ℕ, Some, length, slice_get};
 ghost use Rattle.descriptor.specs.Nodes.{size};
 ghost use Rattle.scheduling.specs.Choices.{key_at, keys_count};
-ghost use Rattle.scheduling.specs.Rows.{claimed, claim_row, own_row, notice_row, weigh_row, take_found, take_row, gives_key, give_row, give_up_row};
+ghost use Rattle.scheduling.specs.Rows.{claimed, claim_row, own_row, notice_row, weigh_row, take_found, take_row};
+ghost use Rattle.scheduling.specs.Rows.{gives_key, give_row, give_up_row};
 ghost use Rattle.scheduling.specs.declared.lock_word.LockWord.{LockWord as Word};
 ghost use Rattle.scheduling.specs.declared.lock_word.LockWord.TheVariants.{Readers};
 ghost use Rattle.scheduling.specs.declared.task.Opening.{Opening as OpeningValue};
@@ -46,7 +47,8 @@ impl Machine {
     ) -> Result<(), NotEnabled>
         requires place { place < length self.old.seats.items }
         requires sizes { length self.old.statuses.items ≡ size plan.now.tree }
-        ensures { IsAnswered self.old (claim_row plan.now (state_of self.old) place (seated task hand) node) result self.new }
+        ensures { IsAnswered self.old (claim_row plan.now (state_of self.old) place (seated task hand) node) result
+            self.new }
     {
         let (Task::Free, None) = (task, hand) else {
             return Err(NotEnabled);
@@ -68,7 +70,8 @@ impl Machine {
     ) -> Result<(), NotEnabled>
         requires place { place < length self.old.seats.items }
         requires sizes { length self.old.statuses.items ≡ size plan.now.tree }
-        ensures { IsAnswered self.old (own_row plan.now (state_of self.old) place (seated task hand) node) result self.new }
+        ensures { IsAnswered self.old (own_row plan.now (state_of self.old) place (seated task hand) node) result
+            self.new }
     {
         let Task::Free = task else {
             return Err(NotEnabled);
@@ -92,7 +95,8 @@ impl Machine {
     ) -> Result<(), NotEnabled>
         requires place { place < length self.old.seats.items }
         requires inside { (n : ℕ) (d : OpeningValue) → task ≡ Opens n d → n < size plan.now.tree }
-        ensures { IsAnswered self.old (notice_row plan.now (state_of self.old) place (seated task hand) task) result self.new }
+        ensures { IsAnswered self.old (notice_row plan.now (state_of self.old) place (seated task hand) task) result
+            self.new }
     {
         let Task::Opens(node, opening) = task else {
             return Err(NotEnabled);
@@ -117,7 +121,8 @@ impl Machine {
     ) -> Result<(), NotEnabled>
         requires place { place < length self.old.seats.items }
         requires keys { (n i : ℕ) (d : OpeningValue) → task ≡ Opens n d → d ≡ Locking i → HasKey plan.now n i }
-        ensures { IsAnswered self.old (weigh_row plan.now (state_of self.old) place (seated task hand) task) result self.new }
+        ensures { IsAnswered self.old (weigh_row plan.now (state_of self.old) place (seated task hand) task) result
+            self.new }
     {
         let Task::Opens(node, opening) = task else {
             return Err(NotEnabled);
@@ -134,7 +139,8 @@ impl Machine {
         Ok(())
     }
 
-    /// The key at this place of those of a node is taken, if its word is still the one that was seen, and the worker goes on.
+    /// The key at this place of those of a node is taken, if its word is still the one that was
+    /// seen, and the worker goes on.
     fn take_key(
         &mut self,
         plan: &Plan,
@@ -148,7 +154,8 @@ impl Machine {
         requires node { node < size plan.now.tree }
         requires key { index < keys_count plan.now node }
         requires few { (k n : ℕ) → slice_get self.old.locks.items k ≡ Some (Readers n) → n < 65535 }
-        ensures { IsAnswered self.old (take_found plan.now (state_of self.old) place (seated Task.Free hand) node index seen (slice_get self.old.locks.items (key_at plan.now node index))) result self.new }
+        ensures { IsAnswered self.old (take_found plan.now (state_of self.old) place (seated Task.Free hand) node
+            index seen (slice_get self.old.locks.items (key_at plan.now node index))) result self.new }
     {
         let key = key_at_place(plan, node, index);
         let Some(&word) = self.locks.get(key) else {
@@ -175,9 +182,11 @@ impl Machine {
         hand: Option<Hand>,
     ) -> Result<(), NotEnabled>
         requires place { place < length self.old.seats.items }
-        requires keys { (n i : ℕ) (v : Word) (d : OpeningValue) → task ≡ Opens n d → d ≡ Weighed i v → HasKey plan.now n i }
+        requires keys { (n i : ℕ) (v : Word) (d : OpeningValue) → task ≡ Opens n d → d ≡ Weighed i v →
+            HasKey plan.now n i }
         requires few { (k n : ℕ) → slice_get self.old.locks.items k ≡ Some (Readers n) → n < 65535 }
-        ensures { IsAnswered self.old (take_row plan.now (state_of self.old) place (seated task hand) task) result self.new }
+        ensures { IsAnswered self.old (take_row plan.now (state_of self.old) place (seated task hand) task) result
+            self.new }
     {
         let Task::Opens(node, opening) = task else {
             return Err(NotEnabled);
@@ -201,7 +210,8 @@ impl Machine {
         requires place { place < length self.old.seats.items }
         requires node { node < size plan.now.tree }
         requires key { index < keys_count plan.now node }
-        ensures { IsAnswered self.old (gives_key plan.now (state_of self.old) place (seated task hand) task node index (slice_get self.old.locks.items (key_at plan.now node index))) result self.new }
+        ensures { IsAnswered self.old (gives_key plan.now (state_of self.old) place (seated task hand) task node index
+            (slice_get self.old.locks.items (key_at plan.now node index))) result self.new }
     {
         let key = key_at_place(plan, node, index);
         let Some(&word) = self.locks.get(key) else {
@@ -220,9 +230,12 @@ impl Machine {
         hand: Option<Hand>,
     ) -> Result<(), NotEnabled>
         requires place { place < length self.old.seats.items }
-        requires backs { (n left : ℕ) (d : OpeningValue) → task ≡ Opens n d → d ≡ Backing left → 0 < left → HasKey plan.now n (left - 1) }
-        requires gives { (n left : ℕ) (d : ClosingValue) → task ≡ Closes n d → d ≡ Giving left → 0 < left → HasKey plan.now n (left - 1) }
-        ensures { IsAnswered self.old (give_row plan.now (state_of self.old) place (seated task hand) task) result self.new }
+        requires backs { (n left : ℕ) (d : OpeningValue) → task ≡ Opens n d → d ≡ Backing left → 0 < left →
+            HasKey plan.now n (left - 1) }
+        requires gives { (n left : ℕ) (d : ClosingValue) → task ≡ Closes n d → d ≡ Giving left → 0 < left →
+            HasKey plan.now n (left - 1) }
+        ensures { IsAnswered self.old (give_row plan.now (state_of self.old) place (seated task hand) task) result
+            self.new }
     {
         match task {
             Task::Free => Err(NotEnabled),
@@ -253,7 +266,8 @@ impl Machine {
         requires place { place < length self.old.seats.items }
         requires sizes { length self.old.statuses.items ≡ size plan.now.tree }
         requires inside { (n : ℕ) (d : OpeningValue) → task ≡ Opens n d → n < size plan.now.tree }
-        ensures { IsAnswered self.old (give_up_row plan.now (state_of self.old) place (seated task hand) task) result self.new }
+        ensures { IsAnswered self.old (give_up_row plan.now (state_of self.old) place (seated task hand) task) result
+            self.new }
     {
         let Task::Opens(node, opening) = task else {
             return Err(NotEnabled);

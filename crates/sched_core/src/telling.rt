@@ -121,9 +121,12 @@ impl Machine {
         requires place { place < length self.old.seats.items }
         requires opens { (n : ℕ) (d : OpeningValue) → task ≡ Opens n d → n < size plan.now.tree }
         requires closes { (n : ℕ) (d : ClosingValue) → task ≡ Closes n d → n < size plan.now.tree }
-        requires opening { (n i : ℕ) (d : OpeningValue) → task ≡ Opens n d → opening_place d ≡ Some i → i < length self.old.shown.items }
-        requires closing { (n i : ℕ) (d : ClosingValue) → task ≡ Closes n d → closing_place d ≡ Some i → i < length self.old.shown.items }
-        ensures { IsAnswered self.old (show_row plan.now (state_of self.old) place (seated task hand) task) result self.new }
+        requires opening { (n i : ℕ) (d : OpeningValue) → task ≡ Opens n d → opening_place d ≡ Some i →
+            i < length self.old.shown.items }
+        requires closing { (n i : ℕ) (d : ClosingValue) → task ≡ Closes n d → closing_place d ≡ Some i →
+            i < length self.old.shown.items }
+        ensures { IsAnswered self.old (show_row plan.now (state_of self.old) place (seated task hand) task) result
+            self.new }
     {
         match task {
             Task::Free => return Err(NotEnabled),
@@ -161,7 +164,8 @@ impl Machine {
     ) -> Result<(), NotEnabled>
         requires place { place < length self.old.seats.items }
         requires inside { (n : ℕ) (d : ClosingValue) → task ≡ Closes n d → n < size plan.now.tree }
-        ensures { IsAnswered self.old (raise_row plan.now (state_of self.old) place (seated task hand) task) result self.new }
+        ensures { IsAnswered self.old (raise_row plan.now (state_of self.old) place (seated task hand) task) result
+            self.new }
     {
         let Task::Closes(node, closing) = task else {
             return Err(NotEnabled);

@@ -41,10 +41,11 @@ fn pulls(answers: &Answers, job: BodyId) -> usize
     }
 }
 
-/// The job that answers last of a container: its body, where that stops it before its children, else the after-body that
-/// is run, else its body.
+/// The job that answers last of a container: its body, where that stops it before its children,
+/// else the after-body that is run, else its body.
 fn last_job(answers: &Answers, body: Option<BodyId>, after: Option<BodyId>) -> Option<BodyId>
-    ensures { jobs_note_of (reply_of answers.now) (Around body after) ≡ option_map (λ job. Own (reply_of answers.now job).outcome.text) result }
+    ensures { jobs_note_of (reply_of answers.now) (Around body after) ≡ option_map
+        (λ job. Own (reply_of answers.now job).outcome.text) result }
 {
     match (body, after) {
         (Some(body), Some(after)) => {
@@ -91,8 +92,8 @@ fn skip_note(plan: &Plan, node: NodeId) -> Note
     }
 }
 
-/// What one more event gives its node for a note. A skip counts more than a finish, which therefore gives none where a note
-/// stands.
+/// What one more event gives its node for a note. A skip counts more than a finish, which therefore
+/// gives none where a note stands.
 fn told(
     alloc: Global,
     plan: &Plan,
@@ -101,7 +102,9 @@ fn told(
     texts: &Texts,
 ) -> Result<Option<Note>, AllocError>
     requires { event.now.node < size plan.now.tree }
-    ensures { IfOk result (λ told. (h : List Event) → AreTexts plan.now answers.now h texts.now → note_of plan.now answers.now (h ++ event.now ∷ []) event.now.node ≡ option_or told (note_of plan.now answers.now h event.now.node)) }
+    ensures { IfOk result (λ told. (h : List Event) → AreTexts plan.now answers.now h texts.now →
+        note_of plan.now answers.now (h ++ event.now ∷ []) event.now.node ≡ option_or told
+        (note_of plan.now answers.now h event.now.node)) }
 {
     match event.kind {
         EventKind::Started | EventKind::Registered => Ok(None),
@@ -124,7 +127,8 @@ fn note(
     texts: &mut Texts,
 ) -> Result<(), AllocError>
     requires { length texts.old.notes ≡ size plan.now.tree }
-    ensures { OnOk result ((h : List Event) → AreTexts plan.now answers.now h texts.old → AreTexts plan.now answers.now (h ++ event.now ∷ []) texts.new) }
+    ensures { OnOk result ((h : List Event) → AreTexts plan.now answers.now h texts.old →
+        AreTexts plan.now answers.now (h ++ event.now ∷ []) texts.new) }
 {
     if event.node.index() >= plan.tree().len() {
         return Ok(());
@@ -135,9 +139,9 @@ fn note(
     Ok(())
 }
 
-/// The texts of these events: of each skipped node its reason, or that the plan was cancelled, and of each other node whose
-/// finish is among them the text of its result, if that has one. In a legal history this is the text of the reply by which
-/// the node ended.
+/// The texts of these events: of each skipped node its reason, or that the plan was cancelled, and
+/// of each other node whose finish is among them the text of its result, if that has one. In a
+/// legal history this is the text of the reply by which the node ended.
 pub fn texts_of(
     alloc: Global,
     plan: &Plan,
@@ -145,7 +149,9 @@ pub fn texts_of(
     events: &[Event],
 ) -> Result<Texts, AllocError>
     ensures texts { IfOk result (λ texts. AreTexts plan.now answers.now events.now texts) }
-    ensures deciding { IfOk result (λ texts. (workers : ℕ) → IsLegal plan.now (replies_of answers.now) workers events.now → (n : ℕ) → n < size plan.now.tree → IsTextOf plan.now (replies_of answers.now) events.now n (text_at texts n)) }
+    ensures deciding { IfOk result (λ texts. (workers : ℕ) → IsLegal plan.now (replies_of answers.now) workers
+        events.now → (n : ℕ) → n < size plan.now.tree → IsTextOf plan.now (replies_of answers.now) events.now n
+        (text_at texts n)) }
 {
     let mut texts = Texts::new(alloc, plan.tree())?;
     for event in events {

@@ -35,7 +35,8 @@ fn empty_lists(alloc: Global, workers: u8) -> Result<Vec<Vec<Event>>, AllocError
 
 /// Puts one more event last in its worker's list. An event of a worker without a list changes none.
 fn put(lists: &mut Vec<Vec<Event>>, event: Event) -> Result<(), AllocError>
-    ensures { OnOk result ((n : ℕ) (h : List Event) → lists_of lists.old ≡ parts_upto n h → lists_of lists.new ≡ parts_upto n (h ++ event ∷ [])) }
+    ensures { OnOk result ((n : ℕ) (h : List Event) → lists_of lists.old ≡ parts_upto n h →
+        lists_of lists.new ≡ parts_upto n (h ++ event ∷ [])) }
 {
     if event.worker == 0 {
         return Ok(());

@@ -17,8 +17,8 @@ impl Search {
         Ok(())
     }
 
-    /// A worker offers the child of a node at a place, if its node offers it itself, and answers whether a child with a turn has
-    /// been offered.
+    /// A worker offers the child of a node at a place, if its node offers it itself, and answers
+    /// whether a child with a turn has been offered.
     fn offer_child(
         &mut self,
         plan: &Plan,

@@ -29,7 +29,8 @@ impl Search {
         Ok(())
     }
 
-    /// A worker takes the last one off a node's counter, whose finish is the next event, unless its body has ended the node.
+    /// A worker takes the last one off a node's counter, whose finish is the next event, unless its
+    /// body has ended the node.
     fn end(&mut self, worker: u8, node: u16) -> Result<(), AllocError> {
         let found = self.worker(worker);
         if found.counting != Some(node) && found.hand != Some(node) {

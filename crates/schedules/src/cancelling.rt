@@ -7,8 +7,9 @@ use resource_locks::Plan;
 use std::alloc::AllocError;
 
 impl Search {
-    /// Whether an event can only stand behind the end of a node that failed, and is finished: it needs the node's keys or its
-    /// turn, or the node has to be counted off, or the plan has to be cancelled.
+    /// Whether an event can only stand behind the end of a node that failed, and is finished: it
+    /// needs the node's keys or its turn, or the node has to be counted off, or the plan has to be
+    /// cancelled.
     fn waits_for(&self, plan: &Plan, event: &Event, failed: u16) -> bool {
         let node = event.node.number();
         match event.kind {
@@ -50,7 +51,8 @@ impl Search {
         self.come_to(plan, worker, node)
     }
 
-    /// The plan is cancelled by all who are to. Before that the others go ahead, who could not start their nodes after it.
+    /// The plan is cancelled by all who are to. Before that the others go ahead, who could not
+    /// start their nodes after it.
     pub(crate) fn cancel(&mut self, plan: &Plan, history: &[Event]) -> Result<(), AllocError> {
         for worker in 1..=self.last {
             self.go_ahead(plan, history, worker)?;

@@ -1,4 +1,5 @@
-//! What the search asks of a plan, by the numbers of nodes. A number that the plan does not have stands for a node that has nothing.
+//! What the search asks of a plan, by the numbers of nodes. A number that the plan does not have
+//! stands for a node that has nothing.
 
 ghost use Rattle.std.specs.Prelude.{◌<◌, IfSome};
 ghost use Rattle.descriptor.specs.Nodes.{size};

@@ -22,7 +22,8 @@ fn leads_to(trace: &Trace, history: &[Event]) -> bool
         && are_same(trace.given.as_slice(), history)
 }
 
-/// Steps which, taken by so many workers of the plan, publish this history and give all of it; none where none were found.
+/// Steps which, taken by so many workers of the plan, publish this history and give all of it; none
+/// where none were found.
 pub fn schedule_of(
     alloc: Global,
     plan: &Plan,
@@ -30,7 +31,8 @@ pub fn schedule_of(
     workers: u32,
     history: &[Event],
 ) -> Result<Option<Vec<Step>>, AllocError>
-    ensures found { IfOk result (λ found. IfSome found (λ steps. IsSchedule plan.now answers.now workers history.now steps.items)) }
+    ensures found { IfOk result (λ found. IfSome found
+        (λ steps. IsSchedule plan.now answers.now workers history.now steps.items)) }
 {
     let steps = steps_toward(alloc, plan, answers, workers, history)?;
     let trace = match run_steps(alloc, plan, answers, workers, steps.as_slice()) {

@@ -1,9 +1,10 @@
 //! The search for steps that lead to a history, event by event.
 //!
-//! A worker takes at once what needs no event, but for three steps that it puts off: to cancel the plan, to take one off a
-//! node's counter, and to claim a node. It cancels the plan once the next event cannot stand before; then each other worker
-//! has claimed the node that it starts next, and has looked whether the plan is cancelled. It takes one off a counter once it
-//! goes on, or once another worker takes the last one off, who then finishes the node.
+//! A worker takes at once what needs no event, but for three steps that it puts off: to cancel the
+//! plan, to take one off a node's counter, and to claim a node. It cancels the plan once the next
+//! event cannot stand before; then each other worker has claimed the node that it starts next, and
+//! has looked whether the plan is cancelled. It takes one off a counter once it goes on, or once
+//! another worker takes the last one off, who then finishes the node.
 
 use crate::order::{Places, next_in_turn, places_of};
 use plan_events::Event;
@@ -129,7 +130,8 @@ impl Search {
     }
 }
 
-/// Steps which, taken by so many workers of the plan, may publish this history and give all of it. That they do is not proved here.
+/// Steps which, taken by so many workers of the plan, may publish this history and give all of it.
+/// That they do is not proved here.
 pub(crate) fn steps_toward(
     alloc: Global,
     plan: &Plan,

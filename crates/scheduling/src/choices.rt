@@ -3,8 +3,15 @@
 ghost use Rattle.std.specs.Prelude.{◌≡◌, ◌<◌, ◌+◌, ◌==◌, ◌&&◌, ◌||◌, nat_lt, ℕ, Some, length, true};
 ghost use Rattle.descriptor.specs.Nodes.{size, is_factory_at};
 ghost use Rattle.scheduling.specs.Answers.{reply_by};
-ghost use Rattle.scheduling.specs.Choices.{lock_from as lock_from_of, begins as begins_of, claims as claims_of, keys_count, mode_at, key_at, admits as admits_of, taken as taken_of, given_back as given_back_of, same_word as same_word_of, giving as giving_of, after_finish as after_finish_of, offered_to as offered_to_of, ending as ending_of, is_pulled as is_pulled_of, pulled_result as pulled_result_of, next_spare as next_spare_of, awaited as awaited_of, after_job, hand_job};
-ghost use Rattle.scheduling.specs.Rows.{back_to as back_to_of, after_start as after_start_of, weighed as weighed_of, ends_or_free as ends_or_free_of};
+ghost use Rattle.scheduling.specs.Choices.{lock_from as lock_from_of, begins as begins_of, claims as claims_of};
+ghost use Rattle.scheduling.specs.Choices.{keys_count, mode_at, key_at, admits as admits_of, taken as taken_of};
+ghost use Rattle.scheduling.specs.Choices.{given_back as given_back_of, same_word as same_word_of};
+ghost use Rattle.scheduling.specs.Choices.{giving as giving_of, after_finish as after_finish_of};
+ghost use Rattle.scheduling.specs.Choices.{offered_to as offered_to_of, ending as ending_of};
+ghost use Rattle.scheduling.specs.Choices.{is_pulled as is_pulled_of, pulled_result as pulled_result_of};
+ghost use Rattle.scheduling.specs.Choices.{next_spare as next_spare_of, awaited as awaited_of, after_job, hand_job};
+ghost use Rattle.scheduling.specs.Rows.{back_to as back_to_of, after_start as after_start_of, weighed as weighed_of};
+ghost use Rattle.scheduling.specs.Rows.{ends_or_free as ends_or_free_of};
 ghost use Rattle.scheduling.specs.State.{subject};
 ghost use Rattle.event_history.specs.Plans.{is_same as is_same_of, pulls_job as pulls_job_of};
 ghost use Rattle.event_history.specs.Results.{jobs_of};
@@ -323,7 +330,8 @@ pub fn next_spare(plan: &Plan, factory: NodeId, registered: usize) -> Option<Nod
     plan.tree().children(factory).get(registered).copied()
 }
 
-/// Whether a factory is done of which so many dynamic tests are registered: the answer has no further one, or none is left.
+/// Whether a factory is done of which so many dynamic tests are registered: the answer has no
+/// further one, or none is left.
 pub fn is_pulled(plan: &Plan, factory: NodeId, registered: usize, answer: Answer) -> bool
     requires inside { factory < size plan.now.tree }
     requires factory { is_factory_at plan.now.tree factory ≡ true }

@@ -2,7 +2,8 @@
 
 ghost use Rattle.std.specs.Prelude.{◌≡◌, ◌<◌, Some};
 ghost use Rattle.descriptor.specs.Nodes.{size};
-ghost use Rattle.scheduling.specs.Rows.{is_of_hand as is_of_hand_of, one_more as one_more_of, waits_for as waits_for_of, waits_no_more as waits_no_more_of};
+ghost use Rattle.scheduling.specs.Rows.{is_of_hand as is_of_hand_of, one_more as one_more_of};
+ghost use Rattle.scheduling.specs.Rows.{waits_for as waits_for_of, waits_no_more as waits_no_more_of};
 ghost use Rattle.scheduling.specs.declared.seat.Hand.{Hand as HandValue};
 
 use crate::choices::is_same;
@@ -34,8 +35,8 @@ pub fn one_more(hand: Option<Hand>) -> Option<Hand>
     })
 }
 
-/// The factory in hand, if there is one, after this dynamic test of it is offered: it waits for one that is executed in the
-/// same thread.
+/// The factory in hand, if there is one, after this dynamic test of it is offered: it waits for one
+/// that is executed in the same thread.
 pub fn waits_for(plan: &Plan, child: NodeId, hand: Option<Hand>) -> Option<Hand>
     requires { child < size plan.now.tree }
     ensures { result ≡ waits_for_of plan.now child hand }

@@ -1,6 +1,7 @@
 #![tactic(auto)]
 
-//! The words of a run, what the plan decides for a worker, the steps of workers and dispatcher, and what every state keeps.
+//! The words of a run, what the plan decides for a worker, the steps of workers and dispatcher, and
+//! what every state keeps.
 
 mod answer;
 mod choices;

@@ -5,7 +5,9 @@ ghost use Rattle.descriptor.specs.Nodes.{size, is_factory_at};
 ghost use Rattle.scheduling.specs.Answers.{reply_by};
 ghost use Rattle.scheduling.specs.Inside.Lowest.{lowest_after as lowest_then, lower as lower_then, offered_closing};
 ghost use Rattle.scheduling.specs.declared.task.Task.{Task};
-ghost use Rattle.scheduling.specs.Schedule.{is_open as is_open_of, taking as taking_of, hand_action as hand_action_of, opening_action as opening_action_of, closing_action as closing_action_of};
+ghost use Rattle.scheduling.specs.Schedule.{is_open as is_open_of, taking as taking_of};
+ghost use Rattle.scheduling.specs.Schedule.{hand_action as hand_action_of, opening_action as opening_action_of};
+ghost use Rattle.scheduling.specs.Schedule.{closing_action as closing_action_of};
 
 use crate::answer::Answer;
 use crate::choices::next_spare;
@@ -88,8 +90,8 @@ pub fn hand_action(plan: &Plan, hand: &Hand, answer: Answer) -> Action
     }
 }
 
-/// The number after the step of a task which opens a node, where it was `lowest` before. In a run it does not fall, since
-/// what is offered stands after the node that was taken last.
+/// The number after the step of a task which opens a node, where it was `lowest` before. In a run
+/// it does not fall, since what is offered stands after the node that was taken last.
 pub fn lowest_opening(node: NodeId, opening: &Opening, lowest: usize) -> usize
     ensures { result ≡ lowest_then (Task.Opens node opening.now) lowest }
 {

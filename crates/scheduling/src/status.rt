@@ -9,7 +9,7 @@ pub enum NodeStatus {
     Ready(Option<u8>),
     /// The worker at this place has claimed it.
     Claimed(u8),
-    /// Its finish, or that it is skipped, is shown, and nothing more is to be done for it but to pass the turn on to its next
-    /// sibling and to count it off at its parent.
+    /// Its finish, or that it is skipped, is shown, and nothing more is to be done for it but to
+    /// pass the turn on to its next sibling and to count it off at its parent.
     Settled,
 }

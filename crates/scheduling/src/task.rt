@@ -50,7 +50,8 @@ pub enum Closing {
     Giving(usize),
     /// It is to be settled.
     Settling,
-    /// It is settled, and its next sibling in the same thread, this one, is to be offered to the worker that may take it.
+    /// It is settled, and its next sibling in the same thread, this one, is to be offered to the
+    /// worker that may take it.
     Looking(NodeId),
     /// That sibling is to be offered to the worker at this place.
     Passing(NodeId, u8),

@@ -5,8 +5,10 @@ ghost use Rattle.descriptor.specs.Nodes.{size};
 ghost use Rattle.resource_locks.specs.Held.{table};
 ghost use Rattle.resource_locks.specs.Plans.{PlanParts};
 ghost use Rattle.scheduling.specs.Answers.{reply_by};
-ghost use Rattle.scheduling.specs.Choices.{admit_next, after_settle as after_settle_of, answered as answered_of, decided as decided_of};
-ghost use Rattle.scheduling.specs.LinkLists.{AreTurns, IsLinked, is_offered as is_offered_of, is_same_child, stays as stays_of};
+ghost use Rattle.scheduling.specs.Choices.{admit_next, after_settle as after_settle_of, answered as answered_of};
+ghost use Rattle.scheduling.specs.Choices.{decided as decided_of};
+ghost use Rattle.scheduling.specs.LinkLists.{AreTurns, IsLinked, is_offered as is_offered_of, is_same_child};
+ghost use Rattle.scheduling.specs.LinkLists.{stays as stays_of};
 ghost use Rattle.scheduling.specs.State.{subject};
 
 use crate::answer::Answer;
@@ -82,8 +84,8 @@ pub fn after_settle(plan: &Plan, turns: &Turns, node: NodeId) -> Task
     }
 }
 
-/// What the answer of a node's body decides: a test ends with it, and so does a container that it stops; another one offers
-/// its children.
+/// What the answer of a node's body decides: a test ends with it, and so does a container that it
+/// stops; another one offers its children.
 fn answered(plan: &Plan, turns: &Turns, node: NodeId, answer: Answer) -> Task
     requires turns { AreTurns plan.now turns.now }
     requires inside { node < size plan.now.tree }
@@ -167,8 +169,8 @@ fn offered_nodes(alloc: Global, plan: &Plan, same: &Links) -> Result<Vec<bool>, 
     Ok(nodes)
 }
 
-/// Whether its parent offers a node itself: it is no dynamic test, and it is CONCURRENT or the first child that is executed
-/// in the thread of the parent.
+/// Whether its parent offers a node itself: it is no dynamic test, and it is CONCURRENT or the
+/// first child that is executed in the thread of the parent.
 fn is_offered(plan: &Plan, same: &Links, node: NodeId) -> bool
     requires linked { IsLinked plan.now.tree (is_same_child plan.now) same.now }
     requires inside { node < size plan.now.tree }

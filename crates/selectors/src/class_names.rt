@@ -43,7 +43,8 @@ pub(crate) fn has_class_name(tree: &Tree, node: NodeId, name: &[u8]) -> bool
 
 /// What stands before the dollar sign and this value at the end of a name.
 fn outer_name<'a>(name: &'a [u8], value: &[u8]) -> Option<&'a [u8]>
-    ensures { MatchOption result ((outer : List ℕ) → name.now ≢ outer ++ 36 ∷ value.now) (λ outer. name.now ≡ outer.now ++ 36 ∷ value.now) }
+    ensures { MatchOption result ((outer : List ℕ) → name.now ≢ outer ++ 36 ∷ value.now)
+        (λ outer. name.now ≡ outer.now ++ 36 ∷ value.now) }
 {
     let before = name.strip_suffix(value)?;
     before.strip_suffix(b"$".as_slice())

@@ -34,11 +34,16 @@ pub fn discover(alloc: Global, tree: Tree, request: &Request) -> Result<Tree, Se
     ensures refused { IfErr result (λ fault. fault ≢ SelectFault.NoMemory → refusal tree request.now ≡ Some fault) }
     ensures no_memory { IfErr result (λ fault. fault ≡ SelectFault.NoMemory → refusal tree request.now ≡ None) }
     // What covering, ids, class names, tags and staying come to.
-    ensures covered { (selector : Selector) (n : ℕ) → n < size tree → (covers tree selector n ≡ true) ↔ Covers tree selector n }
-    ensures ids { (id : List Segment) (n : ℕ) → n < size tree → (names tree (Uid id) n ≡ true) ↔ HasIdOrSpare tree id n }
-    ensures class_names { (n : ℕ) → 0 < n → n < size tree → class_name tree n ≡ name_below (class_name tree (parent_of tree n)) (last_segment tree n) }
-    ensures tags { (tag : List ℕ) (n : ℕ) → n < size tree → (has_tag (tags_together tree n) tag ≡ true) ↔ IsTagged tree tag n }
-    ensures stays { (n : ℕ) → n < size tree → (stays tree (is_selected tree request.now) n ≡ true) ↔ Stays tree (is_selected tree request.now) n }
+    ensures covered { (selector : Selector) (n : ℕ) → n < size tree → (covers tree selector n ≡ true)
+        ↔ Covers tree selector n }
+    ensures ids { (id : List Segment) (n : ℕ) → n < size tree → (names tree (Uid id) n ≡ true)
+        ↔ HasIdOrSpare tree id n }
+    ensures class_names { (n : ℕ) → 0 < n → n < size tree →
+        class_name tree n ≡ name_below (class_name tree (parent_of tree n)) (last_segment tree n) }
+    ensures tags { (tag : List ℕ) (n : ℕ) → n < size tree → (has_tag (tags_together tree n) tag ≡ true)
+        ↔ IsTagged tree tag n }
+    ensures stays { (n : ℕ) → n < size tree → (stays tree (is_selected tree request.now) n ≡ true)
+        ↔ Stays tree (is_selected tree request.now) n }
 {
     // the contract of `len` tells that it is a tree
     let _ = tree.len();

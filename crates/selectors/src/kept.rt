@@ -12,7 +12,8 @@ fn mark_parent(tree: &Tree, marks: &mut [bool], node: NodeId)
     requires above_zero { 0 < node }
     requires inside { node < size tree.now }
     requires len { length marks.old ≡ size tree.now }
-    ensures { marks.new ≡ (if slice_index_or marks.old node false then slice_set marks.old (parent_of tree.now node) true else marks.old) }
+    ensures { marks.new ≡ (if slice_index_or marks.old node false then slice_set marks.old (parent_of tree.now node)
+        true else marks.old) }
 {
     if !marks[node.index()] {
         return;
@@ -26,7 +27,8 @@ fn mark_parent(tree: &Tree, marks: &mut [bool], node: NodeId)
 pub(crate) fn kept(tree: &Tree, taken: Vec<bool>) -> Vec<bool>
     requires tree { IsTree tree.now }
     requires len { length taken.items ≡ size tree.now }
-    ensures { result.items ≡ truths (is_above tree.now (λ node. slice_index_or taken.items node false)) (size tree.now) }
+    ensures { result.items ≡ truths (is_above tree.now (λ node. slice_index_or taken.items node false))
+        (size tree.now) }
 {
     let mut marks = taken;
     let mut number = marks.len();

@@ -38,7 +38,8 @@ impl Selector {
     pub fn parse(alloc: Global, kind: SelectorKind, text: &str) -> Result<Selector, SelectorFault>
         ensures ok { IfOk result (λ selector. selector_of kind text.now ≡ Some selector) }
         ensures refused { IfErr result (λ fault. fault ≡ SelectorFault.BadSelector → selector_of kind text.now ≡ None) }
-        ensures no_memory { IfErr result (λ fault. fault ≡ SelectorFault.NoMemory → IsSome (selector_of kind text.now)) }
+        ensures no_memory { IfErr result
+            (λ fault. fault ≡ SelectorFault.NoMemory → IsSome (selector_of kind text.now)) }
     {
         match kind {
             SelectorKind::UniqueId => unique_id(alloc, text),

@@ -58,7 +58,8 @@ fn is_spare_taken(tree: &Tree, request: &Request, before: &[bool], node: NodeId)
     }
 }
 
-/// Whether the node is taken, where it is known whether it is covered, and of all nodes before it whether they are taken.
+/// Whether the node is taken, where it is known whether it is covered, and of all nodes before it
+/// whether they are taken.
 fn is_taken(
     alloc: Global,
     tree: &Tree,
@@ -82,7 +83,8 @@ fn is_taken(
 /// For each node whether it is taken.
 pub(crate) fn taken(alloc: Global, tree: &Tree, request: &Request) -> Result<Vec<bool>, AllocError>
     requires { IsTree tree.now }
-    ensures { IfOk result (λ taken. taken.items ≡ truths (is_taken tree.now (is_selected tree.now request.now)) (size tree.now)) }
+    ensures { IfOk result (λ taken. taken.items ≡ truths (is_taken tree.now (is_selected tree.now request.now))
+        (size tree.now)) }
 {
     let covered = covered(alloc, tree, request.selectors.as_slice())?;
     let mut taken = Vec::new(alloc);

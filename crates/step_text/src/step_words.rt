@@ -1,7 +1,8 @@
 //! One word of a text of steps.
 
 ghost use Rattle.std.specs.Prelude.{◌≡◌};
-ghost use Rattle.step_text.specs.StepTexts.{is_decimal, number_within, worker_of, node_of, node_action, plain_action, action_of, worker_step, step_of};
+ghost use Rattle.step_text.specs.StepTexts.{is_decimal, number_within, worker_of, node_of, node_action, plain_action};
+ghost use Rattle.step_text.specs.StepTexts.{action_of, worker_step, step_of};
 
 use descriptor::NodeId;
 use scheduling::{Action, Step};

@@ -80,7 +80,8 @@ pub fn parse_steps(alloc: Global, text: &str) -> Result<Vec<Step>, StepsFault>
     ensures exact { GivesSteps result (steps_of text.now) }
     ensures spelled { IfOk result (λ steps. map spelled_step steps.items ≡ words_in text.now) }
     // What spells steps is not refused.
-    ensures refused { IfErr result (λ fault. fault ≢ NoMemory → (steps : List Step) → AreNamable steps → map spelled_step steps ≢ words_in text.now) }
+    ensures refused { IfErr result (λ fault. fault ≢ NoMemory → (steps : List Step) → AreNamable steps →
+        map spelled_step steps ≢ words_in text.now) }
 {
     if let Some(place) = bad_word(text) {
         return Err(StepsFault::BadStep(place + 1));

@@ -49,7 +49,8 @@ fn push_step(text: &mut String, step: Step) -> Result<(), AllocError>
 
 /// Appends the words of steps, each behind a blank.
 fn push_others(text: &mut String, steps: &[Step]) -> Result<(), AllocError>
-    ensures { OnOk result (string_bytes text.new ≡ string_bytes text.old ++ flat_map (λ step. codes " " ++ spelled_step step) steps.now) }
+    ensures { OnOk result (string_bytes text.new ≡ string_bytes text.old
+        ++ flat_map (λ step. codes " " ++ spelled_step step) steps.now) }
 {
     for step in steps {
         text.push_str(" ")?;

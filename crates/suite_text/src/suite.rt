@@ -67,7 +67,8 @@ fn suite_in(alloc: Global, text: &str) -> Result<Suite, SuiteFault>
 /// The suite of bytes, which are judged before their lines.
 fn suite_of_bytes(alloc: Global, bytes: &[u8]) -> Result<Suite, SuiteFault>
     ensures exact { Gives suite_parts result (suite_read bytes.now) }
-    ensures no_memory { IfErr result (λ fault. fault ≡ SuiteFault.NoMemory → (length bytes.now ≤ 1048576) × IsUtf8 bytes.now) }
+    ensures no_memory { IfErr result (λ fault. fault ≡ SuiteFault.NoMemory → (length bytes.now ≤ 1048576)
+        × IsUtf8 bytes.now) }
 {
     if bytes.len() > LONGEST_SUITE {
         return Err(SuiteFault::TooLarge);
@@ -121,10 +122,12 @@ impl Suite {
     pub fn read(alloc: Global, bytes: &[u8]) -> Result<Suite, SuiteFault>
         ensures exact { Gives suite_parts result (suite_read bytes.now) }
         // Bytes that may be written for a suite are read as that suite.
-        ensures reads_back { IsUtf8 bytes.now → (suite : SuiteParts) → IsSuite bytes.now suite → Gives suite_parts result (Ok suite) }
+        ensures reads_back { IsUtf8 bytes.now → (suite : SuiteParts) → IsSuite bytes.now suite →
+            Gives suite_parts result (Ok suite) }
         ensures bare { IfOk result (λ suite. HasBareSpares suite.tree) }
         // Memory is taken only for bytes that are a text, and not too large a one.
-        ensures no_memory { IfErr result (λ fault. fault ≡ SuiteFault.NoMemory → (length bytes.now ≤ 1048576) × IsUtf8 bytes.now) }
+        ensures no_memory { IfErr result (λ fault. fault ≡ SuiteFault.NoMemory → (length bytes.now ≤ 1048576)
+            × IsUtf8 bytes.now) }
     {
         suite_of_bytes(alloc, bytes)
     }

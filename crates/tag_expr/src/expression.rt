@@ -1,6 +1,7 @@
 //! A tag expression.
 
-ghost use Rattle.std.specs.Prelude.{◌≡◌, ◌≢◌, ◌≤◌, length, map, [], None, Some, MatchOption, IfSome, IfOk, IfErr, false};
+ghost use Rattle.std.specs.Prelude.{◌≡◌, ◌≢◌, ◌≤◌, length, map, [], None, Some, MatchOption, IfSome, IfOk, IfErr};
+ghost use Rattle.std.specs.Prelude.{false};
 ghost use Rattle.tag_expr.specs.ExpressionFaults.{operator, first_fault, expression_refusal};
 ghost use Rattle.tag_expr.specs.Expressions.{truth, together};
 ghost use Rattle.tag_expr.specs.Grammar.{Spells, or_phrase, IsOnlyTree, HasNoTree};
@@ -48,7 +49,8 @@ impl TagExpr {
         ensures accepted { IfOk result (λ _. expression_refusal text.now ≡ None) }
         ensures refused { IfErr result (λ fault. fault ≢ TagFault.NoMemory → expression_refusal text.now ≡ Some fault) }
         ensures no_memory { IfErr result (λ fault. fault ≡ TagFault.NoMemory → expression_refusal text.now ≡ None) }
-        ensures no_tree { IfErr result (λ fault. fault ≢ TagFault.NoMemory → fault ≢ TagFault.TooDeep → HasNoTree (map token_of (tokens text.now))) }
+        ensures no_tree { IfErr result (λ fault. fault ≢ TagFault.NoMemory → fault ≢ TagFault.TooDeep →
+            HasNoTree (map token_of (tokens text.now))) }
     {
         match read_whole(alloc, text)? {
             Some(root) => Ok(TagExpr { root }),
@@ -73,7 +75,8 @@ impl TagExpr {
 
 /// The expression that the text spells, and None where the memory ran out.
 fn read_whole(alloc: Global, text: &str) -> Result<Option<Node>, TagFault>
-    ensures spelled { IfOk result (λ node. IfSome node (λ node. Spells or_phrase (map token_of (tokens text.now)) (expression_of node))) }
+    ensures spelled { IfOk result (λ node. IfSome node
+        (λ node. Spells or_phrase (map token_of (tokens text.now)) (expression_of node))) }
     ensures accepted { IfOk result (λ _. expression_refusal text.now ≡ None) }
     ensures real { IfErr result (λ fault. fault ≢ TagFault.NoMemory) }
     ensures refused { IfErr result (λ fault. expression_refusal text.now ≡ Some fault) }
@@ -97,7 +100,8 @@ fn fault_behind(end: usize, left: &str) -> Option<TagFault>
     requires fits { length left.now ≤ end }
     requires no_bar { begins_bar (tokens_left end left.now) ≡ false }
     requires no_ampersand { begins_ampersand (tokens_left end left.now) ≡ false }
-    ensures cases { MatchOption result (tokens_left end left.now ≡ []) (λ fault. first_fault end operator [] (tokens_left end left.now) ≡ Some fault) }
+    ensures cases { MatchOption result (tokens_left end left.now ≡ [])
+        (λ fault. first_fault end operator [] (tokens_left end left.now) ≡ Some fault) }
     ensures real { IfSome result (λ fault. fault ≢ TagFault.NoMemory) }
 {
     match next_token(end, left) {

@@ -1,6 +1,7 @@
 //! Reading an expression, phrase by phrase: an or is made of ands, an and of operands.
 
-ghost use Rattle.std.specs.Prelude.{◌≡◌, ◌≢◌, List, ◌+◌, ◌^◌, ◌≤◌, ◌<◌, ◌∷◌, length, None, Some, option_map, MatchOption, IfSome, IsSomeAnd, IfOk, IfErr, OnOk, false};
+ghost use Rattle.std.specs.Prelude.{◌≡◌, ◌≢◌, List, ◌+◌, ◌^◌, ◌≤◌, ◌<◌, ◌∷◌, length, None, Some, option_map};
+ghost use Rattle.std.specs.Prelude.{MatchOption, IfSome, IsSomeAnd, IfOk, IfErr, OnOk, false};
 ghost use Rattle.std.specs.Str.{chars};
 ghost use Rattle.tag_expr.specs.Connectives.{phrase_of, part_of, sign_of, joins, begins, IsPartEnd, IsEnd};
 ghost use Rattle.tag_expr.specs.ExpressionFaults.{Pending, opened, operator, first_fault};
@@ -48,7 +49,8 @@ fn word<'a>(alloc: Global, place: usize, text: &str, rest: &'a str) -> Result<Re
     ensures read { IfOk result (λ read. IfSome (option_map expression_of read.node) (λ e. e ≡ tag text.now)) }
     ensures left { IfOk result (λ read. read.rest.now ≡ rest.now) }
     ensures good { OnOk result (first_bad place (chars text.now) ≡ None) }
-    ensures refused { IfErr result (λ fault. IsSomeAnd (first_bad place (chars text.now)) (λ bad. fault ≡ TagFault.BadTag bad)) }
+    ensures refused { IfErr result (λ fault. IsSomeAnd (first_bad place (chars text.now))
+        (λ bad. fault ≡ TagFault.BadTag bad)) }
 {
     if let Some(bad) = first_bad(place, text) {
         return Err(TagFault::BadTag(bad));
@@ -60,7 +62,8 @@ fn word<'a>(alloc: Global, place: usize, text: &str, rest: &'a str) -> Result<Re
 }
 
 fn negation(alloc: Global, operand: Option<Node>) -> Option<Node>
-    ensures { IfSome (option_map expression_of result) (λ f. IsSomeAnd (option_map expression_of operand) (λ e. f ≡ negation e)) }
+    ensures { IfSome (option_map expression_of result)
+        (λ f. IsSomeAnd (option_map expression_of operand) (λ e. f ≡ negation e)) }
 {
     match Box::new(alloc, operand?) {
         Ok(operand) => Some(Node::Negation(operand)),
@@ -69,7 +72,9 @@ fn negation(alloc: Global, operand: Option<Node>) -> Option<Node>
 }
 
 fn conjunction(alloc: Global, left: Option<Node>, right: Option<Node>) -> Option<Node>
-    ensures { IfSome (option_map expression_of result) (λ f. IsSomeAnd (option_map expression_of left) (λ d. IsSomeAnd (option_map expression_of right) (λ e. f ≡ conjunction d e))) }
+    ensures { IfSome (option_map expression_of result)
+        (λ f. IsSomeAnd (option_map expression_of left)
+        (λ d. IsSomeAnd (option_map expression_of right) (λ e. f ≡ conjunction d e))) }
 {
     match (Box::new(alloc, left?), Box::new(alloc, right?)) {
         (Ok(left), Ok(right)) => Some(Node::Conjunction(left, right)),
@@ -78,7 +83,9 @@ fn conjunction(alloc: Global, left: Option<Node>, right: Option<Node>) -> Option
 }
 
 fn disjunction(alloc: Global, left: Option<Node>, right: Option<Node>) -> Option<Node>
-    ensures { IfSome (option_map expression_of result) (λ f. IsSomeAnd (option_map expression_of left) (λ d. IsSomeAnd (option_map expression_of right) (λ e. f ≡ disjunction d e))) }
+    ensures { IfSome (option_map expression_of result)
+        (λ f. IsSomeAnd (option_map expression_of left)
+        (λ d. IsSomeAnd (option_map expression_of right) (λ e. f ≡ disjunction d e))) }
 {
     match (Box::new(alloc, left?), Box::new(alloc, right?)) {
         (Ok(left), Ok(right)) => Some(Node::Disjunction(left, right)),
@@ -93,7 +100,9 @@ fn joined(
     left: Option<Node>,
     right: Option<Node>,
 ) -> Option<Node>
-    ensures { IfSome (option_map expression_of result) (λ f. IsSomeAnd (option_map expression_of left) (λ d. IsSomeAnd (option_map expression_of right) (λ e. f ≡ joins connective d e))) }
+    ensures { IfSome (option_map expression_of result)
+        (λ f. IsSomeAnd (option_map expression_of left)
+        (λ d. IsSomeAnd (option_map expression_of right) (λ e. f ≡ joins connective d e))) }
 {
     match connective {
         Connective::And => conjunction(alloc, left, right),
@@ -104,7 +113,8 @@ fn joined(
 /// What follows a bar at the front.
 fn after_bar<'a>(end: usize, left: &'a str) -> Option<&'a str>
     requires { length left.now ≤ end }
-    ensures cases { MatchOption result (begins_bar (tokens_left end left.now) ≡ false) (λ rest. Begins bar (tokens_left end left.now) (tokens_left end rest.now)) }
+    ensures cases { MatchOption result (begins_bar (tokens_left end left.now) ≡ false)
+        (λ rest. Begins bar (tokens_left end left.now) (tokens_left end rest.now)) }
     ensures shorter { IfSome result (λ rest. length rest.now < length left.now) }
 {
     match next_token(end, left) {
@@ -122,7 +132,8 @@ fn after_bar<'a>(end: usize, left: &'a str) -> Option<&'a str>
 /// What follows an ampersand at the front.
 fn after_ampersand<'a>(end: usize, left: &'a str) -> Option<&'a str>
     requires { length left.now ≤ end }
-    ensures cases { MatchOption result (begins_ampersand (tokens_left end left.now) ≡ false) (λ rest. Begins ampersand (tokens_left end left.now) (tokens_left end rest.now)) }
+    ensures cases { MatchOption result (begins_ampersand (tokens_left end left.now) ≡ false)
+        (λ rest. Begins ampersand (tokens_left end left.now) (tokens_left end rest.now)) }
     ensures shorter { IfSome result (λ rest. length rest.now < length left.now) }
 {
     match next_token(end, left) {
@@ -140,7 +151,8 @@ fn after_ampersand<'a>(end: usize, left: &'a str) -> Option<&'a str>
 /// What follows the sign of the connective at the front.
 fn after_sign<'a>(end: usize, connective: Connective, left: &'a str) -> Option<&'a str>
     requires { length left.now ≤ end }
-    ensures cases { MatchOption result (begins connective (tokens_left end left.now) ≡ false) (λ rest. Begins (sign_of connective) (tokens_left end left.now) (tokens_left end rest.now)) }
+    ensures cases { MatchOption result (begins connective (tokens_left end left.now) ≡ false)
+        (λ rest. Begins (sign_of connective) (tokens_left end left.now) (tokens_left end rest.now)) }
     ensures shorter { IfSome result (λ rest. length rest.now < length left.now) }
 {
     match connective {
@@ -157,7 +169,8 @@ fn after_group<'a>(end: usize, place: usize, left: &'a str) -> Result<&'a str, T
     ensures closed { IfOk result (λ rest. Begins right_paren (tokens_left end left.now) (tokens_left end rest.now)) }
     ensures shorter { IfOk result (λ rest. length rest.now < length left.now) }
     ensures real { IfErr result (λ fault. fault ≢ TagFault.NoMemory) }
-    ensures refused { IfErr result (λ fault. (pending : List Pending) → first_fault end operator (opened place ∷ pending) (tokens_left end left.now) ≡ Some fault) }
+    ensures refused { IfErr result (λ fault. (pending : List Pending) →
+        first_fault end operator (opened place ∷ pending) (tokens_left end left.now) ≡ Some fault) }
 {
     match next_token(end, left) {
         None => Err(TagFault::ParenOpen(place)),
@@ -182,7 +195,8 @@ fn operand<'a>(
 ) -> Result<Read<'a>, TagFault>
     requires fits { length left.now ≤ end }
     requires shallow { pending ≤ 64 }
-    ensures read { IfOk result (λ read. IsRead not_phrase end pending (tokens_left end left.now) (tokens_left end read.rest.now) (option_map expression_of read.node)) }
+    ensures read { IfOk result (λ read. IsRead not_phrase end pending (tokens_left end left.now)
+        (tokens_left end read.rest.now) (option_map expression_of read.node)) }
     ensures real { IfErr result (λ fault. fault ≢ TagFault.NoMemory) }
     ensures refused { IfErr result (λ fault. IsRefused not_phrase end pending (tokens_left end left.now) fault) }
     ensures shorter { IfOk result (λ read. length read.rest.now < length left.now) }
@@ -239,9 +253,11 @@ fn part<'a>(
 ) -> Result<Read<'a>, TagFault>
     requires fits { length left.now ≤ end }
     requires shallow { pending ≤ 64 }
-    ensures read { IfOk result (λ read. IsRead (part_of connective) end pending (tokens_left end left.now) (tokens_left end read.rest.now) (option_map expression_of read.node)) }
+    ensures read { IfOk result (λ read. IsRead (part_of connective) end pending (tokens_left end left.now)
+        (tokens_left end read.rest.now) (option_map expression_of read.node)) }
     ensures real { IfErr result (λ fault. fault ≢ TagFault.NoMemory) }
-    ensures refused { IfErr result (λ fault. IsRefused (part_of connective) end pending (tokens_left end left.now) fault) }
+    ensures refused { IfErr result (λ fault. IsRefused (part_of connective) end pending (tokens_left end left.now)
+        fault) }
     ensures shorter { IfOk result (λ read. length read.rest.now < length left.now) }
     ensures ended { IfOk result (λ read. IsPartEnd connective (tokens_left end read.rest.now)) }
 {
@@ -262,9 +278,11 @@ fn operands<'a>(
 ) -> Result<Read<'a>, TagFault>
     requires fits { length left.now ≤ end }
     requires shallow { pending ≤ 64 }
-    ensures read { IfOk result (λ read. IsRead (phrase_of connective) end pending (tokens_left end left.now) (tokens_left end read.rest.now) (option_map expression_of read.node)) }
+    ensures read { IfOk result (λ read. IsRead (phrase_of connective) end pending (tokens_left end left.now)
+        (tokens_left end read.rest.now) (option_map expression_of read.node)) }
     ensures real { IfErr result (λ fault. fault ≢ TagFault.NoMemory) }
-    ensures refused { IfErr result (λ fault. IsRefused (phrase_of connective) end pending (tokens_left end left.now) fault) }
+    ensures refused { IfErr result (λ fault. IsRefused (phrase_of connective) end pending (tokens_left end left.now)
+        fault) }
     ensures shorter { IfOk result (λ read. length read.rest.now < length left.now) }
     ensures ended { IfOk result (λ read. IsEnd connective (tokens_left end read.rest.now)) }
 {
@@ -288,7 +306,8 @@ pub(crate) fn alternatives<'a>(
 ) -> Result<Read<'a>, TagFault>
     requires fits { length left.now ≤ end }
     requires shallow { pending ≤ 64 }
-    ensures read { IfOk result (λ read. IsRead or_phrase end pending (tokens_left end left.now) (tokens_left end read.rest.now) (option_map expression_of read.node)) }
+    ensures read { IfOk result (λ read. IsRead or_phrase end pending (tokens_left end left.now)
+        (tokens_left end read.rest.now) (option_map expression_of read.node)) }
     ensures real { IfErr result (λ fault. fault ≢ TagFault.NoMemory) }
     ensures refused { IfErr result (λ fault. IsRefused or_phrase end pending (tokens_left end left.now) fault) }
     ensures shorter { IfOk result (λ read. length read.rest.now < length left.now) }

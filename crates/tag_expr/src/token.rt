@@ -1,8 +1,10 @@
 //! The tokens of a text, from the left.
 
-ghost use Rattle.std.specs.Prelude.{◌≡◌, ◌+◌, ◌-◌, ◌<◌, ◌≤◌, length, drop, [], ◌∷◌, None, MatchOption, IfSome, is_some, option_map, encode_utf8_all};
+ghost use Rattle.std.specs.Prelude.{◌≡◌, ◌+◌, ◌-◌, ◌<◌, ◌≤◌, length, drop, [], ◌∷◌, None, MatchOption, IfSome};
+ghost use Rattle.std.specs.Prelude.{is_some, option_map, encode_utf8_all};
 ghost use Rattle.std.specs.Str.{chars};
-ghost use Rattle.tag_expr.specs.Tokens.{sign_of, is_word_character, word_len, is_called, sign_or_word, token_len, front_token, front_len, placed};
+ghost use Rattle.tag_expr.specs.Tokens.{sign_of, is_word_character, word_len, is_called, sign_or_word, token_len};
+ghost use Rattle.tag_expr.specs.Tokens.{front_token, front_len, placed};
 ghost use Rattle.tag_expr.specs.TokenTexts.{token_read, word_length, word_size, tokens_left};
 
 use crate::characters::is_sign;
@@ -79,7 +81,8 @@ fn after_call(text: &str) -> Option<&str>
 fn word_or_call<'a>(text: &'a str) -> (Token<'a>, &'a str)
     ensures token { token_read result.0 ≡ sign_or_word None (chars text.now) }
     ensures within { word_length (token_read result.0) ≤ length text.now }
-    ensures rest { result.1.now ≡ encode_utf8_all (drop (token_len (token_read result.0) (word_len (chars text.now))) (chars text.now)) }
+    ensures rest { result.1.now ≡ encode_utf8_all
+        (drop (token_len (token_read result.0) (word_len (chars text.now))) (chars text.now)) }
 {
     let (word, rest) = text.split_at(word_size(text));
     if let Some(after) = after_call(rest) {
@@ -111,7 +114,9 @@ fn front_token<'a>(text: &'a str) -> (Token<'a>, &'a str)
 /// The first token of what is left of a text that has `end` bytes.
 pub(crate) fn next_token<'a>(end: usize, left: &'a str) -> Option<Found<'a>>
     requires { length left.now ≤ end }
-    ensures found { MatchOption result (tokens_left end left.now ≡ []) (λ found. tokens_left end left.now ≡ placed found.place (token_read found.token) ∷ tokens_left end found.rest.now) }
+    ensures found { MatchOption result (tokens_left end left.now ≡ [])
+        (λ found. tokens_left end left.now ≡ placed found.place (token_read found.token) ∷ tokens_left end
+        found.rest.now) }
     ensures within { IfSome result (λ found. found.place + word_length (token_read found.token) ≤ end) }
     ensures shorter { IfSome result (λ found. length found.rest.now < length left.now) }
 {

@@ -24,7 +24,8 @@ const SPINS: u64 = 1024;
 pub enum Act {
     /// It ends as it is told.
     Ends,
-    /// It sets its own flag, and ends well; if it is of one of the nodes from the first to the last, once it sees those of all.
+    /// It sets its own flag, and ends well; if it is of one of the nodes from the first to the
+    /// last, once it sees those of all.
     Meets(usize, usize),
     /// It ends well if it sees its own flag, and is the only job at work.
     Waits,

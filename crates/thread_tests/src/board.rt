@@ -3,8 +3,8 @@
 use std::alloc::{AllocError, Global};
 use std::sync::atomic::{AtomicBool, AtomicU64, Ordering};
 
-/// A flag for each of the first nodes, how many jobs are at work, how often a job was asked for a dynamic test, how many bytes of
-/// texts the listener was told, and whether a body began too early.
+/// A flag for each of the first nodes, how many jobs are at work, how often a job was asked for a
+/// dynamic test, how many bytes of texts the listener was told, and whether a body began too early.
 #[derive(Drop)]
 pub struct Board {
     flags: Vec<AtomicBool>,

@@ -107,7 +107,8 @@ pub fn cast(
     act: Act,
     board: &Arc<Board>,
 ) -> Result<Jobs<Actor>, AllocError>
-    ensures { IfOk result (λ jobs. (workers ring : ℕ) → JobsMayAnswer replies_left (run_of plan.now workers ring jobs.items)) }
+    ensures { IfOk result (λ jobs. (workers ring : ℕ) →
+        JobsMayAnswer replies_left (run_of plan.now workers ring jobs.items)) }
 {
     filled(alloc, plan, scripts, act, board)
 }

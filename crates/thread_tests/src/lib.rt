@@ -1,5 +1,6 @@
-//! What no clause says of runs on threads: that bodies run side by side, when their jobs are run, and that numbers come out of
-//! lanes. Tests, the jobs that these hand in, and two threads that take from one lane.
+//! What no clause says of runs on threads: that bodies run side by side, when their jobs are run,
+//! and that numbers come out of lanes. Tests, the jobs that these hand in, and two threads that
+//! take from one lane.
 
 #![tactic(auto)]
 

@@ -26,8 +26,9 @@ engine e
     test b() pass
 ";
 
-/// A class that reads a key, with two classes in its own thread, and one that writes the key. Who ends the last test of the first
-/// class offers the second to the worker of the class around it alone, which tries the writer meanwhile.
+/// A class that reads a key, with two classes in its own thread, and one that writes the key. Who
+/// ends the last test of the first class offers the second to the worker of the class around it
+/// alone, which tries the writer meanwhile.
 const BUSY: &str = "property junit.jupiter.execution.parallel.enabled=true
 property junit.jupiter.execution.parallel.mode.default=concurrent
 engine e
@@ -53,7 +54,8 @@ fn suite_of(alloc: Global, tests: u32) -> Result<String, AllocError> {
     Ok(text)
 }
 
-/// Whether a run of this suite, whose bodies do this, has so many events, and the last part of what is said of it is this.
+/// Whether a run of this suite, whose bodies do this, has so many events, and the last part of what
+/// is said of it is this.
 fn ends_well<R: Threads + Wait + Sync>(
     rt: &R,
     alloc: Global,
@@ -91,7 +93,8 @@ fn stands_before(said: &str, one: &str, other: &str) -> bool {
     }
 }
 
-/// Whether the class with the isolated test has ended before the other and its test start, or starts when both have ended.
+/// Whether the class with the isolated test has ended before the other and its test start, or
+/// starts when both have ended.
 fn keeps_apart<R: Threads + Wait + Sync>(
     rt: &R,
     alloc: Global,
@@ -115,8 +118,8 @@ fn all_meet<R: Threads + Wait + Sync>(rt: &R, alloc: Global, ring: u32) -> Resul
     )
 }
 
-/// Whether bodies of one key and an isolated one meet none, those of one worker see that their start is told, and a worker comes to
-/// the node that is offered to it alone.
+/// Whether bodies of one key and an isolated one meet none, those of one worker see that their
+/// start is told, and a worker comes to the node that is offered to it alone.
 fn all_end_well<R: Threads + Wait + Sync>(rt: &R, alloc: Global, ring: u32) -> Result<bool, Fail> {
     Ok(
         ends_well(rt, alloc, WRITERS, Act::Waits, 2, ring, 10)?

@@ -1,5 +1,5 @@
-//! One worker and the dispatcher, both on the calling thread, at a ring of one word; a body that waits for it; and rings that are
-//! refused.
+//! One worker and the dispatcher, both on the calling thread, at a ring of one word; a body that
+//! waits for it; and rings that are refused.
 
 ghost use Rattle.std.specs.Prelude.{[]};
 ghost use Rattle.run_table.specs.Seats.{IsSeatOf};

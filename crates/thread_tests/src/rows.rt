@@ -8,9 +8,10 @@ use std::sync::Wait;
 use std::test::Fail;
 use std::thread::Threads;
 
-/// What is to happen, and below it the suite: nothing; a test; a test that is aborted; a class whose body fails, and the same
-/// before an after-body; a disabled class; a test that fails; a factory, one that asks for too many dynamic tests, and one that
-/// does so without end; nodes below one that writes; a run that fails fast; an after-body that fails; a plan that is handed in
+/// What is to happen, and below it the suite: nothing; a test; a test that is aborted; a class
+/// whose body fails, and the same before an after-body; a disabled class; a test that fails; a
+/// factory, one that asks for too many dynamic tests, and one that does so without end; nodes below
+/// one that writes; a run that fails fast; an after-body that fails; a plan that is handed in
 /// without its jobs.
 const ROWS: &str = "+0 -0 unused asked 0 told 0
 ==

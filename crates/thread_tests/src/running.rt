@@ -31,8 +31,9 @@ pub(crate) const WIDE: u32 = 1024;
 /// More events than a run has.
 const MOST_EVENTS: usize = 16_384;
 
-/// Keeps events, counts the bytes of their texts, and sets the flag of each node that starts. While it is told the start of the
-/// node before the one that it looks for, it looks whether that one's body begins.
+/// Keeps events, counts the bytes of their texts, and sets the flag of each node that starts. While
+/// it is told the start of the node before the one that it looks for, it looks whether that one's
+/// body begins.
 #[derive(Drop)]
 pub(crate) struct Watcher {
     pub(crate) events: Vec<Event>,
@@ -87,8 +88,8 @@ impl Listener for Watcher {
     }
 }
 
-/// A suite's plan, and the scripts of its bodies. A factory that asks for as many dynamic tests as a suite can say asks for as
-/// many as there are numbers.
+/// A suite's plan, and the scripts of its bodies. A factory that asks for as many dynamic tests as
+/// a suite can say asks for as many as there are numbers.
 pub(crate) fn staged(
     alloc: Global,
     text: &str,
@@ -167,8 +168,8 @@ fn push_refusal(text: &mut String, number: u8, missing: Option<usize>) -> Result
     }
 }
 
-/// What was reported, how often jobs were asked for a dynamic test, and how many bytes of texts the first listener was told; and
-/// whether a body began too early.
+/// What was reported, how often jobs were asked for a dynamic test, and how many bytes of texts the
+/// first listener was told; and whether a body began too early.
 fn said(
     alloc: Global,
     ran: &Result<Report<Actor>, RunFault<Actor>>,
@@ -288,8 +289,9 @@ fn roomy_watcher(alloc: Global, board: &Arc<Board>) -> Result<Watcher, AllocErro
     })
 }
 
-/// What happens in a run of this suite by so many workers with a ring of so many words, all jobs of which do this: the events,
-/// the numbers of the jobs that were not used, and how often jobs were asked for a dynamic test.
+/// What happens in a run of this suite by so many workers with a ring of so many words, all jobs of
+/// which do this: the events, the numbers of the jobs that were not used, and how often jobs were
+/// asked for a dynamic test.
 pub(crate) fn run_of_suite<R: Threads + Wait + Sync>(
     rt: &R,
     alloc: Global,
@@ -309,7 +311,8 @@ pub(crate) fn run_of_suite<R: Threads + Wait + Sync>(
 /// No job of any plan.
 #[tactic(auto, using(crate::proofs::Replying::none_fresh, crate::proofs::Replying::may_answer))]
 fn no_jobs(alloc: Global) -> Jobs<Actor>
-    ensures { (plan : PlanParts) (workers ring : ℕ) → JobsMayAnswer replies_left (run_of plan workers ring result.items) }
+    ensures { (plan : PlanParts) (workers ring : ℕ) →
+        JobsMayAnswer replies_left (run_of plan workers ring result.items) }
 {
     Vec::new(alloc)
 }
@@ -329,8 +332,8 @@ pub(crate) fn run_without_jobs<R: Threads + Wait + Sync>(
     Ok(run_watched(rt, alloc, plan, jobs, workers, ring, watcher, &board)?)
 }
 
-/// What happens in such a run of this suite with a ring of one word, in which the body of this node sets its flag, and the
-/// listener looks for that while it is told the start before.
+/// What happens in such a run of this suite with a ring of one word, in which the body of this node
+/// sets its flag, and the listener looks for that while it is told the start before.
 pub(crate) fn run_with_a_look<R: Threads + Wait + Sync>(
     rt: &R,
     alloc: Global,

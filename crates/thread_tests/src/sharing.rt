@@ -26,13 +26,14 @@ fn steal(thief: &mut Thief, turns: u32)
     }
 }
 
-/// The owner and the only thief of a lane take from it, each in a thread of its own. It answers how many numbers are left: these
-/// and those that were taken are, up to order, those that were put.
+/// The owner and the only thief of a lane take from it, each in a thread of its own. It answers how
+/// many numbers are left: these and those that were taken are, up to order, those that were put.
 pub fn share_out<R: Threads>(rt: &R, lane: &mut Lane, thief: Thief, turns: u32) -> usize
     requires of { thief.which ≡ lane.old.which }
     requires only { lane.old.thieves ≡ 1 }
     ensures put { lane.new.put ≡ lane.old.put }
-    ensures rule { (left : List ℕ) × (length left ≡ result) × ((x : ℕ) → times x lane.new.taken + times x left ≡ times x lane.new.put) }
+    ensures rule { (left : List ℕ) × (length left ≡ result)
+        × ((x : ℕ) → times x lane.new.taken + times x left ≡ times x lane.new.put) }
 {
     let mut thief = thief;
     join_mut(

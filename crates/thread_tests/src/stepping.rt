@@ -75,8 +75,8 @@ pub(crate) fn comes_to_the_engine<B: Job>(table: &RunTable<B>, worker: &mut Work
         && worker.draw(table).is_ok()
 }
 
-/// Whether the plan's start is told once it is shown, and not before, and nothing behind it; and whether the engine's start has room
-/// in a ring of one word once that is told, and not before.
+/// Whether the plan's start is told once it is shown, and not before, and nothing behind it; and
+/// whether the engine's start has room in a ring of one word once that is told, and not before.
 fn starts_are_told_when_shown(
     table: &RunTable<Actor>,
     worker: &mut WorkerSeat<Actor>,
@@ -86,7 +86,8 @@ fn starts_are_told_when_shown(
 ) -> bool
     requires worker { IsSeatOf table.now.table worker.old.seat }
     requires desk { IsSeatOf table.now.table desk.old.seat }
-    requires told { All (λ l. got (l.vtable, l.value) ≡ (dispatcher desk.old.seat.me.0).read) audience.old.listeners.items }
+    requires told { All (λ l. got (l.vtable, l.value) ≡ (dispatcher desk.old.seat.me.0).read)
+        audience.old.listeners.items }
     requires room { All (λ l. left_to_read desk.old.seat.me.0 ≤ room (l.vtable, l.value)) audience.old.listeners.items }
     requires texts { KeepsTexts replies_left desk.old.seat.me.0 texts.old }
 {
@@ -117,7 +118,8 @@ fn tells_at_last(
     calls: usize,
 ) -> bool
     requires desk { IsSeatOf table.now.table desk.old.seat }
-    requires told { All (λ l. got (l.vtable, l.value) ≡ (dispatcher desk.old.seat.me.0).read) audience.old.listeners.items }
+    requires told { All (λ l. got (l.vtable, l.value) ≡ (dispatcher desk.old.seat.me.0).read)
+        audience.old.listeners.items }
     requires room { All (λ l. left_to_read desk.old.seat.me.0 ≤ room (l.vtable, l.value)) audience.old.listeners.items }
     requires texts { KeepsTexts replies_left desk.old.seat.me.0 texts.old }
 {
@@ -157,7 +159,8 @@ fn is_told_at<R: Wait>(
     requires free { worker.old.task ≡ Free }
     requires empty { worker.old.hand ≡ None }
     requires desk { IsSeatOf table.now.table desk.old.seat }
-    requires told { All (λ l. got (l.vtable, l.value) ≡ (dispatcher desk.old.seat.me.0).read) audience.old.listeners.items }
+    requires told { All (λ l. got (l.vtable, l.value) ≡ (dispatcher desk.old.seat.me.0).read)
+        audience.old.listeners.items }
     requires room { All (λ l. left_to_read desk.old.seat.me.0 ≤ room (l.vtable, l.value)) audience.old.listeners.items }
     requires texts { KeepsTexts replies_left desk.old.seat.me.0 texts.old }
 {

@@ -1,6 +1,7 @@
-//! Adding a node to a tree: `PARENT KIND ID`, and behind it `body=N`, `after=N`, `role=ROLE`, `mode=MODE`, `lock=KEY`,
-//! `isolated=yes`, `tag=TAG`, `name=TEXT` and `disabled=TEXT` as wanted. A TEXT or a KEY such as `r*1024` is an `r` so many times.
-//! A lock is wanted in READ behind `KEY:r`, else in READ_WRITE.
+//! Adding a node to a tree: `PARENT KIND ID`, and behind it `body=N`, `after=N`, `role=ROLE`,
+//! `mode=MODE`, `lock=KEY`, `isolated=yes`, `tag=TAG`, `name=TEXT` and `disabled=TEXT` as wanted. A
+//! TEXT or a KEY such as `r*1024` is an `r` so many times. A lock is wanted in READ behind `KEY:r`,
+//! else in READ_WRITE.
 
 use descriptor::{BodyId, Kind, Lock, LockMode, Mode, Node, NodeId, Role, TreeBuilder};
 use std::alloc::{AllocError, Global};

@@ -1,7 +1,8 @@
-//! Builds trees by the lines of standard input, and answers questions about them. `== TITLE` begins a tree; `+ NODE` adds a
-//! node; `? QUESTION` asks; any other line is one of a suite, which is then the tree. `*N LINE` is the line N times, with
-//! its number for `{}`, the number before it for `{<}`, and so many levels of indentation for `{>}`. Each line is printed
-//! with its answer, of a repeated one the last.
+//! Builds trees by the lines of standard input, and answers questions about them. `== TITLE` begins
+//! a tree; `+ NODE` adds a node; `? QUESTION` asks; any other line is one of a suite, which is then
+//! the tree. `*N LINE` is the line N times, with its number for `{}`, the number before it for
+//! `{<}`, and so many levels of indentation for `{>}`. Each line is printed with its answer, of a
+//! repeated one the last.
 #![tactic(auto)]
 
 mod adding;

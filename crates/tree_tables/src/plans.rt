@@ -138,7 +138,8 @@ fn hoisted(
     }
 }
 
-/// What is asked of the plan of a tree where the request has these words, before the steps, on a machine of four processors.
+/// What is asked of the plan of a tree where the request has these words, before the steps, on a
+/// machine of four processors.
 pub(crate) fn planned(
     alloc: Global,
     tree: &Tree,

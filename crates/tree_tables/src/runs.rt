@@ -1,5 +1,6 @@
-//! What a run of a plan leaves: the fixed schedule, or steps by so many workers. A word `fail-fast` sets that of the plan.
-//! `3=fail:late` says that body 3 fails with the text `late`, `3=2*pass` that it is pulled twice before it passes.
+//! What a run of a plan leaves: the fixed schedule, or steps by so many workers. A word `fail-fast`
+//! sets that of the plan. `3=fail:late` says that body 3 fails with the text `late`, `3=2*pass`
+//! that it is pulled twice before it passes.
 
 use descriptor::BodyId;
 use plan_events::{Event, EventKind, Outcome, Reply, Status, Texts};

@@ -38,7 +38,8 @@ impl Read {
     pub fn with(self, alloc: Global, kind: &Decoded, value: &Decoded) -> Read
         requires few { self.count ≤ 1024 }
         requires short { self.spelled ≤ 6148 * self.count }
-        ensures read { (segments : List Segment) → IsReadOf self segments → IsReadOf result (segments ++ record { kind = kind.now; value = value.now } ∷ []) }
+        ensures read { (segments : List Segment) → IsReadOf self segments →
+            IsReadOf result (segments ++ record { kind = kind.now; value = value.now } ∷ []) }
         ensures count { result.count ≡ self.count + 1 }
         ensures spelled { result.spelled ≤ 6148 * result.count }
     {
@@ -58,7 +59,8 @@ fn longer(
     kind: &Decoded,
     value: &Decoded,
 ) -> Option<Vec<Segment>>
-    ensures { IfSome result (λ new. IsSomeAnd segments (λ old. new.items ≡ old.items ++ record { kind = kind.now; value = value.now } ∷ [])) }
+    ensures { IfSome result (λ new. IsSomeAnd segments
+        (λ old. new.items ≡ old.items ++ record { kind = kind.now; value = value.now } ∷ [])) }
 {
     let mut segments = segments?;
     let segment = Segment::new(alloc, kind.text()?, value.text()?).ok()?;

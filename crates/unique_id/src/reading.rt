@@ -1,6 +1,7 @@
 //! Reads the segments of a text, from left to right.
 
-ghost use Rattle.std.specs.Prelude.{◌≡◌, ◌≢◌, ◌≤◌, ◌+◌, ◌==◌, not, List, [], ◌∷◌, Some, IfOk, IfErr, Ok, Err, MatchResult, length, option_map};
+ghost use Rattle.std.specs.Prelude.{◌≡◌, ◌≢◌, ◌≤◌, ◌+◌, ◌==◌, not, List, [], ◌∷◌, Some, IfOk, IfErr, Ok, Err};
+ghost use Rattle.std.specs.Prelude.{MatchResult, length, option_map};
 ghost use Rattle.std.specs.List.{prefix_len};
 ghost use Rattle.unique_id.specs.Answers.{Answers};
 ghost use Rattle.unique_id.specs.Reading.{after, unescaped, part_len, checked, part_at, segment_at, segments_at};
@@ -126,7 +127,9 @@ fn first_piece(text: &[u8]) -> (&[u8], Option<&[u8]>)
 /// The segments of a text, one between each two slashes. Want of memory doesn't end the reading.
 pub fn read(alloc: Global, text: &[u8]) -> Result<Read, UidFault>
     requires { length text.now ≤ 1024 }
-    ensures read { MatchResult result (λ read. (segments : List Segment) × IsReadOf read segments × (segments_at [] 0 (pieces_of (Some text.now)) ≡ Ok segments)) (λ fault. segments_at [] 0 (pieces_of (Some text.now)) ≡ Err fault) }
+    ensures read { MatchResult result (λ read. (segments : List Segment) × IsReadOf read segments
+        × (segments_at [] 0 (pieces_of (Some text.now)) ≡ Ok segments))
+        (λ fault. segments_at [] 0 (pieces_of (Some text.now)) ≡ Err fault) }
     ensures real { IfErr result (λ fault. fault ≢ UidFault.NoMemory) }
 {
     let mut read = Read::new(alloc);

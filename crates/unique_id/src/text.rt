@@ -18,8 +18,8 @@ enum Bytes {
     Shared(Arc<String>),
 }
 
-/// A text that contracts see as its bytes. It is cheap to copy: a text of at most 24 bytes takes no memory of its own, and
-/// all copies of a longer one share their bytes.
+/// A text that contracts see as its bytes. It is cheap to copy: a text of at most 24 bytes takes no
+/// memory of its own, and all copies of a longer one share their bytes.
 #[derive(Debug, Drop)]
 pub struct Text {
     bytes: Bytes,

@@ -1,6 +1,7 @@
 //! A unique id: its segments, with their canonical text beside them.
 
-ghost use Rattle.std.specs.Prelude.{◌≡◌, ◌≢◌, ◌<◌, ◌≤◌, ◌↔◌, IsTrue, Some, None, IfOk, IfErr, IsOk, [], ◌∷◌, ◌++◌, List, Ok, ℕ, drop, length, All, string_bytes};
+ghost use Rattle.std.specs.Prelude.{◌≡◌, ◌≢◌, ◌<◌, ◌≤◌, ◌↔◌, IsTrue, Some, None, IfOk, IfErr, IsOk, [], ◌∷◌, ◌++◌};
+ghost use Rattle.std.specs.Prelude.{List, Ok, ℕ, drop, length, All, string_bytes};
 ghost use Rattle.unique_id.specs.declared.unique_id.Segment.{Segment};
 ghost use Rattle.unique_id.specs.Grammar.{IsId, IsWithinLimits};
 ghost use Rattle.unique_id.specs.Answers.{Gives};
@@ -136,7 +137,8 @@ impl UniqueId {
     pub fn of(alloc: Global, kind: &str, value: &str) -> Result<UniqueId, UidFault>
         ensures ok { IfOk result (λ id. id ≡ record { kind = kind.now; value = value.now } ∷ []) }
         ensures accepted { IfOk result (λ _. refusal [] kind.now value.now ≡ None) }
-        ensures refused { IfErr result (λ fault. fault ≢ UidFault.NoMemory → refusal [] kind.now value.now ≡ Some fault) }
+        ensures refused { IfErr result (λ fault. fault ≢ UidFault.NoMemory → refusal [] kind.now value.now ≡ Some
+            fault) }
         ensures no_memory { IfErr result (λ fault. fault ≡ UidFault.NoMemory → refusal [] kind.now value.now ≡ None) }
     {
         grown(alloc, &[], "", kind, value)
@@ -147,8 +149,10 @@ impl UniqueId {
     pub fn append(&self, alloc: Global, kind: &str, value: &str) -> Result<UniqueId, UidFault>
         ensures ok { IfOk result (λ id. id ≡ self.now ++ record { kind = kind.now; value = value.now } ∷ []) }
         ensures accepted { IfOk result (λ _. refusal self.now kind.now value.now ≡ None) }
-        ensures refused { IfErr result (λ fault. fault ≢ UidFault.NoMemory → refusal self.now kind.now value.now ≡ Some fault) }
-        ensures no_memory { IfErr result (λ fault. fault ≡ UidFault.NoMemory → refusal self.now kind.now value.now ≡ None) }
+        ensures refused { IfErr result (λ fault. fault ≢ UidFault.NoMemory →
+            refusal self.now kind.now value.now ≡ Some fault) }
+        ensures no_memory { IfErr result
+            (λ fault. fault ≡ UidFault.NoMemory → refusal self.now kind.now value.now ≡ None) }
     {
         grown(alloc, self.segments(), self.text(), kind, value)
     }
@@ -161,11 +165,15 @@ impl UniqueId {
         // Want of memory stands in place of no fault.
         ensures no_memory { IfErr result (λ fault. fault ≡ UidFault.NoMemory → IsOk (id_of text.now)) }
         // A fault with a place stands where the text stops being the beginning of an id.
-        ensures placed { IfErr result (λ fault. (place : ℕ) → place_of fault ≡ Some place → StopsAt text.now place (width fault (drop place text.now))) }
+        ensures placed { IfErr result (λ fault. (place : ℕ) → place_of fault ≡ Some place →
+            StopsAt text.now place (width fault (drop place text.now))) }
         // What is answered is written in the format, and what is written in it is answered.
         ensures parsed { IfOk result (λ id. IsId text.now id × IsWithinLimits text.now id) }
-        ensures parses { (segments : List Segment) → IsId text.now segments → IsWithinLimits text.now segments → Gives UidFault.NoMemory (λ id. id) result (Ok segments) }
-        ensures reads_back { (segments : List Segment) → 0 < length segments → length segments ≤ 64 → All IsWhole segments → All IsText segments → length text.now ≤ 1024 → text.now ≡ spelling segments → Gives UidFault.NoMemory (λ id. id) result (Ok segments) }
+        ensures parses { (segments : List Segment) → IsId text.now segments → IsWithinLimits text.now segments →
+            Gives UidFault.NoMemory (λ id. id) result (Ok segments) }
+        ensures reads_back { (segments : List Segment) → 0 < length segments → length segments ≤ 64 →
+            All IsWhole segments → All IsText segments → length text.now ≤ 1024 → text.now ≡ spelling segments →
+            Gives UidFault.NoMemory (λ id. id) result (Ok segments) }
     {
         id_of(alloc, text)
     }
@@ -240,7 +248,8 @@ fn longer_text(
     len: usize,
 ) -> Result<String, AllocError>
     requires { text.now ≡ spelling segments.now }
-    ensures { IfOk result (λ longer. string_bytes longer ≡ spelling (segments.now ++ record { kind = kind.now; value = value.now } ∷ [])) }
+    ensures { IfOk result (λ longer. string_bytes longer ≡ spelling
+        (segments.now ++ record { kind = kind.now; value = value.now } ∷ [])) }
 {
     let mut longer = String::with_capacity(alloc, len)?;
     longer.push_str(text)?;
@@ -305,8 +314,10 @@ fn grown(
     requires texts { All IsText segments.now }
     ensures ok { IfOk result (λ id. id ≡ segments.now ++ record { kind = kind.now; value = value.now } ∷ []) }
     ensures accepted { IfOk result (λ _. refusal segments.now kind.now value.now ≡ None) }
-    ensures refused { IfErr result (λ fault. fault ≢ UidFault.NoMemory → refusal segments.now kind.now value.now ≡ Some fault) }
-    ensures no_memory { IfErr result (λ fault. fault ≡ UidFault.NoMemory → refusal segments.now kind.now value.now ≡ None) }
+    ensures refused { IfErr result (λ fault. fault ≢ UidFault.NoMemory →
+        refusal segments.now kind.now value.now ≡ Some fault) }
+    ensures no_memory { IfErr result
+        (λ fault. fault ≡ UidFault.NoMemory → refusal segments.now kind.now value.now ≡ None) }
 {
     let len = longer_len(segments, text, kind, value)?;
     let text = longer_text(alloc, segments, text, kind, value, len)?;

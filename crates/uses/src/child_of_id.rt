@@ -10,7 +10,8 @@ use unique_id::{UidFault, UniqueId};
 
 /// The canonical text of the id that `parent` is a text of, with one more segment.
 pub fn child_text(alloc: Global, parent: &str, kind: &str, value: &str) -> Result<String, UidFault>
-    ensures { IfOk result (λ text. (segments : List Segment) × IsId parent.now segments × (string_bytes text ≡ spelling (segments ++ record { kind = kind.now; value = value.now } ∷ []))) }
+    ensures { IfOk result (λ text. (segments : List Segment) × IsId parent.now segments
+        × (string_bytes text ≡ spelling (segments ++ record { kind = kind.now; value = value.now } ∷ []))) }
 {
     let parent = UniqueId::parse(alloc, parent)?;
     let child = parent.append(alloc, kind, value)?;

@@ -10,7 +10,8 @@ use std::alloc::Global;
 /// Puts what a word `KEY=VALUE` says into the request's parameters: the key has this value then,
 /// whatever the system and the file say.
 pub fn put_word(alloc: Global, params: &mut Params, word: &str) -> Result<(), ParamsFault>
-    ensures said { OnOk result ((pair : Pair) × (pair_of 1 word.now ≡ Ok pair) × (answer params.new pair.0 ≡ Some pair.1)) }
+    ensures said { OnOk result ((pair : Pair) × (pair_of 1 word.now ≡ Ok pair)
+        × (answer params.new pair.0 ≡ Some pair.1)) }
     ensures err { OnErr result (params.new ≡ params.old) }
 {
     let pair = pair_of(1, word)?;

@@ -16,7 +16,8 @@ pub fn failed_summary(
     plan: &Plan,
     events: &[Event],
 ) -> Result<Option<String>, AllocError>
-    ensures { IfOk result (λ summary. MatchOption summary (has_failed plan.now events.now ≡ false) (λ text. string_bytes text ≡ summary_of (counts_of plan.now events.now))) }
+    ensures { IfOk result (λ summary. MatchOption summary (has_failed plan.now events.now ≡ false)
+        (λ text. string_bytes text ≡ summary_of (counts_of plan.now events.now))) }
 {
     let results = Results::of(alloc, plan, events)?;
     if !results.failed() {

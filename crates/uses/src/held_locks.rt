@@ -21,7 +21,8 @@ pub fn exclude_each_other(
     requires modes { length modes.items ≡ size tree }
     requires node { node < size tree }
     requires other { other < size tree }
-    ensures { IfOk result (λ r. IsTrue r ↔ AreInConflict (held_of (plan_of tree modes.items) node) (held_of (plan_of tree modes.items) other)) }
+    ensures { IfOk result (λ r. IsTrue r ↔ AreInConflict (held_of (plan_of tree modes.items) node)
+        (held_of (plan_of tree modes.items) other)) }
 {
     let plan = Plan::of(alloc, tree, modes)?;
     Ok(plan.held(node).conflicts(plan.held(other)))

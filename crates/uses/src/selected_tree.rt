@@ -10,7 +10,8 @@ use std::alloc::Global;
 
 /// The tests and factories that a selector covers, and what they are below.
 pub fn select_by(alloc: Global, tree: Tree, selector: Selector) -> Result<Tree, SelectFault>
-    ensures { IfOk result (λ found. (request : Request) × (request.selectors.items ≡ selector ∷ []) × (request.include.items ≡ []) × (request.exclude.items ≡ []) × (found ≡ answer tree request)) }
+    ensures { IfOk result (λ found. (request : Request) × (request.selectors.items ≡ selector ∷ [])
+        × (request.include.items ≡ []) × (request.exclude.items ≡ []) × (found ≡ answer tree request)) }
 {
     let mut selectors = Vec::new(alloc);
     let Ok(()) = selectors.push(selector) else {

@@ -18,7 +18,8 @@ pub fn run_text<T: Threads + Wait + Sync>(
     suite: &[u8],
     output: &mut Vec<u8>,
 ) -> Result<ExitStatus, LaunchFault>
-    ensures { IsRun (asked_by options.now) (suite_read (take 1048577 suite.now)) (Some output.old.items) (Some output.new.items) result }
+    ensures { IsRun (asked_by options.now) (suite_read (take 1048577 suite.now)) (Some output.old.items)
+        (Some output.new.items) result }
 {
     let mut left = suite;
     run_options(rt, alloc, options, &mut left, output)

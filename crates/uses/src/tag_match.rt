@@ -10,7 +10,8 @@ use tag_expr::{TagExpr, TagFault, TagSet};
 
 /// Whether the expression that a text spells is true of a set of tags.
 pub fn is_true_of(alloc: Global, expression: &str, tags: &TagSet) -> Result<bool, TagFault>
-    ensures { IfOk result (λ is_true. (e : Expression) × Spells or_phrase (map token_of (tokens expression.now)) e × (is_true ≡ truth e tags.now)) }
+    ensures { IfOk result (λ is_true. (e : Expression) × Spells or_phrase (map token_of (tokens expression.now)) e
+        × (is_true ≡ truth e tags.now)) }
 {
     let expression = TagExpr::parse(alloc, expression)?;
     Ok(expression.matches(tags))

@@ -11,8 +11,9 @@ fn bit_of(bed: usize) -> u64 {
     1u64.rotate_left((bed % 64) as u32)
 }
 
-/// A bed for each worker and one for the dispatcher. Who lies down says so before it looks for the last time whether there is
-/// something to do: so whoever makes something to do either sees that it lies there, or is seen. Each sleep ends by itself too.
+/// A bed for each worker and one for the dispatcher. Who lies down says so before it looks for the
+/// last time whether there is something to do: so whoever makes something to do either sees that it
+/// lies there, or is seen. Each sleep ends by itself too.
 #[derive(Drop)]
 pub struct Beds {
     // a bit for each worker that lies there for want of a node

@@ -7,7 +7,8 @@ ghost use Rattle.worker_pool.specs.Inside.Circles.{circle_behind};
 use descriptor::NodeId;
 use std::marker::Model;
 
-/// The numbers of the nodes that are left of one time round: those from one number to below another, and then those below a third.
+/// The numbers of the nodes that are left of one time round: those from one number to below
+/// another, and then those below a third.
 #[derive(Drop)]
 pub(crate) struct Circle {
     next: usize,

@@ -5,14 +5,15 @@ ghost use Rattle.std.specs.Prelude.{◌∷◌, [], List};
 use plan_events::{Event, Texts};
 use resource_locks::Plan;
 
-/// Is shown each event of a run when the listeners were told it, by the thread that the run was begun on. It may hold what was
-/// lent for the run alone, as a writer.
+/// Is shown each event of a run when the listeners were told it, by the thread that the run was
+/// begun on. It may hold what was lent for the run alone, as a writer.
 pub trait Watcher: Drop {
     ghost use Rattle.resource_locks.specs.Plans.{PlanParts};
     ghost use Rattle.listeners.specs.Listeners.{Telling, telling};
     ghost use Rattle.worker_pool.specs.Watching.{HasSeenMore};
 
-    /// That one which was as the first is as the second, once it has seen these events of this plan with these texts, in order.
+    /// That one which was as the first is as the second, once it has seen these events of this plan
+    /// with these texts, in order.
     ghost saw: { PlanParts → Self → Self → List Telling → Type 0 };
 
     /// Is shown the next event of the plan, and the texts as they are behind it.

@@ -1,7 +1,9 @@
 //! The attributes of a line, which stand before its verdict.
 
 ghost use Rattle.std.specs.Prelude.{◌≡◌, ◌≢◌, OnOk, IfErr, Ok, None};
-ghost use Rattle.suite_text.specs.Reading.Attributes.{after_sign, declaration_in, attribute_of, no_attributes, with_tag_of, with_spin_of, with_pulls_of, with_mode, with_attribute, attributes_of, spin_said, pulls_said};
+ghost use Rattle.suite_text.specs.Reading.Attributes.{after_sign, declaration_in, attribute_of, no_attributes};
+ghost use Rattle.suite_text.specs.Reading.Attributes.{with_tag_of, with_spin_of, with_pulls_of, with_mode};
+ghost use Rattle.suite_text.specs.Reading.Attributes.{with_attribute, attributes_of, spin_said, pulls_said};
 ghost use Rattle.suite_text.specs.Reading.Faults.{Fails, Gives};
 ghost use Rattle.suite_text.specs.Reading.Lines.{first_word};
 ghost use Rattle.tag_expr.specs.Tags.{tag_refusal};

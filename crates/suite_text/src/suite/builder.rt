@@ -1,6 +1,7 @@
 //! A suite that grows line by line.
 
-ghost use Rattle.std.specs.Prelude.{◌≡◌, ◌≢◌, ◌≤◌, ◌<◌, ◌+◌, length, OnOk, OnErr, IfOk, IfErr, IfSome, Some, None, Ok, false, true, [], ◌∷◌, ◌++◌, take, vec_len, vec_capacity};
+ghost use Rattle.std.specs.Prelude.{◌≡◌, ◌≢◌, ◌≤◌, ◌<◌, ◌+◌, length, OnOk, OnErr, IfOk, IfErr, IfSome, Some, None};
+ghost use Rattle.std.specs.Prelude.{Ok, false, true, [], ◌∷◌, ◌++◌, take, vec_len, vec_capacity};
 
 use crate::script::Script;
 use crate::suite::Suite;
@@ -48,9 +49,24 @@ impl Model for SuiteBuilder {
 
     ghost Value = { LinesRead };
 
-    ghost view = { λ b. record { tree = b.tree; path = b.path.items; scripts = b.scripts.items; afters = b.afters.items; properties = b.properties } };
+    ghost view = { λ b. record {
+      tree = b.tree;
+      path = b.path.items;
+      scripts = b.scripts.items;
+      afters =
+          b.afters.items;
+      properties = b.properties;
+    } };
 
-    ghost invariant = { λ b. IsSound (record { tree = b.tree; path = b.path.items; scripts = b.scripts.items; afters = b.afters.items; properties = b.properties }) };
+    ghost invariant = { λ b. IsSound
+        (record {
+          tree = b.tree;
+          path = b.path.items;
+          scripts = b.scripts.items;
+          afters = b.afters.items;
+          properties =
+              b.properties;
+        }) };
 }
 
 ghost use Rattle.unique_id.specs.Spelling.{refusal};
@@ -58,7 +74,8 @@ ghost use Rattle.descriptor.specs.Nodes.{size, IsTree, MayTake};
 ghost use Rattle.suite_text.specs.Reading.Parts.{above, word_of_opened, node_of_opened};
 ghost use Rattle.suite_text.specs.Inside.FewLocks.{DoesFor};
 ghost use Rattle.suite_text.specs.Reading.Words.{declaration_of};
-ghost use Rattle.suite_text.specs.Reading.Nodes.{id_at, value_declared, node_with, node_declared, is_over_limit, place_on, word_on, refusal_on, grown};
+ghost use Rattle.suite_text.specs.Reading.Nodes.{id_at, value_declared, node_with, node_declared, is_over_limit};
+ghost use Rattle.suite_text.specs.Reading.Nodes.{place_on, word_on, refusal_on, grown};
 
 /// The unique id of a node below this one, or at level 0.
 fn id_below(
@@ -69,9 +86,11 @@ fn id_below(
     name: &str,
 ) -> Result<UniqueId, UidFault>
     requires { IfSome parent (λ opened. (0 < opened.node) × (opened.node < size tree.now)) }
-    ensures ok { IfOk result (λ id. id ≡ id_at tree.now (node_of_opened parent) ++ record { kind = kind.now; value = name.now } ∷ []) }
+    ensures ok { IfOk result (λ id. id ≡ id_at tree.now (node_of_opened parent)
+        ++ record { kind = kind.now; value = name.now } ∷ []) }
     ensures accepted { IfOk result (λ _. refusal (id_at tree.now (node_of_opened parent)) kind.now name.now ≡ None) }
-    ensures refused { IfErr result (λ fault. fault ≢ UidFault.NoMemory → refusal (id_at tree.now (node_of_opened parent)) kind.now name.now ≡ Some fault) }
+    ensures refused { IfErr result (λ fault. fault ≢ UidFault.NoMemory →
+        refusal (id_at tree.now (node_of_opened parent)) kind.now name.now ≡ Some fault) }
 {
     match parent {
         None => UniqueId::of(alloc, kind, name),
@@ -117,9 +136,13 @@ fn id_declared(
     declared: &Declared<'_>,
 ) -> Result<UniqueId, UidFault>
     requires { IfSome parent (λ opened. (0 < opened.node) × (opened.node < size tree.now)) }
-    ensures ok { IfOk result (λ id. id ≡ id_at tree.now (node_of_opened parent) ++ record { kind = kind.now; value = value_declared (declaration_of declared.now) place } ∷ []) }
-    ensures accepted { IfOk result (λ _. refusal (id_at tree.now (node_of_opened parent)) kind.now (value_declared (declaration_of declared.now) place) ≡ None) }
-    ensures refused { IfErr result (λ fault. fault ≢ UidFault.NoMemory → refusal (id_at tree.now (node_of_opened parent)) kind.now (value_declared (declaration_of declared.now) place) ≡ Some fault) }
+    ensures ok { IfOk result (λ id. id ≡ id_at tree.now (node_of_opened parent)
+        ++ record { kind = kind.now; value = value_declared (declaration_of declared.now) place } ∷ []) }
+    ensures accepted { IfOk result (λ _. refusal (id_at tree.now (node_of_opened parent)) kind.now
+        (value_declared (declaration_of declared.now) place) ≡ None) }
+    ensures refused { IfErr result (λ fault. fault ≢ UidFault.NoMemory →
+        refusal (id_at tree.now (node_of_opened parent)) kind.now (value_declared (declaration_of declared.now) place)
+        ≡ Some fault) }
 {
     if declared.word.role().is_spare() {
         let value = format!(in alloc; "#{place}")?;
@@ -139,9 +162,14 @@ fn node_below(
     declared: Declared<'_>,
 ) -> Result<Node, TreeFault>
     requires { IfSome parent (λ opened. (0 < opened.node) × (opened.node < size tree.now)) }
-    ensures ok { IfOk result (λ node. DoesFor node (node_declared number (word_of_opened parent) (id_at tree.now (node_of_opened parent)) place (declaration_of declared.entry))) }
-    ensures accepted { IfOk result (λ _. is_over_limit (id_at tree.now (node_of_opened parent)) (word_of_opened parent) place (declaration_of declared.entry) ≡ false) }
-    ensures refused { IfErr result (λ fault. fault ≢ TreeFault.NoMemory → (fault ≡ TreeFault.OverLimit) × (is_over_limit (id_at tree.now (node_of_opened parent)) (word_of_opened parent) place (declaration_of declared.entry) ≡ true)) }
+    ensures ok { IfOk result (λ node. DoesFor node
+        (node_declared number (word_of_opened parent) (id_at tree.now (node_of_opened parent)) place
+        (declaration_of declared.entry))) }
+    ensures accepted { IfOk result (λ _. is_over_limit (id_at tree.now (node_of_opened parent))
+        (word_of_opened parent) place (declaration_of declared.entry) ≡ false) }
+    ensures refused { IfErr result (λ fault. fault ≢ TreeFault.NoMemory → (fault ≡ TreeFault.OverLimit)
+        × (is_over_limit (id_at tree.now (node_of_opened parent)) (word_of_opened parent) place
+        (declaration_of declared.entry) ≡ true)) }
 {
     let kind = declared.word.segment_type(parent.map(|opened| opened.word));
     let id = match id_declared(alloc, tree, parent, kind, place, &declared) {
@@ -178,7 +206,8 @@ impl SuiteBuilder {
     ghost use Rattle.suite_text.specs.Reading.Faults.{Fails, Gives};
     ghost use Rattle.suite_text.specs.Reading.After.{class_of, after_body, with_after_body, with_after_line};
     ghost use Rattle.descriptor.specs.Refusals.{after_refusal};
-    ghost use Rattle.suite_text.specs.Suites.{is_property_in, with_declared, with_node_words, with_declaration, with_words, with_line, suite_parts};
+    ghost use Rattle.suite_text.specs.Suites.{is_property_in, with_declared, with_node_words, with_declaration};
+    ghost use Rattle.suite_text.specs.Suites.{with_words, with_line, suite_parts};
     ghost use Rattle.suite_text.specs.Reading.Parts.{parts_of, AreBodiesOf, bodies_answered};
 
     /// Before the first line, with room for the nodes of so many lines.
@@ -235,7 +264,8 @@ impl SuiteBuilder {
         requires { level ≤ length self.now.path }
         ensures ok { IfOk result (λ node. DoesFor node (node_on self.now level (declaration_of declared.entry))) }
         ensures accepted { IfOk result (λ _. is_over_limit_on self.now level (declaration_of declared.entry) ≡ false) }
-        ensures refused { IfErr result (λ fault. fault ≢ TreeFault.NoMemory → (fault ≡ TreeFault.OverLimit) × (is_over_limit_on self.now level (declaration_of declared.entry) ≡ true)) }
+        ensures refused { IfErr result (λ fault. fault ≢ TreeFault.NoMemory → (fault ≡ TreeFault.OverLimit)
+            × (is_over_limit_on self.now level (declaration_of declared.entry) ≡ true)) }
     {
         let parent = self.above(level);
         let number = self.next_number();
@@ -248,7 +278,8 @@ impl SuiteBuilder {
         requires { level ≤ length self.old.path }
         ensures accepted { OnOk result (refusal_on self.old level (declaration_of declared.entry) ≡ None) }
         ensures added { OnOk result (self.new ≡ grown self.old level (declaration_of declared.entry)) }
-        ensures refused { IfErr result (λ fault. fault ≢ TreeFault.NoMemory → refusal_on self.old level (declaration_of declared.entry) ≡ Some fault) }
+        ensures refused { IfErr result (λ fault. fault ≢ TreeFault.NoMemory →
+            refusal_on self.old level (declaration_of declared.entry) ≡ Some fault) }
         ensures err { OnErr result (self.new ≡ self.old) }
     {
         let script = declared.script(alloc, self.next_number())?;
@@ -274,8 +305,10 @@ impl SuiteBuilder {
         declared: Declared<'_>,
     ) -> Result<(), SuiteFault>
         requires { level ≤ length self.old.path }
-        ensures added { OnOk result (with_declared number self.old level (declaration_of declared.entry) ≡ Ok self.new) }
-        ensures refused { IfErr result (λ fault. Fails fault (with_declared number self.old level (declaration_of declared.entry))) }
+        ensures added { OnOk result (with_declared number self.old level (declaration_of declared.entry) ≡ Ok
+            self.new) }
+        ensures refused { IfErr result (λ fault. Fails fault
+            (with_declared number self.old level (declaration_of declared.entry))) }
     {
         match self.add(alloc, level, declared) {
             Ok(()) => Ok(()),
@@ -319,7 +352,8 @@ impl SuiteBuilder {
         requires few { class < 4096 }
         ensures accepted { OnOk result (after_refusal self.old.tree class (after_body class) ≡ None) }
         ensures set { OnOk result (self.new ≡ with_after_body self.old class (status, text.now)) }
-        ensures refused { IfErr result (λ fault. fault ≢ TreeFault.NoMemory → after_refusal self.old.tree class (after_body class) ≡ Some fault) }
+        ensures refused { IfErr result (λ fault. fault ≢ TreeFault.NoMemory → after_refusal self.old.tree class
+            (after_body class) ≡ Some fault) }
     {
         let body = BodyId::new(FIRST_AFTER + class.number());
         let script = Script::ending(alloc, body, 0, 0, status, text)?;
@@ -368,7 +402,8 @@ impl SuiteBuilder {
     ) -> Result<(), SuiteFault>
         requires { level ≤ length self.old.path }
         ensures added { OnOk result (with_node_words number self.old level first.now rest.now ≡ Ok self.new) }
-        ensures refused { IfErr result (λ fault. Fails fault (with_node_words number self.old level first.now rest.now)) }
+        ensures refused { IfErr result (λ fault. Fails fault
+            (with_node_words number self.old level first.now rest.now)) }
     {
         let declared = declared_as(alloc, number, self.word_on(level), first, rest)?;
         self.declare(alloc, number, level, declared)

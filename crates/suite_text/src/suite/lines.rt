@@ -4,7 +4,8 @@ ghost use Rattle.std.specs.Prelude.{◌≡◌, ◌≢◌, ◌≤◌, IfOk, IfErr
 ghost use Rattle.std.specs.List.{before_first, after_first};
 ghost use Rattle.std.specs.Str.Lines.{lines};
 ghost use Rattle.suite_text.specs.Words.{is_space};
-ghost use Rattle.suite_text.specs.Reading.Lines.{without_front, without_end, first_word, after_word, text_after_word, indentation_of, level_of};
+ghost use Rattle.suite_text.specs.Reading.Lines.{without_front, without_end, first_word, after_word, text_after_word};
+ghost use Rattle.suite_text.specs.Reading.Lines.{indentation_of, level_of};
 ghost use Rattle.unique_id.specs.Answers.{texts};
 ghost use Rattle.suite_text.specs.Reading.Faults.{Gives};
 

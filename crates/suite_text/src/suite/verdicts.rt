@@ -1,7 +1,8 @@
 //! The verdict of a line, and what it has the node's body end with.
 
 ghost use Rattle.std.specs.Prelude.{◌≡◌, ◌≢◌, IfErr};
-ghost use Rattle.suite_text.specs.Reading.Verdicts.{verdict_spelled, no_verdict, verdict_with, verdict_of, status_declared};
+ghost use Rattle.suite_text.specs.Reading.Verdicts.{verdict_spelled, no_verdict, verdict_with, verdict_of};
+ghost use Rattle.suite_text.specs.Reading.Verdicts.{status_declared};
 ghost use Rattle.suite_text.specs.Reading.Faults.{Gives};
 
 use crate::suite::fault::SuiteFault;

@@ -1,7 +1,8 @@
 //! What the words of a line declare.
 
 ghost use Rattle.std.specs.Prelude.{◌≡◌, ◌≢◌, IfOk, IfErr};
-ghost use Rattle.suite_text.specs.Reading.Words.{word_of, may_stand, placed, with_verdict, with_attributes, with_name, declared_as, declaration_of};
+ghost use Rattle.suite_text.specs.Reading.Words.{word_of, may_stand, placed, with_verdict, with_attributes};
+ghost use Rattle.suite_text.specs.Reading.Words.{with_name, declared_as, declaration_of};
 ghost use Rattle.suite_text.specs.Reading.Faults.{Gives};
 
 use crate::script::Script;
