@@ -21,6 +21,8 @@ mod printing;
 #[cfg(test)]
 mod program;
 #[cfg(test)]
+mod progress_lines;
+#[cfg(test)]
 mod summaries;
 #[cfg(test)]
 mod texts;

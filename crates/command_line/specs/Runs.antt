@@ -82,3 +82,7 @@ module _ {R W E : Type 0} (remaining : R → Option (List ℕ)) (contents : W �
     pub between : W
     pub run : IsConsoleRun remaining contents words before after left old between answer
     pub closed : Closes contents said answer between new quiet told ending
+
+  -- the same on a terminal, on which more is said: how far the run has come, and behind it what failed
+  abbrev pub IsTerminalRun : (words : List Text) (before after : R) (old new : W) (ending : Ending) → Type 0
+  IsTerminalRun words before after old new ending = (quiet : E) × (told : E) × IsProgramRun words before after old new quiet told ending

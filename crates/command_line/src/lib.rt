@@ -8,10 +8,12 @@ mod option_names;
 mod program;
 mod said;
 mod system_words;
+mod terminal;
 mod words;
 
 pub use closing::Ending;
 pub use program::{run_console, run_program, run_words};
 pub use said::message_of;
 pub use system_words::given_words;
+pub use terminal::{run_on_terminal, run_words_on_terminal};
 pub use words::read_options;

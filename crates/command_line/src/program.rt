@@ -38,7 +38,7 @@ pub fn run_console<T: Threads + Wait + Sync, R: Read, W: Write>(
 }
 
 /// The message of an answer, if it is a refusal.
-fn message_after(
+pub(crate) fn message_after(
     alloc: Global,
     answer: Result<ExitStatus, LaunchFault>,
     words: &[String],
@@ -98,7 +98,7 @@ pub fn run_words<T: Threads + Wait + Sync, R: Read, W: Write, E: Write>(
 }
 
 /// Says what there is to say where the system gave no words for this reason.
-fn refuse<W: Write, E: Write>(
+pub(crate) fn refuse<W: Write, E: Write>(
     alloc: Global,
     fault: LaunchFault,
     writer: &mut W,

@@ -6,5 +6,6 @@ pub mod Replaying
 pub mod Requesting
 pub mod Reporting
 pub mod Scripting
+pub mod SeenBeside
 pub mod Selected
 pub mod Showing

@@ -1,5 +1,5 @@
 -- What a feed has printed of a run is a front of its output.
-use Rattle.std.proofs.Common.{◌≡◌, ◌∙◌, ℕ, zero, suc, ◌<◌, List, [], ◌++◌, length, take, Option, Some, None, Result, Ok, Err, IfOk, IfErr, refl, sym, ap, subst, inl, inr, arith}
+use Rattle.std.proofs.Common.{◌≡◌, ◌∙◌, ℕ, zero, suc, ◌<◌, List, [], ◌++◌, length, take, Option, Some, None, Result, Ok, Err, IfOk, IfErr, refl, sym, ap, subst, append-nil, inl, inr, arith}
 use Rattle.std.specs.Prelude.{◌⊎◌, string_bytes}
 use Rattle.std.specs.Io.KnownBytes.{Appends}
 use Rattle.std.proofs.KnownBytes.{Appends-nil}
@@ -20,6 +20,8 @@ use Rattle.launcher.specs.declared.exit_status.ExitStatus.{ExitStatus}
 use Rattle.launcher.specs.declared.fault.LaunchFault.{LaunchFault}
 use Rattle.launcher.specs.declared.report.Report.{Report}
 use Rattle.launcher.specs.Asked.{Asked}
+use Rattle.launcher.specs.Beside.{HasSeenRun, SeesBeside, SeesRun}
+use Rattle.launcher.specs.declared.watched_feed.WatchedFeed.{WatchedFeed}
 use Rattle.launcher.specs.Reports.{details_of, IsOutput, IsOutputWith, IsPlanOutput, IsRunOutput}
 use Rattle.launcher.specs.WarningTexts.{warning_lines}
 use Rattle.launcher.specs.Runs.{IsReady, IsSuiteRun, IsUnrun, IsWhole, TakesMemory}
@@ -72,8 +74,14 @@ at_first Open is sent none output = elim is [ inl q ↦ cc | inr q ↦ cc ]
 at_first Closed is sent none output = inl none
 at_first Failed is sent none output = elim is [ inl q ↦ cc | inr q ↦ cc ]
 
-module _ {W : Type 0} (contents : W → Option (List ℕ)) (asked : Asked) (settings : Settings) (p : PlanParts) (answers : List (ℕ × Reply)) (first now : LiveFeed W)
-    (head : first.head.now ≡ warning_lines settings.warnings) (outlet : first.outlet ≡ outlet_by asked.details asked.replay) (none : first.sent ≡ 0) where
+module _ {W V : Type 0} (contents : W → Option (List ℕ)) (saw : PlanParts → V → V → List Telling → Type 0) (asked : Asked) (settings : Settings) (p : PlanParts) (answers : List (ℕ × Reply)) (at_first_both both : WatchedFeed W V)
+    (head : at_first_both.feed.head.now ≡ warning_lines settings.warnings) (outlet : at_first_both.feed.outlet ≡ outlet_by asked.details asked.replay) (none : at_first_both.feed.sent ≡ 0) where
+  abbrev first : LiveFeed W
+  first = at_first_both.feed
+
+  abbrev now : LiveFeed W
+  now = both.feed
+
   abbrev was : Option (List ℕ)
   was = contents first.writer.now
 
@@ -95,6 +103,9 @@ module _ {W : Type 0} (contents : W → Option (List ℕ)) (asked : Asked) (sett
     printed = subst (λ (n : ℕ). Appends was was (take n (output_of first.head.now p []))) (sym none) (Appends-nil was);
   }
 
+  beside_nothing : SeesBeside contents saw p at_first_both at_first_both []
+  beside_nothing = record { printed = nothing_yet; same = refl; seen = λ who before seen. subst (saw p who at_first_both.watcher.now) (sym (append-nil before)) seen }
+
   shut_unsent : first.outlet ≡ Closed → (ts : List Telling) → IsPrinted contents p first now ts → IsUnsent contents first now
   shut_unsent shut ts is =
       let still = is.closed shut in
@@ -115,9 +126,15 @@ module _ {W : Type 0} (contents : W → Option (List ℕ)) (asked : Asked) (sett
   unsent_broken : IsUnsent contents first now → IsBrokenOff (IsOutput asked settings p answers) was is_now now.sent
   unsent_broken un = inl (un.sent, un.kept)
 
-  module _ (text : List ℕ) (watched : HasWatched (IsPrinted contents) asked settings p first now text) where
+  module _ (text : List ℕ) (watched : HasWatched (SeesBeside contents saw) asked settings p at_first_both both text) where
+    seen_both : SeesBeside contents saw p at_first_both both (tellings_of watched.texts watched.history)
+    seen_both = watched.seen at_first_both [] beside_nothing
+
     seen : IsPrinted contents p first now (tellings_of watched.texts watched.history)
-    seen = watched.seen first [] nothing_yet
+    seen = seen_both.printed
+
+    seen_run : HasSeenRun saw at_first_both.watcher.now both.watcher.now
+    seen_run = record { plan = p; texts = watched.texts; history = watched.history; ends = watched.ends; seen = seen_both.seen }
 
     whole_text : asked.details ≡ details.Testfeed → text ≡ first.head.now ++ (feed_of p watched.texts watched.history ++ watched.behind)
     whole_text kind =
@@ -151,17 +168,26 @@ module _ {W : Type 0} (contents : W → Option (List ℕ)) (asked : Asked) (sett
       | inr shut ↦ unsent_broken (shut_unsent (outlet ∙ shut) _ seen)
     ]
 
-  pub still_same : (result : Result Report LaunchFault) → Watches (IsPrinted contents) asked settings p answers first now result → now.writer.ghost_name ≡ first.writer.ghost_name
-  still_same (Ok report) is = elim is [ inl same ↦ (untouched same).same | inr watched ↦ (seen (string_bytes report.text) watched).same ]
-  still_same (Err fault) is = elim is [ inl same ↦ (untouched same).same | inr vain ↦ (seen vain.text vain.watched).same ]
+  pub still_same : (result : Result Report LaunchFault) → Watches (SeesBeside contents saw) asked settings p answers at_first_both both result → now.writer.ghost_name ≡ first.writer.ghost_name
+  still_same (Ok report) is = elim is [ inl same ↦ (untouched (ap (λ (w : WatchedFeed W V). w.feed) same)).same | inr watched ↦ (seen (string_bytes report.text) watched).same ]
+  still_same (Err fault) is = elim is [ inl same ↦ (untouched (ap (λ (w : WatchedFeed W V). w.feed) same)).same | inr vain ↦ (seen vain.text vain.watched).same ]
 
-  pub shown_front : (result : Result Report LaunchFault) → Watches (IsPrinted contents) asked settings p answers first now result → IfOk result (λ report. IsFront was is_now now.outlet now.sent (string_bytes report.text))
-  shown_front (Ok report) is = elim is [ inl same ↦ unsent_front (string_bytes report.text) (untouched same) | inr watched ↦ watched_front (string_bytes report.text) watched ]
+  pub same_watcher : (result : Result Report LaunchFault) → Watches (SeesBeside contents saw) asked settings p answers at_first_both both result → both.watcher.ghost_name ≡ at_first_both.watcher.ghost_name
+  same_watcher (Ok report) is = elim is [ inl same ↦ ap (λ (w : WatchedFeed W V). w.watcher.ghost_name) same | inr watched ↦ (seen_both (string_bytes report.text) watched).same ]
+  same_watcher (Err fault) is = elim is [ inl same ↦ ap (λ (w : WatchedFeed W V). w.watcher.ghost_name) same | inr vain ↦ (seen_both vain.text vain.watched).same ]
+
+  -- who watches has seen the run, or nothing
+  pub sees_run : (result : Result Report LaunchFault) → Watches (SeesBeside contents saw) asked settings p answers at_first_both both result → SeesRun saw at_first_both.watcher.now both.watcher.now
+  sees_run (Ok report) is = elim is [ inl same ↦ inl (ap (λ (w : WatchedFeed W V). w.watcher.now) same) | inr watched ↦ inr (seen_run (string_bytes report.text) watched) ]
+  sees_run (Err fault) is = elim is [ inl same ↦ inl (ap (λ (w : WatchedFeed W V). w.watcher.now) same) | inr vain ↦ inr (seen_run vain.text vain.watched) ]
+
+  pub shown_front : (result : Result Report LaunchFault) → Watches (SeesBeside contents saw) asked settings p answers at_first_both both result → IfOk result (λ report. IsFront was is_now now.outlet now.sent (string_bytes report.text))
+  shown_front (Ok report) is = elim is [ inl same ↦ unsent_front (string_bytes report.text) (untouched (ap (λ (w : WatchedFeed W V). w.feed) same)) | inr watched ↦ watched_front (string_bytes report.text) watched ]
   shown_front (Err fault) is = tt
 
-  pub shown_broken : (result : Result Report LaunchFault) → Watches (IsPrinted contents) asked settings p answers first now result → IfErr result (λ fault. IsBrokenOff (IsOutput asked settings p answers) was is_now now.sent)
+  pub shown_broken : (result : Result Report LaunchFault) → Watches (SeesBeside contents saw) asked settings p answers at_first_both both result → IfErr result (λ fault. IsBrokenOff (IsOutput asked settings p answers) was is_now now.sent)
   shown_broken (Ok report) is = tt
-  shown_broken (Err fault) is = elim is [ inl same ↦ unsent_broken (untouched same) | inr vain ↦ watched_broken vain.text vain.watched vain.status vain.output ]
+  shown_broken (Err fault) is = elim is [ inl same ↦ unsent_broken (untouched (ap (λ (w : WatchedFeed W V). w.feed) same)) | inr vain ↦ watched_broken vain.text vain.watched vain.status vain.output ]
 
 pub carried : {A : Type 0} {a b : A} → b ≡ a → (P : A → Type 0) → P a → P b
 carried same P p = subst P (sym same) p

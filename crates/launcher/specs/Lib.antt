@@ -1,4 +1,5 @@
 pub mod Asked
+pub mod Beside
 pub mod Bytes
 pub mod Closings
 pub mod ExitStatuses

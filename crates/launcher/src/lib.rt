@@ -17,6 +17,7 @@ mod run;
 mod schedule_line;
 mod scripted;
 mod warning_lines;
+mod watched_feed;
 
 pub use asked::Options;
 pub use bytes::{ReadFault, read_front};
@@ -26,4 +27,4 @@ pub use exit_status::ExitStatus;
 pub use fault::LaunchFault;
 pub use given::Given;
 pub use parameters::{processors_named, ring_named};
-pub use run::{read_suite, run_options, run_suite};
+pub use run::{read_suite, run_options, run_options_watched, run_suite, run_suite_watched};

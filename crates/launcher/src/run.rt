@@ -13,6 +13,7 @@ ghost use Rattle.resource_locks.specs.Declarations.{declared_of};
 ghost use Rattle.resource_locks.specs.Hoisted.{IsGuarded};
 ghost use Rattle.selectors.specs.Selections.{answer};
 ghost use Rattle.launcher.specs.Asked.{asked_by};
+ghost use Rattle.launcher.specs.Beside.{SeesRun};
 ghost use Rattle.launcher.specs.Reports.{IsOutput};
 ghost use Rattle.launcher.specs.Watched.{IsBrokenOff, outlet_by};
 ghost use Rattle.launcher.specs.WarningTexts.{warning_lines};
@@ -26,6 +27,7 @@ use crate::fault::LaunchFault;
 use crate::report::{Report, report_of};
 use crate::scripted::spins_of;
 use crate::warning_lines::push_warnings;
+use crate::watched_feed::WatchedFeed;
 use config_params::Settings;
 use descriptor::Tree;
 use exec_mode::modes;
@@ -39,6 +41,7 @@ use std::io::{Read, Write};
 use std::sync::Wait;
 use std::thread::Threads;
 use suite_text::{Script, Suite};
+use worker_pool::{Nobody, Watcher};
 
 /// How many bytes are read at most: one more than a suite may have tells that there are too many.
 const MOST_READ: usize = 1_048_577;
@@ -154,28 +157,30 @@ fn outlet_for(options: &Options) -> Outlet
 }
 
 /// What the options print of a suite, and the program's status, of which a feed may have printed a part.
-fn shown_report<T: Threads + Wait + Sync, W: Write>(
+fn shown_report<T: Threads + Wait + Sync, W: Write, V: Watcher>(
     rt: &T,
     alloc: Global,
     options: &Options,
     ready: ReadyRun,
-    live: &mut LiveFeed<'_, W>,
+    live: &mut WatchedFeed<'_, '_, W, V>,
 ) -> Result<Report, LaunchFault>
     requires some { 1 ≤ ready.settings.workers }
     requires few { ready.settings.workers ≤ 64 }
     requires guarded { IsGuarded (declared_of ready.plan.tree) ready.plan }
-    requires head { live.old.head.now ≡ warning_lines ready.settings.warnings }
-    requires outlet { live.old.outlet ≡ outlet_by options.now.details (asked_by options.now).replay }
-    requires none { live.old.sent ≡ 0 }
-    ensures same { live.new.writer.ghost_name ≡ live.old.writer.ghost_name }
+    requires head { live.old.feed.head.now ≡ warning_lines ready.settings.warnings }
+    requires outlet { live.old.feed.outlet ≡ outlet_by options.now.details (asked_by options.now).replay }
+    requires none { live.old.feed.sent ≡ 0 }
+    ensures same { live.new.feed.writer.ghost_name ≡ live.old.feed.writer.ghost_name }
+    ensures same_watcher { live.new.watcher.ghost_name ≡ live.old.watcher.ghost_name }
     ensures output { IfOk result (λ report. IsOutput (asked_by options.now) ready.settings ready.plan ready.answers
         (string_bytes report.text) report.status) }
-    ensures front { IfOk result (λ report. IsFront (W.contents live.old.writer.now) (W.contents live.new.writer.now)
-        live.new.outlet live.new.sent (string_bytes report.text)) }
+    ensures front { IfOk result (λ report. IsFront (W.contents live.old.feed.writer.now) (W.contents live.new.feed.writer.now)
+        live.new.feed.outlet live.new.feed.sent (string_bytes report.text)) }
+    ensures watched { SeesRun V.saw live.old.watcher.now live.new.watcher.now }
     ensures refused { IfErr result (IsUnrun (asked_by options.now)) }
     ensures broken_off { IfErr result
         (λ _. IsBrokenOff (IsOutput (asked_by options.now) ready.settings ready.plan ready.answers)
-        (W.contents live.old.writer.now) (W.contents live.new.writer.now) live.new.sent) }
+        (W.contents live.old.feed.writer.now) (W.contents live.new.feed.writer.now) live.new.feed.sent) }
 {
     let ReadyRun {
         settings,
@@ -213,7 +218,40 @@ fn broken_off(fault: LaunchFault, sent: usize) -> LaunchFault
 /// settings (34, 32, 33) and a selector that covers nothing (41), which are judged before any
 /// memory is taken; more than 256 keys (50), more than 64 workers (61), that no thread could be
 /// started (90), and an output of which the writer has only the first bytes (81), since it failed or
-/// since there was no memory for the rest. On any refusal but 81 nothing is written.
+/// since there was no memory for the rest. On any refusal but 81 nothing is written. Each event of a
+/// run is shown to the watcher, before its line is written if it has one; what is written when the
+/// run is over is written when the watcher has seen all.
+pub fn run_suite_watched<T: Threads + Wait + Sync, W: Write, V: Watcher>(
+    rt: &T,
+    alloc: Global,
+    options: &Options,
+    suite: Suite,
+    writer: &mut W,
+    watcher: &mut V,
+) -> Result<ExitStatus, LaunchFault>
+    ensures exact { IsSuiteRun (asked_by options.now) (suite_parts suite) (W.contents writer.old)
+        (W.contents writer.new) result }
+    ensures no_memory { IfErr result
+        (λ fault. fault ≡ LaunchFault.NoMemory → TakesMemory (asked_by options.now) (suite_parts suite)) }
+    ensures quiet { IfErr result (λ fault. is_writing fault ≡ false →
+        Keeps (W.contents writer.old) (W.contents writer.new)) }
+    ensures watched { SeesRun V.saw watcher.old watcher.new }
+{
+    let ready = ready_run(alloc, options, suite)?;
+    let mut head = String::new(alloc);
+    push_warnings(&mut head, ready.settings.warnings)?;
+    let feed = LiveFeed::new(alloc, writer, head.as_str(), outlet_for(options));
+    let mut live = WatchedFeed { feed, watcher };
+    match shown_report(rt, alloc, options, ready, &mut live) {
+        Ok(report) => {
+            live.finish(report.text.as_bytes())?;
+            Ok(report.status)
+        }
+        Err(fault) => Err(broken_off(fault, live.sent())),
+    }
+}
+
+/// Runs a suite as `run_suite_watched` does, where nobody watches.
 pub fn run_suite<T: Threads + Wait + Sync, W: Write>(
     rt: &T,
     alloc: Global,
@@ -228,23 +266,38 @@ pub fn run_suite<T: Threads + Wait + Sync, W: Write>(
     ensures quiet { IfErr result (λ fault. is_writing fault ≡ false →
         Keeps (W.contents writer.old) (W.contents writer.new)) }
 {
-    let ready = ready_run(alloc, options, suite)?;
-    let mut head = String::new(alloc);
-    push_warnings(&mut head, ready.settings.warnings)?;
-    let mut live = LiveFeed::new(alloc, writer, head.as_str(), outlet_for(options));
-    match shown_report(rt, alloc, options, ready, &mut live) {
-        Ok(report) => {
-            live.finish(report.text.as_bytes())?;
-            Ok(report.status)
-        }
-        Err(fault) => Err(broken_off(fault, live.sent())),
-    }
+    let mut nobody = Nobody;
+    run_suite_watched(rt, alloc, options, suite, writer, &mut nobody)
 }
 
-/// Reads a suite and runs it, as `read_suite` and `run_suite` say. The reading takes memory before
+/// Reads a suite and runs it, as `read_suite` and `run_suite_watched` say. The reading takes memory before
 /// anything is judged, but want of memory never stands in place of a suite that is too large, nor,
 /// once the suite was read, of settings that are none or of a selector that covers nothing. On any
 /// refusal but 81 nothing is written.
+pub fn run_options_watched<T: Threads + Wait + Sync, R: Read, W: Write, V: Watcher>(
+    rt: &T,
+    alloc: Global,
+    options: &Options,
+    reader: &mut R,
+    writer: &mut W,
+    watcher: &mut V,
+) -> Result<ExitStatus, LaunchFault>
+    ensures exact { IfSome (R.remaining reader.old)
+        (λ bytes. IsRun (asked_by options.now) (suite_read (take 1048577 bytes)) (W.contents writer.old)
+        (W.contents writer.new) result) }
+    // Also of a reader that tells nothing of its bytes: what is judged is what it gave, at most so many bytes.
+    ensures reads { TakesFrom (R.remaining reader.old) (R.remaining reader.new) (fault_in result)
+        (λ bytes. IsRun (asked_by options.now) (suite_read bytes) (W.contents writer.old) (W.contents writer.new)
+        result) }
+    ensures quiet { IfErr result (λ fault. is_writing fault ≡ false →
+        Keeps (W.contents writer.old) (W.contents writer.new)) }
+    ensures watched { SeesRun V.saw watcher.old watcher.new }
+{
+    let suite = read_suite(alloc, reader)?;
+    run_suite_watched(rt, alloc, options, suite, writer, watcher)
+}
+
+/// Reads a suite and runs it as `run_options_watched` does, where nobody watches.
 pub fn run_options<T: Threads + Wait + Sync, R: Read, W: Write>(
     rt: &T,
     alloc: Global,
@@ -262,6 +315,6 @@ pub fn run_options<T: Threads + Wait + Sync, R: Read, W: Write>(
     ensures quiet { IfErr result (λ fault. is_writing fault ≡ false →
         Keeps (W.contents writer.old) (W.contents writer.new)) }
 {
-    let suite = read_suite(alloc, reader)?;
-    run_suite(rt, alloc, options, suite, writer)
+    let mut nobody = Nobody;
+    run_options_watched(rt, alloc, options, reader, writer, &mut nobody)
 }

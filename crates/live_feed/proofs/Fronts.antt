@@ -12,7 +12,8 @@ use Rattle.resource_locks.specs.Plans.{PlanParts}
 use Rattle.event_history.specs.Parts.{EndsInPlan}
 use Rattle.listeners.specs.Feed.{feed_of}
 use Rattle.listeners.specs.Listeners.{tellings_of}
-use Rattle.live_feed.specs.LiveFeeds.{telling_line, output_of, has_end, ends_plan, is_finish, IsSoFar, IsPrinted, IsFront}
+use Rattle.worker_pool.specs.Endings.{ends_plan, is_finish}
+use Rattle.live_feed.specs.LiveFeeds.{telling_line, output_of, has_end, IsSoFar, IsPrinted, IsFront}
 use Rattle.live_feed.specs.declared.live_feed.LiveFeed.{LiveFeed}
 use Rattle.live_feed.specs.declared.live_feed.Outlet.{Outlet}
 use Rattle.live_feed.specs.declared.live_feed.Outlet.TheVariants.{Waiting, Open, Closed, Failed}

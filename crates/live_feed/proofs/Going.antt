@@ -8,7 +8,8 @@ use Rattle.std.proofs.lemmas.List.{take-append-le}
 use Rattle.std.proofs.lemmas.List.Concat.{flat_map-append}
 use Rattle.resource_locks.specs.Plans.{PlanParts}
 use Rattle.listeners.specs.Listeners.{Telling}
-use Rattle.live_feed.specs.LiveFeeds.{telling_line, output_of, has_end, ends_plan, front_of, IsSoFar, IsPrinted, IsHandedOn}
+use Rattle.worker_pool.specs.Endings.{ends_plan}
+use Rattle.live_feed.specs.LiveFeeds.{telling_line, output_of, has_end, front_of, IsSoFar, IsPrinted, IsHandedOn}
 use Rattle.live_feed.specs.declared.live_feed.LiveFeed.{LiveFeed}
 use Rattle.live_feed.specs.declared.live_feed.Outlet.{Outlet}
 use Rattle.live_feed.specs.declared.live_feed.Outlet.TheVariants.{Waiting, Open, Closed, Failed}

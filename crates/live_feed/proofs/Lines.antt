@@ -10,7 +10,8 @@ use Rattle.plan_events.specs.Texts.{TextParts, text_at}
 use Rattle.resource_locks.specs.Plans.{PlanParts}
 use Rattle.listeners.specs.Feed.{kind_word, ending, event_line, id_at, text_or, feed_of}
 use Rattle.listeners.specs.Listeners.{Telling, text_by, telling, tellings_of}
-use Rattle.live_feed.specs.LiveFeeds.{telling_line, has_end, ends_plan}
+use Rattle.worker_pool.specs.Endings.{ends_plan}
+use Rattle.live_feed.specs.LiveFeeds.{telling_line, has_end}
 
 -- an event that shows a text is told with it
 text_shown : (k : EventKind) (s : Option Status) (t : Option (List ℕ)) → ending k s (text_or (text_by k t)) ≡ ending k s (text_or t)

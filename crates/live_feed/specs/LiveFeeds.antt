@@ -3,11 +3,10 @@ use Rattle.std.specs.Prelude.{◌≡◌, ℕ, ◌+◌, ◌<◌, ◌≤◌, ◌�
 use Rattle.std.specs.List.{flat_map}
 use Rattle.std.specs.Io.KnownBytes.{Appends}
 use Rattle.plan_events.specs.declared.event.Event.{Event}
-use Rattle.plan_events.specs.declared.event.EventKind.{EventKind}
-use Rattle.plan_events.specs.declared.event.EventKind.TheVariants.{Started, Finished, Skipped, Registered}
 use Rattle.resource_locks.specs.Plans.{PlanParts}
 use Rattle.listeners.specs.Feed.{event_line, id_at, text_or}
 use Rattle.listeners.specs.Listeners.{Telling}
+use Rattle.worker_pool.specs.Endings.{ends_plan}
 use Rattle.live_feed.specs.declared.live_feed.LiveFeed.{LiveFeed}
 use Rattle.live_feed.specs.declared.live_feed.Outlet.{Outlet}
 use Rattle.live_feed.specs.declared.live_feed.Outlet.TheVariants.{Waiting, Open, Closed, Failed}
@@ -20,17 +19,7 @@ telling_line p t = event_line t.event (id_at p t.event.node) (text_or t.text)
 abbrev pub output_of : List ℕ → PlanParts → List Telling → List ℕ
 output_of head p ts = head ++ flat_map (telling_line p) ts
 
-abbrev pub is_finish : EventKind → Bool
-is_finish Started = false
-is_finish Finished = true
-is_finish Skipped = false
-is_finish Registered = false
-
--- the event is the plan's finish
-abbrev pub ends_plan : Event → Bool
-ends_plan e = is_finish e.kind && (e.node == 0)
-
--- one of them is
+-- one of them is the plan's finish
 abbrev pub has_end : List Telling → Bool
 has_end [] = false
 has_end (t ∷ ts) = ends_plan t.event || has_end ts

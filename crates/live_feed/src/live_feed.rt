@@ -4,15 +4,14 @@ ghost use Rattle.std.specs.Prelude.{◌≡◌, ◌≤◌, ◌<◌, ◌++◌, ℕ
 ghost use Rattle.std.specs.Io.KnownBytes.{Appends};
 ghost use Rattle.listeners.specs.Listeners.{telling};
 ghost use Rattle.listeners.specs.Sending.{SendsExactly};
-ghost use Rattle.live_feed.specs.LiveFeeds.{ends_plan as is_end, front_of, telling_line};
+ghost use Rattle.live_feed.specs.LiveFeeds.{front_of, telling_line};
 
-use descriptor::NodeId;
 use listeners::{WriteFault, feed_text, print_to};
-use plan_events::{Event, EventKind, Texts};
+use plan_events::{Event, Texts};
 use resource_locks::Plan;
 use std::alloc::{AllocError, Global};
 use std::io::Write;
-use worker_pool::Watcher;
+use worker_pool::{Watcher, ends_plan};
 
 /// How the printing goes.
 #[derive(Clone, Copy, PartialEq, Eq, Debug)]
@@ -37,13 +36,6 @@ pub struct LiveFeed<'w, W: Write> {
     head: &'w str,
     outlet: Outlet,
     sent: usize,
-}
-
-/// Whether it is the plan's finish.
-fn ends_plan(event: Event) -> bool
-    ensures { result ≡ is_end event }
-{
-    matches!(event.kind, EventKind::Finished) && event.node == NodeId::ROOT
 }
 
 impl<'w, W: Write> LiveFeed<'w, W> {
@@ -153,4 +145,6 @@ impl<'w, W: Write> Watcher for LiveFeed<'w, W> {
             Err(AllocError) => self.outlet = Outlet::Closed,
         }
     }
+
+    fn idle(&mut self) {}
 }

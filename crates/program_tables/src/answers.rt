@@ -2,7 +2,8 @@
 
 use crate::cutting::Cutting;
 use crate::rows::push_line;
-use command_line::{Ending, run_words};
+use crate::still_clock::StillClock;
+use command_line::{Ending, run_words, run_words_on_terminal};
 use std::alloc::{AllocError, Global};
 use std::sync::Wait;
 use std::thread::Threads;
@@ -13,7 +14,9 @@ enum Asks {
     Nothing,
     /// What stands on standard error.
     Errors,
-    /// The same, where the output takes so many bytes, and then fails.
+    /// The same, where that is a terminal.
+    Terminal,
+    /// The same as for errors, where the output takes so many bytes, and then fails.
     Cut(usize),
     /// Whether a second worker does something, in one of a hundred runs.
     SecondWorker,
@@ -26,6 +29,9 @@ fn row_of(line: &str) -> Option<(&str, Asks)> {
     }
     if let Some(words) = line.strip_prefix("=? ") {
         return Some((words, Asks::Errors));
+    }
+    if let Some(words) = line.strip_prefix("=! ") {
+        return Some((words, Asks::Terminal));
     }
     if let Some(words) = line.strip_prefix("=2 ") {
         return Some((words, Asks::SecondWorker));
@@ -52,8 +58,15 @@ fn end_line(alloc: Global, ending: Ending) -> Result<String, AllocError> {
     format!(in alloc; "status {status}\n")
 }
 
-/// Runs the program with these words on a suite, and appends what it writes, and how it ends where
-/// no line of a refusal says so.
+/// Appends how a run ended, where no line of a refusal says so.
+fn push_end(alloc: Global, answers: &mut Vec<u8>, ending: Ending) -> Result<(), AllocError> {
+    if ending.status == 255 && ending.is_printed && ending.is_told {
+        return Ok(());
+    }
+    answers.extend_from_slice(end_line(alloc, ending)?.as_bytes())
+}
+
+/// Runs the program with these words on a suite, and appends what it writes, and how it ends.
 fn push_run<T: Threads + Wait + Sync>(
     rt: &T,
     alloc: Global,
@@ -63,13 +76,24 @@ fn push_run<T: Threads + Wait + Sync>(
     mut suite: &[u8],
 ) -> Result<(), AllocError> {
     let ending = run_words(rt, alloc, words, &mut suite, answers, errors);
-    if ending.status == 255 && ending.is_printed && ending.is_told {
-        return Ok(());
-    }
-    answers.extend_from_slice(end_line(alloc, ending)?.as_bytes())
+    push_end(alloc, answers, ending)
 }
 
-/// The same, with an output that takes so many bytes, and then fails.
+/// The same, where the errors go to a terminal, on which nothing is drawn by the time.
+fn push_terminal<T: Threads + Wait + Sync>(
+    rt: &T,
+    alloc: Global,
+    answers: &mut Vec<u8>,
+    errors: &mut Vec<u8>,
+    words: &[String],
+    mut suite: &[u8],
+) -> Result<(), AllocError> {
+    let clock = StillClock;
+    let ending = run_words_on_terminal(rt, clock, alloc, words, &mut suite, answers, errors);
+    push_end(alloc, answers, ending)
+}
+
+/// What `push_run` does, with an output that takes so many bytes, and then fails.
 fn push_cut<T: Threads + Wait + Sync>(
     rt: &T,
     alloc: Global,
@@ -129,6 +153,10 @@ fn push_asked<T: Threads + Wait + Sync>(
         Asks::Nothing => push_run(rt, alloc, answers, &mut errors, words, suite),
         Asks::Errors => {
             push_run(rt, alloc, answers, &mut errors, words, suite)?;
+            answers.extend_from_slice(errors.as_slice())
+        }
+        Asks::Terminal => {
+            push_terminal(rt, alloc, answers, &mut errors, words, suite)?;
             answers.extend_from_slice(errors.as_slice())
         }
         Asks::Cut(room) => {

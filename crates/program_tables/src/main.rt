@@ -1,13 +1,14 @@
 //! Runs the program over memory, by rows from standard input: a line `== ` with the words of a
 //! command line, and below it the lines of a suite. Each line of words is printed again, with what
 //! the program writes and how it ends below it; where it begins with `=? `, what stands on standard
-//! error follows; below `=< N ` too, with an output that takes N bytes and then fails. Below `=2 `
-//! stands instead whether a second worker does something.
+//! error follows; below `=! ` too, where that is a terminal; below `=< N ` too, with an output that
+//! takes N bytes and then fails. Below `=2 ` stands instead whether a second worker does something.
 #![tactic(auto)]
 
 mod answers;
 mod cutting;
 mod rows;
+mod still_clock;
 mod table;
 
 use crate::table::Table;

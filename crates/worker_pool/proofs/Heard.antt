@@ -16,7 +16,7 @@ use Rattle.event_history.specs.History.{IsLegal}
 use Rattle.event_history.proofs.Places.{stands_later}
 use Rattle.listeners.specs.Listeners.{Telling, text_by, text_told, telling, tellings_of, HasHeardMore, EachPlace}
 use Rattle.worker_pool.specs.Hearings.{HaveHeard, HaveHeardNothing, HaveHeardSince}
-use Rattle.worker_pool.specs.Watching.{HasSeenMore, HasSeenSince}
+use Rattle.worker_pool.specs.Watching.{HasSeenMore, HasSeenSince, KeepsSight}
 use Rattle.worker_pool.proofs.Reported.{last_stands}
 
 -- where each of these events has one text in both, the tellings are the same
@@ -161,6 +161,14 @@ module _ {L : Type 0} (saw : PlanParts → L → L → List Telling → Type 0) 
         is = since_is was read so.more so.is now e is;
         seen = λ first. more_one (saw p first) old new so.more e a b c front (one first) (so.seen first);
       }
+
+  -- a moment later, in which there was nothing to see
+  pub seen_kept : (texts : TextParts) (was read : List Event) (a b c : L) → KeepsSight saw b c → HasSeenSince saw p texts was read a b → HasSeenSince saw p texts was read a c
+  seen_kept texts was read a b c keeps so = record {
+    more = so.more;
+    is = so.is;
+    seen = λ first before seen. keeps p first (before ++ tellings_of texts so.more) (so.seen first before seen);
+  }
 
   -- of a run from its start
   pub seen_whole : (texts : TextParts) (was read events : List Event) (a b : L) → was ≡ [] → events ≡ read → HasSeenSince saw p texts was read a b → HasSeenMore saw p (tellings_of texts events) a b

@@ -10,6 +10,10 @@ module _ {L : Type 0} (saw : PlanParts → L → L → List Telling → Type 0) 
   abbrev pub HasSeenMore : PlanParts → List Telling → (a b : L) → Type 0
   HasSeenMore p more a b = (first : L) → HasHeardMore (saw p first) more a b
 
+  -- whatever a has seen of any plan, whoever it was at first, b has seen
+  abbrev pub KeepsSight : (a b : L) → Type 0
+  KeepsSight a b = (p : PlanParts) (first : L) (seen : List Telling) → saw p first a seen → saw p first b seen
+
   -- it has seen of this plan what was read since, each event with its text
   pub record HasSeenSince (p : PlanParts) (texts : TextParts) (was read : List Event) (a b : L) : Type 0 where
     pub more : List Event

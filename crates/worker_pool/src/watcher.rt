@@ -10,7 +10,7 @@ use resource_locks::Plan;
 pub trait Watcher: Drop {
     ghost use Rattle.resource_locks.specs.Plans.{PlanParts};
     ghost use Rattle.listeners.specs.Listeners.{Telling, telling};
-    ghost use Rattle.worker_pool.specs.Watching.{HasSeenMore};
+    ghost use Rattle.worker_pool.specs.Watching.{HasSeenMore, KeepsSight};
 
     /// That one which was as the first is as the second, once it has seen these events of this plan
     /// with these texts, in order.
@@ -19,6 +19,10 @@ pub trait Watcher: Drop {
     /// Is shown the next event of the plan, and the texts as they are behind it.
     fn watch(&mut self, plan: &Plan, texts: &Texts, event: Event)
         ensures { HasSeenMore saw plan.now (telling texts.now event ∷ []) self.old self.new };
+
+    /// Has a moment while there is nothing to see: so it can draw anew what changes with the time.
+    fn idle(&mut self)
+        ensures { KeepsSight saw self.old self.new };
 }
 
 /// Nobody watches.
@@ -29,4 +33,6 @@ impl Watcher for Nobody {
     ghost saw = { λ _ _ _ _. Unit {0} };
 
     fn watch(&mut self, _plan: &Plan, _texts: &Texts, _event: Event) {}
+
+    fn idle(&mut self) {}
 }

@@ -2,7 +2,7 @@
 use Rattle.launcher.specs.Asked.{asked_by}
 use Rattle.launcher.proofs.Launching.{run_read, run_unread, takes_run, takes_unread}
 use Rattle.launcher.proofs.Reading.{if_known}
-use Rattle.launcher.proofs.run.run_options.Goals as goal
+use Rattle.launcher.proofs.run.run_options_watched.Goals as goal
 
 pub returns-in_err-suite-clause-exact : goal.returns-in_err-suite-clause-exact
 returns-in_err-suite-clause-exact g c =
@@ -13,7 +13,7 @@ returns-in_err-suite-clause-reads g c = takes_unread _ _ _ _ _ c.in_err-suite.fi
 
 pub returns-clause-exact : goal.returns-clause-exact
 returns-clause-exact g c =
-    if_known (g.R.Read.remaining c.args.reader.now) (λ bytes read. run_read _ _ _ c.in_ok-suite.suite _ c.run_suite.result read c.in_ok-suite.ensures.bare c.run_suite.ensures.exact) c.in_ok-suite.ensures.exact
+    if_known (g.R.Read.remaining c.args.reader.now) (λ bytes read. run_read _ _ _ c.in_ok-suite.suite _ c.run_suite_watched.result read c.in_ok-suite.ensures.bare c.run_suite_watched.ensures.exact) c.in_ok-suite.ensures.exact
 
 pub returns-clause-reads : goal.returns-clause-reads
-returns-clause-reads g c = takes_run _ _ (asked_by c.args.options.now) c.in_ok-suite.suite _ _ c.run_suite.result c.in_ok-suite.ensures.bare c.run_suite.ensures.exact c.in_ok-suite.ensures.reads
+returns-clause-reads g c = takes_run _ _ (asked_by c.args.options.now) c.in_ok-suite.suite _ _ c.run_suite_watched.result c.in_ok-suite.ensures.bare c.run_suite_watched.ensures.exact c.in_ok-suite.ensures.reads

@@ -1,0 +1,237 @@
+#!/usr/bin/env python3
+"""Looks at standard error as a user would: on a terminal stands how far a run has come, and what failed.
+
+checks/progress.py [SUITES] [SEED]   20 suites and the seed 1 where they are not given
+  --program PATH                     another program than crates/console/out/console
+A pseudo-terminal is used. The line is drawn at most ten times a second, its numbers grow, and it is gone
+at the end, also where the output goes to the same terminal. A file, a terminal that is dumb and one of an
+unknown kind get nothing of it. What failed is said once more, and the words that are said select just that.
+Suites made at random print the same with a terminal and without one.
+The last line is 'N passed, M failed': the runs.
+"""
+
+import argparse
+import os
+import pty
+import re
+import shlex
+import subprocess
+import sys
+import tempfile
+import threading
+import time
+from random import Random
+
+sys.dont_write_bytecode = True
+
+from programs import built_console
+from suites import Maker, text_of
+
+TESTS = 1_200
+# So far each of the slow suite's tests counts, which takes about a millisecond.
+SPIN = 1_000_000
+SECONDS_A_RUN = 120
+MOST_SHOWN = 10
+DRAWN = re.compile(rb"\r\x1b\[K(\d+) found, (\d+) running, (\d+) done, (\d+) failed, (\d+) s")
+ERASED = b"\r\x1b[K"
+BELOW = "[engine:e]/[class:a.B]"
+FAILING = ("t3()", "t'4()")
+
+
+class Wrong(Exception):
+    """What is wrong with a run."""
+
+
+def slow_suite():
+    lines = ["engine e", "  class a.B"]
+    lines += [f"    test t{number}() spin={SPIN} pass" for number in range(TESTS)]
+    return ("\n".join(lines) + "\n").encode()
+
+
+def failing_suite():
+    lines = ["engine e", "  class a.B"]
+    lines += [f"    test {name} pass" for name in ("t1()", "t2()")]
+    lines += [f"    test {name} fail wrong" for name in FAILING]
+    return ("\n".join(lines) + "\n").encode()
+
+
+class Screen:
+    """What a terminal shows of what it is given, without the width of its lines."""
+
+    def __init__(self):
+        self.lines, self.line, self.place = [], [], 0
+
+    def take(self, text):
+        for piece in re.findall(r"\x1b\[K|\r|\n|[^\r\n\x1b]+", text):
+            if piece == "\r":
+                self.place = 0
+            elif piece == "\n":
+                self.lines.append("".join(self.line).rstrip(" "))
+                self.line, self.place = [], 0
+            elif piece == "\x1b[K":
+                del self.line[self.place :]
+            else:
+                self.line[self.place : self.place + len(piece)] = piece
+                self.place += len(piece)
+
+    def text(self):
+        return "\n".join(self.lines + ["".join(self.line)])
+
+
+def read_all(reader, found):
+    while True:
+        try:
+            more = os.read(reader, 65_536)
+        except OSError:
+            # a terminal that nobody writes to any more
+            more = b""
+        if not more:
+            return
+        found.append(more)
+
+
+class Run:
+    """A run of the program: what came on its output and on its errors, each a pipe or a terminal, or one terminal for both."""
+
+    def __init__(self, program, suite, words, errors="terminal", both=False, env=None):
+        self.seconds = time.monotonic()
+        streams = {}
+        ends = []
+        error_end = self.open(errors, streams, ends, "errors")
+        output_end = error_end if both else self.open("pipe", streams, ends, "output")
+        with tempfile.TemporaryFile() as given:
+            given.write(suite)
+            given.seek(0)
+            kinds = {"TERM": "xterm"} if env is None else env
+            kept = {name: value for name, value in os.environ.items() if name not in ("TERM", "NO_COLOR")}
+            process = subprocess.Popen([program, *words], stdin=given, stdout=output_end, stderr=error_end, env={**kept, **kinds})
+        for end in ends:
+            os.close(end)
+        threads = []
+        for reader, found in streams.values():
+            threads.append(threading.Thread(target=read_all, args=(reader, found)))
+            threads[-1].start()
+        try:
+            self.status = process.wait(SECONDS_A_RUN)
+        except subprocess.TimeoutExpired:
+            process.kill()
+            raise Wrong(f"not ended in {SECONDS_A_RUN} s")
+        for thread in threads:
+            thread.join()
+        self.seconds = time.monotonic() - self.seconds
+        got = {name: b"".join(found).replace(b"\r\n", b"\n") for name, (_, found) in streams.items()}
+        for reader, _ in streams.values():
+            os.close(reader)
+        self.errors, self.output = got["errors"], got.get("output", b"")
+
+    @staticmethod
+    def open(kind, streams, ends, name):
+        reader, writer = pty.openpty() if kind == "terminal" else os.pipe()
+        streams[name] = (reader, [])
+        ends.append(writer)
+        return writer
+
+
+def judge_drawn(program, details):
+    """The line comes at most ten times a second, its numbers grow, and it is gone at the end."""
+    run = Run(program, slow_suite(), ["--details", details])
+    silent = Run(program, slow_suite(), ["--details", details], errors="pipe")
+    if (run.status, run.output) != (silent.status, silent.output) or run.status != 0:
+        raise Wrong(f"status {run.status} and {silent.status}")
+    drawn = [tuple(map(int, numbers)) for numbers in DRAWN.findall(run.errors)]
+    if not 3 <= len(drawn) <= 10 * run.seconds + 1:
+        raise Wrong(f"drawn {len(drawn)} times in {run.seconds:.2f} s")
+    if DRAWN.sub(b"", run.errors).replace(ERASED, b"") != b"" or not run.errors.endswith(ERASED):
+        raise Wrong(f"something else stands there, or the line at the end: {run.errors[-200:]!r}")
+    for before, after in zip(drawn, drawn[1:]):
+        if after[2] < before[2] or after[4] < before[4]:
+            raise Wrong(f"{before} before {after}")
+    if any(found != TESTS or running > 1 or done + running > found or failed for found, running, done, failed, _ in drawn):
+        raise Wrong(f"{drawn}")
+
+
+def judge_together(program, details):
+    """Where both go to one terminal, at the end it shows what is printed, and nothing else."""
+    run = Run(program, slow_suite(), ["--details", details], both=True)
+    alone = Run(program, slow_suite(), ["--details", details], errors="pipe")
+    if len(DRAWN.findall(run.errors)) < 1:
+        raise Wrong("no line was drawn")
+    screen = Screen()
+    screen.take(run.errors.decode())
+    if screen.text() != alone.output.decode():
+        raise Wrong(f"the screen shows {screen.text()[:500]!r}")
+
+
+def judge_silent(program, errors, env):
+    """No terminal, or one that cannot draw, gets nothing."""
+    run = Run(program, slow_suite(), ["--details", "summary"], errors=errors, env=env)
+    if run.errors != b"":
+        raise Wrong(f"{run.errors[:200]!r}")
+
+
+def judge_colours(program):
+    """Nothing is coloured, whatever NO_COLOR says."""
+    for env in ({"TERM": "xterm"}, {"TERM": "xterm", "NO_COLOR": "1"}):
+        run = Run(program, slow_suite(), ["--details", "summary"], env=env)
+        if re.search(rb"\x1b\[[0-9;]*m", run.errors):
+            raise Wrong(f"{run.errors[:200]!r}")
+
+
+def judge_failures(program, details, is_said):
+    """What failed is said once more, behind all else, with words that select just that."""
+    run = Run(program, failing_suite(), ["--details", details])
+    alone = Run(program, failing_suite(), ["--details", details], errors="pipe")
+    if (run.status, run.output) != (1, alone.output) or alone.errors != b"":
+        raise Wrong(f"status {run.status}, without a terminal {alone.errors!r}")
+    said = DRAWN.sub(b"", run.errors).replace(ERASED, b"").decode()
+    if not is_said:
+        if said != "":
+            raise Wrong(f"said {said!r}")
+        return
+    lines = said.splitlines()
+    wanted = [f"{BELOW}/[method:{name}]" for name in FAILING]
+    if lines[0] != "Failed:" or [line.strip() for line in lines[1:-2]] != wanted:
+        raise Wrong(f"said {said!r}")
+    again = Run(program, failing_suite(), ["--details", "list", *shlex.split(lines[-1])], errors="pipe")
+    if again.output.decode().splitlines() != wanted:
+        raise Wrong(f"the words select {again.output!r}")
+
+
+def judge_random(program, seed, number):
+    """A suite made at random prints the same with a terminal and without one."""
+    suite = text_of(Maker(Random(f"{seed}/{number}")).plan()).encode()
+    words = ["--details", Random(f"{seed}/{number}").choice(["tree", "summary", "testfeed", "xml"]), "--config", "junit.jupiter.execution.parallel.enabled=false"]
+    run, alone = Run(program, suite, words), Run(program, suite, words, errors="pipe")
+    if (run.status, run.output) != (alone.status, alone.output):
+        raise Wrong(f"status {run.status} and {alone.status}, printed {run.output!r} and {alone.output!r}")
+
+
+def main():
+    words = argparse.ArgumentParser(description=__doc__, formatter_class=argparse.RawDescriptionHelpFormatter)
+    words.add_argument("suites", nargs="?", type=int, default=20)
+    words.add_argument("seed", nargs="?", default="1")
+    words.add_argument("--program")
+    given = words.parse_args()
+    program = given.program or built_console()
+    cases = [(f"drawn beside {details}", judge_drawn, (program, details)) for details in ("tree", "summary", "json")]
+    cases += [(f"{details} on the same terminal", judge_together, (program, details)) for details in ("tree", "testfeed", "none")]
+    cases += [("a pipe", judge_silent, (program, "pipe", None)), ("a dumb terminal", judge_silent, (program, "terminal", {"TERM": "dumb"}))]
+    cases += [("a terminal of no kind", judge_silent, (program, "terminal", {})), ("colours", judge_colours, (program,))]
+    said = {"tree": True, "summary": True, "testfeed": False, "none": False, "json": False}
+    cases += [(f"failures behind {details}", judge_failures, (program, details, is_said)) for details, is_said in said.items()]
+    cases += [(f"suite {n} of seed {given.seed}", judge_random, (program, given.seed, n)) for n in range(1, given.suites + 1)]
+    passed = failed = 0
+    for what, judge, arguments in cases:
+        try:
+            judge(*arguments)
+            passed += 1
+        except Wrong as why:
+            failed += 1
+            if failed <= MOST_SHOWN:
+                print(f"FAILED {what}: {why}", flush=True)
+    print(f"{passed} passed, {failed} failed")
+    return 1 if failed else 0
+
+
+if __name__ == "__main__":
+    sys.exit(main())

@@ -1,0 +1,68 @@
+//! The feed of a run, and who watches the run beside it.
+
+ghost use Rattle.std.specs.Prelude.{◌≡◌, ◌≤◌, ◌<◌, ◌∷◌, [], ℕ, List, Option, length, take};
+ghost use Rattle.std.specs.Io.KnownBytes.{Appends};
+ghost use Rattle.listeners.specs.Listeners.{telling};
+ghost use Rattle.listeners.specs.Sending.{SendsExactly};
+ghost use Rattle.worker_pool.specs.Watching.{HasSeenMore};
+
+use listeners::WriteFault;
+use live_feed::{LiveFeed, Outlet};
+use plan_events::{Event, Texts};
+use resource_locks::Plan;
+use std::io::Write;
+use worker_pool::Watcher;
+
+/// A feed that is printed while the run goes on, and one who watches the run. It is shown each event
+/// before its line is printed.
+#[derive(Drop)]
+pub(crate) struct WatchedFeed<'w, 'v, W: Write, V: Watcher> {
+    pub(crate) feed: LiveFeed<'w, W>,
+    pub(crate) watcher: &'v mut V,
+}
+
+impl<'w, 'v, W: Write, V: Watcher> WatchedFeed<'w, 'v, W, V> {
+    /// How many bytes the feed's writer took.
+    pub(crate) fn sent(&self) -> usize
+        ensures { result ≡ self.now.feed.sent }
+    {
+        self.feed.sent()
+    }
+
+    /// Prints what is left of the whole output, as `LiveFeed::finish` does.
+    pub(crate) fn finish(&mut self, whole: &[u8]) -> Result<(), WriteFault>
+        requires fits { self.old.feed.sent ≤ length whole.now }
+        requires short { self.old.feed.outlet ≡ Outlet.Failed → self.old.feed.sent < length whole.now }
+        ensures same { self.new.feed.writer.ghost_name ≡ self.old.feed.writer.ghost_name }
+        ensures watcher { self.new.watcher ≡ self.old.watcher }
+        ensures whole { (first : Option (List ℕ)) → Appends first (W.contents self.old.feed.writer.now)
+            (take self.old.feed.sent whole.now) → SendsExactly first (W.contents self.new.feed.writer.now) whole.now
+            result }
+    {
+        self.feed.finish(whole)
+    }
+}
+
+/// Shows a watcher this event of the plan.
+fn show<V: Watcher>(watcher: &mut V, plan: &Plan, texts: &Texts, event: Event)
+    ensures { HasSeenMore V.saw plan.now (telling texts.now event ∷ []) watcher.old watcher.new }
+{
+    watcher.watch(plan, texts, event);
+}
+
+impl<'w, 'v, W: Write, V: Watcher> Watcher for WatchedFeed<'w, 'v, W, V> {
+    ghost use Rattle.launcher.specs.Beside.{SeesBeside};
+
+    ghost saw = { SeesBeside W.contents V.saw };
+
+    fn watch(&mut self, plan: &Plan, texts: &Texts, event: Event) {
+        let event = &event;
+        show(&mut *self.watcher, plan, texts, *event);
+        show(&mut self.feed, plan, texts, *event);
+    }
+
+    fn idle(&mut self) {
+        self.watcher.idle();
+        self.feed.idle();
+    }
+}

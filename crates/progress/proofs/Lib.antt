@@ -1,0 +1,2 @@
+-- How the texts grow.
+pub mod Growing
