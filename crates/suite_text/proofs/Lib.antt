@@ -1,4 +1,5 @@
 mod FirstWords
+mod Grammar
 pub mod Numbers
 mod Trimmed
 pub mod Reading

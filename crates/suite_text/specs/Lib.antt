@@ -1,3 +1,4 @@
+pub mod Grammar
 pub mod Numbers
 pub mod Suites
 pub mod Words

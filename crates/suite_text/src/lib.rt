@@ -8,4 +8,7 @@ mod suite;
 
 pub use number::{is_number, number_up_to};
 pub use script::Script;
-pub use suite::{Suite, SuiteFault};
+pub use suite::{
+    Attribute, LONGEST_SPIN, LineWord, MOST_PULLS, Suite, SuiteFault, Verdict, Word, key_and_mode,
+    key_and_value,
+};

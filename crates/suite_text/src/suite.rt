@@ -14,6 +14,7 @@ mod after;
 mod attributes;
 mod builder;
 mod fault;
+mod line_word;
 mod lines;
 mod locks;
 mod properties;
@@ -23,12 +24,18 @@ mod verdicts;
 mod words;
 
 use crate::script::Script;
+pub use attributes::{Attribute, LONGEST_SPIN, MOST_PULLS};
 use builder::SuiteBuilder;
 use config_params::Params;
 use descriptor::Tree;
 pub use fault::SuiteFault;
+pub use line_word::LineWord;
 use lines::lines_in;
+pub use locks::key_and_mode;
+pub use spins::key_and_value;
 use std::alloc::Global;
+pub use verdicts::Verdict;
+pub use words::Word;
 
 /// The greatest number of bytes of a suite text.
 const LONGEST_SUITE: usize = 1_048_576;

@@ -1,11 +1,14 @@
 //! The attributes of a line, which stand before its verdict.
 
-ghost use Rattle.std.specs.Prelude.{◌≡◌, ◌≢◌, OnOk, IfErr, Ok, None};
+ghost use Rattle.std.specs.Prelude.{◌≡◌, ◌≢◌, OnOk, IfErr, Ok, Some, None};
+ghost use Rattle.std.specs.List.{Contains};
+ghost use Rattle.suite_text.specs.Grammar.{attributes, attribute_text, bearer};
 ghost use Rattle.suite_text.specs.Reading.Attributes.{after_sign, declaration_in, attribute_of, no_attributes};
 ghost use Rattle.suite_text.specs.Reading.Attributes.{with_tag_of, with_spin_of, with_pulls_of, with_mode};
 ghost use Rattle.suite_text.specs.Reading.Attributes.{with_attribute, attributes_of, spin_said, pulls_said};
 ghost use Rattle.suite_text.specs.Reading.Faults.{Fails, Gives};
 ghost use Rattle.suite_text.specs.Reading.Lines.{first_word};
+ghost use Rattle.suite_text.specs.declared.suite.attributes.Attribute.{Attribute};
 ghost use Rattle.tag_expr.specs.Tags.{tag_refusal};
 
 use crate::suite::fault::SuiteFault;
@@ -18,14 +21,26 @@ use std::alloc::Global;
 use tag_expr::{TagFault, TagSet, tag_of};
 
 /// The farthest that a body counts.
-const LONGEST_SPIN: u32 = 1_000_000;
+pub const LONGEST_SPIN: u32 = 1_000_000;
 
 /// The greatest number of tests that a body registers.
-const MOST_PULLS: u32 = 4_096;
+pub const MOST_PULLS: u32 = 4_096;
+
+/// The word by which a node is executed beside others.
+const CONCURRENT: &str = "@concurrent";
+
+/// The word by which a node is executed on its parent's thread.
+const SAME_THREAD: &str = "@same_thread";
+
+/// The word by which a node is executed alone.
+const ISOLATED: &str = "isolated";
+
+/// The key of a lock.
+const LOCK: &str = "lock";
 
 /// What an attribute is about.
 #[derive(Clone, Copy)]
-pub(crate) enum Attribute {
+pub enum Attribute {
     /// `#TAG`
     Tag,
     /// `spin=N`
@@ -41,8 +56,40 @@ pub(crate) enum Attribute {
 }
 
 impl Attribute {
+    /// All of them.
+    pub fn all() -> [Attribute; 7]
+        ensures exact { result ≡ attributes }
+        ensures every { (attribute : Attribute) → Contains result attribute }
+    {
+        [
+            Attribute::Tag,
+            Attribute::Runs(Mode::Concurrent),
+            Attribute::Runs(Mode::SameThread),
+            Attribute::Isolated,
+            Attribute::Lock,
+            Attribute::Spin,
+            Attribute::Pulls,
+        ]
+    }
+
+    /// The word that the attribute is, or what stands before its equals sign; of a tag, its sign.
+    pub fn key(self) -> &'static str
+        ensures text { result.now ≡ attribute_text self }
+        ensures read { attribute_of (bearer self) result.now ≡ Some self }
+    {
+        match self {
+            Attribute::Tag => "#",
+            Attribute::Runs(Mode::Concurrent) => CONCURRENT,
+            Attribute::Runs(Mode::SameThread) => SAME_THREAD,
+            Attribute::Isolated => ISOLATED,
+            Attribute::Lock => LOCK,
+            Attribute::Spin => "spin",
+            Attribute::Pulls => "pulls",
+        }
+    }
+
     /// The attribute that a word of a line is, where a node of this word may have it.
-    fn of(word: Word, text: &str) -> Option<Attribute>
+    pub fn of(word: Word, text: &str) -> Option<Attribute>
         ensures { result ≡ attribute_of word text.now }
     {
         if !matches!(word, Word::Dyn) && text.starts_with('#') {
@@ -67,11 +114,11 @@ impl Attribute {
         ensures { result ≡ declaration_in text.now key.now }
     {
         match text {
-            "@concurrent" => Some(Attribute::Runs(Mode::Concurrent)),
-            "@same_thread" => Some(Attribute::Runs(Mode::SameThread)),
-            "isolated" => Some(Attribute::Isolated),
+            CONCURRENT => Some(Attribute::Runs(Mode::Concurrent)),
+            SAME_THREAD => Some(Attribute::Runs(Mode::SameThread)),
+            ISOLATED => Some(Attribute::Isolated),
             _ => {
-                if key == "lock" {
+                if key == LOCK {
                     Some(Attribute::Lock)
                 } else {
                     None

@@ -7,6 +7,7 @@ use crate::script::Script;
 use crate::suite::Suite;
 use crate::suite::after::after_in;
 use crate::suite::fault::SuiteFault;
+use crate::suite::line_word::LineWord;
 use crate::suite::lines::{level_at, next_word, without_front};
 use crate::suite::properties::{is_property, put_property};
 use crate::suite::pulls::{Pending, all_settled, lines_below};
@@ -422,7 +423,7 @@ impl SuiteBuilder {
         ensures refused { IfErr result (λ fault. Fails fault (with_declaration number self.old level line.now)) }
     {
         let (first, rest) = next_word(line);
-        if first == "after" {
+        if first == LineWord::After.spelling() {
             self.read_after(alloc, number, level, rest)
         } else {
             self.read_node(alloc, number, level, first, rest)

@@ -60,7 +60,7 @@ impl NamedLocks {
 }
 
 /// The key that a value of `lock` names, and how it is used.
-fn key_and_mode(value: &str) -> (&str, LockMode)
+pub fn key_and_mode(value: &str) -> (&str, LockMode)
     ensures { record { key = result.0.now; mode = result.1 } ≡ lock_of value.now }
 {
     if let Some(key) = value.strip_suffix(":r") {

@@ -5,6 +5,7 @@ ghost use Rattle.suite_text.specs.Reading.Faults.{Fails};
 ghost use Rattle.suite_text.specs.Reading.Properties.{is_property, with_property};
 
 use crate::suite::fault::SuiteFault;
+use crate::suite::line_word::LineWord;
 use crate::suite::lines::next_word;
 use config_params::{Params, Source, property_of};
 use std::alloc::Global;
@@ -13,7 +14,7 @@ use std::alloc::Global;
 pub(crate) fn is_property(line: &str) -> bool
     ensures { result ≡ is_property line.now }
 {
-    next_word(line).0 == "property"
+    next_word(line).0 == LineWord::Property.spelling()
 }
 
 /// Adds the pair of a property's line to the file's parameters, where the line says one.

@@ -9,7 +9,7 @@ use crate::suite::fault::SuiteFault;
 
 /// The key of a word, which is what stands before its first equals sign, and its value, which
 /// follows that sign.
-pub(crate) fn key_and_value(word: &str) -> (&str, &str)
+pub fn key_and_value(word: &str) -> (&str, &str)
     ensures key { result.0.now ≡ key_of word.now }
     ensures value { result.1.now ≡ value_of word.now }
 {

@@ -1,17 +1,29 @@
 //! The verdict of a line, and what it has the node's body end with.
 
-ghost use Rattle.std.specs.Prelude.{◌≡◌, ◌≢◌, IfErr};
+ghost use Rattle.std.specs.Prelude.{◌≡◌, ◌≢◌, IfErr, Some, filter};
+ghost use Rattle.std.specs.List.{Contains};
+ghost use Rattle.suite_text.specs.Grammar.{verdicts, ends_body};
 ghost use Rattle.suite_text.specs.Reading.Verdicts.{verdict_spelled, no_verdict, verdict_with, verdict_of};
 ghost use Rattle.suite_text.specs.Reading.Verdicts.{status_declared};
 ghost use Rattle.suite_text.specs.Reading.Faults.{Gives};
+ghost use Rattle.suite_text.specs.Writing.Lines.{verdict_text};
+ghost use Rattle.suite_text.specs.declared.suite.verdicts.Verdict.{Verdict};
 
 use crate::suite::fault::SuiteFault;
 use crate::suite::words::Word;
 use plan_events::Status;
 
+const PASS: &str = "pass";
+
+const FAIL: &str = "fail";
+
+const ABORT: &str = "abort";
+
+const DISABLED: &str = "disabled";
+
 /// How a node's body ends, or that the node is disabled.
 #[derive(Clone, Copy)]
-pub(crate) enum Verdict {
+pub enum Verdict {
     Pass,
     Fail,
     Abort,
@@ -19,15 +31,48 @@ pub(crate) enum Verdict {
 }
 
 impl Verdict {
+    /// All of them.
+    pub fn all() -> [Verdict; 4]
+        ensures exact { result ≡ verdicts }
+        ensures every { (verdict : Verdict) → Contains result verdict }
+    {
+        [
+            Verdict::Pass,
+            Verdict::Fail,
+            Verdict::Abort,
+            Verdict::Disabled,
+        ]
+    }
+
+    /// Those that a body ends with, as an after-body has to.
+    pub fn of_bodies() -> [Verdict; 3]
+        ensures { result ≡ filter ends_body verdicts }
+    {
+        [Verdict::Pass, Verdict::Fail, Verdict::Abort]
+    }
+
+    /// How the verdict is spelled.
+    pub fn spelling(self) -> &'static str
+        ensures text { result.now ≡ verdict_text self }
+        ensures read { verdict_spelled result.now ≡ Some self }
+    {
+        match self {
+            Verdict::Pass => PASS,
+            Verdict::Fail => FAIL,
+            Verdict::Abort => ABORT,
+            Verdict::Disabled => DISABLED,
+        }
+    }
+
     /// The verdict with this spelling.
-    fn spelled(text: &str) -> Option<Verdict>
+    pub fn spelled(text: &str) -> Option<Verdict>
         ensures { result ≡ verdict_spelled text.now }
     {
         match text {
-            "pass" => Some(Verdict::Pass),
-            "fail" => Some(Verdict::Fail),
-            "abort" => Some(Verdict::Abort),
-            "disabled" => Some(Verdict::Disabled),
+            PASS => Some(Verdict::Pass),
+            FAIL => Some(Verdict::Fail),
+            ABORT => Some(Verdict::Abort),
+            DISABLED => Some(Verdict::Disabled),
             _ => None,
         }
     }

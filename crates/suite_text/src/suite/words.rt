@@ -1,12 +1,16 @@
 //! What the words of a line declare.
 
-ghost use Rattle.std.specs.Prelude.{◌≡◌, ◌≢◌, IfOk, IfErr};
+ghost use Rattle.std.specs.Prelude.{◌≡◌, ◌≢◌, IfOk, IfErr, Some};
+ghost use Rattle.std.specs.List.{Contains};
 ghost use Rattle.suite_text.specs.Reading.Words.{word_of, may_stand, placed, with_verdict, with_attributes};
 ghost use Rattle.suite_text.specs.Reading.Words.{with_name, declared_as, declaration_of};
 ghost use Rattle.suite_text.specs.Reading.Faults.{Gives};
+ghost use Rattle.suite_text.specs.Grammar.{words};
+ghost use Rattle.suite_text.specs.Writing.Lines.{word_text};
+ghost use Rattle.suite_text.specs.declared.suite.words.Word.{Word};
 
 use crate::script::Script;
-use crate::suite::attributes::{Attributes, attributes_in};
+use crate::suite::attributes::{Attribute, Attributes, attributes_in};
 use crate::suite::fault::SuiteFault;
 use crate::suite::lines::{next_word, word_and_text};
 use crate::suite::pulls::Pending;
@@ -15,9 +19,19 @@ use descriptor::{BodyId, Kind, Role};
 use std::alloc::{AllocError, Global};
 use unique_id::Text;
 
+const ENGINE: &str = "engine";
+
+const CLASS: &str = "class";
+
+const TEST: &str = "test";
+
+const FACTORY: &str = "factory";
+
+const DYN: &str = "dyn";
+
 /// The first word of a line that declares a node.
 #[derive(Clone, Copy)]
-pub(crate) enum Word {
+pub enum Word {
     Engine,
     Class,
     Test,
@@ -42,23 +56,51 @@ impl Word {
     ghost use Rattle.suite_text.specs.Reading.Spins.{is_spin};
     ghost use Rattle.suite_text.specs.Reading.Pulls.{is_pulls};
 
+    /// All of them.
+    pub fn all() -> [Word; 5]
+        ensures exact { result ≡ words }
+        ensures every { (word : Word) → Contains result word }
+    {
+        [
+            Word::Engine,
+            Word::Class,
+            Word::Test,
+            Word::Factory,
+            Word::Dyn,
+        ]
+    }
+
+    /// How the word is spelled.
+    pub fn spelling(self) -> &'static str
+        ensures text { result.now ≡ word_text self }
+        ensures read { word_of result.now ≡ Some self }
+    {
+        match self {
+            Word::Engine => ENGINE,
+            Word::Class => CLASS,
+            Word::Test => TEST,
+            Word::Factory => FACTORY,
+            Word::Dyn => DYN,
+        }
+    }
+
     /// The word with this spelling.
-    fn spelled(text: &str) -> Option<Word>
+    pub fn spelled(text: &str) -> Option<Word>
         ensures { result ≡ word_of text.now }
     {
         match text {
-            "engine" => Some(Word::Engine),
-            "class" => Some(Word::Class),
-            "test" => Some(Word::Test),
-            "factory" => Some(Word::Factory),
-            "dyn" => Some(Word::Dyn),
+            ENGINE => Some(Word::Engine),
+            CLASS => Some(Word::Class),
+            TEST => Some(Word::Test),
+            FACTORY => Some(Word::Factory),
+            DYN => Some(Word::Dyn),
             _ => None,
         }
     }
 
     /// Whether the word may stand right below a node of this word, or at level 0 where there is
     /// none.
-    fn stands_below(self, above: Option<Word>) -> bool
+    pub fn stands_below(self, above: Option<Word>) -> bool
         ensures { result ≡ may_stand above self }
     {
         match (above, self) {
@@ -123,7 +165,7 @@ impl Word {
     {
         match self {
             Word::Engine | Word::Class | Word::Factory => false,
-            Word::Test | Word::Dyn => key == "spin",
+            Word::Test | Word::Dyn => key == Attribute::Spin.key(),
         }
     }
 
@@ -133,7 +175,7 @@ impl Word {
     {
         match self {
             Word::Engine | Word::Class | Word::Test | Word::Dyn => false,
-            Word::Factory => key == "pulls",
+            Word::Factory => key == Attribute::Pulls.key(),
         }
     }
 }
