@@ -1,4 +1,5 @@
 -- The lemmas, by subject.
+mod Forms
 mod ReadBack
 mod Spelled
 mod SpelledWords

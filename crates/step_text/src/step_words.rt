@@ -4,6 +4,10 @@ ghost use Rattle.std.specs.Prelude.{◌≡◌};
 ghost use Rattle.step_text.specs.StepTexts.{is_decimal, number_within, worker_of, node_of, node_action, plain_action};
 ghost use Rattle.step_text.specs.StepTexts.{action_of, worker_step, step_of};
 
+use crate::step_names::{
+    ADD_CHILD, ADMIT, CLAIM, DONE, DRAW, GIVE, GIVE_UP, LOOK, NOTICE, OWN, RAISE, READ, SETTLE,
+    SHOW, TAKE, WEIGH,
+};
 use descriptor::NodeId;
 use scheduling::{Action, Step};
 use suite_text::{is_number, number_up_to};
@@ -51,8 +55,8 @@ fn node_action(name: &str, number: &str) -> Option<Action>
     ensures { result ≡ node_action name.now number.now }
 {
     match name {
-        "claim" => Some(Action::Claim(node_of(number)?)),
-        "own" => Some(Action::Own(node_of(number)?)),
+        CLAIM => Some(Action::Claim(node_of(number)?)),
+        OWN => Some(Action::Own(node_of(number)?)),
         _ => None,
     }
 }
@@ -62,19 +66,19 @@ fn plain_action(name: &str) -> Option<Action>
     ensures { result ≡ plain_action name.now }
 {
     match name {
-        "draw" => Some(Action::Draw),
-        "show" => Some(Action::Show),
-        "admit" => Some(Action::Admit),
-        "done" => Some(Action::Done),
-        "settle" => Some(Action::Settle),
-        "look" => Some(Action::Look),
-        "weigh" => Some(Action::Weigh),
-        "take" => Some(Action::Take),
-        "give" => Some(Action::Give),
-        "give_up" => Some(Action::GiveUp),
-        "add_child" => Some(Action::AddChild),
-        "notice" => Some(Action::Notice),
-        "raise" => Some(Action::Raise),
+        DRAW => Some(Action::Draw),
+        SHOW => Some(Action::Show),
+        ADMIT => Some(Action::Admit),
+        DONE => Some(Action::Done),
+        SETTLE => Some(Action::Settle),
+        LOOK => Some(Action::Look),
+        WEIGH => Some(Action::Weigh),
+        TAKE => Some(Action::Take),
+        GIVE => Some(Action::Give),
+        GIVE_UP => Some(Action::GiveUp),
+        ADD_CHILD => Some(Action::AddChild),
+        NOTICE => Some(Action::Notice),
+        RAISE => Some(Action::Raise),
         _ => None,
     }
 }
@@ -102,7 +106,7 @@ fn worker_step(text: &str) -> Option<Step>
 pub fn step_of(word: &str) -> Option<Step>
     ensures { result ≡ step_of word.now }
 {
-    if word == "d:read" {
+    if word == READ {
         return Some(Step::Read);
     }
     match word.strip_prefix('w') {

@@ -5,6 +5,10 @@ ghost use Rattle.std.specs.List.{All, flat_map};
 ghost use Rattle.step_text.specs.StepSpelling.{spelled_action, spelled_step, steps_text, IsNamable, AreNamable};
 ghost use Rattle.step_text.specs.StepTexts.{steps_of};
 
+use crate::step_names::{
+    ADD_CHILD, ADMIT, CLAIM, DONE, DRAW, GIVE, GIVE_UP, LOOK, NOTICE, OWN, RAISE, READ, SETTLE,
+    SHOW, TAKE, WEIGH,
+};
 use scheduling::{Action, Step};
 use std::alloc::AllocError;
 
@@ -16,21 +20,21 @@ fn push_action(text: &mut String, action: Action) -> Result<(), AllocError>
     ensures { OnOk result (string_bytes text.new ≡ string_bytes text.old ++ spelled_action action) }
 {
     match action {
-        Action::Claim(node) => write!(text, "claim:{}", node.number()),
-        Action::Own(node) => write!(text, "own:{}", node.number()),
-        Action::Draw => text.push_str("draw"),
-        Action::Show => text.push_str("show"),
-        Action::Admit => text.push_str("admit"),
-        Action::Done => text.push_str("done"),
-        Action::Settle => text.push_str("settle"),
-        Action::Look => text.push_str("look"),
-        Action::Weigh => text.push_str("weigh"),
-        Action::Take => text.push_str("take"),
-        Action::Give => text.push_str("give"),
-        Action::GiveUp => text.push_str("give_up"),
-        Action::AddChild => text.push_str("add_child"),
-        Action::Notice => text.push_str("notice"),
-        Action::Raise => text.push_str("raise"),
+        Action::Claim(node) => write!(text, "{}:{}", CLAIM, node.number()),
+        Action::Own(node) => write!(text, "{}:{}", OWN, node.number()),
+        Action::Draw => text.push_str(DRAW),
+        Action::Show => text.push_str(SHOW),
+        Action::Admit => text.push_str(ADMIT),
+        Action::Done => text.push_str(DONE),
+        Action::Settle => text.push_str(SETTLE),
+        Action::Look => text.push_str(LOOK),
+        Action::Weigh => text.push_str(WEIGH),
+        Action::Take => text.push_str(TAKE),
+        Action::Give => text.push_str(GIVE),
+        Action::GiveUp => text.push_str(GIVE_UP),
+        Action::AddChild => text.push_str(ADD_CHILD),
+        Action::Notice => text.push_str(NOTICE),
+        Action::Raise => text.push_str(RAISE),
     }
 }
 
@@ -39,7 +43,7 @@ fn push_step(text: &mut String, step: Step) -> Result<(), AllocError>
     ensures { OnOk result (string_bytes text.new ≡ string_bytes text.old ++ spelled_step step) }
 {
     match step {
-        Step::Read => text.push_str("d:read"),
+        Step::Read => text.push_str(READ),
         Step::Worker(worker, action) => {
             write!(text, "w{worker}:")?;
             push_action(text, action)
