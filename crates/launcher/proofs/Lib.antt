@@ -1,3 +1,4 @@
+mod Named
 pub mod Launching
 pub mod Pairing
 pub mod Planning

@@ -66,12 +66,36 @@ details_named (Some name) =
     else (if bytes_eq name (codes "xml") then Some details.Xml
     else (if bytes_eq name (codes "list") then Some details.List else None))))))
 
+-- the name of what is printed
+abbrev pub details_text : Details → Text
+details_text details.None = codes "none"
+details_text details.Summary = codes "summary"
+details_text details.Tree = codes "tree"
+details_text details.Testfeed = codes "testfeed"
+details_text details.Json = codes "json"
+details_text details.Xml = codes "xml"
+details_text details.List = codes "list"
+
+-- all that may be printed
+abbrev pub all_details : List Details
+all_details =
+    details.None ∷ details.Summary ∷ details.Tree ∷ details.Testfeed ∷ details.Json ∷ details.Xml ∷ details.List ∷ []
+
 -- what `--details-theme` asks for: there are two, and it is Unicode where it is not given
 abbrev pub theme_named : Option Text → Option Theme
 theme_named None = Some themes.Unicode
 theme_named (Some name) =
     if bytes_eq name (codes "unicode") then Some themes.Unicode
     else (if bytes_eq name (codes "ascii") then Some themes.Ascii else None)
+
+-- the name of a theme
+abbrev pub theme_text : Theme → Text
+theme_text themes.Unicode = codes "unicode"
+theme_text themes.Ascii = codes "ascii"
+
+-- all themes
+abbrev pub all_themes : List Theme
+all_themes = themes.Unicode ∷ themes.Ascii ∷ []
 
 -- refused where the words name nothing
 abbrev pub unless_named : {A : Type 0} → Option A → Option LaunchFault

@@ -11,5 +11,6 @@ pub mod Reports
 pub mod Runs
 pub mod ScheduleTexts
 pub mod Scripted
+pub mod SettingKeys
 pub mod WarningTexts
 pub mod Watched

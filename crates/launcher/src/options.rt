@@ -14,6 +14,7 @@ use crate::fault::LaunchFault;
 use crate::given::Given;
 use crate::judged::judge_texts;
 use crate::parameters::{judge_params, params_given, processors_named, ring_named};
+use crate::themes::theme_of;
 use config_params::Params;
 use listeners::Theme;
 use scheduling::Step;
@@ -27,15 +28,12 @@ fn details_named(name: Option<&str>) -> Result<Details, LaunchFault>
     ensures named { IfOk result (λ details. details_of_name (maybe_behind name.entry) ≡ Some details) }
     ensures refused { IfErr result (λ fault. unless_named (details_of_name (maybe_behind name.entry)) ≡ Some fault) }
 {
-    match name {
-        None | Some("tree") => Ok(Details::Tree),
-        Some("none") => Ok(Details::None),
-        Some("summary") => Ok(Details::Summary),
-        Some("testfeed") => Ok(Details::Testfeed),
-        Some("json") => Ok(Details::Json),
-        Some("xml") => Ok(Details::Xml),
-        Some("list") => Ok(Details::List),
-        Some(_) => Err(LaunchFault::BadWords),
+    let Some(name) = name else {
+        return Ok(Details::Tree);
+    };
+    match Details::named(name) {
+        Some(details) => Ok(details),
+        None => Err(LaunchFault::BadWords),
     }
 }
 
@@ -44,10 +42,12 @@ fn theme_named(name: Option<&str>) -> Result<Theme, LaunchFault>
     ensures named { IfOk result (λ theme. theme_of_name (maybe_behind name.entry) ≡ Some theme) }
     ensures refused { IfErr result (λ fault. unless_named (theme_of_name (maybe_behind name.entry)) ≡ Some fault) }
 {
-    match name {
-        None | Some("unicode") => Ok(Theme::Unicode),
-        Some("ascii") => Ok(Theme::Ascii),
-        Some(_) => Err(LaunchFault::BadWords),
+    let Some(name) = name else {
+        return Ok(Theme::Unicode);
+    };
+    match theme_of(name) {
+        Some(theme) => Ok(theme),
+        None => Err(LaunchFault::BadWords),
     }
 }
 

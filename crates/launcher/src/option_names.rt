@@ -1,0 +1,33 @@
+//! The names of the options of a command line, without the two dashes.
+
+pub const SELECT_UNIQUE_ID: &str = "select-unique-id";
+
+pub const SELECT_CLASS: &str = "select-class";
+
+pub const SELECT_METHOD: &str = "select-method";
+
+pub const SELECT_PACKAGE: &str = "select-package";
+
+pub const INCLUDE_TAG: &str = "include-tag";
+
+pub const EXCLUDE_TAG: &str = "exclude-tag";
+
+pub const CONFIG: &str = "config";
+
+pub const SYSTEM: &str = "system";
+
+pub const PROCESSORS: &str = "processors";
+
+pub const RING: &str = "ring";
+
+pub const DETAILS: &str = "details";
+
+pub const DETAILS_THEME: &str = "details-theme";
+
+pub const FAIL_IF_NO_TESTS: &str = "fail-if-no-tests";
+
+pub const FAIL_FAST: &str = "fail-fast";
+
+pub const SCHEDULE: &str = "schedule";
+
+pub const REPLAY: &str = "replay";
