@@ -2,63 +2,45 @@
 
 use crate::line::cut;
 use crate::nearest::is_known;
+use descriptor::Mode;
 use std::alloc::Global;
-use suite_text::number_up_to;
+use suite_text::{
+    Attribute, LONGEST_SPIN, MOST_PULLS, Verdict, Word, key_and_mode, key_and_value, number_up_to,
+};
 use tag_expr::tag_of;
 
 /// One key of locks more than a line may have: where so many were found, further ones change nothing.
 const MOST_COUNTED: usize = 17;
 
-/// The attributes that are words of their own, the keys of the others, and the verdicts.
-pub(crate) const KNOWN: [&str; 10] = [
-    "pass",
-    "fail",
-    "abort",
-    "disabled",
-    "@concurrent",
-    "@same_thread",
-    "isolated",
-    "lock",
-    "spin",
-    "pulls",
-];
+/// The verdicts, and the words and keys of all attributes but tags.
+pub(crate) fn known() -> [&'static str; 10] {
+    let [pass, fail, abort, disabled] = Verdict::all();
+    let [_, concurrent, same_thread, isolated, lock, spin, pulls] = Attribute::all();
+    [
+        pass.spelling(),
+        fail.spelling(),
+        abort.spelling(),
+        disabled.spelling(),
+        concurrent.key(),
+        same_thread.key(),
+        isolated.key(),
+        lock.key(),
+        spin.key(),
+        pulls.key(),
+    ]
+}
 
 /// What stands before the first equals sign of a word.
 pub(crate) fn key_of(word: &str) -> &str {
-    match word.split_once('=') {
-        Some((key, _)) => key,
-        None => word,
-    }
-}
-
-/// What follows the first equals sign of a word.
-fn value_of(word: &str) -> &str {
-    match word.split_once('=') {
-        Some((_, value)) => value,
-        None => "",
-    }
-}
-
-/// Whether a word says how a node is executed.
-fn declares(word: &str) -> bool {
-    matches!(key_of(word), "lock") || matches!(word, "@concurrent" | "@same_thread" | "isolated")
-}
-
-/// Whether a word is an attribute that a line with this first word may have.
-pub(crate) fn is_attribute(first: &str, word: &str) -> bool {
-    let key = key_of(word);
-    match first {
-        "engine" => word.starts_with('#'),
-        "dyn" => key == "spin",
-        "test" => word.starts_with('#') || key == "spin" || declares(word),
-        "factory" => word.starts_with('#') || key == "pulls" || declares(word),
-        _ => word.starts_with('#') || declares(word),
-    }
+    key_and_value(word).0
 }
 
 /// Whether a word looks like an attribute.
 pub(crate) fn looks_like_attribute(word: &str) -> bool {
-    word.starts_with('#') || word.starts_with('@') || word.contains('=') || word == "isolated"
+    word.starts_with('#')
+        || word.starts_with('@')
+        || word.contains('=')
+        || word == Attribute::Isolated.key()
 }
 
 /// Whether one of the words of a text has this key.
@@ -74,11 +56,12 @@ fn is_among(text: &str, key: &str) -> bool {
 
 /// The key of a lock, if the word is one.
 fn lock_key(word: &str) -> Option<&str> {
-    let lock = word.strip_prefix("lock=")?;
-    if let Some(key) = lock.strip_suffix(":rw") {
-        return Some(key);
+    let (key, value) = key_and_value(word);
+    if key == Attribute::Lock.key() {
+        Some(key_and_mode(value).0)
+    } else {
+        None
     }
-    Some(lock.strip_suffix(":r").unwrap_or(lock))
 }
 
 /// Counts a key of these, of which so many were counted: where it is another, and none of the
@@ -119,51 +102,64 @@ fn trouble_of_number(
     most: u32,
     said: &'static str,
 ) -> Option<&'static str> {
-    if is_among(front, key_of(word)) {
+    let (key, value) = key_and_value(word);
+    if is_among(front, key) {
         return Some("it stands twice");
     }
-    match number_up_to(most, value_of(word)) {
+    match number_up_to(most, value) {
         Some(_) => None,
         None => Some(said),
     }
 }
 
+/// What is wrong with a tag, which stands behind its sign.
+fn trouble_of_tag(alloc: Global, word: &str) -> Option<&'static str> {
+    match tag_of(alloc, word.strip_prefix('#').unwrap_or(word)) {
+        Ok(_) => None,
+        Err(_) => {
+            Some("a tag is not empty, and has no control character and none of , ( ) & | !")
+        }
+    }
+}
+
 /// What is wrong with a lock.
-fn trouble_of_lock(value: &str) -> Option<&'static str> {
-    let key = value.strip_suffix(":rw").unwrap_or(value);
-    if value.is_empty() || value == ":r" || key.is_empty() {
+fn trouble_of_lock(word: &str) -> Option<&'static str> {
+    if key_and_mode(key_and_value(word).1).0.is_empty() {
         return Some("a lock is lock=KEY, lock=KEY:r or lock=KEY:rw, with a KEY that is not empty");
     }
     None
 }
 
-/// What is wrong with this attribute, behind these words, if something is.
-fn trouble_of(alloc: Global, front: &str, word: &str) -> Option<&'static str> {
-    if let Some(tag) = word.strip_prefix('#') {
-        return match tag_of(alloc, tag) {
-            Ok(_) => None,
-            Err(_) => Some(
-                "a tag is not empty, and has no control character and none of , ( ) & | !",
-            ),
-        };
+/// What is wrong with a mode behind these words.
+fn trouble_of_mode(front: &str) -> Option<&'static str> {
+    if is_among(front, Attribute::Runs(Mode::Concurrent).key())
+        || is_among(front, Attribute::Runs(Mode::SameThread).key())
+    {
+        return Some("a line has one mode at most");
     }
-    match key_of(word) {
-        "spin" => trouble_of_number(
-            front,
-            word,
-            1_000_000,
-            "spin=N has an N from 0 to 1,000,000",
-        ),
-        "pulls" => trouble_of_number(front, word, 4_096, "pulls=N has an N from 0 to 4,096"),
-        "lock" => trouble_of_lock(value_of(word)),
-        "@concurrent" | "@same_thread" => {
-            if is_among(front, "@concurrent") || is_among(front, "@same_thread") {
-                Some("a line has one mode at most")
-            } else {
-                None
-            }
+    None
+}
+
+/// What is wrong with this attribute, behind these words, if something is.
+fn trouble_of(
+    alloc: Global,
+    front: &str,
+    word: &str,
+    attribute: Attribute,
+) -> Option<&'static str> {
+    match attribute {
+        Attribute::Tag => trouble_of_tag(alloc, word),
+        Attribute::Spin => {
+            let said = "spin=N has an N from 0 to 1,000,000";
+            trouble_of_number(front, word, LONGEST_SPIN, said)
         }
-        _ => None,
+        Attribute::Pulls => {
+            let said = "pulls=N has an N from 0 to 4,096";
+            trouble_of_number(front, word, MOST_PULLS, said)
+        }
+        Attribute::Lock => trouble_of_lock(word),
+        Attribute::Runs(_) => trouble_of_mode(front),
+        Attribute::Isolated => None,
     }
 }
 
@@ -181,16 +177,16 @@ fn front_of<'a>(text: &'a str, rest: &str) -> &'a str {
 /// and verdict are this text; and what is wrong with the attribute that stands there, if one does.
 pub(crate) fn first_trouble<'a>(
     alloc: Global,
-    first: &str,
+    first: Word,
     text: &'a str,
 ) -> (&'a str, Option<&'static str>) {
     let mut left = text;
     for _ in 0..text.len() {
         let (word, rest) = cut(left);
-        if !is_attribute(first, word) {
+        let Some(attribute) = Attribute::of(first, word) else {
             return (left, None);
-        }
-        let trouble = trouble_of(alloc, front_of(text, left), word);
+        };
+        let trouble = trouble_of(alloc, front_of(text, left), word, attribute);
         if trouble.is_some() {
             return (left, trouble);
         }

@@ -1,12 +1,43 @@
 //! The words of a line of a suite, and which of them may stand where.
 
+use std::alloc::{AllocError, Global};
+use suite_text::{LineWord, Verdict, Word};
+
 /// The words that a line may begin with.
-pub(crate) const WORDS: [&str; 7] = [
-    "engine", "class", "test", "factory", "dyn", "after", "property",
-];
+pub(crate) fn line_words() -> [&'static str; 7] {
+    let [engine, class, test, factory, dynamic, after, property] = LineWord::all();
+    [
+        engine.spelling(),
+        class.spelling(),
+        test.spelling(),
+        factory.spelling(),
+        dynamic.spelling(),
+        after.spelling(),
+        property.spelling(),
+    ]
+}
 
 /// The verdicts of an `after` line.
-pub(crate) const VERDICTS: [&str; 3] = ["pass", "fail", "abort"];
+pub(crate) fn after_verdicts() -> [&'static str; 3] {
+    let [pass, fail, abort] = Verdict::of_bodies();
+    [pass.spelling(), fail.spelling(), abort.spelling()]
+}
+
+/// How these verdicts are written: each but `pass` with a text behind it.
+pub(crate) fn verdict_forms(alloc: Global, verdicts: &[Verdict]) -> Result<String, AllocError> {
+    let mut forms = String::new(alloc);
+    let last = verdicts.len().saturating_sub(1);
+    for (index, verdict) in verdicts.iter().enumerate() {
+        if index > 0 {
+            forms.push_str(if index == last { " or " } else { ", " })?;
+        }
+        forms.push_str(verdict.spelling())?;
+        if !matches!(verdict, Verdict::Pass) {
+            forms.push_str(" TEXT")?;
+        }
+    }
+    Ok(forms)
+}
 
 /// A line without the spaces in front.
 pub(crate) fn without_front(line: &str) -> &str {
@@ -33,29 +64,28 @@ pub(crate) fn first_word(line: &str) -> &str {
 
 /// Whether a line with this first word declares a node.
 pub(crate) fn is_node(word: &str) -> bool {
-    matches!(word, "engine" | "class" | "test" | "factory" | "dyn")
+    Word::spelled(word).is_some()
 }
 
-/// Whether a line with this word may stand right below one with the word above, which is empty at level 0.
-pub(crate) fn stands_below(above: &str, word: &str) -> bool {
+/// Whether a line with this word may stand right below a node with the word above, or at level 0
+/// where there is none.
+pub(crate) fn stands_below(above: Option<Word>, word: LineWord) -> bool {
     match word {
-        "engine" => above.is_empty(),
-        "class" => above == "engine" || above == "class",
-        "test" | "factory" | "after" => above == "class",
-        "dyn" => above == "factory",
-        _ => false,
+        LineWord::Node(word) => word.stands_below(above),
+        LineWord::After => matches!(above, Some(Word::Class)),
+        LineWord::Property => false,
     }
 }
 
 /// Where a line with this word may stand.
-pub(crate) fn where_stands(word: &str) -> &'static str {
+pub(crate) fn where_stands(word: LineWord) -> &'static str {
     match word {
-        "engine" => "an engine stands at level 0, with no spaces in front",
-        "class" => "a class stands one level below an engine or a class",
-        "test" => "a test stands one level below a class",
-        "factory" => "a factory stands one level below a class",
-        "after" => "an after line stands one level below a class",
-        "dyn" => "a dyn stands one level below a factory",
-        _ => "a property stands at level 0, before the first engine",
+        LineWord::Node(Word::Engine) => "an engine stands at level 0, with no spaces in front",
+        LineWord::Node(Word::Class) => "a class stands one level below an engine or a class",
+        LineWord::Node(Word::Test) => "a test stands one level below a class",
+        LineWord::Node(Word::Factory) => "a factory stands one level below a class",
+        LineWord::Node(Word::Dyn) => "a dyn stands one level below a factory",
+        LineWord::After => "an after line stands one level below a class",
+        LineWord::Property => "a property stands at level 0, before the first engine",
     }
 }

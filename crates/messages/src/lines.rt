@@ -5,6 +5,7 @@ ghost use Rattle.unique_id.specs.Answers.{texts};
 
 use crate::line::{cut, first_word, indentation, is_node, stands_below, without_front};
 use std::alloc::{AllocError, Global};
+use suite_text::{LineWord, Word};
 
 /// The line of this number; empty where there is none.
 pub(crate) fn line_at<'a>(lines: &[&'a str], number: usize) -> &'a str
@@ -17,13 +18,13 @@ pub(crate) fn line_at<'a>(lines: &[&'a str], number: usize) -> &'a str
 }
 
 /// Whether the line of this number may begin with this word, by the line that it stands right below.
-pub(crate) fn may_stand(lines: &[&str], number: usize, first: &str) -> bool {
+pub(crate) fn may_stand(lines: &[&str], number: usize, first: LineWord) -> bool {
     let indent = indentation(line_at(lines, number));
-    let mut stands = stands_below("", first);
+    let mut stands = stands_below(None, first);
     for line in lines.iter().take(number.saturating_sub(1)) {
-        let word = first_word(line);
-        if is_node(word) && indentation(line).saturating_add(2) == indent {
-            stands = stands_below(word, first);
+        let above = Word::spelled(first_word(line));
+        if above.is_some() && indentation(line).saturating_add(2) == indent {
+            stands = stands_below(above, first);
         }
     }
     stands
@@ -54,7 +55,7 @@ pub(crate) fn class_names<'a>(
     let mut names = Vec::new(alloc);
     for line in lines {
         let (word, name) = named(line);
-        if word == "class" {
+        if matches!(Word::spelled(word), Some(Word::Class)) {
             names.push(name)?;
         }
     }

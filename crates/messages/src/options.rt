@@ -1,20 +1,17 @@
-//! The names of the options that have values, and what those values may be.
+//! The names of the options that have selectors or pairs, and what a selector looks like.
 
+use launcher::option_names::{
+    CONFIG, SELECT_CLASS, SELECT_METHOD, SELECT_PACKAGE, SELECT_UNIQUE_ID, SYSTEM,
+};
 use selectors::SelectorKind;
-
-pub(crate) const DETAILS: [&str; 7] = [
-    "none", "summary", "tree", "testfeed", "json", "xml", "list",
-];
-
-pub(crate) const THEMES: [&str; 2] = ["unicode", "ascii"];
 
 /// The option that has selectors of this kind.
 pub(crate) fn option_of(kind: SelectorKind) -> &'static str {
     match kind {
-        SelectorKind::UniqueId => "--select-unique-id",
-        SelectorKind::Class => "--select-class",
-        SelectorKind::Method => "--select-method",
-        SelectorKind::Package => "--select-package",
+        SelectorKind::UniqueId => SELECT_UNIQUE_ID,
+        SelectorKind::Class => SELECT_CLASS,
+        SelectorKind::Method => SELECT_METHOD,
+        SelectorKind::Package => SELECT_PACKAGE,
     }
 }
 
@@ -30,9 +27,5 @@ pub(crate) fn form_of(kind: SelectorKind) -> &'static str {
 
 /// What one of the two tables of properties calls the word of this number, which counts on behind the first.
 pub(crate) fn pair_option(number: usize, config: usize) -> &'static str {
-    if number <= config {
-        "--config"
-    } else {
-        "--system"
-    }
+    if number <= config { CONFIG } else { SYSTEM }
 }

@@ -2,25 +2,21 @@
 
 use crate::nearest::push_nearest;
 use config_params::{Settings, SettingsFault};
-use launcher::{Given, Options};
+use launcher::{Given, Options, key_judged, strategy_names};
 use std::alloc::{AllocError, Global};
 use suite_text::Suite;
 
-const STRATEGIES: [&str; 2] = ["dynamic", "fixed"];
-
-/// The key that a refusal is about, and what its value may be.
-fn asked_by(fault: SettingsFault) -> (&'static str, &'static str) {
+/// Appends what the value that a refusal is about may be.
+fn push_allowed(text: &mut String, fault: SettingsFault) -> Result<(), AllocError> {
     match fault {
-        SettingsFault::BadStrategy => (
-            "junit.jupiter.execution.parallel.config.strategy",
-            "it is dynamic or fixed",
-        ),
-        SettingsFault::BadParallelism => (
-            "junit.jupiter.execution.parallel.config.fixed.parallelism",
+        SettingsFault::BadStrategy => {
+            let [dynamic, fixed] = strategy_names();
+            write!(text, "it is {dynamic} or {fixed}")
+        }
+        SettingsFault::BadParallelism => text.push_str(
             "with the strategy fixed it is a number of 1 to 9 digits, and not zero",
         ),
-        SettingsFault::BadFactor => (
-            "junit.jupiter.execution.parallel.config.dynamic.factor",
+        SettingsFault::BadFactor => text.push_str(
             "it has 1 to 6 digits, then perhaps a point and 1 to 4 digits, and is not zero",
         ),
     }
@@ -33,13 +29,14 @@ fn push_value(
     fault: SettingsFault,
     value: Option<&str>,
 ) -> Result<(), AllocError> {
-    let (key, said) = asked_by(fault);
-    let Some(value) = value else {
-        return write!(text, "{key} has no value: {said}\n");
-    };
-    write!(text, "{key} is {value:?}: {said}")?;
-    if let SettingsFault::BadStrategy = fault {
-        push_nearest(alloc, text, STRATEGIES.as_slice(), value)?;
+    let key = key_judged(fault);
+    match value {
+        Some(value) => write!(text, "{key} is {value:?}: ")?,
+        None => write!(text, "{key} has no value: ")?,
+    }
+    push_allowed(text, fault)?;
+    if let (SettingsFault::BadStrategy, Some(value)) = (fault, value) {
+        push_nearest(alloc, text, strategy_names().as_slice(), value)?;
     }
     text.push_str("\n")
 }
@@ -64,7 +61,8 @@ fn push_workers(text: &mut String, options: &Options, suite: &Suite) -> Result<(
             text,
             "It asks for {workers}, and there are 64 at most: lower"
         )?;
-        text.push_str(" junit.jupiter.execution.parallel.config.fixed.parallelism.\n")?;
+        let key = key_judged(SettingsFault::BadParallelism);
+        write!(text, " {key}.\n")?;
     }
     Ok(())
 }
@@ -83,8 +81,8 @@ fn push_over(
     };
     match fault {
         Some(fault) => {
-            let (key, _) = asked_by(fault);
-            push_value(alloc, text, fault, value_of(options, &suite, key))
+            let value = value_of(options, &suite, key_judged(fault));
+            push_value(alloc, text, fault, value)
         }
         None => push_workers(text, options, &suite),
     }

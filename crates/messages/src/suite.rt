@@ -1,22 +1,27 @@
 //! What is wrong with a suite, and where.
 
-use crate::attributes::{KNOWN, first_trouble, key_of, locks_in, looks_like_attribute};
+use crate::attributes::{first_trouble, key_of, known, locks_in, looks_like_attribute};
 use crate::bytes::{last_line, text_of};
-use crate::line::{VERDICTS, WORDS, cut, indentation, where_stands, without_front};
+use crate::line::{
+    after_verdicts, cut, indentation, line_words, verdict_forms, where_stands, without_front,
+};
 use crate::lines::{deepest, line_at, may_stand, same_node};
 use crate::marked::{push_marked, push_marked_rest};
-use crate::nearest::{is_known, push_nearest};
+use crate::nearest::push_nearest;
 use config_params::ParamsFault;
 use descriptor::TreeFault;
 use std::alloc::{AllocError, Global};
-use suite_text::SuiteFault;
+use suite_text::{LineWord, SuiteFault, Verdict, Word};
 
 /// Which limit the line of a node is over: that of its name, of a lock's key, of its locks, of its
 /// reason, or else of its unique id.
 fn limit_passed(alloc: Global, line: &str) -> &'static str {
     let (first, rest) = cut(without_front(line));
     let (name, more) = cut(rest);
-    let behind = first_trouble(alloc, first, more).0;
+    let behind = match Word::spelled(first) {
+        Some(word) => first_trouble(alloc, word, more).0,
+        None => more,
+    };
     let (verdict, reason) = cut(behind);
     let (keys, longest) = locks_in(more.strip_suffix(behind).unwrap_or(more));
     if name.len() > 1_024 {
@@ -25,7 +30,7 @@ fn limit_passed(alloc: Global, line: &str) -> &'static str {
         "the key of a lock has at most 1,024 bytes"
     } else if keys > 16 {
         "a node has locks on 16 keys at most"
-    } else if verdict == "disabled" && reason.len() > 1_024 {
+    } else if matches!(Verdict::spelled(verdict), Some(Verdict::Disabled)) && reason.len() > 1_024 {
         "a reason has at most 1,024 bytes"
     } else {
         "a unique id has at most 64 levels and 1,024 bytes, and with this node its id has more"
@@ -74,11 +79,11 @@ impl<'a> Spot<'a> {
         self,
         alloc: Global,
         text: &mut String,
-        first: &str,
+        first: Word,
         rest: &str,
     ) -> Result<(), AllocError> {
         let (word, behind) = cut(rest);
-        if first == "engine" {
+        if let Word::Engine = first {
             return self.push_said(
                 alloc,
                 text,
@@ -86,15 +91,16 @@ impl<'a> Spot<'a> {
                 "an engine has a name and tags, and nothing else",
             );
         }
-        if word == "pass" {
+        if let Some(Verdict::Pass) = Verdict::spelled(word) {
             return self.push_said(alloc, text, behind, "nothing stands behind pass");
         }
-        let said = if looks_like_attribute(word) {
-            "this line may have no such attribute"
-        } else {
-            "neither an attribute nor a verdict: pass, fail TEXT, abort TEXT or disabled TEXT"
-        };
-        self.push_unknown(alloc, text, rest, said, KNOWN.as_slice())
+        if looks_like_attribute(word) {
+            let said = "this line may have no such attribute";
+            return self.push_unknown(alloc, text, rest, said, known().as_slice());
+        }
+        let forms = verdict_forms(alloc, Verdict::all().as_slice())?;
+        let said = format!(in alloc; "neither an attribute nor a verdict: {forms}")?;
+        self.push_unknown(alloc, text, rest, said.as_str(), known().as_slice())
     }
 
     /// Appends what is wrong behind the first word, which may stand there.
@@ -102,7 +108,7 @@ impl<'a> Spot<'a> {
         self,
         alloc: Global,
         text: &mut String,
-        first: &str,
+        first: Word,
         rest: &str,
     ) -> Result<(), AllocError> {
         let (name, more) = cut(rest);
@@ -118,10 +124,11 @@ impl<'a> Spot<'a> {
     /// Appends what is wrong with an `after` line that stands in a class.
     fn push_after(self, alloc: Global, text: &mut String, rest: &str) -> Result<(), AllocError> {
         let (word, behind) = cut(rest);
-        let is_whole = match word {
-            "pass" => behind.is_empty(),
-            "fail" | "abort" => true,
-            _ => false,
+        let verdict = Verdict::spelled(word);
+        let is_whole = match verdict {
+            Some(Verdict::Pass) => behind.is_empty(),
+            Some(Verdict::Fail | Verdict::Abort) => true,
+            Some(Verdict::Disabled) | None => false,
         };
         if is_whole {
             return self.push_said(
@@ -131,15 +138,17 @@ impl<'a> Spot<'a> {
                 "a class has one after line at most",
             );
         }
-        if word == "pass" {
+        if let Some(Verdict::Pass) = verdict {
             return self.push_said(alloc, text, behind, "nothing stands behind pass");
         }
+        let forms = verdict_forms(alloc, Verdict::of_bodies().as_slice())?;
+        let said = format!(in alloc; "{forms} belongs there")?;
         self.push_unknown(
             alloc,
             text,
             rest,
-            "pass, fail TEXT or abort TEXT belongs there",
-            VERDICTS.as_slice(),
+            said.as_str(),
+            after_verdicts().as_slice(),
         )
     }
 
@@ -157,17 +166,16 @@ impl<'a> Spot<'a> {
                 "a tab stands there: a level is two spaces, and one space stands between words";
             return self.push_said(alloc, text, start, said);
         }
-        if !is_known(WORDS.as_slice(), first) {
+        let Some(word) = LineWord::spelled(first) else {
             let said = "no line begins with that word";
-            return self.push_unknown(alloc, text, start, said, WORDS.as_slice());
+            return self.push_unknown(alloc, text, start, said, line_words().as_slice());
+        };
+        let stands = may_stand(lines, self.number, word);
+        match word {
+            LineWord::After if stands => self.push_after(alloc, text, rest),
+            LineWord::Node(word) if stands => self.push_behind(alloc, text, word, rest),
+            _ => self.push_said(alloc, text, start, where_stands(word)),
         }
-        if !may_stand(lines, self.number, first) {
-            return self.push_said(alloc, text, start, where_stands(first));
-        }
-        if first == "after" {
-            return self.push_after(alloc, text, rest);
-        }
-        self.push_behind(alloc, text, first, rest)
     }
 
     /// Appends why the line may not begin with so many spaces.
@@ -271,8 +279,9 @@ fn push_line(
         }
         SuiteFault::MissingVerdict(number) => {
             let line = line_at(lines, number);
-            let said = "a verdict belongs at the end: pass, fail TEXT, abort TEXT or disabled TEXT";
-            Spot { line, number }.push_said(alloc, text, "", said)
+            let forms = verdict_forms(alloc, Verdict::all().as_slice())?;
+            let said = format!(in alloc; "a verdict belongs at the end: {forms}")?;
+            Spot { line, number }.push_said(alloc, text, "", said.as_str())
         }
         SuiteFault::Refused {
             fault,

@@ -3,12 +3,16 @@
 use crate::bytes::text_of;
 use crate::lines::class_names;
 use crate::marked::push_marked;
-use crate::nearest::{is_known, push_nearest};
-use crate::options::{DETAILS, THEMES, form_of, option_of, pair_option};
+use crate::nearest::push_nearest;
+use crate::options::{form_of, option_of, pair_option};
 use config_params::ParamsFault;
-use launcher::{Given, processors_named, ring_named};
+use launcher::option_names::{
+    DETAILS, DETAILS_THEME, EXCLUDE_TAG, INCLUDE_TAG, PROCESSORS, REPLAY, RING, SELECT_UNIQUE_ID,
+};
+use launcher::{Details, Given, processors_named, ring_named, theme_names, theme_of};
 use selectors::SelectorKind;
 use std::alloc::{AllocError, Global};
+use step_text::step_forms;
 use tag_expr::{TagExpr, TagFault};
 use unique_id::{UidFault, UniqueId};
 
@@ -20,8 +24,8 @@ fn push_option(
     value: &str,
     at: usize,
 ) -> Result<(), AllocError> {
-    let line = format!(in alloc; "{option} {value}")?;
-    let front = option.len().saturating_add(1);
+    let line = format!(in alloc; "--{option} {value}")?;
+    let front = option.len().saturating_add(3);
     push_marked(alloc, text, line.as_str(), front.saturating_add(at))
 }
 
@@ -33,7 +37,7 @@ fn push_choice(
     value: &str,
     known: &[&str],
 ) -> Result<(), AllocError> {
-    write!(text, "{option} is one of")?;
+    write!(text, "--{option} is one of")?;
     for (index, name) in known.iter().enumerate() {
         let sign = if index == 0 { "" } else { "," };
         write!(text, "{sign} {name}")?;
@@ -51,7 +55,7 @@ fn push_range(
     value: &str,
     most: &str,
 ) -> Result<(), AllocError> {
-    write!(text, "{option} is a number from 1 to {most}\n")?;
+    write!(text, "--{option} is a number from 1 to {most}\n")?;
     push_option(alloc, text, option, value, 0)
 }
 
@@ -63,23 +67,23 @@ pub(crate) fn push_words(
     given: &Given<'_>,
 ) -> Result<(), AllocError> {
     if let Some(name) = given.details {
-        if !is_known(DETAILS.as_slice(), name) {
-            return push_choice(alloc, text, "--details", name, DETAILS.as_slice());
+        if Details::named(name).is_none() {
+            return push_choice(alloc, text, DETAILS, name, Details::names().as_slice());
         }
     }
     if let Some(name) = given.theme {
-        if !is_known(THEMES.as_slice(), name) {
-            return push_choice(alloc, text, "--details-theme", name, THEMES.as_slice());
+        if theme_of(name).is_none() {
+            return push_choice(alloc, text, DETAILS_THEME, name, theme_names().as_slice());
         }
     }
     if let Some(number) = given.processors {
         if processors_named(given.processors).is_err() {
-            return push_range(alloc, text, "--processors", number, "1,024");
+            return push_range(alloc, text, PROCESSORS, number, "1,024");
         }
     }
     if let Some(number) = given.ring {
         if ring_named(given.ring).is_err() {
-            return push_range(alloc, text, "--ring", number, "16,384");
+            return push_range(alloc, text, RING, number, "16,384");
         }
     }
     Ok(())
@@ -106,7 +110,7 @@ pub(crate) fn push_step(
             )?;
             push_nearest_step(alloc, text, word)?;
             text.push_str("\n")?;
-            return push_option(alloc, text, "--replay", replay, at);
+            return push_option(alloc, text, REPLAY, replay, at);
         }
         at = at.saturating_add(word.len()).saturating_add(1);
     }
@@ -115,25 +119,8 @@ pub(crate) fn push_step(
 
 /// Appends the step that is nearest to that of a word.
 fn push_nearest_step(alloc: Global, text: &mut String, word: &str) -> Result<(), AllocError> {
-    let known = [
-        "claim:N",
-        "own:N",
-        "draw",
-        "show",
-        "admit",
-        "done",
-        "settle",
-        "look",
-        "weigh",
-        "take",
-        "give",
-        "give_up",
-        "add_child",
-        "notice",
-        "raise",
-    ];
     let (_, step) = word.split_once(':').unwrap_or(("", word));
-    push_nearest(alloc, text, known.as_slice(), step)
+    push_nearest(alloc, text, step_forms().as_slice(), step)
 }
 
 /// The selector of this number, from 1.
@@ -166,7 +153,7 @@ fn push_id(alloc: Global, text: &mut String, id: &str) -> Result<(), AllocError>
     let said = said_of_id(fault);
     write!(text, "{said}\n")?;
     let at = fault.place().unwrap_or(0);
-    push_option(alloc, text, "--select-unique-id", id, at)
+    push_option(alloc, text, SELECT_UNIQUE_ID, id, at)
 }
 
 /// Appends which selector cannot be read.
@@ -215,7 +202,7 @@ pub(crate) fn push_covering(
     let option = option_of(kind);
     write!(
         text,
-        "Selector {number} is {option} {value:?}, and no node of the suite has that name"
+        "Selector {number} is --{option} {value:?}, and no node of the suite has that name"
     )?;
     if let SelectorKind::Class = kind {
         push_nearest_class(alloc, text, value, suite)?;
@@ -271,7 +258,7 @@ pub(crate) fn push_tags(
         alloc,
         text,
         fault,
-        "--include-tag",
+        INCLUDE_TAG,
         given.include_tags.as_slice(),
     )? {
         return Ok(());
@@ -280,7 +267,7 @@ pub(crate) fn push_tags(
         alloc,
         text,
         fault,
-        "--exclude-tag",
+        EXCLUDE_TAG,
         given.exclude_tags.as_slice(),
     )?;
     Ok(())
@@ -307,7 +294,7 @@ pub(crate) fn push_pair(
             None => "",
         },
     };
-    write!(text, "{option} is KEY=VALUE: {said}\n")?;
+    write!(text, "--{option} is KEY=VALUE: {said}\n")?;
     let at = if let ParamsFault::EmptyKey(_) = fault {
         0
     } else {
