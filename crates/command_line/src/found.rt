@@ -5,13 +5,13 @@ ghost use Rattle.clap.specs.Words.{all_of, found_of, first_of, rows_of};
 ghost use Rattle.launcher.specs.Given.{behind, texts_of, values_of};
 ghost use Rattle.command_line.specs.Found.{all_found as all_in, is_found, of_kind, selectors_found, values_in};
 
-use crate::option_names::{
+use clap::ArgMatches;
+use launcher::Given;
+use launcher::option_names::{
     CONFIG, DETAILS, DETAILS_THEME, EXCLUDE_TAG, FAIL_FAST, FAIL_IF_NO_TESTS, INCLUDE_TAG,
     PROCESSORS, REPLAY, RING, SCHEDULE, SELECT_CLASS, SELECT_METHOD, SELECT_PACKAGE,
     SELECT_UNIQUE_ID, SYSTEM,
 };
-use clap::ArgMatches;
-use launcher::Given;
 use selectors::SelectorKind;
 use std::alloc::{AllocError, Global};
 

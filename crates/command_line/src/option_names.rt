@@ -1,4 +1,4 @@
-//! The program's options, as clap is told of them.
+//! The program's options, as clap is told of them, each with its help.
 
 ghost use Rattle.std.specs.Prelude.{◌≡◌, IfOk, false};
 ghost use Rattle.clap.specs.Words.{app_of, rule_of, with_rule};
@@ -6,39 +6,12 @@ ghost use Rattle.command_line.specs.Commands.{program, printing, configuring, fi
 ghost use Rattle.command_line.specs.Commands.{flag};
 
 use clap::{Arg, ArgAction, Command};
+use launcher::option_names::{
+    CONFIG, DETAILS, DETAILS_THEME, EXCLUDE_TAG, FAIL_FAST, FAIL_IF_NO_TESTS, INCLUDE_TAG,
+    PROCESSORS, REPLAY, RING, SCHEDULE, SELECT_CLASS, SELECT_METHOD, SELECT_PACKAGE,
+    SELECT_UNIQUE_ID, SYSTEM,
+};
 use std::alloc::{AllocError, Global};
-
-pub(crate) const SELECT_UNIQUE_ID: &str = "select-unique-id";
-
-pub(crate) const SELECT_CLASS: &str = "select-class";
-
-pub(crate) const SELECT_METHOD: &str = "select-method";
-
-pub(crate) const SELECT_PACKAGE: &str = "select-package";
-
-pub(crate) const INCLUDE_TAG: &str = "include-tag";
-
-pub(crate) const EXCLUDE_TAG: &str = "exclude-tag";
-
-pub(crate) const CONFIG: &str = "config";
-
-pub(crate) const SYSTEM: &str = "system";
-
-pub(crate) const PROCESSORS: &str = "processors";
-
-pub(crate) const RING: &str = "ring";
-
-pub(crate) const DETAILS: &str = "details";
-
-pub(crate) const DETAILS_THEME: &str = "details-theme";
-
-pub(crate) const FAIL_IF_NO_TESTS: &str = "fail-if-no-tests";
-
-pub(crate) const FAIL_FAST: &str = "fail-fast";
-
-pub(crate) const SCHEDULE: &str = "schedule";
-
-pub(crate) const REPLAY: &str = "replay";
 
 fn single<'a>(alloc: Global, name: &'a str, help: &'a str) -> Arg<'a>
     ensures rule { rule_of result ≡ single name.now }

@@ -9,11 +9,11 @@ ghost use Rattle.command_line.specs.Words.{ReadsWords};
 
 use crate::closing::{Ending, close};
 use crate::kept::{Kept, nothing_kept};
-use crate::option_names::SELECT_UNIQUE_ID;
 use crate::program::{message_after, refuse};
 use crate::said::message_of;
 use crate::system_words::given_words;
 use crate::words::read_options;
+use launcher::option_names::SELECT_UNIQUE_ID;
 use launcher::{Details, LaunchFault, Options, run_options_watched};
 use progress::{Failures, Progress, failed_text};
 use std::alloc::Global;
