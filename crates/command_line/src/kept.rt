@@ -2,9 +2,7 @@
 
 use std::alloc::Global;
 use std::io::{self, Read};
-
-/// As many bytes as the longest suite has.
-const LONGEST_SUITE: usize = 1_048_576;
+use suite_text::LONGEST_SUITE;
 
 /// A reader of another's bytes, and the bytes that it gave; what there was no memory for is not kept.
 #[derive(Drop)]

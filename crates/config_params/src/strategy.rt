@@ -9,15 +9,13 @@ use crate::blanks::{Blanks, without_ends};
 use crate::numbers::{factor_in, parallelism_in};
 use crate::params::{Params, get_over};
 use crate::settings_fault::SettingsFault;
+use plan_events::MOST_WORKERS;
 
 const STRATEGY: &str = "junit.jupiter.execution.parallel.config.strategy";
 
 const PARALLELISM: &str = "junit.jupiter.execution.parallel.config.fixed.parallelism";
 
 const FACTOR: &str = "junit.jupiter.execution.parallel.config.dynamic.factor";
-
-/// The most workers that the dynamic strategy gives.
-const MOST_WORKERS: u128 = 64;
 
 /// How the number of workers is found.
 #[derive(Clone, Copy, Drop)]
@@ -68,7 +66,7 @@ fn scaled(processors: u32, factor: u64) -> u32
     ensures { result ≡ scaled processors factor }
 {
     let workers = processors as u128 * factor as u128 / 10_000;
-    workers.min(MOST_WORKERS).max(1) as u32
+    workers.min(u128::from(MOST_WORKERS)).max(1) as u32
 }
 
 /// The workers of a parallel run. Refusals: 34, then 32 or 33, which the strategy decides.

@@ -33,6 +33,7 @@ use descriptor::Tree;
 use exec_mode::modes;
 use listeners::WriteFault;
 use live_feed::{LiveFeed, Outlet};
+use plan_events::MOST_WORKERS;
 use resource_locks::Plan;
 use sched_core::Answers;
 use selectors::discover;
@@ -40,14 +41,11 @@ use std::alloc::{AllocError, Global};
 use std::io::{Read, Write};
 use std::sync::Wait;
 use std::thread::Threads;
-use suite_text::{Script, Suite};
+use suite_text::{LONGEST_SUITE, Script, Suite};
 use worker_pool::{Nobody, Watcher};
 
 /// How many bytes are read at most: one more than a suite may have tells that there are too many.
-const MOST_READ: usize = 1_048_577;
-
-/// The greatest number of workers.
-const MOST_WORKERS: u32 = 64;
+const MOST_READ: usize = LONGEST_SUITE + 1;
 
 /// The suite that a reader holds. Refused are a reader that fails (106) and what is no suite (10 to
 /// 17 and 100 to 103).
@@ -111,7 +109,7 @@ fn judge_workers(workers: u32) -> Result<(), LaunchFault>
     ensures refused { IfErr result (λ fault. (fault ≡ LaunchFault.TooManyWorkers)
         × (workers_refusal workers ≡ Some fault)) }
 {
-    if workers > MOST_WORKERS {
+    if workers > u32::from(MOST_WORKERS) {
         return Err(LaunchFault::TooManyWorkers);
     }
     Ok(())

@@ -3,10 +3,8 @@
 ghost use Rattle.std.specs.Prelude.{◌≡◌};
 
 use crate::status::Status;
+use crate::workers::MOST_WORKERS;
 use descriptor::NodeId;
-
-/// The greatest number of a worker. Workers are counted from 1.
-const LAST_WORKER: u8 = 64;
 
 /// The greatest number of a node.
 const LAST_NODE: u16 = 4095;
@@ -67,7 +65,7 @@ impl Event {
         ensures { result ≡ is_lawful self.now }
     {
         self.kind.fits(self.status)
-            && (1..=LAST_WORKER).contains(&self.worker)
+            && (1..=MOST_WORKERS).contains(&self.worker)
             && self.node.number() <= LAST_NODE
             && (self.node != NodeId::ROOT || self.kind.may_be_of_plan(self.status))
     }

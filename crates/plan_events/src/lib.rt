@@ -8,6 +8,7 @@ mod outcome;
 mod status;
 mod texts;
 mod word;
+mod workers;
 
 pub use event::{Event, EventKind};
 pub use job::{Job, Pull};
@@ -15,3 +16,4 @@ pub use note::Note;
 pub use outcome::{Outcome, Reply};
 pub use status::Status;
 pub use texts::Texts;
+pub use workers::{CountFault, MOST_WORKERS, worker_count};

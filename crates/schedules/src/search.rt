@@ -7,14 +7,11 @@
 //! another worker takes the last one off, who then finishes the node.
 
 use crate::order::{Places, next_in_turn, places_of};
-use plan_events::Event;
+use plan_events::{Event, worker_count};
 use resource_locks::Plan;
 use sched_core::Answers;
 use scheduling::{Action, Step};
 use std::alloc::{AllocError, Global};
-
-/// The greatest number of workers.
-const MOST_WORKERS: u32 = 64;
 
 /// What a worker has to do yet that needs no event, and what it has.
 #[derive(Clone, Copy)]
@@ -139,10 +136,10 @@ pub(crate) fn steps_toward(
     workers: u32,
     history: &[Event],
 ) -> Result<Vec<Step>, AllocError> {
-    if workers > MOST_WORKERS {
+    let Ok(last) = worker_count(workers) else {
         return Ok(Vec::new(alloc));
-    }
-    let mut search = Search::new(alloc, plan, workers as u8, history)?;
+    };
+    let mut search = Search::new(alloc, plan, last, history)?;
     for place in 0..history.len() {
         search.follow(plan, answers, history, place)?;
     }

@@ -9,11 +9,9 @@ use crate::step_names::{
     ADD_CHILD, ADMIT, CLAIM, DONE, DRAW, GIVE, GIVE_UP, LOOK, NOTICE, OWN, RAISE, READ, SETTLE,
     SHOW, TAKE, WEIGH,
 };
+use plan_events::MOST_WORKERS;
 use scheduling::{Action, Step};
 use std::alloc::AllocError;
-
-/// The greatest number of a worker that a text can name.
-const LAST_WORKER: u8 = 64;
 
 /// Appends what a worker does.
 fn push_action(text: &mut String, action: Action) -> Result<(), AllocError>
@@ -81,7 +79,7 @@ fn is_namable(step: Step) -> bool
     match step {
         Step::Read => true,
         // a node's number has 16 bits, and a text can name each of these
-        Step::Worker(worker, _) => 1 <= worker && worker <= LAST_WORKER,
+        Step::Worker(worker, _) => 1 <= worker && worker <= MOST_WORKERS,
     }
 }
 

@@ -38,7 +38,7 @@ pub use verdicts::Verdict;
 pub use words::Word;
 
 /// The greatest number of bytes of a suite text.
-const LONGEST_SUITE: usize = 1_048_576;
+pub const LONGEST_SUITE: usize = 1_048_576;
 
 /// The number of the line that follows these bytes, from 1.
 fn line_after(bytes: &[u8]) -> usize
