@@ -18,7 +18,7 @@ use Rattle.event_history.specs.Results.{Jobs, NoJob, Alone, Pulled, Around, jobs
 use Rattle.event_history.specs.History.{IsLegal}
 use Rattle.event_history.specs.Inside.Following.{has_failed, has_failed_by, registered_in, IsParentOpen, IsUnopened, MayFinish, ChildrenOk, ByKind, MayFollow}
 use Rattle.event_history.proofs.Trees.{is_child_test, test_is_child}
-use Rattle.event_history.proofs.Snoc.{legal_snoc, legal_nil}
+use Rattle.event_history.proofs.AddedEvent.{legal_added, legal_nil}
 use Rattle.event_history.proofs.Front.{legal_front}
 use Rattle.event_history.proofs.Needed.{needed}
 
@@ -393,7 +393,7 @@ module _ (p : PlanParts) (tree : IsPlanTree p.tree) (replies : ℕ → List Repl
   all_use_from h [] legal q = subst (IsLegal p replies workers) (sym (append-nil h)) legal
   all_use_from h (e ∷ rest) legal q =
       let r = and_parts (may_follow p replies workers h e) (all_follow p replies workers (h ++ e ∷ []) rest) q in
-      subst (IsLegal p replies workers) (append_assoc h (e ∷ []) rest) (all_use_from (h ++ e ∷ []) rest (legal_snoc p tree replies workers h e legal (follow_use p replies workers h e r.0)) r.1)
+      subst (IsLegal p replies workers) (append_assoc h (e ∷ []) rest) (all_use_from (h ++ e ∷ []) rest (legal_added p tree replies workers h e legal (follow_use p replies workers h e r.0)) r.1)
 
   all_needed : (h rest : List Event) → IsLegal p replies workers (h ++ rest) → all_follow p replies workers h rest ≡ true
   all_needed h [] legal = refl

@@ -13,8 +13,8 @@ use Rattle.event_history.specs.History.{IsLegal}
 use Rattle.event_history.specs.Order.{goes_first, is_opening, IsInOrder}
 use Rattle.event_history.specs.Inside.Following.{started_by, MayFollow, MayGoNext}
 use Rattle.event_history.proofs.Places.{get_next, get_back, has_at, before_front, found, is_of-from}
-use Rattle.event_history.proofs.Snoc.{legal_snoc, legal_nil}
-use Rattle.event_history.proofs.OrderSnoc.{order_snoc, order_nil}
+use Rattle.event_history.proofs.AddedEvent.{legal_added, legal_nil}
+use Rattle.event_history.proofs.AddedEventOrder.{order_added, order_nil}
 use Rattle.event_history.proofs.Front.{legal_front, order_front}
 use Rattle.event_history.proofs.Needed.{needed}
 use Rattle.event_history.proofs.Deciding.{implies, implies_use, implies_from, all_below, all_use, all_from, is_elder, elder_use, elder_from, may_follow, follow_use, follow_from}
@@ -84,7 +84,7 @@ module _ (p : PlanParts) (tree : IsPlanTree p.tree) (replies : ℕ → List Repl
       let s = and_parts (may_follow p replies workers h e) (may_go_next p h e) r.0 in
       let may : MayFollow p replies workers h e = follow_use p replies workers h e s.0 in
       subst (IsInOrder p) (append_assoc h (e ∷ []) rest)
-      (go_use (h ++ e ∷ []) rest (legal_snoc p tree replies workers h e legal may) (order_snoc p tree replies workers h e legal may order (next_use p replies workers h e may.inside s.1)) r.1)
+      (go_use (h ++ e ∷ []) rest (legal_added p tree replies workers h e legal may) (order_added p tree replies workers h e legal may order (next_use p replies workers h e may.inside s.1)) r.1)
 
   go_needed : (h rest : List Event) → IsLegal p replies workers (h ++ rest) → IsInOrder p (h ++ rest) → all_go p replies workers h rest ≡ true
   go_needed h [] legal order = refl

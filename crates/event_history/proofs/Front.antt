@@ -13,7 +13,7 @@ use Rattle.event_history.specs.Results.{jobs_of, Ends}
 use Rattle.event_history.specs.History.{IsStopped, StoppedIs, IsUnregistered, HasResult, IsLegal}
 use Rattle.event_history.specs.Order.{IsInOrder}
 use Rattle.event_history.proofs.Places.{get_front, get_back, stands_later, before_later, before_front, stands_within}
-use Rattle.event_history.proofs.Snoc.{registered_front}
+use Rattle.event_history.proofs.AddedEvent.{registered_front}
 
 module _ (p : PlanParts) (replies : ℕ → List Reply) (workers : ℕ) (g r : List Event) (legal : IsLegal p replies workers (g ++ r)) where
   front : (i : ℕ) (k : EventKind) (n : ℕ) → i < length g → StandsBefore (g ++ r) i k n → StandsBefore g i k n

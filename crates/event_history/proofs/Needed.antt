@@ -15,7 +15,7 @@ use Rattle.event_history.specs.Results.{jobs_of, Ends}
 use Rattle.event_history.specs.History.{StoppedIs, registered_before, IsLegal}
 use Rattle.event_history.specs.Inside.Following.{has_failed_by, registered_in, IsParentOpen, MayFinish, ChildrenOk, ByKind, MayFollow}
 use Rattle.event_history.proofs.Places.{get_front, get_next, get_back, has_stands, has_at, stands_within, stands_later, before_front, finds, found}
-use Rattle.event_history.proofs.Snoc.{registered_front}
+use Rattle.event_history.proofs.AddedEvent.{registered_front}
 
 module _ (p : PlanParts) (replies : ℕ → List Reply) (workers : ℕ) (h : List Event) (e : Event) (legal : IsLegal p replies workers (h ++ e ∷ [])) where
   last : slice_get (h ++ e ∷ []) (length h) ≡ Some e

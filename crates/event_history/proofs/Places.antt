@@ -8,11 +8,11 @@ use Rattle.plan_events.specs.declared.event.Event.{Event}
 use Rattle.event_history.specs.Places.{same_kind, StandsAt, StandsBefore, FailsBefore, IsSettledAt, is_of, has_event, has}
 
 -- an element of a list that has one more
-pub get_snoc : {X : Type 0} (h : List X) (e f : X) (i : ℕ) → slice_get (h ++ e ∷ []) i ≡ Some f → (slice_get h i ≡ Some f) ⊎ ((i ≡ length h) × (f ≡ e))
-get_snoc [] e f zero q = inr (refl, sym (same_Some e f q))
-get_snoc [] e f (suc i) q = absurd (none-some f q)
-get_snoc (x ∷ h) e f zero q = inl q
-get_snoc (x ∷ h) e f (suc i) q = elim (get_snoc h e f i q) [ inl a ↦ inl a | inr b ↦ inr (ap suc b.0, b.1) ]
+pub get_added : {X : Type 0} (h : List X) (e f : X) (i : ℕ) → slice_get (h ++ e ∷ []) i ≡ Some f → (slice_get h i ≡ Some f) ⊎ ((i ≡ length h) × (f ≡ e))
+get_added [] e f zero q = inr (refl, sym (same_Some e f q))
+get_added [] e f (suc i) q = absurd (none-some f q)
+get_added (x ∷ h) e f zero q = inl q
+get_added (x ∷ h) e f (suc i) q = elim (get_added h e f i q) [ inl a ↦ inl a | inr b ↦ inr (ap suc b.0, b.1) ]
 
 pub get_front : {X : Type 0} (h g : List X) (f : X) (i : ℕ) → slice_get h i ≡ Some f → slice_get (h ++ g) i ≡ Some f
 get_front [] g f i q = absurd (none-some f q)
@@ -109,9 +109,9 @@ pub settled_more : {h : List Event} (i j n : ℕ) → i ≤ j → IsSettledAt h 
 settled_more i j n le s = elim s [ inl a ↦ inl (before_more le a) | inr b ↦ inr (before_more le b) ]
 
 -- what stands in a list with one more event stood there, or is that event
-pub stands_snoc : (h : List Event) (e : Event) (i : ℕ) (k : EventKind) (n : ℕ) → StandsAt (h ++ e ∷ []) i k n → StandsAt h i k n ⊎ ((i ≡ length h) × (e.kind ≡ k) × (e.node ≡ n))
-stands_snoc h e i k n s =
-    elim (get_snoc h e s.event i s.here) [
+pub stands_added : (h : List Event) (e : Event) (i : ℕ) (k : EventKind) (n : ℕ) → StandsAt (h ++ e ∷ []) i k n → StandsAt h i k n ⊎ ((i ≡ length h) × (e.kind ≡ k) × (e.node ≡ n))
+stands_added h e i k n s =
+    elim (get_added h e s.event i s.here) [
       | inl a ↦ inl (record { event = s.event; here = a; kind = s.kind; node = s.node })
       | inr b ↦ inr (b.0, ap (λ (x : Event). x.kind) (sym b.1) ∙ s.kind, ap (λ (x : Event). x.node) (sym b.1) ∙ s.node)
     ]

@@ -22,7 +22,7 @@ use Rattle.sched_core.specs.Replies.{reply_of, replies_of as replies_by}
 use Rattle.table_rule.specs.Picture.{replies_in, replies_of}
 use Rattle.table_rule.specs.Slots.{slot_count}
 use Rattle.table_rule.proofs.ThatCount.{counted_among}
-use Rattle.table_rule.proofs.Widening.{wide_legal, wide_text}
+use Rattle.table_rule.proofs.MoreReplies.{wide_legal, wide_text}
 use Rattle.worker_pool.specs.Reports.{run_of, AreParts, AreTexts, IsReport, IsRefusedRun}
 use Rattle.worker_pool.specs.declared.report.RunCause.{RunCause}
 use Rattle.worker_pool.specs.declared.report.RunCause.TheVariants.{Table, NoWorker}

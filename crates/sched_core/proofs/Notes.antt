@@ -23,7 +23,7 @@ use Rattle.event_history.proofs.Expectation.{text_in}
 use Rattle.event_history.proofs.Places.{is_of-from}
 use Rattle.event_history.proofs.Spares.{plan_tree}
 use Rattle.event_history.proofs.Texts.{text_told, text_is}
-use Rattle.scheduling.proofs.Basics.{event_snoc, event_same}
+use Rattle.scheduling.proofs.Basics.{event_added, event_same}
 use Rattle.sched_core.specs.Replies.{reply_of, replies_of}
 use Rattle.sched_core.specs.Texts.{note_by, jobs_note, own_note, skip_note, note_of, AreTexts}
 
@@ -90,7 +90,7 @@ module _ (p : PlanParts) (answers : List (ℕ × Reply)) where
   pub tells_skip : (h : List Event) (e : Event) → e.kind ≡ Skipped → note_of p answers (h ++ e ∷ []) e.node ≡ Some (skip_note p e.node)
   tells_skip h e kind =
       ap (λ (b : Bool). note_with e.node b (has Finished e.node (h ++ e ∷ [])))
-      (event_snoc (is_of Skipped e.node) h e ∙ or_right (has Skipped e.node h) (is_of Skipped e.node e) (is_of-from Skipped e.node e kind refl))
+      (event_added (is_of Skipped e.node) h e ∙ or_right (has Skipped e.node h) (is_of Skipped e.node e) (is_of-from Skipped e.node e kind refl))
 
   -- with a finish, the note is that of a node whose finish stands
   by_finish : (h : List Event) (e : Event) → e.kind ≡ Finished → note_of p answers (h ++ e ∷ []) e.node ≡ note_with e.node (has Skipped e.node h) true
@@ -98,7 +98,7 @@ module _ (p : PlanParts) (answers : List (ℕ × Reply)) where
       ap (λ (b : Bool). note_with e.node b (has Finished e.node (h ++ e ∷ [])))
       (event_same (is_of Skipped e.node) h e (not_of_kind Skipped e.node e (ap (λ (k : EventKind). same_kind k Skipped) kind)))
       ∙ ap (note_with e.node (has Skipped e.node h))
-      (event_snoc (is_of Finished e.node) h e ∙ or_right (has Finished e.node h) (is_of Finished e.node e) (is_of-from Finished e.node e kind refl))
+      (event_added (is_of Finished e.node) h e ∙ or_right (has Finished e.node h) (is_of Finished e.node e) (is_of-from Finished e.node e kind refl))
 
   finish_over : (h : List Event) (e : Event) → e.kind ≡ Finished → note_of p answers h e.node ≢ None → note_of p answers (h ++ e ∷ []) e.node ≡ note_of p answers h e.node
   finish_over h e kind some = by_finish h e kind ∙ go (has Skipped e.node h) (has Finished e.node h) some

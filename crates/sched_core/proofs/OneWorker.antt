@@ -23,12 +23,12 @@ use Rattle.scheduling.specs.Schedule.{is_open, IsFirstOpen, IsNextBy, IsNext}
 use Rattle.scheduling.specs.Inside.Stages.{Stage}
 use Rattle.scheduling.specs.State.{State, status_at}
 use Rattle.scheduling.specs.Inside.Work.{work_left, IsClear}
-use Rattle.scheduling.proofs.Direct.{after_direct}
+use Rattle.scheduling.proofs.DecidedInPlace.{after_direct}
 use Rattle.scheduling.proofs.Going.{going_open, going_locking, going_weighed, going_backing, going_next}
 use Rattle.scheduling.proofs.Headline.{core_plan}
 use Rattle.scheduling.proofs.LowestOpen.{row_none_below, claims_first}
 use Rattle.scheduling.proofs.Steps.{decided_free}
-use Rattle.scheduling.proofs.Scheduled.{next_falls, first_open_one, leads_read, leads_work}
+use Rattle.scheduling.proofs.Scheduled.{next_lessens, first_open_one, leads_read, leads_work}
 use Rattle.sched_core.specs.declared.machine.Machine.{Machine}
 use Rattle.sched_core.specs.Drives.{reply_given, LeadsTo, IsOnSchedule}
 use Rattle.sched_core.specs.Inside.Fields.{state_of, seated, IsSound, IsAnswered}
@@ -128,7 +128,7 @@ module _ (p : PlanParts) (answers : List (ℕ × Reply)) (old new : Machine) (so
   less_left =
       let t = taken in
       subst (λ (s : State). work_left p s < work_left p (state_of old)) (sym t.is_new)
-      (next_falls p (core_plan p sound.plan.tree) (replies_of answers) (state_of old) t.to seat a (reply_for p answers seat) sound.live.kept (replied p answers (state_of old) 0 a seat at) at (clear p answers old sound going.0 going.1 seat at seat.task refl) next t.leads)
+      (next_lessens p (core_plan p sound.plan.tree) (replies_of answers) (state_of old) t.to seat a (reply_for p answers seat) sound.live.kept (replied p answers (state_of old) 0 a seat at) at (clear p answers old sound going.0 going.1 seat at seat.task refl) next t.leads)
 
   pub none_below : (lowest found : ℕ) → NoneOpenBelow (state_of old) lowest
       → ((decided_seat p (reply_for p answers seat) seat).task ≡ Free → seat.hand ≡ None → IsFirstOpen (state_of old) found)

@@ -5,7 +5,7 @@ use Rattle.std.proofs.Math.Seq.{set-append_seam, get_or-append_seam}
 use Rattle.std.proofs.lemmas.Bool.{cases_eq}
 use Rattle.plan_events.specs.declared.event.Event.{Event}
 use Rattle.event_history.specs.Parts.{part_of}
-use Rattle.scheduling.proofs.Frames.{part_mine, part_other}
+use Rattle.scheduling.proofs.LeftAlone.{part_mine, part_other}
 use Rattle.sched_core.specs.Inside.Fields.{parts_upto}
 
 pub parts_len : (n : ℕ) (h : List Event) → length (parts_upto n h) ≡ n

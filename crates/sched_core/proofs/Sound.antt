@@ -14,7 +14,7 @@ use Rattle.scheduling.specs.Rows.{Works, Dispatches, after, after_seat}
 use Rattle.scheduling.specs.Rows.{Step as Move}
 use Rattle.scheduling.specs.Runs.{IsReplied}
 use Rattle.scheduling.specs.State.{State}
-use Rattle.scheduling.proofs.Crew.{Crew, after_crew}
+use Rattle.scheduling.proofs.SameWorkers.{SameWorkers, after_same_workers}
 use Rattle.scheduling.proofs.Headline.{core_plan}
 use Rattle.never_stuck.specs.Inside.Live.{IsLive}
 use Rattle.never_stuck.proofs.Reach.{live_step}
@@ -87,7 +87,7 @@ sound_answered p answers old new step result sound is = go (after_step p answers
     go None q r = subst (IsSound p answers) (sym r.1) sound
     go (Some t) q r =
         let move = step_moves p answers (state_of old) t step q in
-        let crew : Crew (state_of old) (Some t) = subst (Crew (state_of old)) move.leads (after_crew p (state_of old) move.move) in
+        let crew : SameWorkers (state_of old) (Some t) = subst (SameWorkers (state_of old)) move.leads (after_same_workers p (state_of old) move.move) in
         record {
           plan = sound.plan;
           workers = (let w = sound.workers in let v = r.2.workers in ap (λ (s : State). length s.seats) r.1 ∙ crew.0 ∙ w ∙ sym v);

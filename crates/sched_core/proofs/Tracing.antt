@@ -7,7 +7,7 @@ use Rattle.resource_locks.specs.Plans.{PlanParts}
 use Rattle.unique_id.specs.Prefixes.{IsPrefix}
 use Rattle.event_history.specs.History.{IsLegal, IsComplete}
 use Rattle.event_history.specs.Parts.{part_of, EndsInPlan}
-use Rattle.event_history.proofs.Few.{legal_few}
+use Rattle.event_history.proofs.EventBound.{legal_few}
 use Rattle.event_history.proofs.Front.{prefix_legal}
 use Rattle.event_history.proofs.PartsOf.{part_prefix, ends_in_plan}
 use Rattle.event_history.proofs.Spares.{plan_tree}

@@ -174,13 +174,13 @@ pub first_none : (q : ℕ → Bool) (from size : ℕ) → first_from q from size
 first_none q from size e x l h = find_none q from (size - from) e x l (omega (arith, l, h))
 
 -- one event more
-pub event_snoc : (q : Event → Bool) (h : List Event) (e : Event) → has_event q (h ++ e ∷ []) ≡ (has_event q h || q e)
-event_snoc q [] e = or-false (q e)
+pub event_added : (q : Event → Bool) (h : List Event) (e : Event) → has_event q (h ++ e ∷ []) ≡ (has_event q h || q e)
+event_added q [] e = or-false (q e)
   where
     or-false : (a : Bool) → (a || false) ≡ a
     or-false true = refl
     or-false false = refl
-event_snoc q (x ∷ h) e = ap (λ (a : Bool). q x || a) (event_snoc q h e) ∙ regroup (q x) (has_event q h) (q e)
+event_added q (x ∷ h) e = ap (λ (a : Bool). q x || a) (event_added q h e) ∙ regroup (q x) (has_event q h) (q e)
   where
     regroup : (a b c : Bool) → (a || (b || c)) ≡ ((a || b) || c)
     regroup true b c = refl
@@ -191,4 +191,4 @@ or_no true b q = refl
 or_no false b q = q
 
 pub event_same : (q : Event → Bool) (h : List Event) (e : Event) → q e ≡ false → has_event q (h ++ e ∷ []) ≡ has_event q h
-event_same q h e f = event_snoc q h e ∙ or_no (has_event q h) (q e) f
+event_same q h e f = event_added q h e ∙ or_no (has_event q h) (q e) f

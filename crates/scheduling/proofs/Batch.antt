@@ -19,7 +19,7 @@ use Rattle.scheduling.specs.LinkLists.{IsLinked, chosen_child, stays, is_same_ch
 use Rattle.scheduling.proofs.Basics.{first_some, count_none}
 use Rattle.scheduling.proofs.Finding.{first_is}
 use Rattle.scheduling.proofs.Linking.{links_agree}
-use Rattle.scheduling.proofs.Spots.{and_same}
+use Rattle.scheduling.proofs.ChildLists.{and_same}
 
 -- a list of answers with one more
 pub table_more : (f : ℕ → Bool) (n : ℕ) (v : List Bool) (x : Bool) → v ≡ table f n → x ≡ f n → v ++ x ∷ [] ≡ table f (n + 1)

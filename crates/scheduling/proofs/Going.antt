@@ -44,7 +44,7 @@ use Rattle.scheduling.proofs.GoingBasics.{hidden_ready, hidden_claimed, hidden_s
 use Rattle.scheduling.proofs.GoingTurns.{IsStep, at_task, opening_turn, closing_turn, ending_turn}
 use Rattle.scheduling.proofs.GoingOpen.{some_open}
 use Rattle.scheduling.proofs.GoingLocks.{key_free}
-use Rattle.scheduling.proofs.GoingLines.{key_inside}
+use Rattle.scheduling.proofs.GoingSharedKeys.{key_inside}
 use Rattle.scheduling.proofs.GoingRows.{is_asking, opening_step, closing_step}
 use Rattle.scheduling.proofs.GoingFree.{free_step}
 use Rattle.scheduling.proofs.PlanOver.{plan_over}

@@ -31,7 +31,7 @@ use Rattle.scheduling.proofs.RowsUp.{maker_is}
 use Rattle.scheduling.proofs.RowsTwo.{waiting_hand}
 use Rattle.scheduling.proofs.GoingBasics.{hidden_claimed, settled_claimed, claimed_stage, opened_about, closed_about, seat_ok}
 use Rattle.scheduling.proofs.GoingWords.{spare_childless, maker_leaf}
-use Rattle.scheduling.proofs.GoingLines.{key_once, both_read}
+use Rattle.scheduling.proofs.GoingSharedKeys.{key_once, both_read}
 
 -- who holds a key
 sum_some : (f : ℕ → ℕ) (n : ℕ) → 0 < sum_below f n → (k : ℕ) × (k < n) × (0 < f k)

@@ -36,7 +36,7 @@ use Rattle.scheduling.proofs.GoingTurns.{IsStep, at_task, seats_go, opening_turn
 use Rattle.scheduling.proofs.GoingWords.{maker_leaf, settle_goes, admit_child_goes, offering_goes, passing_goes}
 use Rattle.scheduling.proofs.GoingCounts.{in_hand_goes, guard_goes_on, off_goes}
 use Rattle.scheduling.proofs.GoingLocks.{parent_runs, key_free}
-use Rattle.scheduling.proofs.GoingLines.{key_inside}
+use Rattle.scheduling.proofs.GoingSharedKeys.{key_inside}
 
 -- a task that asks for no reply
 abbrev pub is_asking : Task → Bool

@@ -11,7 +11,7 @@ use Rattle.scheduling.specs.Rows.{Step, after}
 use Rattle.scheduling.specs.Runs.{opening, IsReplied, AllReplied, or_stays, next, run, IsRight}
 use Rattle.scheduling.specs.Inside.Invariant.{IsCorePlan, IsKept}
 use Rattle.scheduling.specs.Shown.{IsPlaced}
-use Rattle.scheduling.proofs.Crew.{all_workers}
+use Rattle.scheduling.proofs.SameWorkers.{all_workers}
 use Rattle.scheduling.proofs.Steps.{after_keeps}
 use Rattle.scheduling.proofs.FirstState.{opening_is}
 use Rattle.scheduling.proofs.Placing.{run_placed}

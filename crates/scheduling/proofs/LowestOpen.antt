@@ -20,7 +20,7 @@ use Rattle.scheduling.specs.declared.step.Action.{Action}
 use Rattle.scheduling.specs.declared.step.Action.TheVariants.{Claim, Own, Notice, Weigh, Take, Give, GiveUp, Draw, Show, Admit, AddChild, Done, Settle, Look, Raise}
 use Rattle.scheduling.specs.Rows.{goes, puts_word, claimed, guard_given, row, is_free, is_empty, is_of_hand, is_ready_for, notice_row, weigh_row, take_found, take_row, gives_key, give_row, give_up_row, draw_row, show_row, admit_row, child_added, add_by_hand, add_child_hand, add_child_row, done_by_hand, done_hand, done_row, settle_row, look_found, look_row, raise_row, read_event, read_row, decided_seat, after, Works}
 use Rattle.scheduling.specs.Schedule.{is_open, IsFirstOpen, taking}
-use Rattle.scheduling.proofs.Direct.{after_direct}
+use Rattle.scheduling.proofs.DecidedInPlace.{after_direct}
 use Rattle.scheduling.specs.Inside.Lowest.{NoneOpenBelow, lower, offered_by, lowest_after}
 
 -- a status from the number on may change

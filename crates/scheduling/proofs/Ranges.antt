@@ -12,7 +12,7 @@ use Rattle.resource_locks.specs.Plans.{PlanParts, most_events, IsPlan}
 use Rattle.event_history.specs.Plans.{is_spare_of, pulls_job}
 use Rattle.event_history.specs.Places.{has}
 use Rattle.event_history.specs.Inside.Following.{registered_in}
-use Rattle.event_history.proofs.Few.{legal_few}
+use Rattle.event_history.proofs.EventBound.{legal_few}
 use Rattle.event_history.proofs.Trees.{is_child_test}
 use Rattle.scheduling.specs.declared.task.Opening.{Opening}
 use Rattle.scheduling.specs.declared.task.Opening.TheVariants.{Registering, RegisteredAt, Locking, Weighed, Backing, Beginning, StartedAt, Admitting}

@@ -14,7 +14,7 @@ use Rattle.event_history.specs.Plans.{is_spare_of, pulls_job}
 use Rattle.event_history.specs.Inside.Following.{has_failed_by, started_by, registered_in, MayBeDrawn}
 use Rattle.event_history.specs.Results.{Ends, jobs_of}
 use Rattle.event_history.proofs.Places.{get_front}
-use Rattle.event_history.proofs.Published.{published_snoc}
+use Rattle.event_history.proofs.Published.{published_added}
 use Rattle.scheduling.specs.declared.status.NodeStatus.{NodeStatus}
 use Rattle.scheduling.specs.declared.task.Opening.{Opening}
 use Rattle.scheduling.specs.declared.task.Opening.TheVariants.{Registering, RegisteredAt, Offering, Noticing, Locking, Weighed, Backing, Beginning, StartedAt, Awaiting, Admitting, Guarding}
@@ -29,8 +29,8 @@ use Rattle.scheduling.specs.Choices.{ending, event_of}
 use Rattle.scheduling.specs.Rows.{with_task, drawn, one_more, draw_row}
 use Rattle.scheduling.specs.Inside.Stages.{How, Gave, Kept, Skips, Stage, Unseen, Offered, OpenedBy, InHand, Waiting, ClosedBy, Over, Below, Mark, has_mark, mark_of, picture, starter_of, who, is_unseen, is_live, is_owned, is_pending, is_past, is_unsettled, raises, is_bold}
 use Rattle.scheduling.specs.Inside.Invariant.{IsCorePlan, IsEnding, OpeningOk, ClosingOk, ShapeOk, Fits, TaskOk, HandOk, IsInHand, IsBrought, BringsOk, SeatOk, HeldBy, Holds, IsKept}
-use Rattle.scheduling.proofs.Basics.{upd, upd_same, upd_other, upd_all, get_set_same, count_same, count_change, event_snoc, event_same}
-use Rattle.scheduling.proofs.Frame.{moved}
+use Rattle.scheduling.proofs.Basics.{upd, upd_same, upd_other, upd_all, get_set_same, count_same, count_change, event_added, event_same}
+use Rattle.scheduling.proofs.StageMove.{moved}
 use Rattle.scheduling.proofs.Parts.{words_keep, counters_keep, locks_keep, fits_live, live_seen}
 use Rattle.scheduling.proofs.RowsOne.{kept_some, still_about}
 use Rattle.scheduling.proofs.RowsBelow.{results_keep}
@@ -40,48 +40,48 @@ use Rattle.scheduling.proofs.Drawn.{draws_start, draws_skip, draws_register, dra
 
 -- facts of a history stay in a longer one
 pub more_events : (q : Event → Bool) (h : List Event) (e : Event) → has_event q h ≡ true → has_event q (h ++ e ∷ []) ≡ true
-more_events q h e t = event_snoc q h e ∙ or_left (has_event q h) (q e) t
+more_events q h e t = event_added q h e ∙ or_left (has_event q h) (q e) t
 
 -- shapes speak of the history by what stays, and by the number of registered spares
-closing_snoc : (p : PlanParts) (replies : ℕ → List Reply) (h : List Event) (e : Event) (n : ℕ) (d : Closing) (how : How) → registered_in p (h ++ e ∷ []) n ≡ registered_in p h n → ClosingOk p replies h n d how → ClosingOk p replies (h ++ e ∷ []) n d how
-closing_snoc p replies h e n (Ending status) how same old =
+closing_added : (p : PlanParts) (replies : ℕ → List Reply) (h : List Event) (e : Event) (n : ℕ) (d : Closing) (how : How) → registered_in p (h ++ e ∷ []) n ≡ registered_in p h n → ClosingOk p replies h n d how → ClosingOk p replies (h ++ e ∷ []) n d how
+closing_added p replies h e n (Ending status) how same old =
     record { stopped = old.stopped; so = old.so; text = old.text; lawful = subst (λ k. Ends replies (jobs_of p n) old.stopped k status old.text) (sym same) old.lawful }
-closing_snoc p replies h e n AwaitingAfter how same old = old
-closing_snoc p replies h e n (Looking m) how same old = old
-closing_snoc p replies h e n (Passing m o) how same old = old
-closing_snoc p replies h e n CountingOff how same old = old
-closing_snoc p replies h e n (FinishedAt i s) how same old = tt
-closing_snoc p replies h e n (SkippedAt i) how same old = tt
-closing_snoc p replies h e n Raising how same old = tt
-closing_snoc p replies h e n (Giving i) how same old = old
-closing_snoc p replies h e n Settling how same old = tt
+closing_added p replies h e n AwaitingAfter how same old = old
+closing_added p replies h e n (Looking m) how same old = old
+closing_added p replies h e n (Passing m o) how same old = old
+closing_added p replies h e n CountingOff how same old = old
+closing_added p replies h e n (FinishedAt i s) how same old = tt
+closing_added p replies h e n (SkippedAt i) how same old = tt
+closing_added p replies h e n Raising how same old = tt
+closing_added p replies h e n (Giving i) how same old = old
+closing_added p replies h e n Settling how same old = tt
 
-opening_snoc : (p : PlanParts) (replies : ℕ → List Reply) (h : List Event) (e : Event) (n : ℕ) (d : Opening) → OpeningOk p replies h n d → OpeningOk p replies (h ++ e ∷ []) n d
-opening_snoc p replies h e n (Beginning true) old = (old.0, elim old.1 [ inl a ↦ inl a | inr b ↦ inr (b.0, more_events is_failure h e b.1) ])
-opening_snoc p replies h e n (Beginning false) old = old
-opening_snoc p replies h e n Registering old = old
-opening_snoc p replies h e n Noticing old = old
-opening_snoc p replies h e n (Locking i) old = old
-opening_snoc p replies h e n (Weighed i word) old = old
-opening_snoc p replies h e n Awaiting old = old
-opening_snoc p replies h e n (Admitting c) old = old
-opening_snoc p replies h e n Guarding old = old
-opening_snoc p replies h e n (RegisteredAt i) old = tt
-opening_snoc p replies h e n Offering old = tt
-opening_snoc p replies h e n (Backing i) old = old
-opening_snoc p replies h e n (StartedAt i) old = tt
+opening_added : (p : PlanParts) (replies : ℕ → List Reply) (h : List Event) (e : Event) (n : ℕ) (d : Opening) → OpeningOk p replies h n d → OpeningOk p replies (h ++ e ∷ []) n d
+opening_added p replies h e n (Beginning true) old = (old.0, elim old.1 [ inl a ↦ inl a | inr b ↦ inr (b.0, more_events is_failure h e b.1) ])
+opening_added p replies h e n (Beginning false) old = old
+opening_added p replies h e n Registering old = old
+opening_added p replies h e n Noticing old = old
+opening_added p replies h e n (Locking i) old = old
+opening_added p replies h e n (Weighed i word) old = old
+opening_added p replies h e n Awaiting old = old
+opening_added p replies h e n (Admitting c) old = old
+opening_added p replies h e n Guarding old = old
+opening_added p replies h e n (RegisteredAt i) old = tt
+opening_added p replies h e n Offering old = tt
+opening_added p replies h e n (Backing i) old = old
+opening_added p replies h e n (StartedAt i) old = tt
 
-pub shape_snoc : (p : PlanParts) (replies : ℕ → List Reply) (h : List Event) (e : Event) (w n : ℕ) (st : Stage) → (registered_in p (h ++ e ∷ []) n ≡ registered_in p h n) ⊎ (st ≡ InHand w) → ShapeOk p replies h n st → ShapeOk p replies (h ++ e ∷ []) n st
-shape_snoc p replies h e w n Unseen same old = tt
-shape_snoc p replies h e w n (Offered o) same old = tt
-shape_snoc p replies h e w n (OpenedBy v d) same old = opening_snoc p replies h e n d old
-shape_snoc p replies h e w n (InHand v) same old = old
-shape_snoc p replies h e w n (Waiting c r) same old = elim same [ inl q ↦ closing_snoc p replies h e n (ending p n r) How.Gave q old | inr q ↦ absurd (waiting_not c r w q) ]
+pub shape_added : (p : PlanParts) (replies : ℕ → List Reply) (h : List Event) (e : Event) (w n : ℕ) (st : Stage) → (registered_in p (h ++ e ∷ []) n ≡ registered_in p h n) ⊎ (st ≡ InHand w) → ShapeOk p replies h n st → ShapeOk p replies (h ++ e ∷ []) n st
+shape_added p replies h e w n Unseen same old = tt
+shape_added p replies h e w n (Offered o) same old = tt
+shape_added p replies h e w n (OpenedBy v d) same old = opening_added p replies h e n d old
+shape_added p replies h e w n (InHand v) same old = old
+shape_added p replies h e w n (Waiting c r) same old = elim same [ inl q ↦ closing_added p replies h e n (ending p n r) How.Gave q old | inr q ↦ absurd (waiting_not c r w q) ]
   where
     waiting_not : (c : ℕ) (r : Status) (w : ℕ) → Waiting c r ≡ InHand w → ⊥
     waiting_not c r w q = cc
-shape_snoc p replies h e w n (ClosedBy v c d how) same old = elim same [ inl q ↦ closing_snoc p replies h e n d how q old | inr q ↦ absurd (closed_hand v c d how w q) ]
-shape_snoc p replies h e w n (Over how) same old = tt
+shape_added p replies h e w n (ClosedBy v c d how) same old = elim same [ inl q ↦ closing_added p replies h e n d how q old | inr q ↦ absurd (closed_hand v c d how w q) ]
+shape_added p replies h e w n (Over how) same old = tt
 
 -- how many spares are registered
 count_others : (p : PlanParts) (h : List Event) (e : Event) (f : ℕ) → ((c : ℕ) → c < size p.tree → is_spare_of p f c ≡ true → is_of Registered c e ≡ false) → registered_in p (h ++ e ∷ []) f ≡ registered_in p h f
@@ -121,7 +121,7 @@ module _ (p : PlanParts) (core : IsCorePlan p) (replies : ℕ → List Reply) (s
       counters = (counters_keep p s.counters g x a b at guard pend (h.counters_len, h.counters)).1;
       results = (results_keep p core replies s g h w seat is x b not_waiting).1;
       locks = locks_keep p s.locks g x a b inside at keys h.locks;
-      flags = λ k n lt. event_snoc (is_of k n) s.published (event_of kind x status w) ∙ elim (cases_eq n x) [
+      flags = λ k n lt. event_added (is_of k n) s.published (event_of kind x status w) ∙ elim (cases_eq n x) [
         | inl q ↦ ap (λ z. z || is_of k n (event_of kind x status w)) (h.flags k n lt) ∙ flag_here k n q ∙ ap (λ st. has_mark (is_spare_at p.tree n) k (picture p n st).mark) (sym (upd_same g x b n q))
         | inr ne ↦ ap (λ z. has k n s.published || z) (and_right (same_kind kind k) (x == n) (ne_eqb x n (λ q. ne (sym q)))) ∙ or_no (has k n s.published) ∙ h.flags k n lt ∙ ap (λ st. has_mark (is_spare_at p.tree n) k (picture p n st).mark) (sym (upd_other g x b n ne))
       ];
@@ -132,14 +132,14 @@ module _ (p : PlanParts) (core : IsCorePlan p) (replies : ℕ → List Reply) (s
       counts = counts;
       cancel_on = λ q. q;
       cancelled = λ q. more_events is_failure s.published (event_of kind x status w) (h.cancelled q);
-      published = published_snoc p core.plan replies (length s.seats) s.published (event_of kind x status w) h.published may;
+      published = published_added p core.plan replies (length s.seats) s.published (event_of kind x status w) h.published may;
       given = record {
         rest = h.given.rest ++ event_of kind x status w ∷ [];
         front = sym (append_assoc s.given h.given.rest (event_of kind x status w ∷ [])) ∙ ap (λ l. l ++ event_of kind x status w ∷ []) h.given.front;
         shown = λ i lt. get_front s.shown (false ∷ []) true i (h.given.shown i lt);
       };
       shape = shape;
-      shapes = λ n ne lt old. shape_snoc p replies s.published (event_of kind x status w) w n (g n) (counts n) old;
+      shapes = λ n ne lt old. shape_added p replies s.published (event_of kind x status w) w n (g n) (counts n) old;
       above = λ c ch. fits_live p (picture p c (g c)).below c x a b live (λ same o from r q. owned o q) (subst (λ (st : Stage). Fits p (picture p c (g c)).below c x st) at (h.edges c x ch));
       below = λ c ch. subst (λ (y : Below). Fits p y x c (g c)) (ap (λ st. (picture p x st).below) at ∙ below) (h.edges x c ch);
       past = λ q. absurd (both_ways (is_past a) past (ap is_past (sym at) ∙ q));
@@ -213,7 +213,7 @@ module _ (p : PlanParts) (core : IsCorePlan p) (replies : ℕ → List Reply) (s
 
       own : (c : ℕ) → Some w ≡ Some c → started_by x (c + 1) (s.published ++ event_of Started x None w ∷ []) ≡ true
       own c q =
-          event_snoc (λ f. is_of Started x f && (f.worker == c + 1)) s.published (event_of Started x None w) ∙ or_right (started_by x (c + 1) s.published) (is_of Started x (event_of Started x None w) && (w + 1 == c + 1))
+          event_added (λ f. is_of Started x f && (f.worker == c + 1)) s.published (event_of Started x None w) ∙ or_right (started_by x (c + 1) s.published) (is_of Started x (event_of Started x None w) && (w + 1 == c + 1))
           (and_from (is_of Started x (event_of Started x None w)) (w + 1 == c + 1) (eq-eqb x x refl) (eq-eqb (w + 1) (c + 1) (ap (λ n. n + 1) (same_Some w c q))))
 
   draw_skip : (x : ℕ) → seat.task ≡ Opens x (Beginning true) → IsKept p replies (drawn s w (event_of Skipped x None w) (with_task seat (Closes x (SkippedAt (length s.published)))))
@@ -267,7 +267,7 @@ module _ (p : PlanParts) (core : IsCorePlan p) (replies : ℕ → List Reply) (s
             task = (inside, (c, how, upd_same g x (ClosedBy w c (FinishedAt (length s.published) status) how) x refl));
             hand = hand_draws x (ClosedBy w c (Ending status) how) (ClosedBy w c (FinishedAt (length s.published) status) how) Finished (Some status) seat.hand at (λ q. closed_hand w c (Ending status) how w q) (λ q. refl) refl held_seat.hand;
             brought = tt;
-            failed = λ q. event_snoc (λ f. is_failure f && (f.worker == w + 1)) s.published (event_of Finished x (Some status) w) ∙ or_right (has_failed_by (w + 1) s.published) (is_failure (event_of Finished x (Some status) w) && (w + 1 == w + 1)) (and_from (is_failure (event_of Finished x (Some status) w)) (w + 1 == w + 1) q (eq-eqb (w + 1) (w + 1) refl));
+            failed = λ q. event_added (λ f. is_failure f && (f.worker == w + 1)) s.published (event_of Finished x (Some status) w) ∙ or_right (has_failed_by (w + 1) s.published) (is_failure (event_of Finished x (Some status) w) && (w + 1 == w + 1)) (and_from (is_failure (event_of Finished x (Some status) w)) (w + 1 == w + 1) q (eq-eqb (w + 1) (w + 1) refl));
             quits = λ ff f. elim (cases_Bool (is_failed_or (Some status))) [ inl y ↦ inl y | inr no' ↦ calm_quits x Finished (Some status) (Closes x (Ending status)) (Closes x (FinishedAt (length s.published) status)) no' e refl refl ff f ];
           })
           refl refl refl refl refl (λ k. marks (is_spare_at p.tree x) how k (unskipped how (subst (ShapeOk p replies s.published x) at (h.shapes x inside)))) (λ v q. absurd (none-some v (sym (ended_starter how (NodeStatus.Claimed c)) ∙ q))) tt (λ v r q. closed_waits w c (FinishedAt (length s.published) status) how v r q) refl refl (λ o q. refl) (λ q. refl)
@@ -317,7 +317,7 @@ module _ (p : PlanParts) (core : IsCorePlan p) (replies : ℕ → List Reply) (s
       one_registered held par pos inside spare at count =
           let is_its : is_spare_of p held.factory x ≡ true = and_from (is_child p.tree held.factory x) (is_spare_at p.tree x) (and_from (nat_lt 0 x) (parent_of p.tree x == held.factory) (lt-ltb 0 x pos) (eq-eqb (parent_of p.tree x) held.factory par)) spare in
           let was : has Registered x s.published ≡ false = h.flags Registered x inside ∙ ap (λ st. has_mark (is_spare_at p.tree x) Registered (picture p x st).mark) at in
-          let now : has Registered x (s.published ++ event_of Registered x None w ∷ []) ≡ true = event_snoc (is_of Registered x) s.published (event_of Registered x None w) ∙ or_right (has Registered x s.published) (is_of Registered x (event_of Registered x None w)) (eq-eqb x x refl) in
+          let now : has Registered x (s.published ++ event_of Registered x None w ∷ []) ≡ true = event_added (is_of Registered x) s.published (event_of Registered x None w) ∙ or_right (has Registered x s.published) (is_of Registered x (event_of Registered x None w)) (eq-eqb x x refl) in
           let change = count_change (λ c. is_spare_of p held.factory c && has Registered c s.published) (λ c. is_spare_of p held.factory c && has Registered c (s.published ++ event_of Registered x None w ∷ [])) x (size p.tree) inside
           (λ k ne. ap (λ b. is_spare_of p held.factory k && b) (sym (event_same (is_of Registered k) s.published (event_of Registered x None w) (ne_eqb x k (λ z. ne (sym z)))))) in
           let a : bit (is_spare_of p held.factory x && has Registered x s.published) ≡ 0 = ap bit (and_right (is_spare_of p held.factory x) (has Registered x s.published) was) in

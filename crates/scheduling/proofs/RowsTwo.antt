@@ -28,7 +28,7 @@ use Rattle.scheduling.specs.Rows.{with_task, goes_to, shows}
 use Rattle.scheduling.specs.Inside.Stages.{How, Gave, Stage, Unseen, Offered, OpenedBy, InHand, Waiting, ClosedBy, Over, Runs, Past, Blank, Known, Begun, has_mark, picture, who, is_unseen, is_live, is_pending, is_owned, passes_to, is_past, is_unsettled, raises, is_bold}
 use Rattle.scheduling.specs.Inside.Invariant.{IsCorePlan, ClosingOk, ShapeOk, Fits, TaskOk, HandOk, SeatOk, Holds, IsKept}
 use Rattle.scheduling.proofs.Basics.{upd, upd_same, upd_other, get_set_same, count_some}
-use Rattle.scheduling.proofs.Frame.{task_keeps}
+use Rattle.scheduling.proofs.StageMove.{task_keeps}
 use Rattle.scheduling.proofs.Parts.{words_set, locks_keep, counters_keep, counters_give, pending_none, QuitStep, quit_calm}
 use Rattle.scheduling.proofs.Silent.{silent, seat_goes}
 use Rattle.scheduling.proofs.RowsOne.{still_about, same_shown, shown_set}

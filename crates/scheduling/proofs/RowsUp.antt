@@ -36,7 +36,7 @@ use Rattle.scheduling.specs.Rows.{with_task, goes_to, child_added, add_by_hand, 
 use Rattle.scheduling.specs.Inside.Stages.{How, Gave, Kept, Skips, Stage, Unseen, Offered, OpenedBy, InHand, Waiting, ClosedBy, Over, has_mark, picture, closing_picture, mark_of, runner_of, is_unseen, is_pending, is_past, is_unsettled, brings}
 use Rattle.scheduling.specs.Inside.Invariant.{IsCorePlan, IsNextSame, ShapeOk, Fits, TaskOk, HandOk, IsInHand, IsBrought, BringsOk, SeatOk, HeldBy, Holds, IsKept}
 use Rattle.scheduling.proofs.Basics.{upd, upd_same, upd_other, get_set_same, set_twice, IsFirst, first_some}
-use Rattle.scheduling.proofs.Frame.{hand_apart}
+use Rattle.scheduling.proofs.StageMove.{hand_apart}
 use Rattle.scheduling.proofs.Parts.{words_keep, locks_keep, counters_child, pending_change, fits_live, fits_runs, QuitStep, quit_calm}
 use Rattle.scheduling.proofs.Silent.{silent, seat_goes}
 use Rattle.scheduling.proofs.RowsOne.{by_cond, kept_some, still_about, same_shown, parent_inside}

@@ -16,13 +16,13 @@ use Rattle.scheduling.specs.Runs.{IsReplied}
 use Rattle.scheduling.specs.Inside.Invariant.{IsCorePlan, IsKept}
 use Rattle.scheduling.specs.Schedule.{is_open, IsFirstOpen, taking, IsNextBy, IsNext, Drives, finished, reads, works, LeadsTo}
 use Rattle.scheduling.specs.Inside.Work.{work_left, IsClear}
-use Rattle.scheduling.proofs.Direct.{after_direct}
-use Rattle.scheduling.proofs.FallsNext.{step_falls}
+use Rattle.scheduling.proofs.DecidedInPlace.{after_direct}
+use Rattle.scheduling.proofs.LessWorkSteps.{step_lessens}
 
 -- The schedule's step of the worker lowers what is left to do.
-pub next_falls : (p : PlanParts) → IsCorePlan p → (replies : ℕ → List Reply) (s t : State) (seat : Seat) (a : Action) (reply : Reply) → IsKept p replies s → IsReplied p replies s (Works 0 a reply) → slice_get s.seats 0 ≡ Some seat → IsClear p s seat.task
+pub next_lessens : (p : PlanParts) → IsCorePlan p → (replies : ℕ → List Reply) (s t : State) (seat : Seat) (a : Action) (reply : Reply) → IsKept p replies s → IsReplied p replies s (Works 0 a reply) → slice_get s.seats 0 ≡ Some seat → IsClear p s seat.task
     → IsNext p s (decided_seat p reply seat) reply a → after p s (Works 0 a reply) ≡ Some t → work_left p t < work_left p s
-next_falls p core replies s t seat a reply kept replied is clear next r = step_falls p core replies s t seat a reply kept replied is clear next (sym (after_direct p s 0 a reply seat is) ∙ r)
+next_lessens p core replies s t seat a reply kept replied is clear next r = step_lessens p core replies s t seat a reply kept replied is clear next (sym (after_direct p s 0 a reply seat is) ∙ r)
 
 module _ (p : PlanParts) (answered : State → Seat → Reply) where
   pub leads_read : (first s t : State) → LeadsTo p answered first s → read_row s ≡ Some t → LeadsTo p answered first t

@@ -3,7 +3,7 @@ use Rattle.std.proofs.Common.{◌≡◌, ◌≢◌, ℕ, ◌+◌, true, false, L
 use Rattle.std.proofs.lemmas.Bool.{cases_eq, cases_lt, false≢true}
 use Rattle.std.proofs.lemmas.Option.{none-some, same_Some}
 use Rattle.plan_events.specs.declared.event.Event.{Event}
-use Rattle.event_history.proofs.Places.{get_next, get_front, get_snoc}
+use Rattle.event_history.proofs.Places.{get_next, get_front, get_added}
 use Rattle.scheduling.specs.declared.task.Opening.TheVariants.{RegisteredAt, StartedAt}
 use Rattle.scheduling.specs.declared.task.Closing.TheVariants.{FinishedAt, SkippedAt}
 use Rattle.scheduling.specs.declared.task.Task.{Task}
@@ -85,7 +85,7 @@ module _ (s t : State) (w : ℕ) (seat : Seat) (placed : IsPlaced s) (is : slice
       | inr a ↦ (let before = placed.stands v x i f a.1 d in
           (ap (λ (l : List Event). slice_get l i) published ∙ get_front s.published (e ∷ []) f i before.0, ap (λ l. slice_get l i) shown ∙ get_front s.shown (false ∷ []) false i before.1))
     ];
-    unshown = λ i q. elim (get_snoc s.shown false false i (ap (λ l. slice_get l i) (sym shown) ∙ q)) [
+    unshown = λ i q. elim (get_added s.shown false false i (ap (λ l. slice_get l i) (sym shown) ∙ q)) [
       | inl before ↦ carry i (placed.unshown i before) (λ d. none-some _ (sym old ∙ d))
       | inr last ↦ record { worker = w; seat = new; is = new_is; event = e; names = names ∙ ap (λ (k : ℕ). Some (k, e)) (sym placed.as_many ∙ sym last.0) }
     ];

@@ -20,7 +20,7 @@ use Rattle.scheduling.specs.Rows.{with_task}
 use Rattle.scheduling.specs.Inside.Stages.{Stage, InHand, Waiting, Below, Runs, picture, has_mark, starter_of, who, is_unseen, is_live, is_owned, is_pending, is_past, is_unsettled, raises}
 use Rattle.scheduling.specs.Inside.Invariant.{ShapeOk, Fits, TaskOk, BringsOk, SeatOk, HeldBy, Holds}
 use Rattle.scheduling.proofs.Basics.{upd, upd_all}
-use Rattle.scheduling.proofs.Frame.{moved}
+use Rattle.scheduling.proofs.StageMove.{moved}
 use Rattle.scheduling.proofs.Parts.{StatusList, CounterList, LockList, counters_keep, fits_live, live_seen, own_hand, QuitStep}
 
 abbrev pub ResultList : PlanParts → List Status → (ℕ → Stage) → Type 0

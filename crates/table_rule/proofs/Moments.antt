@@ -13,7 +13,7 @@ use Rattle.plan_events.specs.declared.outcome.Reply.{Reply}
 use Rattle.plan_events.specs.Words.{is_lawful, word_of}
 use Rattle.resource_locks.specs.Plans.{IsPlan, most_events}
 use Rattle.event_history.specs.History.{IsLegal}
-use Rattle.event_history.proofs.Few.{legal_few}
+use Rattle.event_history.proofs.EventBound.{legal_few}
 use Rattle.event_history.proofs.Front.{prefix_legal}
 use Rattle.scheduling.specs.Runs.{opening, IsRight}
 use Rattle.scheduling.specs.State.{State}
@@ -35,7 +35,7 @@ use Rattle.table_rule.specs.Plays.{dispatcher, seated, reads_on}
 use Rattle.table_rule.specs.Moments.{IsMoment, IsMomentOf, IsStart}
 use Rattle.table_rule.proofs.Ready.{here_after}
 use Rattle.table_rule.proofs.Opening.{none_told, none_dealt, opening_picture}
-use Rattle.table_rule.proofs.Widening.{wide_kept}
+use Rattle.table_rule.proofs.MoreReplies.{wide_kept}
 
 module _ {B : Type 0} where
   -- The state of which the table is the picture is one from which a run can end.

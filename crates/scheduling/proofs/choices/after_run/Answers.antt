@@ -1,7 +1,7 @@
 -- The after-body that a tree gives is the one that is run.
 use Rattle.std.proofs.Common.{◌≡◌, ◌==◌, ◌∙◌, sym, ap, ℕ, List, length}
 use Rattle.descriptor.specs.Nodes.{Nodes, children_of, after_of}
-use Rattle.scheduling.proofs.Spots.{after_none, after_some}
+use Rattle.scheduling.proofs.ChildLists.{after_none, after_some}
 use Rattle.scheduling.proofs.choices.after_run.Goals as goal
 
 pub returns-then-is_empty : goal.returns-then-is_empty

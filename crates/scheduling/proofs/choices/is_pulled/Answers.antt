@@ -2,7 +2,7 @@
 use Rattle.std.proofs.Common.{◌≡◌, ◌∙◌, ◌&&◌, ◌||◌, ◌==◌, ltb, ap, ℕ, List, length}
 use Rattle.descriptor.specs.Nodes.{Nodes, children_of}
 use Rattle.event_history.specs.Plans.{spare_count}
-use Rattle.scheduling.proofs.Spots.{spares_counted}
+use Rattle.scheduling.proofs.ChildLists.{spares_counted}
 use Rattle.scheduling.proofs.choices.is_pulled.Goals as goal
 
 pub returns : goal.returns

@@ -4,7 +4,7 @@ use Rattle.std.specs.Option.{is_some, IfSome, option_copied}
 use Rattle.std.proofs.lemmas.Bool.{ltb-true, ltb-false}
 use Rattle.std.proofs.lemmas.Option.{slice_get_past, slice_get-get_or}
 use Rattle.descriptor.specs.Nodes.{Nodes, children_of}
-use Rattle.scheduling.proofs.Spots.{next_spare_is}
+use Rattle.scheduling.proofs.ChildLists.{next_spare_is}
 use Rattle.scheduling.proofs.choices.next_spare.Goals as goal
 
 got : (o : Option (Bor ℕ)) (xs : List ℕ) (i : ℕ) → is_some o ≡ ltb i (length xs) → IfSome o (λ x. x.now ≡ get_or xs i x.now) → option_copied o ≡ slice_get xs i

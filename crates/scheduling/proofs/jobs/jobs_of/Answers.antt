@@ -4,7 +4,7 @@ use Rattle.descriptor.specs.declared.kind.Kind.{Kind}
 use Rattle.descriptor.specs.Nodes.{Nodes, children_of, kind_of, role_of, body_of}
 use Rattle.event_history.specs.Plans.{Sort, sort_by, sort_of}
 use Rattle.event_history.specs.Results.{jobs_by}
-use Rattle.scheduling.proofs.Spots.{after_is, jobs_with}
+use Rattle.scheduling.proofs.ChildLists.{after_is, jobs_with}
 use Rattle.scheduling.proofs.jobs.jobs_of.Goals as goal
 
 pub returns : goal.returns

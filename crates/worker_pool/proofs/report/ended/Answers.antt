@@ -2,7 +2,7 @@
 use Rattle.std.proofs.Common.{◌≤◌, List, length, vec_capacity, sym}
 use Rattle.plan_events.specs.declared.event.Event.{Event}
 use Rattle.resource_locks.specs.Plans.{most_events}
-use Rattle.event_history.proofs.Few.{legal_few}
+use Rattle.event_history.proofs.EventBound.{legal_few}
 use Rattle.table_rule.specs.Picture.{about_of, replies_of}
 use Rattle.table_rule.specs.Plays.{dispatcher}
 use Rattle.worker_pool.specs.Telling.{AreTextsRead}

@@ -1,6 +1,6 @@
 -- A read that was possible is a step of the schedule, and so is the worker's step where none was.
 use Rattle.std.proofs.Common.{sym, subst}
-use Rattle.scheduling.proofs.FallsNext.{read_falls}
+use Rattle.scheduling.proofs.LessWorkSteps.{read_lessens}
 use Rattle.sched_core.specs.declared.machine.Machine.{Machine}
 use Rattle.sched_core.specs.Drives.{LeadsTo}
 use Rattle.sched_core.specs.Inside.Fields.{state_of}
@@ -11,7 +11,7 @@ pub returns-then-reads-clause-leads : goal.returns-then-reads-clause-leads
 returns-then-reads-clause-leads c first leads = read_leads c.args.plan.now c.args.answers.now (state_of c.args.self.now) (state_of c.reads.new.self) first (c.reads.ensures.read c.if-reads.true) leads
 
 pub returns-then-reads-clause-less : goal.returns-then-reads-clause-less
-returns-then-reads-clause-less c = read_falls c.args.plan.now (state_of c.args.self.now) (state_of c.reads.new.self) (c.reads.ensures.read c.if-reads.true)
+returns-then-reads-clause-less c = read_lessens c.args.plan.now (state_of c.args.self.now) (state_of c.reads.new.self) (c.reads.ensures.read c.if-reads.true)
 
 pub returns-clause-leads : goal.returns-clause-leads
 returns-clause-leads c first leads =

@@ -2,7 +2,7 @@
 use Rattle.std.proofs.Common.{◌≡◌, ◌≢◌, ◌∙◌, ◌-◌, sym, subst, arith, slice_get, Some, Option}
 use Rattle.scheduling.specs.declared.task.Task.{Task}
 use Rattle.scheduling.specs.State.{State}
-use Rattle.scheduling.proofs.Direct.{after_direct}
+use Rattle.scheduling.proofs.DecidedInPlace.{after_direct}
 use Rattle.sched_core.specs.Inside.Bounds.{InBounds}
 use Rattle.sched_core.specs.Inside.Fields.{state_of, seated, IsAnswered}
 use Rattle.sched_core.specs.Steps.{reply_for}

@@ -30,10 +30,10 @@ use Rattle.scheduling.specs.Inside.Work.{work_left, IsClear}
 use Rattle.scheduling.proofs.Basics.{get_set_same}
 use Rattle.scheduling.proofs.RowsOne.{by_cond}
 use Rattle.scheduling.proofs.RowsBelow.{decide_keeps}
-use Rattle.scheduling.proofs.Direct.{after_direct}
-use Rattle.scheduling.proofs.FallsMoves.{goes_no_higher, given_lower}
-use Rattle.scheduling.proofs.FallsRanks.{decided_rank}
-use Rattle.scheduling.proofs.Falls.{row_falls}
+use Rattle.scheduling.proofs.DecidedInPlace.{after_direct}
+use Rattle.scheduling.proofs.LessWorkMoves.{goes_no_higher, given_lower}
+use Rattle.scheduling.proofs.TaskRanks.{decided_rank}
+use Rattle.scheduling.proofs.LessWork.{row_lessens}
 
 -- no action of the schedule is a free worker's look
 pub claim_acts : (n : ℕ) → Claim n ≡ Look → ⊥
@@ -86,21 +86,21 @@ clear_decided p s l reply (Opens n (Backing i)) clear = clear
 clear_decided p s l reply (Closes n AwaitingAfter) clear = tt
 clear_decided p s l reply _ clear = tt
 
-pub step_falls : (p : PlanParts) → IsCorePlan p → (replies : ℕ → List Reply) (s t : State) (seat : Seat) (a : Action) (reply : Reply) → IsKept p replies s → IsReplied p replies s (Works 0 a reply) → slice_get s.seats 0 ≡ Some seat → IsClear p s seat.task
+pub step_lessens : (p : PlanParts) → IsCorePlan p → (replies : ℕ → List Reply) (s t : State) (seat : Seat) (a : Action) (reply : Reply) → IsKept p replies s → IsReplied p replies s (Works 0 a reply) → slice_get s.seats 0 ≡ Some seat → IsClear p s seat.task
     → IsNext p s (decided_seat p reply seat) reply a → row p s 0 (decided_seat p reply seat) reply a ≡ Some t → work_left p t < work_left p s
-step_falls p core replies s t seat a reply kept replied is clear next r =
+step_lessens p core replies s t seat a reply kept replied is clear next r =
     let d : Seat = decided_seat p reply seat in
     let first = decide_keeps p core replies s kept.0 kept.1 0 seat is reply (replied seat is) in
     let written : row p (record s { seats = goes_to s 0 d }) 0 d reply a ≡ Some t = sym (ap (option_and_then (after_seat p s 0 a reply)) is) ∙ after_direct p s 0 a reply seat is ∙ r in
-    let falls = row_falls p core replies (record s { seats = goes_to s 0 d }) first.0 first.1 0 d (get_set_same s.seats 0 d seat is) reply a (next_acts p s reply a d.hand d.task next) (clear_decided p s (goes_to s 0 d) reply seat.task clear) t written in
+    let falls = row_lessens p core replies (record s { seats = goes_to s 0 d }) first.0 first.1 0 d (get_set_same s.seats 0 d seat is) reply a (next_acts p s reply a d.hand d.task next) (clear_decided p s (goes_to s 0 d) reply seat.task clear) t written in
     let decides = goes_no_higher p s 0 seat is d (decided_rank p reply seat.task) in
     plain _ _ _ falls decides
   where
     plain : (a b c : ℕ) → a < b → b ≤ c → a < c
     plain a b c less le = omega (arith, less, le)
 
-pub read_falls : (p : PlanParts) (s t : State) → read_row s ≡ Some t → work_left p t < work_left p s
-read_falls p s t r = go (slice_index_or s.shown (length s.given) false) (slice_get s.published (length s.given)) refl r
+pub read_lessens : (p : PlanParts) (s t : State) → read_row s ≡ Some t → work_left p t < work_left p s
+read_lessens p s t r = go (slice_index_or s.shown (length s.given) false) (slice_get s.published (length s.given)) refl r
   where
     go : (shown : Bool) (found : Option Event) → slice_get s.published (length s.given) ≡ found → read_event s shown found ≡ Some t → work_left p t < work_left p s
     go false found at r = absurd (none-some t r)

@@ -17,7 +17,7 @@ use Rattle.event_history.specs.Plans.{IsElder, is_spare_of, pulls_job, Holder, M
 use Rattle.event_history.specs.Results.{jobs_of, Ends}
 use Rattle.event_history.specs.History.{IsStopped, StoppedIs, IsUnregistered, registered_before, HasResult, IsLegal}
 use Rattle.event_history.specs.Inside.Following.{has_failed, has_failed_by, registered_in, MayStart, MaySkip, MayRegister, MayFinish, ChildrenOk, ByKind, MayFollow}
-use Rattle.event_history.proofs.Places.{get_snoc, get_front, get_next, has_stands, has_at, has_before, stands_within, before_later, settled_later, fails_later, before_front, stands_snoc, finds, found}
+use Rattle.event_history.proofs.Places.{get_added, get_front, get_next, has_stands, has_at, has_before, stands_within, before_later, settled_later, fails_later, before_front, stands_added, finds, found}
 use Rattle.event_history.proofs.Trees.{some_child}
 use Rattle.event_history.proofs.Ends.{early, last_has_child}
 use Rattle.event_history.proofs.Histories.{started_registered, started_above, unfinished_above, before_start, open_start, unseen_below}
@@ -46,21 +46,21 @@ module _ (p : PlanParts) (tree : IsPlanTree p.tree) (replies : ℕ → List Repl
   may_open_above Registered a m b s = open_start p replies workers h legal tree a e.node m.parent b s
 
   -- what holds of each event so far, and of the new one
-  snoc_each : (P : Event → Type 0) → ((i : ℕ) (f : Event) → slice_get h i ≡ Some f → P f) → P e → (i : ℕ) (f : Event) → slice_get (h ++ e ∷ []) i ≡ Some f → P f
-  snoc_each P old new i f q = elim (get_snoc h e f i q) [ inl a ↦ old i f a | inr b ↦ subst P (sym b.1) new ]
+  added_each : (P : Event → Type 0) → ((i : ℕ) (f : Event) → slice_get h i ≡ Some f → P f) → P e → (i : ℕ) (f : Event) → slice_get (h ++ e ∷ []) i ≡ Some f → P f
+  added_each P old new i f q = elim (get_added h e f i q) [ inl a ↦ old i f a | inr b ↦ subst P (sym b.1) new ]
 
   module _ (may : MayFollow p replies workers h e) where
     by : (k : EventKind) → e.kind ≡ k → ByKind p replies h e k
     by k q = subst (ByKind p replies h e) q may.by_kind
 
-    snoc_apart : (i : ℕ) (k : EventKind) (n : ℕ) → StandsAt h i k n → e.kind ≡ k → e.node ≡ n → ⊥
-    snoc_apart i k n s a b = both_ways (has k n h) (subst (λ (m : ℕ). has k m h ≡ false) b (may_fresh k (by k a))) (has_at s)
+    added_apart : (i : ℕ) (k : EventKind) (n : ℕ) → StandsAt h i k n → e.kind ≡ k → e.node ≡ n → ⊥
+    added_apart i k n s a b = both_ways (has k n h) (subst (λ (m : ℕ). has k m h ≡ false) b (may_fresh k (by k a))) (has_at s)
 
-    snoc_once : (i j n : ℕ) (k : EventKind) → StandsAt (h ++ e ∷ []) i k n → StandsAt (h ++ e ∷ []) j k n → i ≡ j
-    snoc_once i j n k s t =
-        elim (stands_snoc h e i k n s) [
-          | inl a ↦ elim (stands_snoc h e j k n t) [ inl b ↦ legal.once i j n k a b | inr b ↦ absurd (snoc_apart i k n a b.1 b.2) ]
-          | inr a ↦ elim (stands_snoc h e j k n t) [ inl b ↦ absurd (snoc_apart j k n b a.1 a.2) | inr b ↦ a.0 ∙ sym b.0 ]
+    added_once : (i j n : ℕ) (k : EventKind) → StandsAt (h ++ e ∷ []) i k n → StandsAt (h ++ e ∷ []) j k n → i ≡ j
+    added_once i j n k s t =
+        elim (stands_added h e i k n s) [
+          | inl a ↦ elim (stands_added h e j k n t) [ inl b ↦ legal.once i j n k a b | inr b ↦ absurd (added_apart i k n a b.1 b.2) ]
+          | inr a ↦ elim (stands_added h e j k n t) [ inl b ↦ absurd (added_apart j k n b a.1 a.2) | inr b ↦ a.0 ∙ sym b.0 ]
         ]
 
     -- a node that is stopped so far stays so, and what is stopped now was, if it had finished
@@ -72,7 +72,7 @@ module _ (p : PlanParts) (tree : IsPlanTree p.tree) (replies : ℕ → List Repl
       status = s.status;
       ends = s.ends;
       unsuccessful = s.unsuccessful;
-      silent = λ j f q b. elim (get_snoc h e f j q) [
+      silent = λ j f q b. elim (get_added h e f j q) [
         | inl x ↦ s.silent j f x b
         | inr x ↦ may_open_above e.kind a may.by_kind (subst (λ (y : Event). Below p.tree a y.node) x.1 b) (record { place = s.place; before = stands_within s.finish; stands = s.finish })
       ];
@@ -80,7 +80,7 @@ module _ (p : PlanParts) (tree : IsPlanTree p.tree) (replies : ℕ → List Repl
 
     stopped_earlier : (i a : ℕ) → StandsAt h i Finished a → IsStopped p (h ++ e ∷ []) a → IsStopped p h a
     stopped_earlier i a old s =
-        elim (get_snoc h e s.finish.event s.place s.finish.here) [
+        elim (get_added h e s.finish.event s.place s.finish.here) [
           | inl x ↦ record {
             body = s.body;
             place = s.place;
@@ -90,25 +90,25 @@ module _ (p : PlanParts) (tree : IsPlanTree p.tree) (replies : ℕ → List Repl
             unsuccessful = s.unsuccessful;
             silent = λ j f q b. s.silent j f (get_front h (e ∷ []) f j q) b;
           }
-          | inr x ↦ absurd (snoc_apart i Finished a old (subst (λ (y : Event). y.kind ≡ Finished) x.1 s.finish.kind) (subst (λ (y : Event). y.node ≡ a) x.1 s.finish.node))
+          | inr x ↦ absurd (added_apart i Finished a old (subst (λ (y : Event). y.kind ≡ Finished) x.1 s.finish.kind) (subst (λ (y : Event). y.node ≡ a) x.1 s.finish.node))
         ]
 
-    snoc_after_start : (i n : ℕ) → StandsAt (h ++ e ∷ []) i Finished n → StandsBefore (h ++ e ∷ []) i Started n
-    snoc_after_start i n s =
-        elim (stands_snoc h e i Finished n s) [
+    added_after_start : (i n : ℕ) → StandsAt (h ++ e ∷ []) i Finished n → StandsBefore (h ++ e ∷ []) i Started n
+    added_after_start i n s =
+        elim (stands_added h e i Finished n s) [
           | inl a ↦ before_later (e ∷ []) (legal.after_start i n a)
           | inr b ↦ (let m : MayFinish p replies h e = by Finished b.1 in
               before_later (e ∷ []) (subst (λ (x : ℕ). StandsBefore h x Started n) (sym b.0) (subst (λ (x : ℕ). StandsBefore h (length h) Started x) b.2 (has_before Started e.node h m.started))))
         ]
 
-    snoc_apart_kinds : (i j n : ℕ) → StandsAt (h ++ e ∷ []) i Started n → StandsAt (h ++ e ∷ []) j Skipped n → ⊥
-    snoc_apart_kinds i j n s t =
-        elim (stands_snoc h e i Started n s) [
-          | inl a ↦ elim (stands_snoc h e j Skipped n t) [
+    added_apart_kinds : (i j n : ℕ) → StandsAt (h ++ e ∷ []) i Started n → StandsAt (h ++ e ∷ []) j Skipped n → ⊥
+    added_apart_kinds i j n s t =
+        elim (stands_added h e i Started n s) [
+          | inl a ↦ elim (stands_added h e j Skipped n t) [
             | inl b ↦ legal.apart i j n a b
             | inr b ↦ (let m : MaySkip p h e.node = by Skipped b.1 in both_ways (has Started n h) (subst (λ (x : ℕ). has Started x h ≡ false) b.2 m.unopened.unstarted) (has_at a))
           ]
-          | inr a ↦ elim (stands_snoc h e j Skipped n t) [
+          | inr a ↦ elim (stands_added h e j Skipped n t) [
             | inl b ↦ (let m : MayStart p h e.node e.worker = by Started a.1 in both_ways (has Skipped n h) (subst (λ (x : ℕ). has Skipped x h ≡ false) a.2 m.unopened.unskipped) (has_at b))
             | inr b ↦ other_kind (sym a.1 ∙ b.1)
           ]
@@ -117,9 +117,9 @@ module _ (p : PlanParts) (tree : IsPlanTree p.tree) (replies : ℕ → List Repl
         other_kind : Started ≡ Skipped → ⊥
         other_kind q = cc
 
-    snoc_registered : (i n : ℕ) → StandsAt (h ++ e ∷ []) i Registered n → (is_spare_at p.tree n && pulls_job p (parent_of p.tree n)) ≡ true
-    snoc_registered i n s =
-        elim (stands_snoc h e i Registered n s) [
+    added_registered : (i n : ℕ) → StandsAt (h ++ e ∷ []) i Registered n → (is_spare_at p.tree n && pulls_job p (parent_of p.tree n)) ≡ true
+    added_registered i n s =
+        elim (stands_added h e i Registered n s) [
           | inl a ↦ legal.registered i n a
           | inr b ↦ (let m : MayRegister p h e.node = by Registered b.1 in subst (λ (x : ℕ). (is_spare_at p.tree x && pulls_job p (parent_of p.tree x)) ≡ true) b.2 m.spare)
         ]
@@ -130,9 +130,9 @@ module _ (p : PlanParts) (tree : IsPlanTree p.tree) (replies : ℕ → List Repl
     may_registered Skipped m spare = inr (has_before Registered e.node h (m.unopened.registered spare))
     may_registered Registered m spare = inl refl
 
-    snoc_after_registered : (i : ℕ) (f : Event) → slice_get (h ++ e ∷ []) i ≡ Some f → is_spare_at p.tree f.node ≡ true → (f.kind ≡ Registered) ⊎ StandsBefore (h ++ e ∷ []) i Registered f.node
-    snoc_after_registered i f q spare =
-        elim (get_snoc h e f i q) [
+    added_after_registered : (i : ℕ) (f : Event) → slice_get (h ++ e ∷ []) i ≡ Some f → is_spare_at p.tree f.node ≡ true → (f.kind ≡ Registered) ⊎ StandsBefore (h ++ e ∷ []) i Registered f.node
+    added_after_registered i f q spare =
+        elim (get_added h e f i q) [
           | inl x ↦ elim (legal.after_registered i f x spare) [ inl r ↦ inl r | inr r ↦ inr (before_later (e ∷ []) r) ]
           | inr x ↦ elim (may_registered e.kind may.by_kind (subst (λ (y : Event). is_spare_at p.tree y.node ≡ true) x.1 spare)) [
             | inl r ↦ inl (subst (λ (y : Event). y.kind ≡ Registered) (sym x.1) r)
@@ -140,24 +140,24 @@ module _ (p : PlanParts) (tree : IsPlanTree p.tree) (replies : ℕ → List Repl
           ]
         ]
 
-    snoc_elders : (i c d : ℕ) → StandsAt (h ++ e ∷ []) i Registered d → IsElder p.tree c d → StandsBefore (h ++ e ∷ []) i Registered c
-    snoc_elders i c d s elder =
-        elim (stands_snoc h e i Registered d s) [
+    added_elders : (i c d : ℕ) → StandsAt (h ++ e ∷ []) i Registered d → IsElder p.tree c d → StandsBefore (h ++ e ∷ []) i Registered c
+    added_elders i c d s elder =
+        elim (stands_added h e i Registered d s) [
           | inl a ↦ before_later (e ∷ []) (legal.elder_registered i c d a elder)
           | inr b ↦ (let m : MayRegister p h e.node = by Registered b.1 in
               before_later (e ∷ []) (subst (λ (x : ℕ). StandsBefore h x Registered c) (sym b.0) (has_before Registered c h (m.elders c (subst (λ (x : ℕ). IsElder p.tree c x) (sym b.2) elder)))))
         ]
 
-    snoc_start_above : (i a : ℕ) (f : Event) → slice_get (h ++ e ∷ []) i ≡ Some f → Below p.tree a f.node → StandsBefore (h ++ e ∷ []) i Started a
-    snoc_start_above i a f q below =
-        elim (get_snoc h e f i q) [
+    added_start_above : (i a : ℕ) (f : Event) → slice_get (h ++ e ∷ []) i ≡ Some f → Below p.tree a f.node → StandsBefore (h ++ e ∷ []) i Started a
+    added_start_above i a f q below =
+        elim (get_added h e f i q) [
           | inl x ↦ before_later (e ∷ []) (legal.start_above i a f x below)
           | inr x ↦ before_later (e ∷ []) (subst (λ (y : ℕ). StandsBefore h y Started a) (sym x.0) (may_start_above e.kind a may.by_kind (subst (λ (y : Event). Below p.tree a y.node) x.1 below)))
         ]
 
-    snoc_open_above : (i a : ℕ) (f : Event) → slice_get (h ++ e ∷ []) i ≡ Some f → Below p.tree a f.node → StandsBefore (h ++ e ∷ []) i Finished a → ⊥
-    snoc_open_above i a f q below s =
-        elim (get_snoc h e f i q) [
+    added_open_above : (i a : ℕ) (f : Event) → slice_get (h ++ e ∷ []) i ≡ Some f → Below p.tree a f.node → StandsBefore (h ++ e ∷ []) i Finished a → ⊥
+    added_open_above i a f q below s =
+        elim (get_added h e f i q) [
           | inl x ↦ (let lt : i < length h = slice_get_within h i f x in legal.open_above i a f x below (before_front h (e ∷ []) i Finished a (omega (arith, lt)) s))
           | inr x ↦ may_open_above e.kind a may.by_kind (subst (λ (y : Event). Below p.tree a y.node) x.1 below)
               (subst (λ (y : ℕ). StandsBefore h y Finished a) x.0 (before_front h (e ∷ []) i Finished a (omega (arith, x.0)) s))
@@ -166,9 +166,9 @@ module _ (p : PlanParts) (tree : IsPlanTree p.tree) (replies : ℕ → List Repl
     fails : has_failed h ≡ true → FailsBefore h (length h)
     fails q = (let r = finds is_failure h q in record { place = r.0; before = slice_get_within h r.0 r.1.0 r.1.1; event = r.1.0; here = r.1.1; failure = r.1.2 })
 
-    snoc_skipped : (i n : ℕ) → StandsAt (h ++ e ∷ []) i Skipped n → (is_disabled p.tree n ≡ true) ⊎ ((p.fail_fast ≡ true) × FailsBefore (h ++ e ∷ []) i)
-    snoc_skipped i n s =
-        elim (stands_snoc h e i Skipped n s) [
+    added_skipped : (i n : ℕ) → StandsAt (h ++ e ∷ []) i Skipped n → (is_disabled p.tree n ≡ true) ⊎ ((p.fail_fast ≡ true) × FailsBefore (h ++ e ∷ []) i)
+    added_skipped i n s =
+        elim (stands_added h e i Skipped n s) [
           | inl a ↦ elim (legal.skipped i n a) [ inl r ↦ inl r | inr r ↦ inr (r.0, fails_later (e ∷ []) r.1) ]
           | inr b ↦ (let m : MaySkip p h e.node = by Skipped b.1 in
               elim m.reason [
@@ -177,23 +177,23 @@ module _ (p : PlanParts) (tree : IsPlanTree p.tree) (replies : ℕ → List Repl
               ])
         ]
 
-    snoc_unstarted : (i n : ℕ) → StandsAt (h ++ e ∷ []) i Started n → is_disabled p.tree n ≡ false
-    snoc_unstarted i n s =
-        elim (stands_snoc h e i Started n s) [
+    added_unstarted : (i n : ℕ) → StandsAt (h ++ e ∷ []) i Started n → is_disabled p.tree n ≡ false
+    added_unstarted i n s =
+        elim (stands_added h e i Started n s) [
           | inl a ↦ legal.unstarted i n a
           | inr b ↦ (let m : MayStart p h e.node e.worker = by Started b.1 in subst (λ (x : ℕ). is_disabled p.tree x ≡ false) b.2 m.enabled)
         ]
 
-    snoc_quits : p.fail_fast ≡ true → (i j : ℕ) (f g : Event) → i < j → slice_get (h ++ e ∷ []) i ≡ Some f → slice_get (h ++ e ∷ []) j ≡ Some g → is_failure f ≡ true → g.kind ≡ Started → f.worker ≡ g.worker → ⊥
-    snoc_quits fast i j f g lt q r failure start same =
-        elim (get_snoc h e f i q) [
-          | inl x ↦ elim (get_snoc h e g j r) [
+    added_quits : p.fail_fast ≡ true → (i j : ℕ) (f g : Event) → i < j → slice_get (h ++ e ∷ []) i ≡ Some f → slice_get (h ++ e ∷ []) j ≡ Some g → is_failure f ≡ true → g.kind ≡ Started → f.worker ≡ g.worker → ⊥
+    added_quits fast i j f g lt q r failure start same =
+        elim (get_added h e f i q) [
+          | inl x ↦ elim (get_added h e g j r) [
             | inl y ↦ legal.quits fast i j f g lt x y failure start same
             | inr y ↦ (let m : MayStart p h e.node e.worker = by Started (subst (λ (z : Event). z.kind ≡ Started) y.1 start) in
                 both_ways (has_failed_by e.worker h) (m.unfailed fast)
                 (found (λ z. is_failure z && (z.worker == e.worker)) h i f x (and_from (is_failure f) (f.worker == e.worker) failure (eq-eqb f.worker e.worker (subst (λ (z : Event). f.worker ≡ z.worker) y.1 same)))))
           ]
-          | inr x ↦ elim (get_snoc h e g j r) [
+          | inr x ↦ elim (get_added h e g j r) [
             | inl y ↦ (let within : j < length h = slice_get_within h j g y in omega (arith, within, lt, x.0))
             | inr y ↦ omega (arith, lt, x.0, y.0)
           ]
@@ -202,7 +202,7 @@ module _ (p : PlanParts) (tree : IsPlanTree p.tree) (replies : ℕ → List Repl
     unregistered_later : (a c : ℕ) → IsChild p.tree a c → has Finished a h ≡ true → IsUnregistered p h c → IsUnregistered p (h ++ e ∷ []) c
     unregistered_later a c ch done u = record {
       spare = u.spare;
-      never = λ i s. elim (stands_snoc h e i Registered c s) [
+      never = λ i s. elim (stands_added h e i Registered c s) [
         | inl x ↦ u.never i x
         | inr x ↦ (let m : MayRegister p h e.node = by Registered x.1 in
             let parent : parent_of p.tree e.node ≡ a = ap (parent_of p.tree) x.2 ∙ ch.parent in
@@ -213,7 +213,7 @@ module _ (p : PlanParts) (tree : IsPlanTree p.tree) (replies : ℕ → List Repl
     unregistered_new : (c : ℕ) → e.kind ≡ Finished → is_spare_at p.tree c ≡ true → has Registered c h ≡ false → IsUnregistered p (h ++ e ∷ []) c
     unregistered_new c k spare unseen = record {
       spare = spare;
-      never = λ i s. elim (stands_snoc h e i Registered c s) [
+      never = λ i s. elim (stands_added h e i Registered c s) [
         | inl x ↦ both_ways (has Registered c h) unseen (has_at x)
         | inr x ↦ other_kind (sym k ∙ x.1)
       ];
@@ -226,7 +226,7 @@ module _ (p : PlanParts) (tree : IsPlanTree p.tree) (replies : ℕ → List Repl
     module _ (k : e.kind ≡ Finished) (m : MayFinish p replies h e) where
       silent_below : ChildrenOk p h e.node true → (j : ℕ) (f : Event) → slice_get (h ++ e ∷ []) j ≡ Some f → Below p.tree e.node f.node → ⊥
       silent_below unseen j f q b =
-          elim (get_snoc h e f j q) [
+          elim (get_added h e f j q) [
             | inl x ↦ unseen_below p replies workers h legal e.node unseen j f x b
             | inr x ↦ (let s = has_stands Started e.node h m.started in
                 unseen_below p replies workers h legal e.node unseen s.0 s.1.event s.1.here (subst (λ (y : ℕ). Below p.tree e.node y) (ap (λ (z : Event). z.node) x.1 ∙ sym s.1.node) b))
@@ -248,8 +248,8 @@ module _ (p : PlanParts) (tree : IsPlanTree p.tree) (replies : ℕ → List Repl
       -- a child that is settled, or is a spare, keeps a node that goes on from being stopped
       new_unstopped : ChildrenOk p h e.node false → Ends replies (jobs_of p e.node) false (registered_in p h e.node) m.status m.text → IsStopped p (h ++ e ∷ []) e.node → ⊥
       new_unstopped done ends s =
-          elim (get_snoc h e s.finish.event s.place s.finish.here) [
-            | inl x ↦ snoc_apart s.place Finished e.node (record { event = s.finish.event; here = x; kind = s.finish.kind; node = s.finish.node }) k refl
+          elim (get_added h e s.finish.event s.place s.finish.here) [
+            | inl x ↦ added_apart s.place Finished e.node (record { event = s.finish.event; here = x; kind = s.finish.kind; node = s.finish.node }) k refl
             | inr x ↦ (let status : s.status ≡ m.status = same_Some s.status m.status (sym s.ends ∙ ap (λ (y : Event). y.status) x.1 ∙ m.here) in
                 let r = last_has_child p replies e.node (registered_in p h e.node) m.status m.text ends s.body (subst (λ (y : Status). is_successful y ≡ false) status s.unsuccessful) in
                 let c = some_child p e.node r.0 in
@@ -295,9 +295,9 @@ module _ (p : PlanParts) (tree : IsPlanTree p.tree) (replies : ℕ → List Repl
         lawful = subst (λ (r : ℕ). Ends replies (jobs_of p e.node) m.stopped r m.status m.text) registered_here m.lawful;
       }
 
-    snoc_settled : (i a c : ℕ) → StandsAt (h ++ e ∷ []) i Finished a → (IsStopped p (h ++ e ∷ []) a → ⊥) → IsChild p.tree a c → IsSettledAt (h ++ e ∷ []) i c ⊎ IsUnregistered p (h ++ e ∷ []) c
-    snoc_settled i a c s go ch =
-        elim (stands_snoc h e i Finished a s) [
+    added_settled : (i a c : ℕ) → StandsAt (h ++ e ∷ []) i Finished a → (IsStopped p (h ++ e ∷ []) a → ⊥) → IsChild p.tree a c → IsSettledAt (h ++ e ∷ []) i c ⊎ IsUnregistered p (h ++ e ∷ []) c
+    added_settled i a c s go ch =
+        elim (stands_added h e i Finished a s) [
           | inl x ↦ elim (legal.settled i a c x (λ t. go (stopped_later a t)) ch) [ inl r ↦ inl (settled_later (e ∷ []) r) | inr u ↦ inr (unregistered_later a c ch (has_at x) u) ]
           | inr x ↦ (let m : MayFinish p replies h e = by Finished x.1 in
               elim (new_settled x.1 m c m.stopped m.children m.lawful (subst (λ (y : ℕ). IsStopped p (h ++ e ∷ []) y → ⊥) (sym x.2) go) (subst (λ (y : ℕ). IsChild p.tree y c) (sym x.2) ch)) [
@@ -321,9 +321,9 @@ module _ (p : PlanParts) (tree : IsPlanTree p.tree) (replies : ℕ → List Repl
         stops true s = stopped_later f.node s
         stops false s = λ t. s (stopped_earlier i f.node (record { event = f; here = q; kind = k; node = refl }) t)
 
-    snoc_result : (i : ℕ) (f : Event) → slice_get (h ++ e ∷ []) i ≡ Some f → f.kind ≡ Finished → (text : Option (List ℕ)) × HasResult p replies (h ++ e ∷ []) i f text
-    snoc_result i f q k =
-        elim (get_snoc h e f i q) [
+    added_result : (i : ℕ) (f : Event) → slice_get (h ++ e ∷ []) i ≡ Some f → f.kind ≡ Finished → (text : Option (List ℕ)) × HasResult p replies (h ++ e ∷ []) i f text
+    added_result i f q k =
+        elim (get_added h e f i q) [
           | inl x ↦ (let r = legal.result i f x k in (r.0, result_later i f r.0 x k r.1))
           | inr x ↦ (let new : e.kind ≡ Finished = subst (λ (y : Event). y.kind ≡ Finished) x.1 k in
               let m : MayFinish p replies h e = by Finished new in
@@ -331,25 +331,25 @@ module _ (p : PlanParts) (tree : IsPlanTree p.tree) (replies : ℕ → List Repl
         ]
 
     -- A legal history stays legal with an event that may follow.
-    pub legal_snoc : IsLegal p replies workers (h ++ e ∷ [])
-    legal_snoc = record {
-      lawful = snoc_each (λ x. is_lawful x ≡ true) legal.lawful may.lawful;
-      nodes = snoc_each (λ x. x.node < size p.tree) legal.nodes may.inside;
-      by_workers = snoc_each (λ x. x.worker ≤ workers) legal.by_workers may.by_worker;
-      once = snoc_once;
-      apart = snoc_apart_kinds;
-      after_start = snoc_after_start;
-      registered = snoc_registered;
-      after_registered = snoc_after_registered;
-      elder_registered = snoc_elders;
-      start_above = snoc_start_above;
-      open_above = snoc_open_above;
-      skipped = snoc_skipped;
-      unstarted = snoc_unstarted;
-      below_skipped = λ i j a f s q b. (let up = snoc_start_above j a f q b in snoc_apart_kinds up.place i a up.stands s);
-      quits = snoc_quits;
-      settled = snoc_settled;
-      result = snoc_result;
+    pub legal_added : IsLegal p replies workers (h ++ e ∷ [])
+    legal_added = record {
+      lawful = added_each (λ x. is_lawful x ≡ true) legal.lawful may.lawful;
+      nodes = added_each (λ x. x.node < size p.tree) legal.nodes may.inside;
+      by_workers = added_each (λ x. x.worker ≤ workers) legal.by_workers may.by_worker;
+      once = added_once;
+      apart = added_apart_kinds;
+      after_start = added_after_start;
+      registered = added_registered;
+      after_registered = added_after_registered;
+      elder_registered = added_elders;
+      start_above = added_start_above;
+      open_above = added_open_above;
+      skipped = added_skipped;
+      unstarted = added_unstarted;
+      below_skipped = λ i j a f s q b. (let up = added_start_above j a f q b in added_apart_kinds up.place i a up.stands s);
+      quits = added_quits;
+      settled = added_settled;
+      result = added_result;
     }
 
 -- the history without events

@@ -9,7 +9,7 @@ use Rattle.resource_locks.specs.Plans.{PlanParts}
 use Rattle.event_history.specs.Places.{StandsAt, StandsBefore, has}
 use Rattle.event_history.specs.Inside.Following.{MayHold}
 use Rattle.event_history.specs.Exclusion.{Excludes, HeldConflict, IsExclusive}
-use Rattle.event_history.proofs.Places.{has_at, has_before, before_later, before_front, stands_later, stands_within, stands_snoc}
+use Rattle.event_history.proofs.Places.{has_at, has_before, before_later, before_front, stands_later, stands_within, stands_added}
 
 pub conflict_back : (p : PlanParts) (m n : ℕ) → HeldConflict p m n → HeldConflict p n m
 conflict_back p m n c = record { key = c.key; mode = c.other_mode; here = c.there; other_mode = c.mode; there = c.here; writes = swap c.writes }
@@ -25,10 +25,10 @@ module _ (p : PlanParts) (h : List Event) (e : Event) (exclusive : IsExclusive p
       may k m (has_at s) (false_from_ne_true (has Finished m h) (λ t. unended (before_later (e ∷ []) (has_before Finished m h t)))) (subst (λ (x : ℕ). HeldConflict p m x) (sym q) c)
 
   -- Held locks exclude each other still.
-  pub exclusive_snoc : IsExclusive p (h ++ e ∷ [])
-  exclusive_snoc m n differ c o =
-      elim (stands_snoc h e o.place Started m o.start) [
-        | inl s ↦ elim (stands_snoc h e o.other_place Started n o.other_start) [
+  pub exclusive_added : IsExclusive p (h ++ e ∷ [])
+  exclusive_added m n differ c o =
+      elim (stands_added h e o.place Started m o.start) [
+        | inl s ↦ elim (stands_added h e o.other_place Started n o.other_start) [
           | inl t ↦ exclusive m n differ c (record {
             place = o.place;
             start = s;
@@ -39,7 +39,7 @@ module _ (p : PlanParts) (h : List Event) (e : Event) (exclusive : IsExclusive p
           })
           | inr t ↦ new_start m n o.place s t.1 t.2 (subst (λ (j : ℕ). StandsBefore (h ++ e ∷ []) j Finished m → ⊥) t.0 o.unended) c
         ]
-        | inr s ↦ elim (stands_snoc h e o.other_place Started n o.other_start) [
+        | inr s ↦ elim (stands_added h e o.other_place Started n o.other_start) [
           | inl t ↦ new_start n m o.other_place t s.1 s.2 (subst (λ (j : ℕ). StandsBefore (h ++ e ∷ []) j Finished n → ⊥) s.0 o.other_unended) (conflict_back p m n c)
           | inr t ↦ differ (sym s.2 ∙ t.2)
         ]

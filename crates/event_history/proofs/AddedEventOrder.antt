@@ -13,8 +13,8 @@ use Rattle.event_history.specs.Places.{IsSettledAt, is_of, has}
 use Rattle.event_history.specs.History.{IsLegal}
 use Rattle.event_history.specs.Order.{goes_first, is_opening, IsInOrder}
 use Rattle.event_history.specs.Inside.Following.{MayFollow, MayFinish, ByKind, MayGoNext}
-use Rattle.event_history.proofs.Places.{get_snoc, has_stands, has_at, has_before, settled_later, settled_more, finds, is_of-true}
-use Rattle.event_history.proofs.Snoc.{may_fresh}
+use Rattle.event_history.proofs.Places.{get_added, has_stands, has_at, has_before, settled_later, settled_more, finds, is_of-true}
+use Rattle.event_history.proofs.AddedEvent.{may_fresh}
 
 module _ (p : PlanParts) (tree : IsPlanTree p.tree) (replies : ℕ → List Reply) (workers : ℕ) (h : List Event) (e : Event) (legal : IsLegal p replies workers h)
     (may : MayFollow p replies workers h e) (order : IsInOrder p h) (next : MayGoNext p h e) where
@@ -36,9 +36,9 @@ module _ (p : PlanParts) (tree : IsPlanTree p.tree) (replies : ℕ → List Repl
             (order.elder_settled s.0 a s.1.event s.1.here (subst (λ (n : ℕ). IsElder p.tree a n) (sym s.1.node) elder) (subst (λ (n : ℕ). goes_first p a n ≡ true) (sym s.1.node) first)))
       ]
 
-  snoc_elder_settled : (i a : ℕ) (f : Event) → slice_get (h ++ e ∷ []) i ≡ Some f → IsElder p.tree a f.node → goes_first p a f.node ≡ true → IsSettledAt (h ++ e ∷ []) i a
-  snoc_elder_settled i a f q elder first =
-      elim (get_snoc h e f i q) [
+  added_elder_settled : (i a : ℕ) (f : Event) → slice_get (h ++ e ∷ []) i ≡ Some f → IsElder p.tree a f.node → goes_first p a f.node ≡ true → IsSettledAt (h ++ e ∷ []) i a
+  added_elder_settled i a f q elder first =
+      elim (get_added h e f i q) [
         | inl x ↦ settled_later (e ∷ []) (order.elder_settled i a f x elder first)
         | inr x ↦ settled_later (e ∷ []) (subst (λ (j : ℕ). IsSettledAt h j a) (sym x.0)
             (new_elders a (subst (λ (y : Event). IsElder p.tree a y.node) x.1 elder) (subst (λ (y : Event). goes_first p a y.node ≡ true) x.1 first)))
@@ -60,15 +60,15 @@ module _ (p : PlanParts) (tree : IsPlanTree p.tree) (replies : ℕ → List Repl
       let fresh : has Started e.node h ≡ false = may_fresh p tree replies workers h e legal Started (subst (ByKind p replies h e) k may.by_kind) in
       both_ways (has Started e.node h) fresh (subst (λ (x : ℕ). has Started x h ≡ true) (sym n) (has_at up.stands))
 
-  snoc_by_parent : (i j : ℕ) (f g : Event) → slice_get (h ++ e ∷ []) i ≡ Some f → slice_get (h ++ e ∷ []) j ≡ Some g → is_opening f.kind ≡ true → 0 < f.node → is_same p f.node ≡ true
+  added_by_parent : (i j : ℕ) (f g : Event) → slice_get (h ++ e ∷ []) i ≡ Some f → slice_get (h ++ e ∷ []) j ≡ Some g → is_opening f.kind ≡ true → 0 < f.node → is_same p f.node ≡ true
       → g.kind ≡ Started → g.node ≡ parent_of p.tree f.node → f.worker ≡ g.worker
-  snoc_by_parent i j f g q r opens pos same k n =
-      elim (get_snoc h e f i q) [
-        | inl x ↦ elim (get_snoc h e g j r) [
+  added_by_parent i j f g q r opens pos same k n =
+      elim (get_added h e f i q) [
+        | inl x ↦ elim (get_added h e g j r) [
           | inl y ↦ order.by_parent i j f g x y opens pos same k n
           | inr y ↦ absurd (no_parent i f x pos (subst (λ (z : Event). z.kind ≡ Started) y.1 k) (subst (λ (z : Event). z.node ≡ parent_of p.tree f.node) y.1 n))
         ]
-        | inr x ↦ elim (get_snoc h e g j r) [
+        | inr x ↦ elim (get_added h e g j r) [
           | inl y ↦ subst (λ (z : Event). z.worker ≡ g.worker) (sym x.1)
               (new_by_parent j g y (subst (λ (z : Event). is_opening z.kind ≡ true) x.1 opens) (subst (λ (z : Event). 0 < z.node) x.1 pos) (subst (λ (z : Event). is_same p z.node ≡ true) x.1 same) k
               (subst (λ (z : Event). g.node ≡ parent_of p.tree z.node) x.1 n))
@@ -77,8 +77,8 @@ module _ (p : PlanParts) (tree : IsPlanTree p.tree) (replies : ℕ → List Repl
       ]
 
   -- The same-thread order is kept.
-  pub order_snoc : IsInOrder p (h ++ e ∷ [])
-  order_snoc = record { elder_settled = snoc_elder_settled; by_parent = snoc_by_parent }
+  pub order_added : IsInOrder p (h ++ e ∷ [])
+  order_added = record { elder_settled = added_elder_settled; by_parent = added_by_parent }
 
 -- the history without events keeps the order
 pub order_nil : (p : PlanParts) → IsInOrder p []

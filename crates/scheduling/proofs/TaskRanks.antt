@@ -20,7 +20,7 @@ use Rattle.scheduling.specs.Rows.{with_task, after_start, ends_or_free}
 use Rattle.scheduling.specs.Inside.Work.{weight, opening_rank, closing_rank, task_rank, seat_rank}
 use Rattle.scheduling.proofs.RowsOne.{by_cond}
 use Rattle.scheduling.proofs.RowsBelow.{ending_is}
-use Rattle.scheduling.proofs.FallsMoves.{weight_least}
+use Rattle.scheduling.proofs.LessWorkMoves.{weight_least}
 
 pub lock_from_rank : (p : PlanParts) (n i : ℕ) → opening_rank p n (lock_from p n i) ≤ 5 + 2 * (keys_count p n - i)
 lock_from_rank p n i = by_cond (λ (d : Opening). opening_rank p n d ≤ 5 + 2 * (keys_count p n - i)) (nat_lt i (keys_count p n)) (Locking i) (Beginning false) (λ _. omega arith) (λ _. omega arith)

@@ -13,7 +13,7 @@ use Rattle.resource_locks.specs.Plans.{PlanParts}
 use Rattle.event_history.specs.Plans.{is_same}
 use Rattle.event_history.specs.Order.{goes_first}
 use Rattle.event_history.proofs.Trees.{is_child_test}
-use Rattle.event_history.proofs.Few.{legal_few}
+use Rattle.event_history.proofs.EventBound.{legal_few}
 use Rattle.scheduling.specs.declared.status.NodeStatus.{NodeStatus}
 use Rattle.scheduling.specs.declared.status.NodeStatus.TheVariants.{Hidden, Ready, Claimed, Settled}
 use Rattle.scheduling.specs.declared.lock_word.LockWord.{LockWord}
@@ -38,8 +38,8 @@ use Rattle.scheduling.proofs.Parts.{pending_none}
 use Rattle.scheduling.proofs.RowsOne.{by_cond, parent_inside}
 use Rattle.scheduling.proofs.RowsTwo.{unseen_is}
 use Rattle.scheduling.proofs.RowsDraw.{draw_keeps}
-use Rattle.scheduling.proofs.FallsMoves.{keys_few, weight_least, goes_lower, status_lower, counter_lower, counter_higher, draw_lower}
-use Rattle.scheduling.proofs.FallsRanks.{lock_from_rank, begins_rank, claims_rank, giving_rank, after_finish_rank, admit_rank, ends_rank, settled_rank, started_rank}
+use Rattle.scheduling.proofs.LessWorkMoves.{keys_few, weight_least, goes_lower, status_lower, counter_lower, counter_higher, draw_lower}
+use Rattle.scheduling.proofs.TaskRanks.{lock_from_rank, begins_rank, claims_rank, giving_rank, after_finish_rank, admit_rank, ends_rank, settled_rank, started_rank}
 
 ready_rank : (o : Option ℕ) (st : NodeStatus) → is_ready_for o st ≡ true → status_rank st ≡ 2
 ready_rank o Hidden q = absurd (false≢true q)
@@ -71,8 +71,8 @@ module _ (p : PlanParts) (core : IsCorePlan p) (replies : ℕ → List Reply) (s
   lower : (t0 t1 : Task) (locks : List LockWord) (cancel : Bool) (shown : List Bool) → seat.task ≡ t0 → task_rank p t1 < task_rank p t0 → work_left p (record s { locks = locks; cancel = cancel; shown = shown; seats = set s.seats w (with_task seat t1) }) < work_left p s
   lower t0 t1 locks cancel shown e less = goes_lower p s w seat is locks cancel shown (with_task seat t1) (let was = ranked t0 e in omega (arith, was, less))
 
-  claim_falls : (o : Option ℕ) (b : Bool) (n : ℕ) (t0 : Task) → seat.task ≡ t0 → (t : State) → cond (is_free t0 && (b && is_ready_for o (status_at s n))) (Some (claimed p s w seat n)) None ≡ Some t → work_left p t < work_left p s
-  claim_falls o b n Free e t r =
+  claim_lessens : (o : Option ℕ) (b : Bool) (n : ℕ) (t0 : Task) → seat.task ≡ t0 → (t : State) → cond (is_free t0 && (b && is_ready_for o (status_at s n))) (Some (claimed p s w seat n)) None ≡ Some t → work_left p t < work_left p s
+  claim_lessens o b n Free e t r =
       let c = cond_some (b && is_ready_for o (status_at s n)) (claimed p s w seat n) t r in
       let ready = (and_parts b (is_ready_for o (status_at s n)) c.0).1 in
       let two = ready_rank o (status_at s n) ready in
@@ -81,27 +81,27 @@ module _ (p : PlanParts) (core : IsCorePlan p) (replies : ℕ → List Reply) (s
       let next = claims_rank p n in
       let was = ranked Free e in
       subst (λ (x : State). work_left p x < work_left p s) c.1 (status_lower p s w seat is n (Claimed w) (with_task seat (Opens n (claims p n))) inside (sym two) (omega (arith, few, next, was)))
-  claim_falls o b n _ e t r = absurd (none-some t r)
+  claim_lessens o b n _ e t r = absurd (none-some t r)
 
-  notice_falls : (t0 : Task) → seat.task ≡ t0 → (t : State) → notice_row p s w seat t0 ≡ Some t → work_left p t < work_left p s
-  notice_falls (Opens n Noticing) e t r =
+  notice_lessens : (t0 : Task) → seat.task ≡ t0 → (t : State) → notice_row p s w seat t0 ≡ Some t → work_left p t < work_left p s
+  notice_lessens (Opens n Noticing) e t r =
       made _ t (lower (Opens n Noticing) (Opens n (begins p n s.cancel)) s.locks s.cancel s.shown e (let a = begins_rank p n s.cancel in omega (arith, a))) r
-  notice_falls _ e t r = absurd (none-some t r)
+  notice_lessens _ e t r = absurd (none-some t r)
 
-  raise_falls : (t0 : Task) → seat.task ≡ t0 → (t : State) → raise_row p s w seat t0 ≡ Some t → work_left p t < work_left p s
-  raise_falls (Closes n Raising) e t r =
+  raise_lessens : (t0 : Task) → seat.task ≡ t0 → (t : State) → raise_row p s w seat t0 ≡ Some t → work_left p t < work_left p s
+  raise_lessens (Closes n Raising) e t r =
       made _ t (lower (Closes n Raising) (Closes n (giving (keys_count p n))) s.locks true s.shown e (let a = giving_rank p n (keys_count p n) in omega (arith, a))) r
-  raise_falls _ e t r = absurd (none-some t r)
+  raise_lessens _ e t r = absurd (none-some t r)
 
-  weigh_falls : (t0 : Task) → seat.task ≡ t0 → IsClear p s t0 → (t : State) → weigh_row p s w seat t0 ≡ Some t → work_left p t < work_left p s
-  weigh_falls (Opens n (Locking i)) e clear t r =
+  weigh_lessens : (t0 : Task) → seat.task ≡ t0 → IsClear p s t0 → (t : State) → weigh_row p s w seat t0 ≡ Some t → work_left p t < work_left p s
+  weigh_lessens (Opens n (Locking i)) e clear t r =
       let word : LockWord = lock_at s (key_at p n i) in
       let next : opening_rank p n (weighed p n i word) ≡ 4 + 2 * (keys_count p n - i) = ap (opening_rank p n) (cond-true (admits (mode_at p n i) word) (Weighed i word) (Backing i) clear) in
       made _ t (lower (Opens n (Locking i)) (Opens n (weighed p n i word)) s.locks s.cancel s.shown e (omega (arith, next))) r
-  weigh_falls _ e clear t r = absurd (none-some t r)
+  weigh_lessens _ e clear t r = absurd (none-some t r)
 
-  take_falls : (t0 : Task) → seat.task ≡ t0 → IsClear p s t0 → (t : State) → take_row p s w seat t0 ≡ Some t → work_left p t < work_left p s
-  take_falls (Opens n (Weighed i v)) e clear t r =
+  take_lessens : (t0 : Task) → seat.task ≡ t0 → IsClear p s t0 → (t : State) → take_row p s w seat t0 ≡ Some t → work_left p t < work_left p s
+  take_lessens (Opens n (Weighed i v)) e clear t r =
       let at = opens n (Weighed i v) e in
       let ok : OpeningOk p replies s.published n (Weighed i v) = subst (ShapeOk p replies s.published n) at.1 (h.shapes n at.0) in
       let few : i < keys_count p n = ok.0 in
@@ -110,21 +110,21 @@ module _ (p : PlanParts) (core : IsCorePlan p) (replies : ℕ → List Reply) (s
       let found : take_found p s w seat n i v (Some v) ≡ Some t = ap (take_found p s w seat n i v) (sym clear) ∙ r in
       let put = cond-true (same_word v v) (Some (puts_word s w seat (Opens n (lock_from p n (suc i))) (key_at p n i) (taken (mode_at p n i) v))) (Some (goes s w seat (Opens n (Locking i)))) (word_same v) in
       made _ t (lower (Opens n (Weighed i v)) (Opens n (lock_from p n (suc i))) locks s.cancel s.shown e (omega (arith, next, few))) (sym put ∙ found)
-  take_falls _ e clear t r = absurd (none-some t r)
+  take_lessens _ e clear t r = absurd (none-some t r)
 
-  give_falls : (t0 : Task) → seat.task ≡ t0 → IsClear p s t0 → (t : State) → give_row p s w seat t0 ≡ Some t → work_left p t < work_left p s
-  give_falls (Closes n (Giving (suc i))) e clear t r = go (slice_get s.locks (key_at p n i)) r
+  give_lessens : (t0 : Task) → seat.task ≡ t0 → IsClear p s t0 → (t : State) → give_row p s w seat t0 ≡ Some t → work_left p t < work_left p s
+  give_lessens (Closes n (Giving (suc i))) e clear t r = go (slice_get s.locks (key_at p n i)) r
     where
       go : (found : Option LockWord) → gives_key p s w seat (Closes n (giving i)) n i found ≡ Some t → work_left p t < work_left p s
       go None r = absurd (none-some t r)
       go (Some word) r =
           made _ t (lower (Closes n (Giving (suc i))) (Closes n (giving i)) (set s.locks (key_at p n i) (given_back (mode_at p n i) word)) s.cancel s.shown e (let a = giving_rank p n i in omega (arith, a))) r
-  give_falls (Opens n (Backing i)) e clear t r = absurd clear
-  give_falls _ e clear t r = absurd (none-some t r)
+  give_lessens (Opens n (Backing i)) e clear t r = absurd clear
+  give_lessens _ e clear t r = absurd (none-some t r)
 
-  give_up_falls : (t0 : Task) → IsClear p s t0 → (t : State) → give_up_row p s w seat t0 ≡ Some t → work_left p t < work_left p s
-  give_up_falls (Opens n (Backing i)) clear t r = absurd clear
-  give_up_falls _ clear t r = absurd (none-some t r)
+  give_up_lessens : (t0 : Task) → IsClear p s t0 → (t : State) → give_up_row p s w seat t0 ≡ Some t → work_left p t < work_left p s
+  give_up_lessens (Opens n (Backing i)) clear t r = absurd clear
+  give_up_lessens _ clear t r = absurd (none-some t r)
 
   -- there is room for what is drawn, as what is published then is legal
   draws : (t0 : Task) → seat.task ≡ t0 → (ev : Event) (next : Seat) → draw_row s w seat t0 ≡ Some (drawn s w ev next) → seat_rank p next + 1 < weight p + task_rank p t0 → work_left p (drawn s w ev next) < work_left p s
@@ -135,49 +135,49 @@ module _ (p : PlanParts) (core : IsCorePlan p) (replies : ℕ → List Reply) (s
       let was = ranked t0 e in
       draw_lower p s w seat is ev next (omega (arith, few, more)) (omega (arith, was, less))
 
-  draw_falls : (t0 : Task) → seat.task ≡ t0 → (t : State) → draw_row s w seat t0 ≡ Some t → work_left p t < work_left p s
-  draw_falls (Opens n Registering) e t r =
+  draw_lessens : (t0 : Task) → seat.task ≡ t0 → (t : State) → draw_row s w seat t0 ≡ Some t → work_left p t < work_left p s
+  draw_lessens (Opens n Registering) e t r =
       let least = weight_least p in
       made _ t (draws (Opens n Registering) e (event_of Registered n None w) (record { task = Opens n (RegisteredAt (length s.published)); hand = one_more seat.hand }) refl (omega (arith, least))) r
-  draw_falls (Opens n (Beginning true)) e t r =
+  draw_lessens (Opens n (Beginning true)) e t r =
       let least = weight_least p in
       made _ t (draws (Opens n (Beginning true)) e (event_of Skipped n None w) (with_task seat (Closes n (SkippedAt (length s.published)))) refl (omega (arith, least))) r
-  draw_falls (Opens n (Beginning false)) e t r =
+  draw_lessens (Opens n (Beginning false)) e t r =
       made _ t (draws (Opens n (Beginning false)) e (event_of Started n None w) (with_task seat (Opens n (StartedAt (length s.published)))) refl (omega arith)) r
-  draw_falls (Closes n (Ending status)) e t r =
+  draw_lessens (Closes n (Ending status)) e t r =
       let few = keys_few p n (closes n (Ending status) e).0 in
       made _ t (draws (Closes n (Ending status)) e (event_of Finished n (Some status) w) (with_task seat (Closes n (FinishedAt (length s.published) status))) refl (omega (arith, few))) r
-  draw_falls _ e t r = absurd (none-some t r)
+  draw_lessens _ e t r = absurd (none-some t r)
 
-  show_falls : (t0 : Task) → seat.task ≡ t0 → (t : State) → show_row p s w seat t0 ≡ Some t → work_left p t < work_left p s
-  show_falls (Opens n (RegisteredAt i)) e t r = made _ t (lower (Opens n (RegisteredAt i)) (Opens n Offering) s.locks s.cancel (set s.shown i true) e (omega arith)) r
-  show_falls (Opens n (StartedAt i)) e t r =
+  show_lessens : (t0 : Task) → seat.task ≡ t0 → (t : State) → show_row p s w seat t0 ≡ Some t → work_left p t < work_left p s
+  show_lessens (Opens n (RegisteredAt i)) e t r = made _ t (lower (Opens n (RegisteredAt i)) (Opens n Offering) s.locks s.cancel (set s.shown i true) e (omega arith)) r
+  show_lessens (Opens n (StartedAt i)) e t r =
       made _ t (goes_lower p s w seat is s.locks s.cancel (set s.shown i true) (after_start p seat n) (let a = started_rank p seat n in let was = ranked (Opens n (StartedAt i)) e in omega (arith, a, was))) r
-  show_falls (Closes n (SkippedAt i)) e t r = made _ t (lower (Closes n (SkippedAt i)) (Closes n Settling) s.locks s.cancel (set s.shown i true) e (omega arith)) r
-  show_falls (Closes n (FinishedAt i status)) e t r =
+  show_lessens (Closes n (SkippedAt i)) e t r = made _ t (lower (Closes n (SkippedAt i)) (Closes n Settling) s.locks s.cancel (set s.shown i true) e (omega arith)) r
+  show_lessens (Closes n (FinishedAt i status)) e t r =
       made _ t (lower (Closes n (FinishedAt i status)) (Closes n (after_finish p n status)) s.locks s.cancel (set s.shown i true) e (let a = after_finish_rank p n status in omega (arith, a))) r
-  show_falls _ e t r = absurd (none-some t r)
+  show_lessens _ e t r = absurd (none-some t r)
 
   -- a node is offered that was hidden
-  offers_falls : (t0 : Task) → seat.task ≡ t0 → (c : ℕ) (o : Option ℕ) (next : Seat) → c < size p.tree → status_rank (status_at s c) ≡ 3 → seat_rank p next < weight p + task_rank p t0 → work_left p (offers s w next c o) < work_left p s
-  offers_falls t0 e c o next inside hidden less = status_lower p s w seat is c (Ready o) next (omega (arith, inside, h.statuses_len)) (sym hidden) (let was = ranked t0 e in omega (arith, was, less))
+  offers_lessens : (t0 : Task) → seat.task ≡ t0 → (c : ℕ) (o : Option ℕ) (next : Seat) → c < size p.tree → status_rank (status_at s c) ≡ 3 → seat_rank p next < weight p + task_rank p t0 → work_left p (offers s w next c o) < work_left p s
+  offers_lessens t0 e c o next inside hidden less = status_lower p s w seat is c (Ready o) next (omega (arith, inside, h.statuses_len)) (sym hidden) (let was = ranked t0 e in omega (arith, was, less))
 
   word_rank : (c : ℕ) (st : Stage) → c < size p.tree → g c ≡ st → status_rank (status_at s c) ≡ status_rank (picture p c st).word
   word_rank c st inside at = ap status_rank (h.words c inside) ∙ ap (λ (x : Stage). status_rank (picture p c x).word) at
 
-  admit_falls : (t0 : Task) → seat.task ≡ t0 → (t : State) → admit_row p s w seat t0 ≡ Some t → work_left p t < work_left p s
-  admit_falls (Opens n (Admitting c)) e t r =
+  admit_lessens : (t0 : Task) → seat.task ≡ t0 → (t : State) → admit_row p s w seat t0 ≡ Some t → work_left p t < work_left p s
+  admit_lessens (Opens n (Admitting c)) e t r =
       let at = opens n (Admitting c) e in
       let ok : OpeningOk p replies s.published n (Admitting c) = subst (ShapeOk p replies s.published n) at.1 (h.shapes n at.0) in
       let ch : IsChild p.tree n c = is_child_test p.tree n c ok.1 (and_parts (is_child p.tree n c) _ ok.2).0 in
       let so : RunsSo p n c w c (g c) = subst (λ (st : Stage). Fits p (picture p n st).below n c (g c)) at.1 (h.edges n c ch) in
       let next = admit_rank p n (suc c) in
       let least = weight_least p in
-      made _ t (offers_falls (Opens n (Admitting c)) e c (offered_to p w c) (with_task seat (Opens n (admit_from p n (suc c)))) ok.1 (word_rank c Unseen ok.1 (unseen_is (g c) (so.rest ok.2 (omega arith)))) (omega (arith, next, least))) r
-  admit_falls (Opens c Offering) e t r =
+      made _ t (offers_lessens (Opens n (Admitting c)) e c (offered_to p w c) (with_task seat (Opens n (admit_from p n (suc c)))) ok.1 (word_rank c Unseen ok.1 (unseen_is (g c) (so.rest ok.2 (omega arith)))) (omega (arith, next, least))) r
+  admit_lessens (Opens c Offering) e t r =
       let at = opens c Offering e in
-      made _ t (offers_falls (Opens c Offering) e c (offered_to p w c) (record { task = Free; hand = waits_for p c seat.hand }) at.0 (word_rank c (OpenedBy w Offering) at.0 at.1) (omega arith)) r
-  admit_falls (Closes n (Passing m o)) e t r =
+      made _ t (offers_lessens (Opens c Offering) e c (offered_to p w c) (record { task = Free; hand = waits_for p c seat.hand }) at.0 (word_rank c (OpenedBy w Offering) at.0 at.1) (omega arith)) r
+  admit_lessens (Closes n (Passing m o)) e t r =
       let at = closes n (Passing m o) e in
       let least = weight_least p in
       let next : IsNextSame p n m = subst (ShapeOk p replies s.published n) at.1.2 (h.shapes n at.0) in
@@ -186,15 +186,15 @@ module _ (p : PlanParts) (core : IsCorePlan p) (replies : ℕ → List Reply) (s
         | inl q ↦ unseen_is (g m) q
         | inr q ↦ absurd (both_ways (is_past (g n)) (ap is_past at.1.2) (h.elders n m next.elder first q))
       ] in
-      made _ t (offers_falls (Closes n (Passing m o)) e m (Some o) (with_task seat (Closes n CountingOff)) next.elder.younger.inside (word_rank m Unseen next.elder.younger.inside unseen) (omega (arith, least))) r
-  admit_falls _ e t r = absurd (none-some t r)
+      made _ t (offers_lessens (Closes n (Passing m o)) e m (Some o) (with_task seat (Closes n CountingOff)) next.elder.younger.inside (word_rank m Unseen next.elder.younger.inside unseen) (omega (arith, least))) r
+  admit_lessens _ e t r = absurd (none-some t r)
 
   -- with a factory in hand
   in_hand : (hand : Hand) → seat.hand ≡ Some hand → IsInHand p g s.published w hand
   in_hand hand is_hand = subst (HandOk p g s.published w) is_hand mine.hand
 
-  add_child_falls : (reply : Reply) (t0 : Task) → seat.task ≡ t0 → (t : State) → add_child_row p s w seat reply t0 ≡ Some t → work_left p t < work_left p s
-  add_child_falls reply Free e t r = by_hand seat.hand refl r
+  add_child_lessens : (reply : Reply) (t0 : Task) → seat.task ≡ t0 → (t : State) → add_child_row p s w seat reply t0 ≡ Some t → work_left p t < work_left p s
+  add_child_lessens reply Free e t r = by_hand seat.hand refl r
     where
       by_found : (hand : Hand) → seat.hand ≡ Some hand → (found : Option ℕ) → child_added s w seat hand.factory found ≡ Some t → work_left p t < work_left p s
       by_found hand is_hand None r = absurd (none-some t r)
@@ -211,12 +211,12 @@ module _ (p : PlanParts) (core : IsCorePlan p) (replies : ℕ → List Reply) (s
       by_hand : (hand : Option Hand) → seat.hand ≡ hand → add_child_hand p s w seat reply hand ≡ Some t → work_left p t < work_left p s
       by_hand None is_hand r = absurd (none-some t r)
       by_hand (Some hand) is_hand r = by_waiting hand is_hand hand.waiting r
-  add_child_falls reply _ e t r = absurd (none-some t r)
+  add_child_lessens reply _ e t r = absurd (none-some t r)
 
   -- a node has one thing less outstanding
-  off_falls : (t0 : Task) → seat.task ≡ t0 → (n : ℕ) (results : List Status) (next : Seat) → n < size p.tree → 0 < counter_at s n → seat_rank p next < weight p + task_rank p t0
+  off_lessens : (t0 : Task) → seat.task ≡ t0 → (n : ℕ) (results : List Status) (next : Seat) → n < size p.tree → 0 < counter_at s n → seat_rank p next < weight p + task_rank p t0
       → work_left p (record s { counters = set s.counters n (counter_at s n - 1); results = results; seats = set s.seats w next }) < work_left p s
-  off_falls t0 e n results next inside some less = counter_lower p s w seat is n results next (omega (arith, inside, h.counters_len)) some (let was = ranked t0 e in omega (arith, was, less))
+  off_lessens t0 e n results next inside some less = counter_lower p s w seat is n results next (omega (arith, inside, h.counters_len)) some (let was = ranked t0 e in omega (arith, was, less))
 
   -- its own guard is outstanding
   guards : (n : ℕ) (st : Stage) → n < size p.tree → g n ≡ st → (picture p n st).guard ≡ 1 → 0 < counter_at s n
@@ -231,20 +231,20 @@ module _ (p : PlanParts) (core : IsCorePlan p) (replies : ℕ → List Reply) (s
         | inr some ↦ omega (arith, o, some)
       ]
 
-  done_falls : (reply : Reply) (t0 : Task) → seat.task ≡ t0 → (t : State) → done_row p s w seat reply t0 ≡ Some t → work_left p t < work_left p s
-  done_falls reply (Opens n Guarding) e t r =
+  done_lessens : (reply : Reply) (t0 : Task) → seat.task ≡ t0 → (t : State) → done_row p s w seat reply t0 ≡ Some t → work_left p t < work_left p s
+  done_lessens reply (Opens n Guarding) e t r =
       let at = opens n Guarding e in
       let next = ends_rank p n Successful (counter_at s n) in
-      made _ t (off_falls (Opens n Guarding) e n (set s.results n Successful) (record { task = ends_or_free p n Successful (counter_at s n); hand = seat.hand }) at.0 (guards n (OpenedBy w Guarding) at.0 at.1 refl) (omega (arith, next))) r
-  done_falls reply (Closes c CountingOff) e t r =
+      made _ t (off_lessens (Opens n Guarding) e n (set s.results n Successful) (record { task = ends_or_free p n Successful (counter_at s n); hand = seat.hand }) at.0 (guards n (OpenedBy w Guarding) at.0 at.1 refl) (omega (arith, next))) r
+  done_lessens reply (Closes c CountingOff) e t r =
       let at = closes c CountingOff e in
       let a : ℕ = parent_of p.tree c in
       let pos : 0 < c = subst (ShapeOk p replies s.published c) at.1.2 (h.shapes c at.0) in
       let ch : IsChild p.tree a c = record { above_zero = pos; inside = at.0; parent = refl } in
       let inside = parent_inside p core.plan a c ch in
       let next = ends_rank p a (result_at s a) (counter_at s a) in
-      made _ t (off_falls (Closes c CountingOff) e a s.results (with_task seat (ends_or_free p a (result_at s a) (counter_at s a))) inside (counts a c inside ch (ap (is_over (is_spare_at p.tree c)) at.1.2)) (omega (arith, next))) r
-  done_falls reply Free e t r = by_hand seat.hand refl r
+      made _ t (off_lessens (Closes c CountingOff) e a s.results (with_task seat (ends_or_free p a (result_at s a) (counter_at s a))) inside (counts a c inside ch (ap (is_over (is_spare_at p.tree c)) at.1.2)) (omega (arith, next))) r
+  done_lessens reply Free e t r = by_hand seat.hand refl r
     where
       by_waiting : (hand : Hand) → seat.hand ≡ Some hand → (waiting : Option ℕ) → done_by_hand p s w reply hand.factory hand.registered waiting ≡ Some t → work_left p t < work_left p s
       by_waiting hand is_hand (Some c) r = absurd (none-some t r)
@@ -254,46 +254,46 @@ module _ (p : PlanParts) (core : IsCorePlan p) (replies : ℕ → List Reply) (s
           let next = ends_rank p hand.factory (pulled_result hand.registered reply) (counter_at s hand.factory) in
           let least = weight_least p in
           subst (λ (x : State). work_left p x < work_left p s) c.1
-          (off_falls Free e hand.factory (set s.results hand.factory (pulled_result hand.registered reply)) (record { task = ends_or_free p hand.factory (pulled_result hand.registered reply) (counter_at s hand.factory); hand = None }) ok.inside (guards hand.factory (InHand w) ok.inside ok.at refl) (omega (arith, next, least)))
+          (off_lessens Free e hand.factory (set s.results hand.factory (pulled_result hand.registered reply)) (record { task = ends_or_free p hand.factory (pulled_result hand.registered reply) (counter_at s hand.factory); hand = None }) ok.inside (guards hand.factory (InHand w) ok.inside ok.at refl) (omega (arith, next, least)))
 
       by_hand : (hand : Option Hand) → seat.hand ≡ hand → done_hand p s w reply hand ≡ Some t → work_left p t < work_left p s
       by_hand None is_hand r = absurd (none-some t r)
       by_hand (Some hand) is_hand r = by_waiting hand is_hand hand.waiting r
-  done_falls reply _ e t r = absurd (none-some t r)
+  done_lessens reply _ e t r = absurd (none-some t r)
 
-  settle_falls : (t0 : Task) → seat.task ≡ t0 → (t : State) → settle_row p s w seat t0 ≡ Some t → work_left p t < work_left p s
-  settle_falls (Closes n Settling) e t r =
+  settle_lessens : (t0 : Task) → seat.task ≡ t0 → (t : State) → settle_row p s w seat t0 ≡ Some t → work_left p t < work_left p s
+  settle_lessens (Closes n Settling) e t r =
       let at = closes n Settling e in
       let next = settled_rank p n in
       let was = ranked (Closes n Settling) e in
       made _ t (status_lower p s w seat is n Settled (record { task = after_settle p n; hand = waits_no_more n seat.hand }) (let lt = at.0 in omega (arith, lt, h.statuses_len)) (sym (word_rank n (ClosedBy w at.1.0 Settling at.1.1) at.0 at.1.2)) (omega (arith, next, was))) r
-  settle_falls _ e t r = absurd (none-some t r)
+  settle_lessens _ e t r = absurd (none-some t r)
 
-  look_falls : (t0 : Task) → seat.task ≡ t0 → (t0 ≡ Free → ⊥) → (t : State) → look_row p s w seat t0 ≡ Some t → work_left p t < work_left p s
-  look_falls (Closes n (Looking m)) e busy t r = go (status_at s (parent_of p.tree n)) r
+  look_lessens : (t0 : Task) → seat.task ≡ t0 → (t0 ≡ Free → ⊥) → (t : State) → look_row p s w seat t0 ≡ Some t → work_left p t < work_left p s
+  look_lessens (Closes n (Looking m)) e busy t r = go (status_at s (parent_of p.tree n)) r
     where
       go : (status : NodeStatus) → look_found s w seat n m status ≡ Some t → work_left p t < work_left p s
       go (Claimed o) r = made _ t (lower (Closes n (Looking m)) (Closes n (Passing m o)) s.locks s.cancel s.shown e (omega arith)) r
       go Hidden r = absurd (none-some t r)
       go (Ready o) r = absurd (none-some t r)
       go Settled r = absurd (none-some t r)
-  look_falls Free e busy t r = absurd (busy refl)
-  look_falls _ e busy t r = absurd (none-some t r)
+  look_lessens Free e busy t r = absurd (busy refl)
+  look_lessens _ e busy t r = absurd (none-some t r)
 
   -- Each row but a free worker's look lowers what is left, where no other worker is in the way of the task.
-  pub row_falls : (reply : Reply) (a : Action) → (a ≡ Look → seat.task ≡ Free → ⊥) → IsClear p s seat.task → (t : State) → row p s w seat reply a ≡ Some t → work_left p t < work_left p s
-  row_falls reply (Claim n) acts clear t r = claim_falls None (is_empty seat.hand) n seat.task refl t r
-  row_falls reply (Own n) acts clear t r = claim_falls (Some w) (is_of_hand p seat.hand n) n seat.task refl t r
-  row_falls reply Notice acts clear t r = notice_falls seat.task refl t r
-  row_falls reply Weigh acts clear t r = weigh_falls seat.task refl clear t r
-  row_falls reply Take acts clear t r = take_falls seat.task refl clear t r
-  row_falls reply Give acts clear t r = give_falls seat.task refl clear t r
-  row_falls reply GiveUp acts clear t r = give_up_falls seat.task clear t r
-  row_falls reply Draw acts clear t r = draw_falls seat.task refl t r
-  row_falls reply Show acts clear t r = show_falls seat.task refl t r
-  row_falls reply Admit acts clear t r = admit_falls seat.task refl t r
-  row_falls reply AddChild acts clear t r = add_child_falls reply seat.task refl t r
-  row_falls reply Done acts clear t r = done_falls reply seat.task refl t r
-  row_falls reply Settle acts clear t r = settle_falls seat.task refl t r
-  row_falls reply Look acts clear t r = look_falls seat.task refl (acts refl) t r
-  row_falls reply Raise acts clear t r = raise_falls seat.task refl t r
+  pub row_lessens : (reply : Reply) (a : Action) → (a ≡ Look → seat.task ≡ Free → ⊥) → IsClear p s seat.task → (t : State) → row p s w seat reply a ≡ Some t → work_left p t < work_left p s
+  row_lessens reply (Claim n) acts clear t r = claim_lessens None (is_empty seat.hand) n seat.task refl t r
+  row_lessens reply (Own n) acts clear t r = claim_lessens (Some w) (is_of_hand p seat.hand n) n seat.task refl t r
+  row_lessens reply Notice acts clear t r = notice_lessens seat.task refl t r
+  row_lessens reply Weigh acts clear t r = weigh_lessens seat.task refl clear t r
+  row_lessens reply Take acts clear t r = take_lessens seat.task refl clear t r
+  row_lessens reply Give acts clear t r = give_lessens seat.task refl clear t r
+  row_lessens reply GiveUp acts clear t r = give_up_lessens seat.task clear t r
+  row_lessens reply Draw acts clear t r = draw_lessens seat.task refl t r
+  row_lessens reply Show acts clear t r = show_lessens seat.task refl t r
+  row_lessens reply Admit acts clear t r = admit_lessens seat.task refl t r
+  row_lessens reply AddChild acts clear t r = add_child_lessens reply seat.task refl t r
+  row_lessens reply Done acts clear t r = done_lessens reply seat.task refl t r
+  row_lessens reply Settle acts clear t r = settle_lessens seat.task refl t r
+  row_lessens reply Look acts clear t r = look_lessens seat.task refl (acts refl) t r
+  row_lessens reply Raise acts clear t r = raise_lessens seat.task refl t r
