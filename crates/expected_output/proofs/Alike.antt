@@ -7,7 +7,7 @@ use Rattle.descriptor.specs.Nodes.{Nodes, size, children_of, count_below}
 use Rattle.descriptor.proofs.Children.{children_listed}
 use Rattle.plan_events.specs.Texts.{TextParts, text_at}
 use Rattle.listeners.specs.declared.theme.Theme.{Theme}
-use Rattle.listeners.specs.declared.told.Told.{Told}
+use Rattle.listeners.specs.declared.told.NodeEvents.{NodeEvents}
 use Rattle.listeners.specs.Told.{has_line}
 use Rattle.listeners.specs.TreeSigns.{item}
 use Rattle.listeners.specs.TreeTexts.{Drawn, each_sibling, lines_below}
@@ -33,7 +33,7 @@ same_siblings f g nodes same (c ∷ cs) within = rw (same c _ within.0, same_sib
 children_inside : (t : Nodes) (a : ℕ) → All (λ c. c < size t) (children_of t a)
 children_inside t a k default lt = (children_listed t a k (get_or (children_of t a) k default) (slice_get-get_or (children_of t a) k default lt)).inside
 
-module _ (theme : Theme) (t : Nodes) (told : ℕ → Told) (a b : TextParts) (same : (n : ℕ) → n < size t → text_at a n ≡ text_at b n) where
+module _ (theme : Theme) (t : Nodes) (told : ℕ → NodeEvents) (a b : TextParts) (same : (n : ℕ) → n < size t → text_at a n ≡ text_at b n) where
   abbrev drawn : TextParts → Drawn
   drawn texts = record { theme = theme; tree = t; texts = texts; told = told }
 
@@ -45,6 +45,6 @@ module _ (theme : Theme) (t : Nodes) (told : ℕ → Told) (a b : TextParts) (sa
       same_siblings (sibling (drawn a) levels items) (sibling (drawn b) levels items) (size t) (λ c is_last lt. rw (same c lt, same_texts levels (items ++ item theme is_last) c) refl) (filter (λ c. has_line (told c)) (children_of t n)) inside
 
 -- where the same is known of each node, and each has the same text, the trees are the same
-pub same_lines : (theme : Theme) (t : Nodes) (a b : TextParts) (f g : ℕ → Told) → ((n : ℕ) → n < size t → f n ≡ g n) → ((n : ℕ) → n < size t → text_at a n ≡ text_at b n) → (levels : ℕ) (items : List ℕ) (n : ℕ)
+pub same_lines : (theme : Theme) (t : Nodes) (a b : TextParts) (f g : ℕ → NodeEvents) → ((n : ℕ) → n < size t → f n ≡ g n) → ((n : ℕ) → n < size t → text_at a n ≡ text_at b n) → (levels : ℕ) (items : List ℕ) (n : ℕ)
     → lines_below (record { theme = theme; tree = t; texts = a; told = f }) levels items n ≡ lines_below (record { theme = theme; tree = t; texts = b; told = g }) levels items n
 same_lines theme t a b f g told texts levels items n = same_below theme t a f g told levels items n ∙ same_texts theme t g a b texts levels items n

@@ -11,7 +11,7 @@ use Rattle.resource_locks.specs.Plans.{PlanParts}
 use Rattle.event_history.specs.Expected.{HasOneReply}
 use Rattle.event_history.specs.History.{IsLegal, IsComplete, IsTextOf}
 use Rattle.listeners.specs.declared.theme.Theme.{Theme}
-use Rattle.listeners.specs.declared.told.Told.{Told}
+use Rattle.listeners.specs.declared.told.NodeEvents.{NodeEvents}
 use Rattle.listeners.specs.Counts.{outline_of, counts_in, counts_of, was_found}
 use Rattle.listeners.specs.Results.{is_failure, tests_found, has_failed}
 use Rattle.listeners.specs.Told.{ended, told_of, all_told}
@@ -42,12 +42,12 @@ module _ (p : PlanParts) (tree : IsTree p.tree) (reply : ℕ → Reply) (replies
   pub tests_as_expected : tests_found p h ≡ expected_tests p.tree reply
   tests_as_expected =
       same_count (λ n. is_test (kind_of p.tree n) && was_found p.tree h n) (λ n. is_test (kind_of p.tree n) && is_expected_found p.tree reply n) (size p.tree)
-      (λ n inside. ap (λ (x : Told). is_test (kind_of p.tree n) && (not (is_spare_at p.tree n) || x.registered)) (told_so n inside))
+      (λ n inside. ap (λ (x : NodeEvents). is_test (kind_of p.tree n) && (not (is_spare_at p.tree n) || x.registered)) (told_so n inside))
 
   -- whether a container or a test failed
   pub failure_as_expected : has_failed p h ≡ expects_failure p.tree reply
   failure_as_expected =
-      same_any (is_failure h) (is_expected_failure p.tree reply) 0 (size p.tree) (λ n low high. ap (λ (x : Told). nat_lt 0 n && ended is_failed x.status) (told_so n (omega (arith, high))))
+      same_any (is_failure h) (is_expected_failure p.tree reply) 0 (size p.tree) (λ n low high. ap (λ (x : NodeEvents). nat_lt 0 n && ended is_failed x.status) (told_so n (omega (arith, high))))
 
   -- All of it.
   pub printed_as_expected : (texts : TextParts) → ((n : ℕ) → n < size p.tree → IsTextOf p replies h n (text_at texts n)) → IsPrintedAsExpected p reply h texts

@@ -21,7 +21,7 @@ use Rattle.event_history.proofs.Expectation.{as_expected}
 use Rattle.event_history.proofs.Flags.{flag_by}
 use Rattle.event_history.proofs.Spares.{plan_tree}
 use Rattle.event_history.proofs.Told.{told, text_expected}
-use Rattle.listeners.specs.declared.told.Told.{Told}
+use Rattle.listeners.specs.declared.told.NodeEvents.{NodeEvents}
 use Rattle.listeners.specs.Told.{is_start, is_skip, is_registration, status_by, status_told, status_of, is_started, is_skipped, is_registered, told_of}
 use Rattle.expected_output.specs.Expectations.{plan_on, result_at, told_by, expected_told, note_by, expected_texts}
 
@@ -120,7 +120,7 @@ status_all (e ∷ h) n status (suc i) s all =
       | inr q ↦ ap (λ (x : Option Status). option_or x (status_of h n)) (q.2 ∙ all 0 e refl q.0 q.1)
     ]
 
-same_told : (a b c : Bool) (s : Option Status) (x : Told) → a ≡ x.started → b ≡ x.skipped → c ≡ x.registered → s ≡ x.status → record { started = a; skipped = b; registered = c; status = s } ≡ x
+same_told : (a b c : Bool) (s : Option Status) (x : NodeEvents) → a ≡ x.started → b ≡ x.skipped → c ≡ x.registered → s ≡ x.status → record { started = a; skipped = b; registered = c; status = s } ≡ x
 same_told a b c s x p q r u = rw (p, q, r, u) refl
 
 disabled_reason : (reason : Option (List ℕ)) → is_some reason ≡ true → reason ≡ Some (reason_or_cancelled reason)

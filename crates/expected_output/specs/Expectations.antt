@@ -6,7 +6,7 @@ use Rattle.descriptor.specs.Kinds.{is_test}
 use Rattle.descriptor.specs.Nodes.{Nodes, size, kind_of, is_spare_at, count_below}
 use Rattle.event_history.specs.Expected.{Expected, Silent, Skips, Finishes, expected}
 use Rattle.listeners.specs.declared.theme.Theme.{Theme}
-use Rattle.listeners.specs.declared.told.Told.{Told}
+use Rattle.listeners.specs.declared.told.NodeEvents.{NodeEvents}
 use Rattle.listeners.specs.Counts.{outline_of, counts_in, counts_of}
 use Rattle.listeners.specs.Results.{tests_found, has_failed}
 use Rattle.listeners.specs.Told.{nothing, ended}
@@ -29,17 +29,17 @@ result_at t reply n = expected (plan_on t) reply n
 
 -- what is told of a node with this result: nothing; that it was skipped; that it started, and how it ended. A spare of which anything
 -- is told was registered.
-abbrev pub told_by : Bool → Expected → Told
+abbrev pub told_by : Bool → Expected → NodeEvents
 told_by is_spare Silent = nothing
 told_by is_spare Skips = record { started = false; skipped = true; registered = is_spare; status = None }
 told_by is_spare (Finishes status text) = record { started = true; skipped = false; registered = is_spare; status = Some status }
 
 -- what is told of node n
-abbrev pub expected_told : Nodes → (ℕ → Reply) → ℕ → Told
+abbrev pub expected_told : Nodes → (ℕ → Reply) → ℕ → NodeEvents
 expected_told t reply n = told_by (is_spare_at t n) (result_at t reply n)
 
 -- what is told of each node, from node 0
-abbrev pub all_expected : Nodes → (ℕ → Reply) → List Told
+abbrev pub all_expected : Nodes → (ℕ → Reply) → List NodeEvents
 all_expected t reply = map (expected_told t reply) (range_with_len 0 (size t))
 
 -- the note of a node with this result: its reason, the text of its result, or none

@@ -5,13 +5,13 @@ use Rattle.descriptor.specs.declared.kind.Kind.{Kind}
 use Rattle.descriptor.specs.Kinds.{is_container, is_test}
 use Rattle.descriptor.specs.Nodes.{count_below}
 use Rattle.descriptor.proofs.Counts.{count_most}
-use Rattle.listeners.specs.declared.node_places.Place.{Place}
-use Rattle.listeners.specs.declared.told.Told.{Told}
+use Rattle.listeners.specs.declared.node_places.NodePlace.{NodePlace}
+use Rattle.listeners.specs.declared.told.NodeEvents.{NodeEvents}
 use Rattle.listeners.specs.declared.counts.SortCounts.{SortCounts}
 use Rattle.listeners.specs.Counts.{place_in, FollowParents, is_lost_within, is_lost, is_counted, is_found, counts_as_skipped, six, counts_in, counts_below, counts_with, AreAtMost}
 use Rattle.listeners.specs.Told.{told_at}
 
-module _ (outline : List Place) (told : List Told) (follow : FollowParents outline) where
+module _ (outline : List NodePlace) (told : List NodeEvents) (follow : FollowParents outline) where
   -- so many steps up as the node's number are enough
   within_any : (j k n : ℕ) → n ≤ j → n ≤ k → n < length outline → is_lost_within outline told j n ≡ is_lost_within outline told k n
   within_any zero zero zero le le' lt = refl
@@ -33,17 +33,17 @@ module _ (outline : List Place) (told : List Told) (follow : FollowParents outli
       ∙ within_any n (place_in outline (suc n)).parent (place_in outline (suc n)).parent (omega (arith, up)) (omega arith) (omega (arith, up, lt))
 
   -- the search goes on at the parent
-  pub lost_on : (node n parent : ℕ) (p : Place) → 0 < n → n < length outline → (told_at told n).skipped ≡ false → parent ≡ (get_or outline n p).parent → is_lost outline told node ≡ is_lost outline told n
+  pub lost_on : (node n parent : ℕ) (p : NodePlace) → 0 < n → n < length outline → (told_at told n).skipped ≡ false → parent ≡ (get_or outline n p).parent → is_lost outline told node ≡ is_lost outline told n
       → (parent < length outline) × (parent < n) × (is_lost outline told node ≡ is_lost outline told parent)
   lost_on node n parent p above lt not is so =
-      let here : (place_in outline n).parent ≡ parent = ap (λ (q : Place). q.parent) (get_or_default outline n _ p lt) ∙ sym is in
+      let here : (place_in outline n).parent ≡ parent = ap (λ (q : NodePlace). q.parent) (get_or_default outline n _ p lt) ∙ sym is in
       let up : (place_in outline n).parent < n = follow n above lt in
       (omega (arith, here, up, lt), omega (arith, here, up), so ∙ lost_up n above lt not ∙ ap (is_lost outline told) here)
 
 count_small : (q : ℕ → Bool) (k n : ℕ) → k ≤ n → count_below q k ≤ n
 count_small q k n le = omega (arith, count_most q k, le)
 
-module _ (sort : Kind → Bool) (outline : List Place) (told : List Told) where
+module _ (sort : Kind → Bool) (outline : List NodePlace) (told : List NodeEvents) where
   -- no count is above the number of nodes
   pub counts_small : (k n : ℕ) (c : SortCounts) → k ≤ n → c ≡ counts_below sort outline told k → AreAtMost c n
   counts_small k n c le is = rw is (record {
@@ -66,6 +66,6 @@ module _ (sort : Kind → Bool) (outline : List Place) (told : List Told) where
       ∙ ap (counts_below sort outline told) next
 
 -- the twelve counts, where those of each sort are known
-pub twelve_are : (outline : List Place) (told : List Told) (c t : SortCounts) (r : List ℕ) → c ≡ counts_below is_container outline told (length outline) → t ≡ counts_below is_test outline told (length outline) → r ≡ six c ++ six t → r ≡ counts_in outline told
+pub twelve_are : (outline : List NodePlace) (told : List NodeEvents) (c t : SortCounts) (r : List ℕ) → c ≡ counts_below is_container outline told (length outline) → t ≡ counts_below is_test outline told (length outline) → r ≡ six c ++ six t → r ≡ counts_in outline told
 twelve_are outline told c t r containers tests is =
     is ∙ ap (λ (x : SortCounts). six x ++ six t) containers ∙ ap (λ (x : SortCounts). six (counts_below is_container outline told (length outline)) ++ six x) tests

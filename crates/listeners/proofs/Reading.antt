@@ -11,8 +11,8 @@ use Rattle.plan_events.specs.declared.status.Status.{Status}
 use Rattle.plan_events.specs.declared.status.Status.TheVariants.{Successful, Aborted, Failed}
 use Rattle.plan_events.specs.Statuses.{is_failed}
 use Rattle.resource_locks.specs.Plans.{PlanParts}
-use Rattle.listeners.specs.declared.node_places.Place.{Place}
-use Rattle.listeners.specs.declared.told.Told.{Told}
+use Rattle.listeners.specs.declared.node_places.NodePlace.{NodePlace}
+use Rattle.listeners.specs.declared.told.NodeEvents.{NodeEvents}
 use Rattle.listeners.specs.Counts.{place_of, outline_of, place_in, is_counted, is_found, was_found}
 use Rattle.listeners.specs.Results.{is_failure, has_failed, HasFailed}
 use Rattle.listeners.specs.Inside.Tallies.{TellsFailure}
@@ -26,13 +26,13 @@ if_ok P Q (Ok a) f p = f a p
 if_ok P Q (Err e) f p = p
 
 -- of each node of the tree it is known what was told
-pub told_tree : (t : Nodes) → IsTree t → (events : List Event) (outline : List Place) (told : List Told) → outline ≡ outline_of t → told ≡ all_told (length outline) events → told ≡ all_told (size t) events
+pub told_tree : (t : Nodes) → IsTree t → (events : List Event) (outline : List NodePlace) (told : List NodeEvents) → outline ≡ outline_of t → told ≡ all_told (length outline) events → told ≡ all_told (size t) events
 told_tree t tree events outline told places is =
-    is ∙ ap (λ (o : List Place). all_told (length o) events) places ∙ ap (λ (n : ℕ). all_told n events) (places_len t tree)
+    is ∙ ap (λ (o : List NodePlace). all_told (length o) events) places ∙ ap (λ (n : ℕ). all_told n events) (places_len t tree)
 
-module _ (p : PlanParts) (events : List Event) (told : List Told) (is : told ≡ all_told (size p.tree) events) where
+module _ (p : PlanParts) (events : List Event) (told : List NodeEvents) (is : told ≡ all_told (size p.tree) events) where
   status_is : (n : ℕ) → n < size p.tree → (told_at told n).status ≡ status_of events n
-  status_is n lt = ap (λ (ts : List Told). (told_at ts n).status) is ∙ ap (λ (t : Told). t.status) (told_get (size p.tree) events n _ lt)
+  status_is n lt = ap (λ (ts : List NodeEvents). (told_at ts n).status) is ∙ ap (λ (t : NodeEvents). t.status) (told_get (size p.tree) events n _ lt)
 
   pub failed_told : TellsFailure told → HasFailed p events
   failed_told f =
@@ -92,7 +92,7 @@ count_same p q (suc k) same = rw (same k (omega arith), count_same p q k (λ n l
 
 module _ (t : Nodes) (tree : IsTree t) where
   kind_is : (n : ℕ) → n < size t → (place_in (outline_of t) n).kind ≡ kind_of t n
-  kind_is n lt = ap (λ (p : Place). p.kind) (get_or-map-range_with_len (place_of t) 0 (size t) n n _ lt (omega arith))
+  kind_is n lt = ap (λ (p : NodePlace). p.kind) (get_or-map-range_with_len (place_of t) 0 (size t) n n _ lt (omega arith))
 
   -- node 0 is no test, so it does no harm to count it
   counted_is : (n : ℕ) → n < size t → is_counted is_test (outline_of t) n ≡ is_test (kind_of t n)
@@ -103,17 +103,17 @@ module _ (t : Nodes) (tree : IsTree t) where
 
   found_is : (events : List Event) (n : ℕ) → n < size t → is_found (outline_of t) (all_told (size t) events) n ≡ was_found t events n
   found_is events n lt =
-      ap (λ (p : Place). not p.spare || (told_at (all_told (size t) events) n).registered) (get_or-map-range_with_len (place_of t) 0 (size t) n n _ lt (omega arith))
-      ∙ ap (λ (x : Told). not (is_spare_at t n) || x.registered) (told_get (size t) events n _ lt)
+      ap (λ (p : NodePlace). not p.spare || (told_at (all_told (size t) events) n).registered) (get_or-map-range_with_len (place_of t) 0 (size t) n n _ lt (omega arith))
+      ∙ ap (λ (x : NodeEvents). not (is_spare_at t n) || x.registered) (told_get (size t) events n _ lt)
 
   both_are : (events : List Event) (n : ℕ) → n < size t → (is_counted is_test (outline_of t) n && is_found (outline_of t) (all_told (size t) events) n) ≡ (is_test (kind_of t n) && was_found t events n)
   both_are events n lt =
       ap (λ (b : Bool). b && is_found (outline_of t) (all_told (size t) events) n) (counted_is n lt) ∙ ap (λ (b : Bool). is_test (kind_of t n) && b) (found_is events n lt)
 
-  pub tests_are : (events : List Event) (outline : List Place) (told : List Told) → outline ≡ outline_of t → told ≡ all_told (length outline) events
+  pub tests_are : (events : List Event) (outline : List NodePlace) (told : List NodeEvents) → outline ≡ outline_of t → told ≡ all_told (length outline) events
       → count_below (λ n. is_counted is_test outline n && is_found outline told n) (length outline) ≡ count_below (λ n. is_test (kind_of t n) && was_found t events n) (size t)
   tests_are events outline told is so =
-      ap (λ (ts : List Told). count_below (λ n. is_counted is_test outline n && is_found outline ts n) (length outline)) (told_tree t tree events outline told is so)
-      ∙ ap (λ (o : List Place). count_below (λ n. is_counted is_test o n && is_found o (all_told (size t) events) n) (length o)) is
+      ap (λ (ts : List NodeEvents). count_below (λ n. is_counted is_test outline n && is_found outline ts n) (length outline)) (told_tree t tree events outline told is so)
+      ∙ ap (λ (o : List NodePlace). count_below (λ n. is_counted is_test o n && is_found o (all_told (size t) events) n) (length o)) is
       ∙ ap (count_below (λ n. is_counted is_test (outline_of t) n && is_found (outline_of t) (all_told (size t) events) n)) (places_len t tree)
       ∙ count_same (λ n. is_counted is_test (outline_of t) n && is_found (outline_of t) (all_told (size t) events) n) (λ n. is_test (kind_of t n) && was_found t events n) (size t) (both_are events)

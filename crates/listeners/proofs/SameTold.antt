@@ -9,7 +9,7 @@ use Rattle.resource_locks.specs.Plans.{PlanParts}
 use Rattle.plan_events.specs.Texts.{TextParts}
 use Rattle.plan_events.specs.declared.event.Event.{Event}
 use Rattle.listeners.specs.declared.theme.Theme.{Theme}
-use Rattle.listeners.specs.declared.told.Told.{Told}
+use Rattle.listeners.specs.declared.told.NodeEvents.{NodeEvents}
 use Rattle.listeners.specs.Inside.Drawings.{drawn_from}
 use Rattle.listeners.specs.Told.{told_of, told_at, all_told, has_line}
 use Rattle.listeners.specs.TreeTexts.{Drawn, each_sibling, drawn_of, lines_below}
@@ -28,8 +28,8 @@ same_siblings : (f g : ℕ → Bool → List ℕ) (nodes : ℕ) → ((n : ℕ) (
 same_siblings f g nodes same [] within = refl
 same_siblings f g nodes same (c ∷ cs) within = rw (same c _ within.0, same_siblings f g nodes same cs within.1) refl
 
-module _ (theme : Theme) (t : Nodes) (texts : TextParts) (f g : ℕ → Told) (same : (n : ℕ) → n < size t → f n ≡ g n) where
-  abbrev drawn : (ℕ → Told) → Drawn
+module _ (theme : Theme) (t : Nodes) (texts : TextParts) (f g : ℕ → NodeEvents) (same : (n : ℕ) → n < size t → f n ≡ g n) where
+  abbrev drawn : (ℕ → NodeEvents) → Drawn
   drawn told = record { theme = theme; tree = t; texts = texts; told = told }
 
   pub same_below : (levels : ℕ) (items : List ℕ) (a : ℕ) → lines_below (drawn f) levels items a ≡ lines_below (drawn g) levels items a
@@ -40,7 +40,7 @@ module _ (theme : Theme) (t : Nodes) (texts : TextParts) (f g : ℕ → Told) (s
       rw kept (same_siblings (sibling (drawn f) levels items) (sibling (drawn g) levels items) (size t) (λ n is_last lt. rw (same n lt, same_below levels (items ++ item theme is_last) n) refl) (filter (λ c. has_line (g c)) (children_of t a)) inside)
 
 -- the tree that is drawn from a list of what is told is the tree of the events, however many levels are allowed
-pub tree_is : (theme : Theme) (plan : PlanParts) (texts : TextParts) (events : List Event) (told : List Told) (t : Nodes) (shown : List Told) (text : List ℕ)
+pub tree_is : (theme : Theme) (plan : PlanParts) (texts : TextParts) (events : List Event) (told : List NodeEvents) (t : Nodes) (shown : List NodeEvents) (text : List ℕ)
     → t ≡ plan.tree
     → shown ≡ told
     → told ≡ all_told (size plan.tree) events
@@ -49,5 +49,5 @@ pub tree_is : (theme : Theme) (plan : PlanParts) (texts : TextParts) (events : L
 tree_is theme plan texts events told t shown text is_tree is_shown is_told drawn levels enough =
     let few : size t ≤ levels = subst (λ (u : Nodes). size u ≤ levels) (sym is_tree) enough in
     let of_tree = subst (λ (u : Nodes). text ≡ lines_below (drawn_from theme u texts shown) levels [] 0) is_tree (drawn levels few) in
-    let of_told = subst (λ (l : List Told). text ≡ lines_below (drawn_from theme plan.tree texts l) levels [] 0) (is_shown ∙ is_told) of_tree in
+    let of_told = subst (λ (l : List NodeEvents). text ≡ lines_below (drawn_from theme plan.tree texts l) levels [] 0) (is_shown ∙ is_told) of_tree in
     of_told ∙ same_below theme plan.tree texts (told_at (all_told (size plan.tree) events)) (told_of events) (λ n lt. told_get (size plan.tree) events n _ lt) levels [] 0

@@ -4,8 +4,8 @@ use Rattle.std.proofs.lemmas.Bool.{or_right}
 use Rattle.std.proofs.lemmas.List.FromFn.{get_or-map-range_with_len}
 use Rattle.descriptor.specs.Nodes.{Nodes, IsTree, IsChild, Below, child, under, size, parent_of, is_spare_at}
 use Rattle.plan_events.specs.declared.event.Event.{Event}
-use Rattle.listeners.specs.declared.node_places.Place.{Place}
-use Rattle.listeners.specs.declared.told.Told.{Told}
+use Rattle.listeners.specs.declared.node_places.NodePlace.{NodePlace}
+use Rattle.listeners.specs.declared.told.NodeEvents.{NodeEvents}
 use Rattle.listeners.specs.Told.{is_skipped, all_told, told_at}
 use Rattle.listeners.specs.Counts.{place_of, outline_of, place_in, is_lost_within, is_lost, counts_as_skipped, IsBelowSkipped, WasSkipped, SkipsReachBelow}
 use Rattle.listeners.proofs.Places.{places_len, parent_kept}
@@ -15,7 +15,7 @@ or_either : (a b : Bool) → (a || b) ≡ true → (a ≡ true) ⊎ (b ≡ true)
 or_either true b h = inl refl
 or_either false b h = inr h
 
-module _ (outline : List Place) (told : List Told) where
+module _ (outline : List NodePlace) (told : List NodeEvents) where
   -- a node that was skipped is lost
   own : (k n : ℕ) → (told_at told n).skipped ≡ true → is_lost_within outline told k n ≡ true
   own zero n h = h
@@ -28,20 +28,20 @@ module _ (outline : List Place) (told : List Told) where
   up k (suc n) above h = or_right (told_at told (suc n)).skipped (is_lost_within outline told k (place_in outline (suc n)).parent) h
 
 module _ (t : Nodes) (tree : IsTree t) (events : List Event) where
-  abbrev places : List Place
+  abbrev places : List NodePlace
   places = outline_of t
 
-  abbrev known : List Told
+  abbrev known : List NodeEvents
   known = all_told (length (outline_of t)) events
 
   abbrev was_skipped : ℕ → Bool
   was_skipped n = is_skipped events n
 
   told_is : (n : ℕ) → n < size t → (told_at known n).skipped ≡ was_skipped n
-  told_is n lt = ap (λ (x : Told). x.skipped) (told_get (length (outline_of t)) events n _ (rw (places_len t tree) lt))
+  told_is n lt = ap (λ (x : NodeEvents). x.skipped) (told_get (length (outline_of t)) events n _ (rw (places_len t tree) lt))
 
   parent_is : (n : ℕ) → 0 < n → n < size t → (place_in places n).parent ≡ parent_of t n
-  parent_is n above lt = ap (λ (p : Place). p.parent) (get_or-map-range_with_len (place_of t) 0 (size t) n n _ lt (omega arith)) ∙ parent_kept t tree n above
+  parent_is n above lt = ap (λ (p : NodePlace). p.parent) (get_or-map-range_with_len (place_of t) 0 (size t) n n _ lt (omega arith)) ∙ parent_kept t tree n above
 
   -- it was skipped, or a node that it is below
   abbrev AtOrBelowSkipped : ℕ → Type 0
@@ -83,7 +83,7 @@ module _ (t : Nodes) (tree : IsTree t) (events : List Event) where
   back n lt (inr above) = reach above.0 n n (omega arith) lt above.2 above.1
 
   spare_is : (n : ℕ) → n < size t → (place_in places n).spare ≡ is_spare_at t n
-  spare_is n lt = ap (λ (p : Place). p.spare) (get_or-map-range_with_len (place_of t) 0 (size t) n n _ lt (omega arith))
+  spare_is n lt = ap (λ (p : NodePlace). p.spare) (get_or-map-range_with_len (place_of t) 0 (size t) n n _ lt (omega arith))
 
   counted_is : (n : ℕ) → n < size t → counts_as_skipped places known n ≡ cond (is_spare_at t n) (told_at known n).skipped (is_lost places known n)
   counted_is n lt = ap (λ (b : Bool). cond b (told_at known n).skipped (is_lost places known n)) (spare_is n lt)

@@ -9,38 +9,38 @@ use Rattle.plan_events.specs.declared.event.Event.{Event}
 use Rattle.plan_events.specs.Statuses.{is_aborted, is_successful, is_failed}
 use Rattle.resource_locks.specs.Plans.{PlanParts}
 use Rattle.listeners.specs.Told.{is_skipped, is_registered, all_told, told_at, ended}
-use Rattle.listeners.specs.declared.node_places.Place.{Place}
-use Rattle.listeners.specs.declared.told.Told.{Told}
+use Rattle.listeners.specs.declared.node_places.NodePlace.{NodePlace}
+use Rattle.listeners.specs.declared.told.NodeEvents.{NodeEvents}
 use Rattle.listeners.specs.declared.counts.SortCounts.{SortCounts}
 
 -- what is kept of node n to count it: its parent, which for node 0 is node 0 itself, its kind, and whether it is a spare
-abbrev pub place_of : Nodes → ℕ → Place
+abbrev pub place_of : Nodes → ℕ → NodePlace
 place_of t n = record { parent = cond (n == 0) 0 (parent_of t n); kind = kind_of t n; spare = is_spare_at t n }
 
 -- what is kept of a tree: a place for each node, from node 0
-abbrev pub outline_of : Nodes → List Place
+abbrev pub outline_of : Nodes → List NodePlace
 outline_of t = map (place_of t) (range_with_len 0 (size t))
 
 -- the place of node n; past the end, that of a container below node 0
-abbrev pub place_in : List Place → ℕ → Place
+abbrev pub place_in : List NodePlace → ℕ → NodePlace
 place_in outline n = slice_index_or outline n (record { parent = 0; kind = Container; spare = false })
 
 -- each node but node 0 stands after its parent
-abbrev pub FollowParents : List Place → Type 0
+abbrev pub FollowParents : List NodePlace → Type 0
 FollowParents outline = (n : ℕ) → 0 < n → n < length outline → (place_in outline n).parent < n
 
 -- whether node n was skipped, or a node that it is below by so many steps at most
-abbrev pub is_lost_within : List Place → List Told → ℕ → ℕ → Bool
+abbrev pub is_lost_within : List NodePlace → List NodeEvents → ℕ → ℕ → Bool
 is_lost_within outline told zero n = (told_at told n).skipped
 is_lost_within outline told (suc k) zero = (told_at told zero).skipped
 is_lost_within outline told (suc k) (suc n) = (told_at told (suc n)).skipped || is_lost_within outline told k (place_in outline (suc n)).parent
 
 -- whether node n was skipped, or a node that it is below; as a parent has a smaller number, n steps are enough
-abbrev pub is_lost : List Place → List Told → ℕ → Bool
+abbrev pub is_lost : List NodePlace → List NodeEvents → ℕ → Bool
 is_lost outline told n = is_lost_within outline told n n
 
 -- whether node n counts as skipped: a spare where it was skipped itself, any other node where it is lost
-abbrev pub counts_as_skipped : List Place → List Told → ℕ → Bool
+abbrev pub counts_as_skipped : List NodePlace → List NodeEvents → ℕ → Bool
 counts_as_skipped outline told n = cond (place_in outline n).spare (told_at told n).skipped (is_lost outline told n)
 
 -- a node was skipped that node n is below
@@ -61,15 +61,15 @@ abbrev pub was_found : Nodes → List Event → ℕ → Bool
 was_found t events n = not (is_spare_at t n) || is_registered events n
 
 -- whether node n is found: it is no spare, or it was registered
-abbrev pub is_found : List Place → List Told → ℕ → Bool
+abbrev pub is_found : List NodePlace → List NodeEvents → ℕ → Bool
 is_found outline told n = not (place_in outline n).spare || (told_at told n).registered
 
 -- whether node n counts as one of this sort; node 0 counts nowhere
-abbrev pub is_counted : (Kind → Bool) → List Place → ℕ → Bool
+abbrev pub is_counted : (Kind → Bool) → List NodePlace → ℕ → Bool
 is_counted sort outline n = nat_lt 0 n && sort (place_in outline n).kind
 
 -- the counts of one sort among the nodes below k: a node counts once, whatever stands for it twice
-abbrev pub counts_below : (Kind → Bool) → List Place → List Told → ℕ → SortCounts
+abbrev pub counts_below : (Kind → Bool) → List NodePlace → List NodeEvents → ℕ → SortCounts
 counts_below sort outline told k = record {
   found = count_below (λ n. is_counted sort outline n && is_found outline told n) k;
   skipped = count_below (λ n. is_counted sort outline n && counts_as_skipped outline told n) k;
@@ -80,7 +80,7 @@ counts_below sort outline told k = record {
 }
 
 -- the counts of a sort with one more node, which is counted or not, was found or not, and counts as skipped or not
-abbrev pub counts_with : SortCounts → Bool → Told → Bool → Bool → SortCounts
+abbrev pub counts_with : SortCounts → Bool → NodeEvents → Bool → Bool → SortCounts
 counts_with c counted t found lost = record {
   found = bit (counted && found) + c.found;
   skipped = bit (counted && lost) + c.skipped;
@@ -104,12 +104,12 @@ abbrev pub six : SortCounts → List ℕ
 six c = c.found ∷ c.skipped ∷ c.started ∷ c.aborted ∷ c.successful ∷ c.failed ∷ []
 
 -- the twelve counts of nodes with these places of which this was told: those of containers, then those of tests
-abbrev pub counts_in : List Place → List Told → List ℕ
+abbrev pub counts_in : List NodePlace → List NodeEvents → List ℕ
 counts_in outline told =
     six (counts_below is_container outline told (length outline)) ++ six (counts_below is_test outline told (length outline))
 
 -- the twelve counts of these events on nodes with these places
-abbrev pub counts_on : List Place → List Event → List ℕ
+abbrev pub counts_on : List NodePlace → List Event → List ℕ
 counts_on outline events = counts_in outline (all_told (length outline) events)
 
 -- the twelve counts of these events on a plan

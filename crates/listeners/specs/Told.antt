@@ -6,7 +6,7 @@ use Rattle.plan_events.specs.declared.event.Event.{Event}
 use Rattle.plan_events.specs.declared.event.EventKind.{EventKind}
 use Rattle.plan_events.specs.declared.event.EventKind.TheVariants.{Started, Finished, Skipped, Registered}
 use Rattle.plan_events.specs.declared.status.Status.{Status}
-use Rattle.listeners.specs.declared.told.Told.{Told}
+use Rattle.listeners.specs.declared.told.NodeEvents.{NodeEvents}
 
 -- whether the event says that its node started
 abbrev pub is_start : EventKind → Bool
@@ -58,23 +58,23 @@ status_of [] n = None
 status_of (e ∷ events) n = option_or (status_told n e) (status_of events n)
 
 -- all of it
-abbrev pub told_of : List Event → ℕ → Told
+abbrev pub told_of : List Event → ℕ → NodeEvents
 told_of events n = record { started = is_started events n; skipped = is_skipped events n; registered = is_registered events n; status = status_of events n }
 
 -- what these events tell of each of so many nodes, from node 0
-abbrev pub all_told : ℕ → List Event → List Told
+abbrev pub all_told : ℕ → List Event → List NodeEvents
 all_told nodes events = map (told_of events) (range_with_len 0 nodes)
 
 -- what no event tells
-abbrev pub nothing : Told
+abbrev pub nothing : NodeEvents
 nothing = record { started = false; skipped = false; registered = false; status = None }
 
 -- what is told of node n, and nothing past the end
-abbrev pub told_at : List Told → ℕ → Told
+abbrev pub told_at : List NodeEvents → ℕ → NodeEvents
 told_at told n = slice_index_or told n nothing
 
 -- whether a node has a line in the tree: it started or was skipped
-abbrev pub has_line : Told → Bool
+abbrev pub has_line : NodeEvents → Bool
 has_line told = told.started || told.skipped
 
 -- whether a node ended with such a status

@@ -9,7 +9,7 @@ use Rattle.plan_events.specs.declared.event.Event.{Event}
 use Rattle.plan_events.specs.declared.status.Status.{Status}
 use Rattle.plan_events.specs.declared.status.Status.TheVariants.{Successful}
 use Rattle.listeners.specs.declared.theme.Theme.{Theme}
-use Rattle.listeners.specs.declared.told.Told.{Told}
+use Rattle.listeners.specs.declared.told.NodeEvents.{NodeEvents}
 use Rattle.listeners.specs.Feed.{text_or}
 use Rattle.listeners.specs.Printed.{cleaned, text_after}
 use Rattle.listeners.specs.Told.{told_of, has_line}
@@ -21,7 +21,7 @@ pub record Drawn : Type 0 where
   pub tree : Nodes
   pub texts : TextParts
   -- what was told of each node
-  pub told : ℕ → Told
+  pub told : ℕ → NodeEvents
 
 -- how a finished node is marked: its mark, and the text behind any but that of SUCCESSFUL
 abbrev pub mark_and_text : Theme → Status → List ℕ → List ℕ

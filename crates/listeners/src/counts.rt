@@ -6,8 +6,8 @@ ghost use Rattle.descriptor.specs.Nodes.{bit};
 ghost use Rattle.listeners.specs.Counts.{is_counted, is_found, is_lost, counts_as_skipped, six, counts_below};
 ghost use Rattle.listeners.specs.Counts.{FollowParents};
 
-use crate::node_places::Place;
-use crate::told::Told;
+use crate::node_places::NodePlace;
+use crate::told::NodeEvents;
 use plan_events::Status;
 
 /// The counts of containers, or those of tests.
@@ -67,7 +67,7 @@ impl SortCounts {
     };
 
     /// Adds a node, if it is counted.
-    fn add(&mut self, counted: bool, told: Told, found: bool, lost: bool)
+    fn add(&mut self, counted: bool, told: NodeEvents, found: bool, lost: bool)
         requires { AreAtMost self.old 4096 }
         ensures { self.new ≡ counts_with self.old counted told found lost }
     {
@@ -87,7 +87,7 @@ fn one_if(passes: bool) -> u32
 }
 
 /// Whether the node counts as a container; node 0 does not.
-fn counts_as_container(outline: &[Place], node: usize) -> bool
+fn counts_as_container(outline: &[NodePlace], node: usize) -> bool
     requires { node < length outline.now }
     ensures { result ≡ is_counted is_container outline.now node }
 {
@@ -95,7 +95,7 @@ fn counts_as_container(outline: &[Place], node: usize) -> bool
 }
 
 /// Whether the node counts as a test; node 0 does not.
-fn counts_as_test(outline: &[Place], node: usize) -> bool
+fn counts_as_test(outline: &[NodePlace], node: usize) -> bool
     requires { node < length outline.now }
     ensures { result ≡ is_counted is_test outline.now node }
 {
@@ -103,7 +103,7 @@ fn counts_as_test(outline: &[Place], node: usize) -> bool
 }
 
 /// Whether the node was skipped, or a node that it is below.
-fn is_lost(outline: &[Place], told: &[Told], node: usize) -> bool
+fn is_lost(outline: &[NodePlace], told: &[NodeEvents], node: usize) -> bool
     requires node { node < length outline.now }
     requires told { length told.now ≡ length outline.now }
     requires parents { FollowParents outline.now }
@@ -120,7 +120,7 @@ fn is_lost(outline: &[Place], told: &[Told], node: usize) -> bool
 }
 
 /// Whether the node counts as skipped: a spare where it was itself, any other node also where one that it is below was.
-fn counts_as_skipped(outline: &[Place], told: &[Told], node: usize) -> bool
+fn counts_as_skipped(outline: &[NodePlace], told: &[NodeEvents], node: usize) -> bool
     requires node { node < length outline.now }
     requires told { length told.now ≡ length outline.now }
     requires parents { FollowParents outline.now }
@@ -134,7 +134,7 @@ fn counts_as_skipped(outline: &[Place], told: &[Told], node: usize) -> bool
 }
 
 /// Whether the node is found: it is no spare, or it was registered.
-fn is_found(outline: &[Place], told: &[Told], node: usize) -> bool
+fn is_found(outline: &[NodePlace], told: &[NodeEvents], node: usize) -> bool
     requires node { node < length outline.now }
     requires told { length told.now ≡ length outline.now }
     ensures { result ≡ is_found outline.now told.now node }
@@ -143,7 +143,7 @@ fn is_found(outline: &[Place], told: &[Told], node: usize) -> bool
 }
 
 /// What there is of each sort, and what became of it. It takes no memory.
-pub(crate) fn count(outline: &[Place], told: &[Told]) -> Counts
+pub(crate) fn count(outline: &[NodePlace], told: &[NodeEvents]) -> Counts
     requires few { length outline.now ≤ 4096 }
     requires told { length told.now ≡ length outline.now }
     requires parents { FollowParents outline.now }

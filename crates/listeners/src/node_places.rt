@@ -10,7 +10,7 @@ use std::alloc::{AllocError, Global};
 
 /// What is kept of a node to count it.
 #[derive(Clone, Copy, Debug)]
-pub struct Place {
+pub struct NodePlace {
     /// For node 0, node 0 itself.
     pub parent: NodeId,
     pub kind: Kind,
@@ -18,11 +18,11 @@ pub struct Place {
 }
 
 /// What is kept of this node.
-fn place_of(tree: &Tree, node: NodeId) -> Place
+fn place_of(tree: &Tree, node: NodeId) -> NodePlace
     requires { node < size tree.now }
     ensures { result ≡ place_of tree.now node }
 {
-    Place {
+    NodePlace {
         parent: tree.parent(node).unwrap_or(NodeId::ROOT),
         kind: tree.kind(node),
         spare: tree.role(node).is_spare(),
@@ -30,7 +30,7 @@ fn place_of(tree: &Tree, node: NodeId) -> Place
 }
 
 /// What is kept of the nodes of a plan, from node 0.
-pub(crate) fn outline_of(alloc: Global, plan: &Plan) -> Result<Vec<Place>, AllocError>
+pub(crate) fn outline_of(alloc: Global, plan: &Plan) -> Result<Vec<NodePlace>, AllocError>
     ensures places { IfOk result (λ outline. outline.items ≡ outline_of plan.now.tree) }
     ensures parents { IfOk result (λ outline. FollowParents outline.items) }
     ensures few { IfOk result (λ outline. length outline.items ≤ 4096) }

@@ -8,8 +8,8 @@ ghost use Rattle.listeners.specs.Told.{all_told};
 ghost use Rattle.listeners.specs.Counts.{outline_of, counts_below};
 
 use crate::counts::{Counts, count};
-use crate::node_places::{Place, outline_of};
-use crate::told::{Told, note, told_of};
+use crate::node_places::{NodePlace, outline_of};
+use crate::told::{NodeEvents, note, told_of};
 use plan_events::Event;
 use resource_locks::Plan;
 use std::alloc::{AllocError, Global};
@@ -18,8 +18,8 @@ use std::marker::Model;
 /// The places of a plan's nodes, and what was told of each.
 #[derive(Debug, Drop)]
 pub(crate) struct Tally {
-    outline: Vec<Place>,
-    told: Vec<Told>,
+    outline: Vec<NodePlace>,
+    told: Vec<NodeEvents>,
 }
 
 impl Model for Tally {
@@ -68,7 +68,7 @@ impl Tally {
     }
 
     /// What was told of each node.
-    pub(crate) fn told(&self) -> &[Told]
+    pub(crate) fn told(&self) -> &[NodeEvents]
         ensures { result.now ≡ self.now.told }
     {
         self.told.as_slice()

@@ -12,7 +12,7 @@ use std::alloc::{AllocError, Global};
 
 /// What events tell of a node.
 #[derive(Clone, Copy, Debug)]
-pub(crate) struct Told {
+pub(crate) struct NodeEvents {
     pub started: bool,
     pub skipped: bool,
     pub registered: bool,
@@ -21,7 +21,7 @@ pub(crate) struct Told {
 }
 
 /// What no event tells.
-pub(crate) const NOTHING: Told = Told {
+pub(crate) const NOTHING: NodeEvents = NodeEvents {
     started: false,
     skipped: false,
     registered: false,
@@ -38,15 +38,15 @@ fn status_by(kind: EventKind, status: Option<Status>) -> Option<Status>
     }
 }
 
-impl Told {
+impl NodeEvents {
     /// What is told when one more event of the node is.
-    fn after(self, kind: EventKind, status: Option<Status>) -> Told
+    fn after(self, kind: EventKind, status: Option<Status>) -> NodeEvents
         ensures started { result.started ≡ (self.started || is_start kind) }
         ensures skipped { result.skipped ≡ (self.skipped || is_skip kind) }
         ensures registered { result.registered ≡ (self.registered || is_registration kind) }
         ensures status { result.status ≡ option_or self.status (status_by kind status) }
     {
-        Told {
+        NodeEvents {
             started: self.started || matches!(kind, EventKind::Started),
             skipped: self.skipped || matches!(kind, EventKind::Skipped),
             registered: self.registered || matches!(kind, EventKind::Registered),
@@ -69,7 +69,7 @@ impl Told {
 }
 
 /// Adds an event to what was told; one of a node without a place tells nothing.
-pub(crate) fn note(told: &mut Vec<Told>, event: Event)
+pub(crate) fn note(told: &mut Vec<NodeEvents>, event: Event)
     ensures places { length told.new.items ≡ length told.old.items }
     ensures more { (events : List Event) → told.old.items ≡ all_told (length told.old.items) events →
         told.new.items ≡ all_told (length told.old.items) (events ++ event ∷ []) }
@@ -85,7 +85,7 @@ pub(crate) fn told_of(
     alloc: Global,
     nodes: usize,
     events: &[Event],
-) -> Result<Vec<Told>, AllocError>
+) -> Result<Vec<NodeEvents>, AllocError>
     ensures { IfOk result (λ told. told.items ≡ all_told nodes events.now) }
 {
     let mut told = vec![in alloc; NOTHING; nodes]?;
@@ -96,7 +96,7 @@ pub(crate) fn told_of(
 }
 
 /// Whether it was told of a node other than node 0 that it failed.
-pub(crate) fn tells_failure(told: &[Told]) -> bool
+pub(crate) fn tells_failure(told: &[NodeEvents]) -> bool
     ensures { IsTrue result ↔ TellsFailure told.now }
 {
     for place in 1..told.len() {

@@ -11,7 +11,7 @@ ghost use Rattle.listeners.specs.TreeTexts.{end_of, ending, name_at, line, child
 use crate::feed::text_of;
 use crate::printed::{push_cleaned, push_text};
 use crate::theme::Theme;
-use crate::told::{NOTHING, Told};
+use crate::told::{NOTHING, NodeEvents};
 use descriptor::{NodeId, Tree};
 use plan_events::{Status, Texts};
 use std::alloc::{AllocError, Global};
@@ -22,7 +22,7 @@ struct Drawing<'a> {
     theme: Theme,
     tree: &'a Tree,
     texts: &'a Texts,
-    told: &'a [Told],
+    told: &'a [NodeEvents],
 }
 
 /// Appends how a node ended that was not skipped.
@@ -46,7 +46,12 @@ fn push_end(
 }
 
 /// Appends what stands behind a name.
-fn push_ending(text: &mut String, theme: Theme, told: Told, said: &str) -> Result<(), AllocError>
+fn push_ending(
+    text: &mut String,
+    theme: Theme,
+    told: NodeEvents,
+    said: &str,
+) -> Result<(), AllocError>
     ensures { OnOk result (string_bytes text.new ≡ string_bytes text.old ++ ending theme told.skipped told.status
         said.now) }
 {
@@ -68,7 +73,7 @@ fn joined(alloc: Global, first: &str, second: &str) -> Result<String, AllocError
 }
 
 impl Drawing<'_> {
-    fn told(&self, node: NodeId) -> Told
+    fn told(&self, node: NodeId) -> NodeEvents
         ensures { result ≡ told_at self.now.told.now node }
     {
         self.told.get(node.index()).copied().unwrap_or(NOTHING)
@@ -150,7 +155,7 @@ impl Drawing<'_> {
 pub(crate) fn draw(
     alloc: Global,
     tree: &Tree,
-    told: &[Told],
+    told: &[NodeEvents],
     texts: &Texts,
     theme: Theme,
 ) -> Result<String, AllocError>

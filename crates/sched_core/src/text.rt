@@ -16,7 +16,7 @@ use crate::answers::Answers;
 use descriptor::{BodyId, NodeId};
 use plan_events::{Event, EventKind, Note, Texts};
 use resource_locks::Plan;
-use scheduling::{Jobs, jobs_of};
+use scheduling::{NodeJobs, jobs_of};
 use std::alloc::{AllocError, Global};
 use unique_id::Text;
 
@@ -61,19 +61,19 @@ fn last_job(answers: &Answers, body: Option<BodyId>, after: Option<BodyId>) -> O
 }
 
 /// What is noted of a finished node for which these jobs are run.
-fn jobs_note(alloc: Global, answers: &Answers, jobs: Jobs) -> Result<Option<Note>, AllocError>
+fn jobs_note(alloc: Global, answers: &Answers, jobs: NodeJobs) -> Result<Option<Note>, AllocError>
     ensures { IfOk result (λ note. note ≡ jobs_note_of (reply_of answers.now) (as_jobs jobs)) }
 {
     let job = match jobs {
-        Jobs::Nothing => None,
-        Jobs::Alone(body) => Some(body),
-        Jobs::Pulled(body, spares) => {
+        NodeJobs::Nothing => None,
+        NodeJobs::Alone(body) => Some(body),
+        NodeJobs::Pulled(body, spares) => {
             if spares < pulls(answers, body) {
                 return Ok(Some(Note::TooMany));
             }
             Some(body)
         }
-        Jobs::Around(body, after) => last_job(answers, body, after),
+        NodeJobs::Around(body, after) => last_job(answers, body, after),
     };
     match job {
         Some(job) => Ok(Some(said(alloc, answers, job)?)),

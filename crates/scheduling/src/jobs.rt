@@ -12,7 +12,7 @@ use resource_locks::Plan;
 
 /// What is run for a node.
 #[derive(Clone, Copy, Debug, PartialEq, Eq)]
-pub enum Jobs {
+pub enum NodeJobs {
     /// Nothing.
     Nothing,
     /// A body alone.
@@ -30,20 +30,20 @@ fn jobs_by(
     body: Option<BodyId>,
     after: Option<BodyId>,
     spares: usize,
-) -> Jobs
+) -> NodeJobs
     ensures { as_jobs result ≡ jobs_by_sort (sort_by kind role) body after spares }
 {
     match (kind, role, body) {
-        (Kind::Test, _, Some(body)) => Jobs::Alone(body),
-        (Kind::Test, _, None) => Jobs::Nothing,
-        (_, Role::Factory, Some(body)) => Jobs::Pulled(body, spares),
-        (_, Role::Factory, None) => Jobs::Nothing,
-        (_, Role::Plain | Role::Spare, body) => Jobs::Around(body, after),
+        (Kind::Test, _, Some(body)) => NodeJobs::Alone(body),
+        (Kind::Test, _, None) => NodeJobs::Nothing,
+        (_, Role::Factory, Some(body)) => NodeJobs::Pulled(body, spares),
+        (_, Role::Factory, None) => NodeJobs::Nothing,
+        (_, Role::Plain | Role::Spare, body) => NodeJobs::Around(body, after),
     }
 }
 
 /// What is run for a node.
-pub fn jobs_of(plan: &Plan, node: NodeId) -> Jobs
+pub fn jobs_of(plan: &Plan, node: NodeId) -> NodeJobs
     requires { node < size plan.now.tree }
     ensures { as_jobs result ≡ jobs_of_node plan.now node }
 {

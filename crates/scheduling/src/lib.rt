@@ -24,7 +24,7 @@ pub use choices::{
     mode_at_place, next_spare, offered_to, pulled_result, taken, weighed,
 };
 pub use hands::{is_of_hand, one_more, waits_for, waits_no_more};
-pub use jobs::{Jobs, jobs_of};
+pub use jobs::{NodeJobs, jobs_of};
 pub use lock_word::LockWord;
 pub use opening::{counters_at_start, seats_at_start};
 pub use schedule::{

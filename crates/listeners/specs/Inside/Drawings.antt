@@ -4,12 +4,12 @@ use Rattle.descriptor.specs.Nodes.{Nodes}
 use Rattle.plan_events.specs.Texts.{TextParts}
 use Rattle.listeners.specs.declared.tree_drawing.Drawing.{Drawing}
 use Rattle.listeners.specs.declared.theme.Theme.{Theme}
-use Rattle.listeners.specs.declared.told.Told.{Told}
+use Rattle.listeners.specs.declared.told.NodeEvents.{NodeEvents}
 use Rattle.listeners.specs.Told.{told_at}
 use Rattle.listeners.specs.TreeTexts.{Drawn}
 
 -- what the tree is drawn from in which this was told of each node
-abbrev pub drawn_from : Theme → Nodes → TextParts → List Told → Drawn
+abbrev pub drawn_from : Theme → Nodes → TextParts → List NodeEvents → Drawn
 drawn_from theme t texts told = record { theme = theme; tree = t; texts = texts; told = told_at told }
 
 -- what a drawing draws

@@ -1,16 +1,16 @@
 -- What is kept of a plan and of what was told of its nodes, which only proofs need.
 use Rattle.std.specs.Prelude.{◌≡◌, ℕ, ◌<◌, ◌≤◌, List, length, Some}
 use Rattle.plan_events.specs.declared.status.Status.TheVariants.{Failed}
-use Rattle.listeners.specs.declared.node_places.Place.{Place}
-use Rattle.listeners.specs.declared.told.Told.{Told}
+use Rattle.listeners.specs.declared.node_places.NodePlace.{NodePlace}
+use Rattle.listeners.specs.declared.told.NodeEvents.{NodeEvents}
 use Rattle.listeners.specs.declared.tally.Tally.TheInside.{Inside}
 use Rattle.listeners.specs.Counts.{FollowParents}
 use Rattle.listeners.specs.Told.{told_at}
 
 -- a place for each node, and what was told of it
 pub record TallyParts : Type 0 where
-  pub outline : List Place
-  pub told : List Told
+  pub outline : List NodePlace
+  pub told : List NodeEvents
 
 abbrev pub tally_of : Inside → TallyParts
 tally_of t = record { outline = t.outline.items; told = t.told.items }
@@ -22,5 +22,5 @@ pub record IsTally (t : Inside) : Type 0 where
   pub each : length t.told.items ≡ length t.outline.items
 
 -- of a node other than node 0 it was told that it failed
-abbrev pub TellsFailure : List Told → Type 0
+abbrev pub TellsFailure : List NodeEvents → Type 0
 TellsFailure told = (n : ℕ) × (0 < n) × (n < length told) × ((told_at told n).status ≡ Some Failed)

@@ -1,6 +1,6 @@
 -- What is told of each node is what the events tell, so the counts are theirs.
 use Rattle.std.proofs.Common.{◌∙◌, List, ap, subst}
-use Rattle.listeners.specs.declared.node_places.Place.{Place}
+use Rattle.listeners.specs.declared.node_places.NodePlace.{NodePlace}
 use Rattle.listeners.specs.Counts.{counts_in, counts_on, counts_of, SkipsReachBelow}
 use Rattle.listeners.specs.Results.{ResultParts}
 use Rattle.listeners.proofs.Counting.{twelve_are}
@@ -11,7 +11,7 @@ pub returns-clause-counts : goal.returns-clause-counts
 returns-clause-counts c =
     twelve_are c.self.inside.tally.outline c.self.inside.tally.told c.counts.result.containers c.counts.result.tests c.twelve.result c.counts.ensures.containers c.counts.ensures.tests c.twelve.ensures
     ∙ ap (counts_in c.self.inside.tally.outline) c.self.invariant.told
-    ∙ ap (λ (o : List Place). counts_on o c.self.inside.events.now) c.self.invariant.outline
+    ∙ ap (λ (o : List NodePlace). counts_on o c.self.inside.events.now) c.self.invariant.outline
     ∙ ap (λ (r : ResultParts). counts_of r.plan r.events) c.self.view_is
 
 pub returns-clause-skipped : goal.returns-clause-skipped
