@@ -40,7 +40,7 @@ use Rattle.launcher.specs.WarningTexts.{warning_lines}
 use Rattle.launcher.specs.ScheduleTexts.{schedule_line}
 use Rattle.launcher.specs.Watched.{HasWatchedInVain, Watches}
 use Rattle.launcher.specs.declared.fault.LaunchFault.{LaunchFault}
-use Rattle.launcher.specs.declared.report.Report.{Report}
+use Rattle.launcher.specs.declared.report.Output.{Output}
 use Rattle.listeners.specs.Listeners.{Telling, tellings_of}
 use Rattle.worker_pool.specs.Watching.{HasSeenMore}
 use Rattle.std.specs.Result.{IsErrAnd}
@@ -161,7 +161,7 @@ in_vain saw asked settings p answers history texts told first now seen =
       watched = record { history = history; texts = texts; behind = behind.0; ends = told.published.ends; printed = refl; seen = seen };
     }
 
-pub watches_in_vain : {L : Type 0} (saw : PlanParts → L → L → List Telling → Type 0) (asked : Asked) (settings : Settings) (p : PlanParts) (answers : List (ℕ × Reply)) (first now : L) (fault : LaunchFault) (result : Result Report LaunchFault)
+pub watches_in_vain : {L : Type 0} (saw : PlanParts → L → L → List Telling → Type 0) (asked : Asked) (settings : Settings) (p : PlanParts) (answers : List (ℕ × Reply)) (first now : L) (fault : LaunchFault) (result : Result Output LaunchFault)
     → IsErrAnd result (λ e. e ≡ fault) → HasWatchedInVain saw asked settings p answers first now → Watches saw asked settings p answers first now result
 watches_in_vain saw asked settings p answers first now fault (Ok report) same vain = absurd same
 watches_in_vain saw asked settings p answers first now fault (Err e) same vain = inr vain

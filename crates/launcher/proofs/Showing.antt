@@ -18,7 +18,7 @@ use Rattle.launcher.specs.declared.details.Details.{Details}
 use Rattle.launcher.specs.declared.details.Details.TheVariants as details
 use Rattle.launcher.specs.declared.exit_status.ExitStatus.{ExitStatus}
 use Rattle.launcher.specs.declared.fault.LaunchFault.{LaunchFault}
-use Rattle.launcher.specs.declared.report.Report.{Report}
+use Rattle.launcher.specs.declared.report.Output.{Output}
 use Rattle.launcher.specs.Asked.{Asked}
 use Rattle.launcher.specs.Beside.{HasSeenRun, SeesBeside, SeesRun}
 use Rattle.launcher.specs.declared.watched_feed.WatchedFeed.{WatchedFeed}
@@ -168,24 +168,24 @@ module _ {W V : Type 0} (contents : W → Option (List ℕ)) (saw : PlanParts �
       | inr shut ↦ unsent_broken (shut_unsent (outlet ∙ shut) _ seen)
     ]
 
-  pub still_same : (result : Result Report LaunchFault) → Watches (SeesBeside contents saw) asked settings p answers at_first_both both result → now.writer.ghost_name ≡ first.writer.ghost_name
+  pub still_same : (result : Result Output LaunchFault) → Watches (SeesBeside contents saw) asked settings p answers at_first_both both result → now.writer.ghost_name ≡ first.writer.ghost_name
   still_same (Ok report) is = elim is [ inl same ↦ (untouched (ap (λ (w : WatchedFeed W V). w.feed) same)).same | inr watched ↦ (seen (string_bytes report.text) watched).same ]
   still_same (Err fault) is = elim is [ inl same ↦ (untouched (ap (λ (w : WatchedFeed W V). w.feed) same)).same | inr vain ↦ (seen vain.text vain.watched).same ]
 
-  pub same_watcher : (result : Result Report LaunchFault) → Watches (SeesBeside contents saw) asked settings p answers at_first_both both result → both.watcher.ghost_name ≡ at_first_both.watcher.ghost_name
+  pub same_watcher : (result : Result Output LaunchFault) → Watches (SeesBeside contents saw) asked settings p answers at_first_both both result → both.watcher.ghost_name ≡ at_first_both.watcher.ghost_name
   same_watcher (Ok report) is = elim is [ inl same ↦ ap (λ (w : WatchedFeed W V). w.watcher.ghost_name) same | inr watched ↦ (seen_both (string_bytes report.text) watched).same ]
   same_watcher (Err fault) is = elim is [ inl same ↦ ap (λ (w : WatchedFeed W V). w.watcher.ghost_name) same | inr vain ↦ (seen_both vain.text vain.watched).same ]
 
   -- who watches has seen the run, or nothing
-  pub sees_run : (result : Result Report LaunchFault) → Watches (SeesBeside contents saw) asked settings p answers at_first_both both result → SeesRun saw at_first_both.watcher.now both.watcher.now
+  pub sees_run : (result : Result Output LaunchFault) → Watches (SeesBeside contents saw) asked settings p answers at_first_both both result → SeesRun saw at_first_both.watcher.now both.watcher.now
   sees_run (Ok report) is = elim is [ inl same ↦ inl (ap (λ (w : WatchedFeed W V). w.watcher.now) same) | inr watched ↦ inr (seen_run (string_bytes report.text) watched) ]
   sees_run (Err fault) is = elim is [ inl same ↦ inl (ap (λ (w : WatchedFeed W V). w.watcher.now) same) | inr vain ↦ inr (seen_run vain.text vain.watched) ]
 
-  pub shown_front : (result : Result Report LaunchFault) → Watches (SeesBeside contents saw) asked settings p answers at_first_both both result → IfOk result (λ report. IsFront was is_now now.outlet now.sent (string_bytes report.text))
+  pub shown_front : (result : Result Output LaunchFault) → Watches (SeesBeside contents saw) asked settings p answers at_first_both both result → IfOk result (λ report. IsFront was is_now now.outlet now.sent (string_bytes report.text))
   shown_front (Ok report) is = elim is [ inl same ↦ unsent_front (string_bytes report.text) (untouched (ap (λ (w : WatchedFeed W V). w.feed) same)) | inr watched ↦ watched_front (string_bytes report.text) watched ]
   shown_front (Err fault) is = tt
 
-  pub shown_broken : (result : Result Report LaunchFault) → Watches (SeesBeside contents saw) asked settings p answers at_first_both both result → IfErr result (λ fault. IsBrokenOff (IsOutput asked settings p answers) was is_now now.sent)
+  pub shown_broken : (result : Result Output LaunchFault) → Watches (SeesBeside contents saw) asked settings p answers at_first_both both result → IfErr result (λ fault. IsBrokenOff (IsOutput asked settings p answers) was is_now now.sent)
   shown_broken (Ok report) is = tt
   shown_broken (Err fault) is = elim is [ inl same ↦ unsent_broken (untouched (ap (λ (w : WatchedFeed W V). w.feed) same)) | inr vain ↦ watched_broken vain.text vain.watched vain.status vain.output ]
 

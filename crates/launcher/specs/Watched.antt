@@ -16,7 +16,7 @@ use Rattle.launcher.specs.declared.details.Details.{Details}
 use Rattle.launcher.specs.declared.details.Details.TheVariants as details
 use Rattle.launcher.specs.declared.exit_status.ExitStatus.{ExitStatus}
 use Rattle.launcher.specs.declared.fault.LaunchFault.{LaunchFault}
-use Rattle.launcher.specs.declared.report.Report.{Report}
+use Rattle.launcher.specs.declared.report.Output.{Output}
 use Rattle.launcher.specs.Asked.{Asked}
 use Rattle.launcher.specs.Reports.{details_of, IsRunOutput}
 use Rattle.launcher.specs.WarningTexts.{warning_lines}
@@ -50,7 +50,7 @@ module _ {L : Type 0} (saw : PlanParts → L → L → List Telling → Type 0) 
     pub watched : HasWatched asked settings p first now text
 
   -- whoever watches has seen the run whose output this is, or nothing
-  abbrev pub Watches : Asked → Settings → PlanParts → List (ℕ × Reply) → L → L → Result Report LaunchFault → Type 0
+  abbrev pub Watches : Asked → Settings → PlanParts → List (ℕ × Reply) → L → L → Result Output LaunchFault → Type 0
   Watches asked settings p answers first now (Ok report) = (now ≡ first) ⊎ HasWatched asked settings p first now (string_bytes report.text)
   Watches asked settings p answers first now (Err fault) = (now ≡ first) ⊎ HasWatchedInVain asked settings p answers first now
 

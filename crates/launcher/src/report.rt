@@ -32,11 +32,11 @@ use scheduling::Step;
 use std::alloc::{AllocError, Global};
 use std::sync::Wait;
 use std::thread::Threads;
-use worker_pool::{Report as PoolReport, RunCause, Watcher, run_watched};
+use worker_pool::{Report, RunCause, Watcher, run_watched};
 
 /// What is printed, and the status.
 #[derive(Debug, Drop)]
-pub(crate) struct Report {
+pub(crate) struct Output {
     pub(crate) text: String,
     pub(crate) status: ExitStatus,
 }
@@ -105,7 +105,7 @@ fn history_report(
     texts: &Texts,
     history: &[Event],
     schedule: &str,
-) -> Result<Report, AllocError>
+) -> Result<Output, AllocError>
     ensures text { IfOk result (λ report. string_bytes report.text ≡ warning_lines warnings
         ++ (details_of options.now.details options.now.theme plan.now texts.now history.now ++ schedule.now)) }
     ensures status { IfOk result (λ report. report.status ≡ status_of_run options.now.fail_if_no_tests
@@ -123,7 +123,7 @@ fn history_report(
         0
     };
     let status = ExitStatus::of_run(needs_tests, tests, results.failed());
-    Ok(Report { text, status })
+    Ok(Output { text, status })
 }
 
 /// The refusal of a run that was not begun.
@@ -144,8 +144,8 @@ fn ended_report(
     options: &Options,
     settings: &Settings,
     answers: &Answers,
-    ran: &PoolReport<ScriptedJob>,
-) -> Result<Report, AllocError>
+    ran: &Report<ScriptedJob>,
+) -> Result<Output, AllocError>
     ensures text { IfOk result (λ report. (schedule : List ℕ) × IsBehindDetails options.now.schedule
         settings.now.workers ran.now.plan answers.now ran.now.events.items schedule
         × (string_bytes report.text ≡ warning_lines settings.now.warnings
@@ -184,7 +184,7 @@ fn run_report<T: Threads + Wait + Sync, V: Watcher>(
     answers: &Answers,
     spins: &[u32],
     watcher: &mut V,
-) -> Result<Report, LaunchFault>
+) -> Result<Output, LaunchFault>
     requires some { 1 ≤ settings.now.workers }
     requires few { settings.now.workers ≤ 64 }
     requires guarded { IsGuarded (declared_of plan.tree) plan }
@@ -220,7 +220,7 @@ fn replay_report(
     plan: &Plan,
     answers: &Answers,
     workers: u32,
-) -> Result<Report, AllocError>
+) -> Result<Output, AllocError>
     ensures { IfOk result (λ report. IsReplayOutput steps.now workers plan.now answers.now (string_bytes report.text)
         report.status) }
 {
@@ -238,17 +238,17 @@ fn replay_report(
         given: given.len(),
     };
     push_replay_line(&mut text, counts)?;
-    Ok(Report {
+    Ok(Output {
         text,
         status: ExitStatus::of_replay(),
     })
 }
 
 /// The list of what would be run.
-fn listing(alloc: Global, plan: &Plan) -> Result<Report, AllocError>
+fn listing(alloc: Global, plan: &Plan) -> Result<Output, AllocError>
     ensures { IfOk result (λ report. IsListing plan.now (string_bytes report.text) report.status) }
 {
-    Ok(Report {
+    Ok(Output {
         text: list_text(alloc, plan)?,
         status: ExitStatus::of_replay(),
     })
@@ -264,7 +264,7 @@ fn plan_report<T: Threads + Wait + Sync, V: Watcher>(
     answers: &Answers,
     spins: &[u32],
     watcher: &mut V,
-) -> Result<Report, LaunchFault>
+) -> Result<Output, LaunchFault>
     requires some { 1 ≤ settings.now.workers }
     requires few { settings.now.workers ≤ 64 }
     requires guarded { IsGuarded (declared_of plan.tree) plan }
@@ -297,7 +297,7 @@ pub(crate) fn report_of<T: Threads + Wait + Sync, V: Watcher>(
     answers: &Answers,
     spins: &[u32],
     watcher: &mut V,
-) -> Result<Report, LaunchFault>
+) -> Result<Output, LaunchFault>
     requires some { 1 ≤ settings.now.workers }
     requires few { settings.now.workers ≤ 64 }
     requires guarded { IsGuarded (declared_of plan.tree) plan }

@@ -24,7 +24,7 @@ use crate::bytes::{ReadFault, read_front};
 use crate::details::Details;
 use crate::exit_status::ExitStatus;
 use crate::fault::LaunchFault;
-use crate::report::{Report, report_of};
+use crate::report::{Output, report_of};
 use crate::scripted::spins_of;
 use crate::warning_lines::push_warnings;
 use crate::watched_feed::WatchedFeed;
@@ -161,7 +161,7 @@ fn shown_report<T: Threads + Wait + Sync, W: Write, V: Watcher>(
     options: &Options,
     ready: ReadyRun,
     live: &mut WatchedFeed<'_, '_, W, V>,
-) -> Result<Report, LaunchFault>
+) -> Result<Output, LaunchFault>
     requires some { 1 ≤ ready.settings.workers }
     requires few { ready.settings.workers ≤ 64 }
     requires guarded { IsGuarded (declared_of ready.plan.tree) ready.plan }
