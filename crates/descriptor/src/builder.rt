@@ -11,8 +11,8 @@ use std::alloc::{AllocError, Global};
 use std::collections::HashSet;
 use std::marker::Model;
 
-/// The greatest number of nodes, the plan included.
-const MOST_NODES: usize = 4096;
+/// The greatest number of nodes of a tree, the plan included.
+pub const MOST_NODES: usize = 4096;
 
 /// How many numbers of bodies there are.
 const NUMBERS: usize = 65_536;

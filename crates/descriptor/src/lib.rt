@@ -16,7 +16,7 @@ mod role;
 mod tree;
 
 pub use body_id::BodyId;
-pub use builder::TreeBuilder;
+pub use builder::{MOST_NODES, TreeBuilder};
 pub use fault::TreeFault;
 pub use kind::Kind;
 pub use lock::Lock;

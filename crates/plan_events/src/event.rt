@@ -4,10 +4,7 @@ ghost use Rattle.std.specs.Prelude.{◌≡◌};
 
 use crate::status::Status;
 use crate::workers::MOST_WORKERS;
-use descriptor::NodeId;
-
-/// The greatest number of a node.
-const LAST_NODE: u16 = 4095;
+use descriptor::{MOST_NODES, NodeId};
 
 /// What happened to a node.
 #[derive(Clone, Copy, PartialEq, Eq, Debug)]
@@ -66,7 +63,7 @@ impl Event {
     {
         self.kind.fits(self.status)
             && (1..=MOST_WORKERS).contains(&self.worker)
-            && self.node.number() <= LAST_NODE
+            && self.node.index() < MOST_NODES
             && (self.node != NodeId::ROOT || self.kind.may_be_of_plan(self.status))
     }
 }

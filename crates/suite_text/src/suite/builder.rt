@@ -13,14 +13,11 @@ use crate::suite::properties::{is_property, put_property};
 use crate::suite::pulls::{Pending, all_settled, lines_below};
 use crate::suite::words::{Declared, Word, declared_as};
 use config_params::Params;
-use descriptor::{BodyId, Node, NodeId, Tree, TreeBuilder, TreeFault};
+use descriptor::{BodyId, MOST_NODES, Node, NodeId, Tree, TreeBuilder, TreeFault};
 use plan_events::Status;
 use std::alloc::{AllocError, Global};
 use std::marker::Model;
 use unique_id::{Text, UidFault, UniqueId};
-
-/// The greatest number of nodes for which room is made before the first line.
-const MOST_NODES: usize = 4_095;
 
 /// The number of a node's after-body, less the node's own: above all numbers of nodes.
 const FIRST_AFTER: u16 = 8_192;
@@ -211,7 +208,7 @@ impl SuiteBuilder {
     ghost use Rattle.suite_text.specs.Suites.{with_words, with_line, suite_parts};
     ghost use Rattle.suite_text.specs.Reading.Parts.{parts_of, AreBodiesOf, bodies_answered};
 
-    /// Before the first line, with room for the nodes of so many lines.
+    /// Before the first line, with room for the nodes of so many lines, though for no more than a tree may have.
     pub(crate) fn new(alloc: Global, lines: usize) -> Result<SuiteBuilder, AllocError>
         ensures { IfOk result (λ b. b ≡ no_lines) }
     {
