@@ -1,0 +1,35 @@
+//! Calls `messages`: a suite in memory is run, and if the run is refused its message comes back.
+
+ghost use Rattle.std.specs.Prelude.{◌≡◌, Some, Err, IfErr, take};
+ghost use Rattle.launcher.specs.Asked.{asked_by};
+ghost use Rattle.launcher.specs.Runs.{IsRun};
+ghost use Rattle.launcher.specs.declared.fault.LaunchFault.{LaunchFault as Fault};
+ghost use Rattle.messages.specs.Sentences.{sentence_of};
+ghost use Rattle.suite_text.specs.Reading.Bytes.{suite_read};
+
+use crate::suite_output::run_text;
+use launcher::{ExitStatus, Given, Options};
+use messages::{Message, message_of};
+use std::alloc::Global;
+use std::sync::Wait;
+use std::thread::Threads;
+
+/// Appends to `output` what the options print of a suite; or says why they do not. The values of the
+/// options are `given`, as the details of a message name them.
+pub fn run_or_say<T: Threads + Wait + Sync>(
+    rt: &T,
+    alloc: Global,
+    options: &Options,
+    given: &Given<'_>,
+    suite: &[u8],
+    output: &mut Vec<u8>,
+) -> Result<ExitStatus, Message>
+    ensures said { IfErr result (λ message. (fault : Fault) × (message.sentence.now ≡ sentence_of fault)
+        × IsRun (asked_by options.now) (suite_read (take 1048577 suite.now)) (Some output.old.items)
+        (Some output.new.items) (Err fault)) }
+{
+    match run_text(rt, alloc, options, suite, output) {
+        Ok(status) => Ok(status),
+        Err(fault) => Err(message_of(alloc, fault, given, suite)),
+    }
+}
