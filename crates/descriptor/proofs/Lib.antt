@@ -11,3 +11,4 @@ pub mod Between
 pub mod Pruned
 pub mod Pruning
 pub mod AllKept
+pub mod Bits

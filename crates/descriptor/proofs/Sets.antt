@@ -1,9 +1,9 @@
 -- The ids and the bodies of a builder beside the tree's nodes.
-use Rattle.std.proofs.Common.{◌≡◌, ◌≢◌, ◌<◌, ◌==◌, ℕ, Bool, true, false, cond, eq-eqb, ne_eqb, List, [], ◌∷◌, length, set, get_or, replicate, refl, ap, sym, ◌∙◌, Option, Some, None, String, Global}
+use Rattle.std.proofs.Common.{◌≡◌, ◌<◌, ℕ, Bool, true, false, cond, eq-eqb, ne_eqb, List, [], ◌∷◌, length, set, get_or, replicate, refl, ap, sym, ◌∙◌, Option, Some, String, Global}
 use Rattle.std.specs.Prelude.{◌||◌}
 use Rattle.std.specs.List.Sorted.{IsPermutation}
 use Rattle.std.specs.Str.{bytes_eq}
-use Rattle.std.proofs.lemmas.List.{length-replicate, get_or-replicate, get_or-set_other}
+use Rattle.std.proofs.lemmas.List.{get_or-replicate, get_or-set_other}
 use Rattle.std.proofs.lemmas.List.Folds.{list_any-append}
 use Rattle.std.proofs.lemmas.Grind.{get_or-set_at}
 use mathlib.Core.Logic.{dite}
@@ -72,8 +72,8 @@ HasBodies t row = (b : ℕ) → b < 65536 → get_or row b false ≡ has_body t 
 abbrev pub PutsBody : Option ℕ → List Bool → List Bool → Type 0
 PutsBody body old new = (b : ℕ) → b < 65536 → get_or new b false ≡ cond (is_body b body) true (get_or old b false)
 
-pub no_bodies : (row : List Bool) → row ≡ replicate 65536 false → (length row ≡ 65536) × ((b : ℕ) → b < 65536 → get_or row b false ≡ false)
-no_bodies row is = (ap length is ∙ length-replicate 65536 false, λ b low. ap (λ (r : List Bool). get_or r b false) is ∙ get_or-replicate 65536 b false false low)
+pub no_bodies : (row : List Bool) → row ≡ replicate 65536 false → (b : ℕ) → b < 65536 → get_or row b false ≡ false
+no_bodies row is b low = ap (λ (r : List Bool). get_or r b false) is ∙ get_or-replicate 65536 b false false low
 
 pub body_put : (row : List Bool) (i body : ℕ) → i ≡ body → i < length row → PutsBody (Some body) row (set row i true)
 body_put row i body same low b small = dite (ℕ_discrete body b)

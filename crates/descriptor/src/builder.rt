@@ -3,6 +3,7 @@
 ghost use Rattle.std.specs.Prelude.{◌≡◌, ◌≢◌, ℕ, ◌<◌, ◌↔◌, IsTrue, None, Some, OnOk, OnErr, IfOk, IfErr, IfSome};
 
 use crate::body_id::BodyId;
+use crate::body_marks::BodyMarks;
 use crate::fault::TreeFault;
 use crate::node::Node;
 use crate::node_id::NodeId;
@@ -14,9 +15,6 @@ use std::marker::Model;
 /// The greatest number of nodes of a tree, the plan included.
 pub const MOST_NODES: usize = 4096;
 
-/// How many numbers of bodies there are.
-const NUMBERS: usize = 65_536;
-
 /// The greatest depth of a node; the plan has depth 0.
 const MOST_DEPTH: u8 = 64;
 
@@ -26,8 +24,8 @@ pub struct TreeBuilder {
     tree: Tree,
     // the canonical texts of the nodes' unique ids, so that no search goes over all nodes
     ids: HashSet<String>,
-    // at the place of each number, whether it is that of a body of the tree
-    bodies: Vec<bool>,
+    // the bodies of the tree
+    bodies: BodyMarks,
 }
 
 impl Model for TreeBuilder {
@@ -63,7 +61,7 @@ impl TreeBuilder {
         Ok(TreeBuilder {
             tree: Tree::with_capacity(alloc, nodes)?,
             ids: HashSet::with_capacity(alloc, nodes)?,
-            bodies: vec![in alloc; false; NUMBERS]?,
+            bodies: BodyMarks::none(alloc)?,
         })
     }
 
@@ -99,8 +97,8 @@ impl TreeBuilder {
         let Ok(_) = self.ids.insert(id) else {
             unreachable!()
         };
-        put_body(&mut self.bodies, body);
-        put_body(&mut self.bodies, after);
+        self.bodies.put(body);
+        self.bodies.put(after);
         Ok(number)
     }
 
@@ -119,7 +117,7 @@ impl TreeBuilder {
             return Err(fault);
         }
         self.tree.set_after(node, body);
-        put_body(&mut self.bodies, Some(body));
+        self.bodies.put(Some(body));
         Ok(())
     }
 
@@ -195,23 +193,8 @@ impl TreeBuilder {
         ensures { result ≡ has_body self.now body }
     {
         match body {
-            Some(body) => self.bodies[body.index()],
+            Some(body) => self.bodies.has(body),
             None => false,
         }
-    }
-}
-
-ghost use Rattle.std.specs.Prelude.{cond, true, false, length, get_or};
-ghost use Rattle.descriptor.specs.Bodies.{is_body};
-
-/// Puts a body, if there is one, among those of the tree.
-fn put_body(bodies: &mut Vec<bool>, body: Option<BodyId>)
-    requires { length bodies.old.items ≡ 65536 }
-    ensures many { length bodies.new.items ≡ 65536 }
-    ensures has { (b : ℕ) → b < 65536 → get_or bodies.new.items b false ≡ cond (is_body b body) true
-        (get_or bodies.old.items b false) }
-{
-    if let Some(body) = body {
-        bodies[body.index()] = true;
     }
 }

@@ -3,6 +3,7 @@
 #![tactic(auto)]
 
 mod body_id;
+mod body_marks;
 mod builder;
 mod fault;
 mod kind;

@@ -18,11 +18,11 @@ pub(crate) struct Marks {
 
 impl Model for Marks {
     ghost use Rattle.std.specs.Prelude.{List, Bool};
-    ghost use Rattle.run_table.specs.Inside.Marks.{marks_in};
+    ghost use Rattle.descriptor.specs.Inside.Marks.{marks_in};
 
     ghost Value = { List Bool };
 
-    ghost view = { λ m. marks_in m.words };
+    ghost view = { λ m. marks_in 8192 m.words };
 }
 
 /// Words with no bit.

@@ -12,8 +12,7 @@ invariant_of-self-in_err-number c =
     let same : c.self.inside.tree ≡ c.push.new.self = grind (arith, common_steps) in
     record {
       has_ids = ids_as _ _ c.reserve.new.self same (ids_kept c.self.inside.tree c.self.inside.ids c.reserve.new.self c.self.invariant.has_ids c.reserve.ensures.keys.0);
-      numbers = c.self.invariant.numbers;
-      has_bodies = bodies_as _ _ c.self.inside.bodies.items same c.self.invariant.has_bodies;
+      has_bodies = bodies_as _ _ c.self.inside.bodies same c.self.invariant.has_bodies;
     }
 
 pub invariant_of-self-2 : goal.invariant_of-self-2
@@ -22,6 +21,5 @@ invariant_of-self-2 c =
     let text : string_bytes c.in_ok-id.id ≡ spelling c.args.node.id = grind (arith, common_steps) in
     record {
       has_ids = ids_grown _ _ _ _ _ c.reserve.new.self c.insert.new.self grown text (ids_kept c.self.inside.tree c.self.inside.ids c.reserve.new.self c.self.invariant.has_ids c.reserve.ensures.keys.0) c.in-Ok.ensures.updates;
-      numbers = c.put_body-2.ensures.many;
-      has_bodies = bodies_grown _ _ _ _ c.self.inside.bodies.items c.put_body.new.bodies.items c.put_body-2.new.bodies.items grown c.self.invariant.has_bodies c.put_body.ensures.has c.put_body-2.ensures.has;
+      has_bodies = bodies_grown _ _ _ _ c.self.inside.bodies c.put.new.self c.put-2.new.self grown c.self.invariant.has_bodies c.put.ensures c.put-2.ensures;
     }

@@ -13,6 +13,5 @@ invariant_of-self c =
     let taken : after_refusal c.self.inside.tree c.args.node c.args.body ≡ None = grind (arith, common_steps) in
     record {
       has_ids = ids_with_after c.self.inside.tree _ c.args.node c.args.body c.self.inside.ids given c.self.invariant.has_ids;
-      numbers = c.put_body.ensures.many;
-      has_bodies = put_with_after c.self.inside.tree _ c.args.node c.args.body c.self.inside.bodies.items c.put_body.new.bodies.items given (taken_after c.self.inside.tree c.args.node c.args.body taken).1 c.self.invariant.has_bodies c.put_body.ensures.has;
+      has_bodies = put_with_after c.self.inside.tree _ c.args.node c.args.body c.self.inside.bodies c.put.new.self given (taken_after c.self.inside.tree c.args.node c.args.body taken).1 c.self.invariant.has_bodies c.put.ensures;
     }

@@ -1,5 +1,5 @@
 -- The tree of the plan alone has no ids and no bodies.
-use Rattle.std.proofs.Common.{◌≡◌, false, replicate, Some, List, String, Global, ap, sym, ◌∙◌}
+use Rattle.std.proofs.Common.{◌≡◌, Some, List, String, Global, ap, sym, ◌∙◌}
 use Rattle.std.specs.List.{list_any}
 use Rattle.std.specs.Str.{bytes_eq}
 use Rattle.std.specs.String.{string_bytes}
@@ -10,10 +10,9 @@ use Rattle.descriptor.proofs.builder.TreeBuilder.with_capacity.Goals as goal
 
 pub invariant_of-result : goal.invariant_of-result
 invariant_of-result c =
-    let none = no_bodies c.in_ok-vec.field-0.items (c.in_ok-vec.ensures.items_if_clones_equal (λ y h. h)) in
+    let none = no_bodies c.in_ok-none.field-0 c.in_ok-none.ensures in
     let alone : c.in_ok-with_capacity.field-0 ≡ plan_alone = c.in_ok-with_capacity.ensures in
     record {
       has_ids = λ text. ap (λ (keys : List (String Global)). list_any (λ (k : String Global). bytes_eq text (string_bytes k)) keys) c.in_ok-with_capacity-2.ensures.empty ∙ sym (ap (λ (t : Nodes). has_text t text) alone);
-      numbers = none.0;
-      has_bodies = λ b low. none.1 b low ∙ sym (ap (λ (t : Nodes). has_body t (Some b)) alone);
+      has_bodies = λ b low. none b low ∙ sym (ap (λ (t : Nodes). has_body t (Some b)) alone);
     }

@@ -7,6 +7,6 @@ use Rattle.std.specs.Int.{bit_at}
 abbrev pub is_marked : List ℕ → ℕ → Bool
 is_marked words k = bit_at (get_or words (k / 64) 0) (k % 64) == 1
 
--- a mark for each number below 8,192
-unfoldable pub marks_in : List ℕ → List Bool
-marks_in words = map (is_marked words) (range_with_len 0 8192)
+-- a mark for each number below this one
+unfoldable pub marks_in : ℕ → List ℕ → List Bool
+marks_in many words = map (is_marked words) (range_with_len 0 many)
