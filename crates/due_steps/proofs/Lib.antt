@@ -1,0 +1,2 @@
+-- Lemmas on what is due.
+pub mod DueRows
