@@ -1,5 +1,5 @@
 -- A step knows enough of a reply: the text is none of its business.
-use Rattle.std.proofs.Common.{◌≡◌, ◌∙◌, ℕ, ◌||◌, not, cond, List, Option, Some, None, refl, ap, subst}
+use Rattle.std.proofs.Common.{◌≡◌, ◌∙◌, ℕ, ◌||◌, not, cond, List, Option, Some, None, refl, ap}
 use Rattle.plan_events.specs.declared.outcome.Reply.{Reply}
 use Rattle.resource_locks.specs.Plans.{PlanParts}
 use Rattle.scheduling.specs.declared.answer.Answer.{Answer}
@@ -14,7 +14,6 @@ use Rattle.scheduling.specs.declared.seat.Seat.{Seat}
 use Rattle.scheduling.specs.Answers.{answer_of, reply_by}
 use Rattle.scheduling.specs.Choices.{awaited, admit_from, answered, is_leaf, status_by, decided}
 use Rattle.scheduling.specs.Rows.{row, decided_seat, add_by_hand, add_child_hand, add_child_row, done_by_hand, done_hand, done_row}
-use Rattle.scheduling.specs.Schedule.{action_waiting, IsNextBy, IsNext}
 use Rattle.scheduling.specs.State.{State}
 use Rattle.sched_core.specs.Inside.Fields.{seated}
 use Rattle.sched_core.specs.Steps.{reply_awaited, reply_for}
@@ -66,20 +65,6 @@ row_known p s w seat r AddChild = add_known p s w seat r seat.task
 row_known p s w seat r Done = done_known p s w seat r seat.task
 row_known p s w seat r _ = refl
 
--- nor is it of the schedule's next step
-pub next_known : (p : PlanParts) (s : State) (seat : Seat) (r : Reply) (a : Action) → IsNext p s seat (reply_by (answer_of r)) a → IsNext p s seat r a
-next_known p s seat r a next = go seat.task seat.hand next
-  where
-    waits : (hand : Hand) (waiting : Option ℕ) → action_waiting p (reply_by (answer_of r)) hand waiting ≡ action_waiting p r hand waiting
-    waits hand None = refl
-    waits hand (Some c) = refl
-
-    go : (t : Task) (hand : Option Hand) → IsNextBy p s (reply_by (answer_of r)) hand t a → IsNextBy p s r hand t a
-    go Free None n = n
-    go Free (Some hand) n = n ∙ waits hand hand.waiting
-    go (Opens x d) hand n = n
-    go (Closes x d) hand n = n
-
 -- the answer that is told of the body which a seat awaits, and the task that it decides
 pub told_answer : (p : PlanParts) (answers : List (ℕ × Reply)) (seat : Seat) (job : Option ℕ) (answer : Answer) → job ≡ awaited p seat seat.task → answer ≡ answer_of (reply_awaited answers job) → answer ≡ answer_of (reply_for p answers seat)
 told_answer p answers seat job answer awaits said = said ∙ ap (λ (o : Option ℕ). answer_of (reply_awaited answers o)) awaits
@@ -92,7 +77,3 @@ pub told_row : (p : PlanParts) (s : State) (w : ℕ) (r : Reply) (seat : Seat) (
     → row p s w (seated task seat.hand) (reply_by answer) a ≡ row p s w (decided_seat p r seat) r a
 told_row p s w r seat answer task a said same =
     ap (λ (x : Answer). row p s w (seated task seat.hand) (reply_by x) a) said ∙ row_known p s w (seated task seat.hand) r a ∙ ap (λ (t : Task). row p s w (seated t seat.hand) r a) same
-
-pub told_next : (p : PlanParts) (s : State) (r : Reply) (seat : Seat) (answer : Answer) (task : Task) (a : Action) → answer ≡ answer_of r → task ≡ decided p r seat.task → IsNext p s (seated task seat.hand) (reply_by answer) a → IsNext p s (decided_seat p r seat) r a
-told_next p s r seat answer task a said same next =
-    subst (λ (t : Task). IsNext p s (seated t seat.hand) r a) same (next_known p s (seated task seat.hand) r a (subst (λ (x : Answer). IsNext p s (seated task seat.hand) (reply_by x) a) said next))

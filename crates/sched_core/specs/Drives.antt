@@ -4,10 +4,9 @@ use Rattle.std.specs.Prelude.{ℕ, List}
 use Rattle.plan_events.specs.declared.outcome.Reply.{Reply}
 use Rattle.resource_locks.specs.Plans.{PlanParts}
 use Rattle.scheduling.specs.declared.seat.Seat.{Seat}
-use Rattle.scheduling.specs.Inside.Going.{IsGoing}
 use Rattle.scheduling.specs.Schedule.{Drives as DrivesBy, LeadsTo as LeadsBy}
-use Rattle.scheduling.specs.Inside.Stages.{Stage}
 use Rattle.scheduling.specs.State.{State}
+use Rattle.one_worker.specs.Going.{IsOnSchedule as IsOnScheduleBy}
 use Rattle.sched_core.specs.Replies.{replies_of}
 use Rattle.sched_core.specs.Steps.{reply_for}
 
@@ -24,4 +23,4 @@ LeadsTo p answers first s = LeadsBy p (reply_given p answers) first s
 
 -- what the schedule keeps, for proofs
 abbrev pub IsOnSchedule : PlanParts → List (ℕ × Reply) → State → Type 0
-IsOnSchedule p answers s = (g : ℕ → Stage) × IsGoing p (replies_of answers) s g
+IsOnSchedule p answers s = IsOnScheduleBy p (replies_of answers) s

@@ -1,0 +1,3 @@
+-- The lemmas of this crate.
+pub mod Choosing
+pub mod Progress

@@ -1,0 +1,7 @@
+#![tactic(auto)]
+
+//! The fixed schedule of one worker: which step it takes next.
+
+mod next;
+
+pub use next::{Next, is_over, next_step};
