@@ -5,6 +5,7 @@ mod cancelling;
 mod events;
 mod guards;
 mod keys;
+mod notes;
 mod offers;
 mod settling;
 
@@ -12,5 +13,6 @@ pub use cancelling::{due_notice, due_raise};
 pub use events::{after_draw, after_show, due_event, named_by};
 pub use guards::{DueGuard, counted_off, due_guard};
 pub use keys::{after_back, after_try, due_back, due_give_up, due_take, due_weigh};
+pub use notes::skip_note;
 pub use offers::{after_offer, due_offer};
 pub use settling::{due_look, due_settle};

@@ -1,6 +1,5 @@
-#![tactic(auto)]
-
 //! The fixed schedule of one worker: which step it takes next.
+#![tactic(auto)]
 
 mod next;
 

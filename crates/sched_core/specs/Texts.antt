@@ -1,16 +1,17 @@
 -- The texts of a history.
 use Rattle.std.specs.Prelude.{◌≡◌, ℕ, ◌<◌, Bool, false, nat_lt, if◌then◌else◌, List, length, Option, Some, None, slice_index_or}
-use Rattle.descriptor.specs.Nodes.{size, is_disabled}
+use Rattle.descriptor.specs.Nodes.{size}
 use Rattle.plan_events.specs.declared.event.EventKind.TheVariants.{Finished, Skipped}
 use Rattle.plan_events.specs.declared.event.Event.{Event}
 use Rattle.plan_events.specs.declared.note.Note.{Note}
-use Rattle.plan_events.specs.declared.note.Note.TheVariants.{Reason, Cancelled, Own, TooMany}
+use Rattle.plan_events.specs.declared.note.Note.TheVariants.{Own, TooMany}
 use Rattle.plan_events.specs.declared.outcome.Reply.{Reply}
 use Rattle.plan_events.specs.Texts.{TextParts, reasons_of}
 use Rattle.resource_locks.specs.Plans.{PlanParts}
 use Rattle.event_history.specs.Places.{has}
 use Rattle.event_history.specs.Results.{Jobs, Pulled, jobs_of}
 use Rattle.event_history.specs.Expected.{Expected, Finishes, result_by}
+use Rattle.due_steps.specs.Notes.{skip_note}
 use Rattle.sched_core.specs.Replies.{reply_of}
 
 -- whether a factory's reply has more pulls than there are spares
@@ -30,10 +31,6 @@ jobs_note reply jobs = note_by (pulls_too_many reply jobs) (result_by reply jobs
 -- the note of node n where it is finished: the text of its result
 abbrev pub own_note : PlanParts → List (ℕ × Reply) → ℕ → Option Note
 own_note p answers n = jobs_note (reply_of answers) (jobs_of p n)
-
--- the note of node n where it is skipped: its own reason, where it is disabled, and else that the plan was cancelled
-abbrev pub skip_note : PlanParts → ℕ → Note
-skip_note p n = if is_disabled p.tree n then Reason else Cancelled
 
 -- the note of node n: by its skip, where that stands, else by its finish
 abbrev pub note_of : PlanParts → List (ℕ × Reply) → List Event → ℕ → Option Note

@@ -7,26 +7,22 @@ use crate::answers::Answers;
 use crate::fault::{CoreFault, NotEnabled};
 use crate::machine::Machine;
 use crate::trace::Trace;
+use plan_events::{CountFault, worker_count};
 use resource_locks::Plan;
 use scheduling::{Step, Turns};
 use std::alloc::{AllocError, Global};
 use std::marker::Model;
 
-/// The greatest number of workers.
-const MOST_WORKERS: u32 = 64;
-
 /// The number of workers, if there may be so many.
-pub(crate) fn worker_count(workers: u32) -> Result<u8, CoreFault>
+pub(crate) fn count_of(workers: u32) -> Result<u8, CoreFault>
     ensures count { IfOk result (λ count. (count ≡ workers) × (0 < count) × (count ≤ 64)
         × (workers_refusal workers ≡ None)) }
     ensures refused { IfErr result (λ fault. (workers_refusal workers ≡ Some fault) × (fault ≢ CoreFault.NoMemory)) }
 {
-    if workers == 0 {
-        Err(CoreFault::NoWorkers)
-    } else if workers > MOST_WORKERS {
-        Err(CoreFault::TooManyWorkers)
-    } else {
-        Ok(workers as u8)
+    match worker_count(workers) {
+        Ok(count) => Ok(count),
+        Err(CountFault::None) => Err(CoreFault::NoWorkers),
+        Err(CountFault::TooMany) => Err(CoreFault::TooManyWorkers),
     }
 }
 
@@ -67,7 +63,7 @@ impl Core {
         ensures refused { IfErr result (λ fault. fault ≢ CoreFault.NoMemory → workers_refusal workers ≡ Some fault) }
         ensures no_memory { IfErr result (λ fault. fault ≡ CoreFault.NoMemory → workers_refusal workers ≡ None) }
     {
-        let count = worker_count(workers)?;
+        let count = count_of(workers)?;
         let turns = Turns::new(alloc, &plan)?;
         let machine = Machine::new(alloc, &plan, count)?;
         Ok(Core {

@@ -10,10 +10,11 @@ ghost use Rattle.event_history.specs.History.{IsLegal, IsTextOf};
 ghost use Rattle.event_history.specs.Results.{Around};
 ghost use Rattle.scheduling.specs.Jobs.{as_jobs};
 ghost use Rattle.sched_core.specs.Replies.{reply_of, replies_of};
-ghost use Rattle.sched_core.specs.Texts.{jobs_note as jobs_note_of, skip_note as skip_note_of, note_of, AreTexts};
+ghost use Rattle.sched_core.specs.Texts.{jobs_note as jobs_note_of, note_of, AreTexts};
 
 use crate::answers::Answers;
-use descriptor::{BodyId, NodeId};
+use descriptor::BodyId;
+use due_steps::skip_note;
 use plan_events::{Event, EventKind, Note, Texts};
 use resource_locks::Plan;
 use scheduling::{NodeJobs, jobs_of};
@@ -78,17 +79,6 @@ fn jobs_note(alloc: Global, answers: &Answers, jobs: NodeJobs) -> Result<Option<
     match job {
         Some(job) => Ok(Some(said(alloc, answers, job)?)),
         None => Ok(None),
-    }
-}
-
-/// What is noted of a skipped node: its own reason, where it is disabled, and else that the plan was cancelled.
-fn skip_note(plan: &Plan, node: NodeId) -> Note
-    requires { node < size plan.now.tree }
-    ensures { result ≡ skip_note_of plan.now node }
-{
-    match plan.tree().reason(node) {
-        Some(_) => Note::Reason,
-        None => Note::Cancelled,
     }
 }
 

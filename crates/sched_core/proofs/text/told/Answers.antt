@@ -12,7 +12,7 @@ pub returns-in-Started : goal.returns-in-Started
 returns-in-Started c h are = tells_nothing c.args.plan.now c.args.answers.now h c.args.event.now c.in-Started.is
 
 pub returns-in-Skipped : goal.returns-in-Skipped
-returns-in-Skipped c h are = tells_skip c.args.plan.now c.args.answers.now h c.args.event.now c.in-Skipped.is ∙ ap Some (sym c.skip_note.ensures)
+returns-in-Skipped c h are = tells_skip c.args.plan.now c.args.answers.now h c.args.event.now c.in-Skipped.is ∙ ap Some (sym c.skip_note.ensures.note)
 
 pub returns-then-is_some : goal.returns-then-is_some
 returns-then-is_some c h are =
