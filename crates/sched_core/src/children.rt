@@ -1,12 +1,11 @@
 //! The steps by which nodes are offered, registered, counted off and settled.
 
-ghost use Rattle.std.specs.Prelude.{◌≡◌, ◌<◌, ℕ, suc, Some, length};
+ghost use Rattle.std.specs.Prelude.{◌≡◌, ◌<◌, ℕ, Some, length};
 ghost use Rattle.descriptor.specs.Nodes.{size, parent_of, IsChild};
 ghost use Rattle.scheduling.specs.Answers.{reply_by};
 ghost use Rattle.scheduling.specs.LinkLists.{AreTurns};
-ghost use Rattle.scheduling.specs.Choices.{admit_from, offered_to as offered_to_of};
-ghost use Rattle.scheduling.specs.Rows.{offers, admit_row, add_child_row, guard_given, counted_off, done_hand};
-ghost use Rattle.scheduling.specs.Rows.{done_row, settle_row, look_found, look_row};
+ghost use Rattle.scheduling.specs.Rows.{offers, admit_row, add_child_row, guard_given};
+ghost use Rattle.scheduling.specs.Rows.{counted_off as counted_off_of, done_row, settle_row, look_found, look_row};
 ghost use Rattle.scheduling.specs.State.{status_at};
 ghost use Rattle.scheduling.specs.declared.seat.Hand.{Hand as HandValue};
 ghost use Rattle.scheduling.specs.declared.task.Opening.{Opening as OpeningValue};
@@ -20,11 +19,12 @@ ghost use Rattle.sched_core.specs.Inside.Fields.{state_of, seated, IsAnswered, K
 use crate::fault::NotEnabled;
 use crate::machine::Machine;
 use descriptor::NodeId;
+use due_steps::{after_offer, counted_off, due_guard, due_look, due_offer, due_settle};
 use plan_events::Status;
 use resource_locks::Plan;
 use scheduling::{
     Answer, Closing, Hand, NodeStatus, Opening, Seat, Task, Turns, after_settle, ends_or_free,
-    is_pulled, next_spare, offered_to, pulled_result, waits_for, waits_no_more,
+    next_spare, waits_no_more,
 };
 
 impl Machine {
@@ -39,30 +39,6 @@ impl Machine {
         self.seats[usize::from(place)] = seat;
     }
 
-    /// A child of a node is offered, and the worker goes on to the next one.
-    fn admit_child(
-        &mut self,
-        plan: &Plan,
-        turns: &Turns,
-        place: u8,
-        hand: Option<Hand>,
-        node: NodeId,
-        child: NodeId,
-    )
-        requires turns { AreTurns plan.now turns.now }
-        requires place { place < length self.old.seats.items }
-        requires sizes { length self.old.statuses.items ≡ size plan.now.tree }
-        requires child { IsChild plan.now.tree node child }
-        ensures state { state_of self.new ≡ offers (state_of self.old) place
-            (seated (Opens node (admit_from plan.now node (suc child))) hand) child
-            (offered_to_of plan.now place child) }
-        ensures room { KeepsRoom self.old self.new }
-    {
-        let task = Task::Opens(node, turns.admit_after(child));
-        let to = offered_to(plan, place, child);
-        self.offer(place, Seat { task, hand }, child, to);
-    }
-
     pub(crate) fn admit(
         &mut self,
         plan: &Plan,
@@ -74,43 +50,19 @@ impl Machine {
         requires turns { AreTurns plan.now turns.now }
         requires place { place < length self.old.seats.items }
         requires sizes { length self.old.statuses.items ≡ size plan.now.tree }
+        requires opens { (n : ℕ) (d : OpeningValue) → task ≡ Opens n d → n < size plan.now.tree }
         requires admits { (n c : ℕ) (d : OpeningValue) → task ≡ Opens n d → d ≡ Admitting c →
             IsChild plan.now.tree n c }
-        requires offers { (n : ℕ) (d : OpeningValue) → task ≡ Opens n d → n < size plan.now.tree }
-        requires passes { (n m o : ℕ) (d : ClosingValue) → task ≡ Closes n d → d ≡ Passing m o →
-            m < size plan.now.tree }
+        requires passes { (n m o : ℕ) → task ≡ Closes n (Passing m o) → m < size plan.now.tree }
         ensures { IsAnswered self.old (admit_row plan.now (state_of self.old) place (seated task hand) task) result
             self.new }
     {
-        match task {
-            Task::Free => return Err(NotEnabled),
-            Task::Opens(node, opening) => match opening {
-                Opening::Admitting(child) => {
-                    self.admit_child(plan, turns, place, hand, node, child);
-                }
-                Opening::Offering => {
-                    let hand = waits_for(plan, node, hand);
-                    let to = offered_to(plan, place, node);
-                    self.offer(
-                        place,
-                        Seat {
-                            task: Task::Free,
-                            hand,
-                        },
-                        node,
-                        to,
-                    );
-                }
-                _ => return Err(NotEnabled),
-            },
-            Task::Closes(node, closing) => match closing {
-                Closing::Passing(sibling, owner) => {
-                    let task = Task::Closes(node, Closing::CountingOff);
-                    self.offer(place, Seat { task, hand }, sibling, Some(owner));
-                }
-                _ => return Err(NotEnabled),
-            },
-        }
+        let task = &task;
+        let Some((node, to)) = due_offer(plan, place, *task) else {
+            return Err(NotEnabled);
+        };
+        let seat = after_offer(plan, turns, *task, hand);
+        self.offer(place, seat, node, to);
         Ok(())
     }
 
@@ -172,40 +124,14 @@ impl Machine {
         requires inside { node < size plan.now.tree }
         requires counters { length self.old.counters.items ≡ size plan.now.tree }
         requires results { length self.old.results.items ≡ size plan.now.tree }
-        ensures state { state_of self.new ≡ counted_off plan.now (state_of self.old) place (seated Task.Free hand)
-            node }
+        ensures state { state_of self.new ≡ counted_off_of plan.now (state_of self.old) place
+            (seated Task.Free hand) node }
         ensures room { KeepsRoom self.old self.new }
     {
         let outstanding = self.counters[node.index()];
         let status = self.results[node.index()];
         self.counters[node.index()] = outstanding.saturating_sub(1);
         self.go(place, hand, ends_or_free(plan, node, status, outstanding));
-    }
-
-    /// The factory in hand is done, if all its dynamic tests are registered that its body answered.
-    fn done_by_hand(
-        &mut self,
-        plan: &Plan,
-        place: u8,
-        hand: Option<Hand>,
-        answer: Answer,
-    ) -> Result<(), NotEnabled>
-        requires place { place < length self.old.seats.items }
-        requires hand { (h : HandValue) → hand ≡ Some h → IsFactory plan.now self.old h.factory }
-        requires counters { length self.old.counters.items ≡ size plan.now.tree }
-        requires results { length self.old.results.items ≡ size plan.now.tree }
-        ensures { IsAnswered self.old (done_hand plan.now (state_of self.old) place (reply_by answer) hand) result
-            self.new }
-    {
-        let Some(hand) = hand else {
-            return Err(NotEnabled);
-        };
-        if hand.waiting.is_some() || !is_pulled(plan, hand.factory, hand.registered, answer) {
-            return Err(NotEnabled);
-        }
-        let status = pulled_result(hand.registered, answer);
-        self.give_guard(plan, place, None, hand.factory, status);
-        Ok(())
     }
 
     pub(crate) fn done(
@@ -220,29 +146,23 @@ impl Machine {
         requires hand { (h : HandValue) → hand ≡ Some h → IsFactory plan.now self.old h.factory }
         requires counters { length self.old.counters.items ≡ size plan.now.tree }
         requires results { length self.old.results.items ≡ size plan.now.tree }
-        requires guards { (n : ℕ) (d : OpeningValue) → task ≡ Opens n d → n < size plan.now.tree }
-        requires counts { (c : ℕ) (d : ClosingValue) → task ≡ Closes c d → d ≡ CountingOff → HasParent plan.now c }
+        requires opens { (n : ℕ) (d : OpeningValue) → task ≡ Opens n d → n < size plan.now.tree }
+        requires counts { (c : ℕ) → task ≡ Closes c CountingOff → HasParent plan.now c }
         ensures { IsAnswered self.old (done_row plan.now (state_of self.old) place (seated task hand)
             (reply_by answer) task) result self.new }
     {
-        match task {
-            Task::Free => return self.done_by_hand(plan, place, hand, answer),
-            Task::Opens(node, opening) => match opening {
-                Opening::Guarding => {
-                    self.give_guard(plan, place, hand, node, Status::Successful);
-                }
-                _ => return Err(NotEnabled),
-            },
-            Task::Closes(child, closing) => match closing {
-                Closing::CountingOff => {
-                    let Some(node) = plan.tree().parent(child) else {
-                        unreachable!()
-                    };
-                    self.count_off(plan, place, hand, node);
-                }
-                _ => return Err(NotEnabled),
-            },
+        let task = &task;
+        if let Some(child) = counted_off(*task) {
+            let Some(node) = plan.tree().parent(child) else {
+                unreachable!()
+            };
+            self.count_off(plan, place, hand, node);
+            return Ok(());
         }
+        let Some(due) = due_guard(plan, Some(answer), *task, hand) else {
+            return Err(NotEnabled);
+        };
+        self.give_guard(plan, place, due.hand, due.node, due.result);
         Ok(())
     }
 
@@ -257,14 +177,11 @@ impl Machine {
         requires turns { AreTurns plan.now turns.now }
         requires place { place < length self.old.seats.items }
         requires sizes { length self.old.statuses.items ≡ size plan.now.tree }
-        requires inside { (n : ℕ) (d : ClosingValue) → task ≡ Closes n d → n < size plan.now.tree }
+        requires closes { (n : ℕ) (d : ClosingValue) → task ≡ Closes n d → n < size plan.now.tree }
         ensures { IsAnswered self.old (settle_row plan.now (state_of self.old) place (seated task hand) task) result
             self.new }
     {
-        let Task::Closes(node, closing) = task else {
-            return Err(NotEnabled);
-        };
-        let Closing::Settling = closing else {
+        let Some(node) = due_settle(task) else {
             return Err(NotEnabled);
         };
         self.statuses[node.index()] = NodeStatus::Settled;
@@ -311,17 +228,16 @@ impl Machine {
         hand: Option<Hand>,
     ) -> Result<(), NotEnabled>
         requires place { place < length self.old.seats.items }
-        requires looks { (n m : ℕ) (d : ClosingValue) → task ≡ Closes n d → d ≡ Looking m → HasParent plan.now n }
+        requires looks { (n m : ℕ) → task ≡ Closes n (Looking m) → HasParent plan.now n }
         ensures { IsAnswered self.old (look_row plan.now (state_of self.old) place (seated task hand) task) result
             self.new }
     {
-        match task {
-            Task::Free => Ok(()),
-            Task::Opens(_, _) => Err(NotEnabled),
-            Task::Closes(node, closing) => match closing {
-                Closing::Looking(sibling) => self.look_for(plan, place, hand, node, sibling),
-                _ => Err(NotEnabled),
-            },
+        if let Task::Free = task {
+            return Ok(());
         }
+        let Some((node, sibling)) = due_look(task) else {
+            return Err(NotEnabled);
+        };
+        self.look_for(plan, place, hand, node, sibling)
     }
 }

@@ -1,6 +1,6 @@
 //! The steps by which a worker comes to a node, and to the keys that the node holds.
 
-ghost use Rattle.std.specs.Prelude.{◌≡◌, ◌<◌, ◌-◌, ℕ, Some, length, slice_get};
+ghost use Rattle.std.specs.Prelude.{◌≡◌, ◌<◌, ℕ, Some, length, slice_get};
 ghost use Rattle.descriptor.specs.Nodes.{size};
 ghost use Rattle.scheduling.specs.Choices.{key_at, keys_count};
 ghost use Rattle.scheduling.specs.Rows.{claimed, claim_row, own_row, notice_row, weigh_row, take_found, take_row};
@@ -8,20 +8,20 @@ ghost use Rattle.scheduling.specs.Rows.{gives_key, give_row, give_up_row};
 ghost use Rattle.scheduling.specs.declared.lock_word.LockWord.{LockWord as Word};
 ghost use Rattle.scheduling.specs.declared.lock_word.LockWord.TheVariants.{Readers};
 ghost use Rattle.scheduling.specs.declared.task.Opening.{Opening as OpeningValue};
-ghost use Rattle.scheduling.specs.declared.task.Opening.TheVariants.{Locking, Weighed, Backing};
-ghost use Rattle.scheduling.specs.declared.task.Closing.{Closing as ClosingValue};
-ghost use Rattle.scheduling.specs.declared.task.Closing.TheVariants.{Giving};
-ghost use Rattle.scheduling.specs.declared.task.Task.TheVariants.{Opens, Closes};
+ghost use Rattle.scheduling.specs.declared.task.Opening.TheVariants.{Locking, Weighed};
+ghost use Rattle.scheduling.specs.declared.task.Task.TheVariants.{Opens};
+ghost use Rattle.due_steps.specs.Due.{Back, back_due};
 ghost use Rattle.sched_core.specs.Inside.Bounds.{HasKey};
 ghost use Rattle.sched_core.specs.Inside.Fields.{state_of, seated, IsAnswered, KeepsRoom};
 
 use crate::fault::NotEnabled;
 use crate::machine::Machine;
 use descriptor::NodeId;
+use due_steps::{after_back, after_try, due_back, due_give_up, due_notice, due_take, due_weigh};
 use resource_locks::Plan;
 use scheduling::{
-    Closing, Hand, LockWord, NodeStatus, Opening, Task, back_to, begins, claims, given_back,
-    giving, is_of_hand, is_same_word, key_at_place, lock_after, mode_at_place, taken, weighed,
+    Hand, LockWord, NodeStatus, Task, back_to, begins, claims, given_back, is_of_hand,
+    is_same_word, key_at_place, mode_at_place, taken, weighed,
 };
 
 impl Machine {
@@ -94,14 +94,11 @@ impl Machine {
         hand: Option<Hand>,
     ) -> Result<(), NotEnabled>
         requires place { place < length self.old.seats.items }
-        requires inside { (n : ℕ) (d : OpeningValue) → task ≡ Opens n d → n < size plan.now.tree }
+        requires opens { (n : ℕ) (d : OpeningValue) → task ≡ Opens n d → n < size plan.now.tree }
         ensures { IsAnswered self.old (notice_row plan.now (state_of self.old) place (seated task hand) task) result
             self.new }
     {
-        let Task::Opens(node, opening) = task else {
-            return Err(NotEnabled);
-        };
-        let Opening::Noticing = opening else {
+        let Some(node) = due_notice(task) else {
             return Err(NotEnabled);
         };
         self.go(
@@ -120,14 +117,11 @@ impl Machine {
         hand: Option<Hand>,
     ) -> Result<(), NotEnabled>
         requires place { place < length self.old.seats.items }
-        requires keys { (n i : ℕ) (d : OpeningValue) → task ≡ Opens n d → d ≡ Locking i → HasKey plan.now n i }
+        requires keys { (n i : ℕ) → task ≡ Opens n (Locking i) → HasKey plan.now n i }
         ensures { IsAnswered self.old (weigh_row plan.now (state_of self.old) place (seated task hand) task) result
             self.new }
     {
-        let Task::Opens(node, opening) = task else {
-            return Err(NotEnabled);
-        };
-        let Opening::Locking(index) = opening else {
+        let Some((node, index)) = due_weigh(task) else {
             return Err(NotEnabled);
         };
         let word = self.word(key_at_place(plan, node, index));
@@ -162,15 +156,11 @@ impl Machine {
             return Err(NotEnabled);
         };
         if !is_same_word(word, seen) {
-            self.go(place, hand, Task::Opens(node, Opening::Locking(index)));
+            self.go(place, hand, after_try(plan, node, index, false));
             return Ok(());
         }
         self.locks[key] = taken(mode_at_place(plan, node, index), word);
-        self.go(
-            place,
-            hand,
-            Task::Opens(node, lock_after(plan, node, index)),
-        );
+        self.go(place, hand, after_try(plan, node, index, true));
         Ok(())
     }
 
@@ -182,16 +172,12 @@ impl Machine {
         hand: Option<Hand>,
     ) -> Result<(), NotEnabled>
         requires place { place < length self.old.seats.items }
-        requires keys { (n i : ℕ) (v : Word) (d : OpeningValue) → task ≡ Opens n d → d ≡ Weighed i v →
-            HasKey plan.now n i }
+        requires keys { (n i : ℕ) (seen : Word) → task ≡ Opens n (Weighed i seen) → HasKey plan.now n i }
         requires few { (k n : ℕ) → slice_get self.old.locks.items k ≡ Some (Readers n) → n < 65535 }
         ensures { IsAnswered self.old (take_row plan.now (state_of self.old) place (seated task hand) task) result
             self.new }
     {
-        let Task::Opens(node, opening) = task else {
-            return Err(NotEnabled);
-        };
-        let Opening::Weighed(index, seen) = opening else {
+        let Some((node, index, seen)) = due_take(task) else {
             return Err(NotEnabled);
         };
         self.take_key(plan, place, hand, node, index, seen)
@@ -230,30 +216,15 @@ impl Machine {
         hand: Option<Hand>,
     ) -> Result<(), NotEnabled>
         requires place { place < length self.old.seats.items }
-        requires backs { (n left : ℕ) (d : OpeningValue) → task ≡ Opens n d → d ≡ Backing left → 0 < left →
-            HasKey plan.now n (left - 1) }
-        requires gives { (n left : ℕ) (d : ClosingValue) → task ≡ Closes n d → d ≡ Giving left → 0 < left →
-            HasKey plan.now n (left - 1) }
+        requires keys { (b : Back) → back_due task ≡ Some b → HasKey plan.now b.node b.place }
         ensures { IsAnswered self.old (give_row plan.now (state_of self.old) place (seated task hand) task) result
             self.new }
     {
-        match task {
-            Task::Free => Err(NotEnabled),
-            Task::Opens(node, opening) => match opening {
-                Opening::Backing(left) if left > 0 => {
-                    let task = Task::Opens(node, Opening::Backing(left - 1));
-                    self.give_key(plan, place, hand, task, node, left - 1)
-                }
-                _ => Err(NotEnabled),
-            },
-            Task::Closes(node, closing) => match closing {
-                Closing::Giving(left) if left > 0 => {
-                    let task = Task::Closes(node, giving(left - 1));
-                    self.give_key(plan, place, hand, task, node, left - 1)
-                }
-                _ => Err(NotEnabled),
-            },
-        }
+        let task = &task;
+        let Some((node, index)) = due_back(*task) else {
+            return Err(NotEnabled);
+        };
+        self.give_key(plan, place, hand, after_back(*task), node, index)
     }
 
     pub(crate) fn give_up(
@@ -265,14 +236,11 @@ impl Machine {
     ) -> Result<(), NotEnabled>
         requires place { place < length self.old.seats.items }
         requires sizes { length self.old.statuses.items ≡ size plan.now.tree }
-        requires inside { (n : ℕ) (d : OpeningValue) → task ≡ Opens n d → n < size plan.now.tree }
+        requires opens { (n : ℕ) (d : OpeningValue) → task ≡ Opens n d → n < size plan.now.tree }
         ensures { IsAnswered self.old (give_up_row plan.now (state_of self.old) place (seated task hand) task) result
             self.new }
     {
-        let Task::Opens(node, opening) = task else {
-            return Err(NotEnabled);
-        };
-        let Opening::Backing(0) = opening else {
+        let Some(node) = due_give_up(task) else {
             return Err(NotEnabled);
         };
         self.statuses[node.index()] = NodeStatus::Ready(back_to(plan, place, node));

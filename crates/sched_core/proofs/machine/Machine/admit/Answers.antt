@@ -1,5 +1,9 @@
--- The node that is offered is a child.
+-- The node that is offered is one of the tree's.
+use Rattle.std.proofs.Common.{arith}
+use Rattle.sched_core.proofs.DueInside.{offer_inside}
 use Rattle.sched_core.proofs.machine.Machine.admit.Goals as goal
 
-pub admit_child-requires-clause-child : goal.admit_child-requires-clause-child
-admit_child-requires-clause-child c = c.requires.admits c.in-Opens.node c.in-Admitting.child c.in-Opens.opening c.in-Opens.is c.in-Admitting.is
+pub offer-requires-clause-inside : goal.offer-requires-clause-inside
+offer-requires-clause-inside c =
+    let low = offer_inside c.args.plan.now c.args.task c.requires.opens c.args.place _ c.requires.admits c.requires.passes c.in-Some.ensures.some in
+    omega (arith, low, c.requires.sizes)

@@ -2,4 +2,4 @@
 use Rattle.sched_core.proofs.machine.Machine.take.Goals as goal
 
 pub take_key-requires-clause-node : goal.take_key-requires-clause-node
-take_key-requires-clause-node c = (c.requires.keys c.in-Opens.node c.in-Weighed.index c.in-Weighed.seen c.in-Opens.opening c.in-Opens.is c.in-Weighed.is).node
+take_key-requires-clause-node c = (c.requires.keys _ _ _ c.in-Some.ensures.some).node

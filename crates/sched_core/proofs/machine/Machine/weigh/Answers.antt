@@ -2,7 +2,7 @@
 use Rattle.sched_core.proofs.machine.Machine.weigh.Goals as goal
 
 pub key_at_place-requires-clause-node : goal.key_at_place-requires-clause-node
-key_at_place-requires-clause-node c = (c.requires.keys c.in-Opens.node c.in-Locking.index c.in-Opens.opening c.in-Opens.is c.in-Locking.is).node
+key_at_place-requires-clause-node c = (c.requires.keys _ _ c.in-Some.ensures.some).node
 
 pub weighed-requires-clause-node : goal.weighed-requires-clause-node
-weighed-requires-clause-node c = (c.requires.keys c.in-Opens.node c.in-Locking.index c.in-Opens.opening c.in-Opens.is c.in-Locking.is).node
+weighed-requires-clause-node c = (c.requires.keys _ _ c.in-Some.ensures.some).node
