@@ -1,0 +1,220 @@
+//! The moves of slots: a job leaves its slot, and its answer comes into it.
+
+ghost use Rattle.std.specs.Prelude.{◌≡◌, ◌<◌, ◌≤◌, ℕ, Some, IfSome, IfNone, None, IfOk, IfErr};
+ghost use Rattle.descriptor.specs.Nodes.{size};
+ghost use Rattle.resource_locks.specs.Plans.{PlanParts};
+ghost use Rattle.scheduling.specs.Choices.{awaited as awaited_of};
+ghost use Rattle.table_rule.specs.Slots.{made_of, slot_due, job_at, slot_count, job_with};
+ghost use Rattle.table_rule.specs.Picture.{replies_in};
+ghost use Rattle.table_rule.specs.Plays.{worker, makes};
+ghost use Rattle.table_rule.specs.declared.view.Shelf.TheVariants.{Unmoved, Out, Left, Noted};
+ghost use Rattle.run_table.specs.Moved.{is_moved, job_slot as job_slot_of};
+ghost use Rattle.run_table.specs.Seats.{IsSeatOf, SameSeat, seated};
+ghost use Rattle.plan_events.specs.declared.outcome.Reply.{Reply as ReplyValue};
+ghost use Rattle.run_table.specs.Answering.{registered_by, noted_pulls, IsToldAs, MayTell};
+
+use crate::fault::NotEnabled;
+use crate::table::RunTable;
+use crate::worker::WorkerSeat;
+use descriptor::NodeId;
+use plan_events::{Job, Note, Status};
+use scheduling::{Answer, Closing, Hand, Opening, Seat, Task, awaited};
+use table_rule::{AnswersIn, Leaves, Lifts, Slot};
+
+/// The slot of this node's job, if it is the one whose answer the seat waits for.
+fn job_slot(nodes: usize, task: Task, hand: Option<Hand>, node: NodeId) -> Option<usize>
+    requires { nodes ≤ 4096 }
+    ensures { (p : PlanParts) → size p.tree ≡ nodes → result ≡ job_slot_of p task hand node }
+{
+    match task {
+        Task::Free => match hand {
+            None => None,
+            Some(held) => (held.factory == node).then_some(node.index()),
+        },
+        Task::Opens(opened, opening) => match opening {
+            Opening::Awaiting => (opened == node).then_some(node.index()),
+            _ => None,
+        },
+        Task::Closes(closed, closing) => match closing {
+            Closing::AwaitingAfter => (closed == node).then_some(nodes + node.index()),
+            _ => None,
+        },
+    }
+}
+
+impl<B: Job> WorkerSeat<B> {
+    /// Whether it has moved this slot.
+    fn has_moved(&self, slot: usize) -> bool
+        requires { slot < 8192 }
+        ensures { result ≡ is_moved (made_of (worker self.now.seat.me.0).slots slot) }
+    {
+        self.moved.has(slot)
+    }
+
+    /// Takes the job out of this slot, which it has not moved: it takes the slot, and gives it back empty.
+    fn take_job(&mut self, table: &RunTable<B>, slot: usize) -> B
+        requires table { IsSeatOf table.now.table self.old.seat }
+        requires small { slot < 8192 }
+        requires inside { slot < slot_count self.old.seat.me.0.about.plan }
+        requires due { slot_due self.old.seat.me.0.about.plan (worker self.old.seat.me.0).seat
+            (worker self.old.seat.me.0).seat.task ≡ Some slot }
+        requires unmoved { made_of (worker self.old.seat.me.0).slots slot ≡ Unmoved }
+        requires job { (number : ℕ) × (job_at self.old.seat.me.0.about.plan slot ≡ Some number) }
+        ensures same { SameSeat self.old.seat self.new.seat }
+        ensures job { (number : ℕ) × (job_at self.old.seat.me.0.about.plan slot ≡ Some number)
+            × (job_with self.old.seat.me.0.about.jobs number ≡ Some result) }
+        ensures left { worker self.new.seat.me.0 ≡ makes slot Left None
+            (makes slot Out None (worker self.old.seat.me.0)) }
+        ensures task { self.new.task ≡ self.old.task }
+        ensures hand { self.new.hand ≡ self.old.hand }
+    {
+        table.table.shared.load::<Lifts>(&mut self.seat, 0);
+        let body = table
+            .table
+            .shared
+            .exchange(&mut self.seat, slot, Slot::Empty);
+        table.table.shared.load::<Leaves>(&mut self.seat, 0);
+        self.moved.put(slot);
+        self.answer = None;
+        let Slot::Body(job) = body else {
+            unreachable!()
+        };
+        job
+    }
+
+    /// The job of this node, if the seat waits for its answer and has not moved its slot: the one
+    /// that was handed in for it. Else nothing changes.
+    pub fn body_out(&mut self, table: &RunTable<B>, node: NodeId) -> Option<B>
+        requires { IsSeatOf table.now.table self.old.seat }
+        ensures same { SameSeat self.old.seat self.new.seat }
+        ensures task { self.new.task ≡ self.old.task }
+        ensures hand { self.new.hand ≡ self.old.hand }
+        ensures some { IfSome result (λ b. (slot : ℕ) × (number : ℕ)
+            × (job_slot_of self.old.seat.me.0.about.plan self.old.task self.old.hand node ≡ Some slot)
+            × (made_of (worker self.old.seat.me.0).slots slot ≡ Unmoved)
+            × (awaited_of self.old.seat.me.0.about.plan (seated self.old.task self.old.hand) self.old.task ≡ Some
+            number) × (job_with self.old.seat.me.0.about.jobs number ≡ Some b)
+            × (worker self.new.seat.me.0 ≡ makes slot Left None (makes slot Out None (worker self.old.seat.me.0)))) }
+        ensures replies { IfSome result
+            (λ b. (number : ℕ) → awaited_of self.old.seat.me.0.about.plan (seated self.old.task self.old.hand)
+            self.old.task ≡ Some number → replies_in B.answers self.old.seat.me.0.about.jobs number ≡ B.answers b) }
+        ensures none { IfNone result ((self.new.seat.me ≡ self.old.seat.me)
+            × ((slot number : ℕ) → job_slot_of self.old.seat.me.0.about.plan self.old.task self.old.hand node ≡ Some
+            slot → awaited_of self.old.seat.me.0.about.plan (seated self.old.task self.old.hand) self.old.task ≡ Some
+            number → made_of (worker self.old.seat.me.0).slots slot ≡ Unmoved → ⊥)) }
+    {
+        let Some(slot) = job_slot(table.nodes(), self.task, self.hand, node) else {
+            return None;
+        };
+        let seat = Seat {
+            task: self.task,
+            hand: self.hand,
+        };
+        let Some(_) = awaited(&table.plan, &seat) else {
+            return None;
+        };
+        if self.has_moved(slot) {
+            return None;
+        }
+        Some(self.take_job(table, slot))
+    }
+}
+
+/// How many dynamic tests are registered of the factory whose job is awaited: none, if that is no factory's.
+fn registered(task: Task, hand: Option<Hand>) -> usize
+    ensures { result ≡ registered_by task hand }
+{
+    match task {
+        Task::Free => match hand {
+            None => 0,
+            Some(held) => held.registered,
+        },
+        Task::Opens(_, _) => 0,
+        Task::Closes(_, _) => 0,
+    }
+}
+
+/// The pulls that the slot is told of: where the job asked for more dynamic tests than there are, one more than these.
+fn told_pulls(registered: usize, note: &Note) -> u16
+    requires { registered < 65535 }
+    ensures { result ≡ noted_pulls registered note.now }
+{
+    match note {
+        Note::TooMany => registered as u16 + 1,
+        _ => registered as u16,
+    }
+}
+
+impl<B: Job> WorkerSeat<B> {
+    /// Puts this answer into the slot, the job of which has left: it takes the slot, which is
+    /// empty, and gives it back with the note.
+    fn put_answer(
+        &mut self,
+        table: &RunTable<B>,
+        slot: usize,
+        pulls: u16,
+        status: Status,
+        note: Note,
+    )
+        requires table { IsSeatOf table.now.table self.old.seat }
+        requires small { slot < 8192 }
+        requires inside { slot < slot_count self.old.seat.me.0.about.plan }
+        requires due { slot_due self.old.seat.me.0.about.plan (seated self.old.task self.old.hand)
+            self.old.task ≡ Some slot }
+        requires answer { MayTell self.old.seat.me.0.about.plan (replies_in B.answers self.old.seat.me.0.about.jobs)
+            (worker self.old.seat.me.0).slots (seated self.old.task self.old.hand) slot status note }
+        requires pulls { pulls ≡ noted_pulls (registered_by self.old.task self.old.hand) note }
+        ensures same { SameSeat self.old.seat self.new.seat }
+        ensures told { (reply : ReplyValue) × IsToldAs self.old.seat.me.0.about.plan
+            (seated self.old.task self.old.hand) reply status note
+            × (worker self.new.seat.me.0 ≡ makes slot (Noted reply) (Some reply)
+            (makes slot Out None (worker self.old.seat.me.0))) }
+        ensures task { self.new.task ≡ self.old.task }
+        ensures hand { self.new.hand ≡ self.old.hand }
+    {
+        table.table.shared.load::<Lifts>(&mut self.seat, 0);
+        table
+            .table
+            .shared
+            .exchange(&mut self.seat, slot, Slot::Answered(pulls, status, note));
+        table.table.shared.load::<AnswersIn>(&mut self.seat, 0);
+        self.moved.put(slot);
+        self.answer = Some(Answer { pulls, status });
+    }
+
+    /// Puts the answer of this node's job, which has left, into the job's slot, if the seat waits
+    /// for it: how it ended, and its note. It is for the caller that the job has answered so: by
+    /// one of the replies that it may give, after as many answers that there is one more dynamic
+    /// test as are registered; or, of a factory all of whose tests are registered, by one answer
+    /// more.
+    pub fn text_in(
+        &mut self,
+        table: &RunTable<B>,
+        node: NodeId,
+        status: Status,
+        note: Note,
+    ) -> Result<(), NotEnabled>
+        requires table { IsSeatOf table.now.table self.old.seat }
+        requires answer { (slot : ℕ) → job_slot_of self.old.seat.me.0.about.plan self.old.task self.old.hand
+            node ≡ Some slot → MayTell self.old.seat.me.0.about.plan
+            (replies_in B.answers self.old.seat.me.0.about.jobs) (worker self.old.seat.me.0).slots
+            (seated self.old.task self.old.hand) slot status note }
+        ensures same { SameSeat self.old.seat self.new.seat }
+        ensures task { self.new.task ≡ self.old.task }
+        ensures hand { self.new.hand ≡ self.old.hand }
+        ensures told { IfOk result (λ _. (slot : ℕ) × (reply : ReplyValue)
+            × (job_slot_of self.old.seat.me.0.about.plan self.old.task self.old.hand node ≡ Some slot)
+            × IsToldAs self.old.seat.me.0.about.plan (seated self.old.task self.old.hand) reply status note
+            × (worker self.new.seat.me.0 ≡ makes slot (Noted reply) (Some reply)
+            (makes slot Out None (worker self.old.seat.me.0)))) }
+        ensures refused { IfErr result (λ _. (self.new.seat.me ≡ self.old.seat.me)
+            × (job_slot_of self.old.seat.me.0.about.plan self.old.task self.old.hand node ≡ None)) }
+    {
+        let Some(slot) = job_slot(table.nodes(), self.task, self.hand, node) else {
+            return Err(NotEnabled);
+        };
+        let pulls = told_pulls(registered(self.task, self.hand), &note);
+        self.put_answer(table, slot, pulls, status, note);
+        Ok(())
+    }
+}
