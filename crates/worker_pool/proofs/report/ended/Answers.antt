@@ -1,5 +1,5 @@
 -- What the dispatcher has read is what is reported.
-use Rattle.std.proofs.Common.{◌≤◌, List, length, vec_capacity, sym}
+use Rattle.std.proofs.Common.{◌≤◌, List, length, vec_capacity, rules, sym}
 use Rattle.plan_events.specs.declared.event.Event.{Event}
 use Rattle.resource_locks.specs.Plans.{most_events}
 use Rattle.event_history.proofs.EventBound.{legal_few}
@@ -25,25 +25,21 @@ put_parts-requires-clause-room g c =
 
 pub returns-clause-report : goal.returns-clause-report
 returns-clause-report g c =
-    let key = about_of c.args.table.table.shared.key in
-    reported key (replies_of g.B.Job.answers key) (dispatcher c.args.after.seat.seat.me.0) c.close-plan.result.jobs.items c.args.after.events.items c.requires.noted c.requires.over c.close-plan.ensures.ends
-
-pub returns-clause-apart : goal.returns-clause-apart
-returns-clause-apart g c =
-    let key = about_of c.args.table.table.shared.key in
-    kept_apart key (replies_of g.B.Job.answers key) c.args.after.events.items c.requires.tree (returns-clause-report g c)
-
-pub returns-clause-balanced : goal.returns-clause-balanced
-returns-clause-balanced g c =
-    let key = about_of c.args.table.table.shared.key in
-    balance_reported key.plan key.jobs c.close-plan.result.jobs.items (dispatcher c.args.after.seat.seat.me.0).read c.args.after.events.items c.requires.noted c.requires.over c.close-plan.ensures.balanced
-
-pub returns-clause-texts : goal.returns-clause-texts
-returns-clause-texts g c =
+    let q = c.requires in
     let after = c.args.after in
-    let read = (dispatcher after.seat.seat.me.0).read in
+    let desk = dispatcher after.seat.seat.me.0 in
     let key = about_of c.args.table.table.shared.key in
     let replies = replies_of g.B.Job.answers key in
-    let is = reported key replies (dispatcher after.seat.seat.me.0) c.close-plan.result.jobs.items after.events.items c.requires.noted c.requires.over c.close-plan.ensures.ends in
-    texts_reported key.plan replies key.workers read after.events.items after.texts c.requires.noted is.legal
-    (carried (sym c.requires.seat.about) (λ a. AreTextsRead a.plan (replies_of g.B.Job.answers a) read after.texts) c.requires.texts)
+    let jobs = c.close-plan.result.jobs.items in
+    let events = after.events.items in
+    let is = reported key replies desk jobs events q.noted q.over c.close-plan.ensures.ends in
+    record {
+      plan = c.close-plan.ensures.plan;
+      right = is;
+      apart = kept_apart key replies events q.tree is;
+      mine = search rules;
+      texts = texts_reported key.plan replies key.workers desk.read events after.texts q.noted is.legal
+          (carried (sym q.seat.about) (λ a. AreTextsRead a.plan (replies_of g.B.Job.answers a) desk.read after.texts) q.texts);
+      left = record { desk = desk; read = sym q.noted; ended = c.close-plan.ensures.ends };
+      balanced = balance_reported key.plan key.jobs jobs desk.read events q.noted q.over c.close-plan.ensures.balanced;
+    }

@@ -1,21 +1,15 @@
--- What comes back is the desk that was lent: `c.desk-2-1` is Rattle's own name for it, which a search does not find below a λ.
-use Rattle.std.proofs.Common.{◌≡◌, rules, IfOk, subst}
-use Rattle.std.specs.List.{All}
-use Rattle.table_rule.specs.Plays.{dispatcher}
-use Rattle.worker_pool.specs.Hearings.{HaveHeardSince}
-use Rattle.worker_pool.proofs.Reported.{carried}
+-- What comes back is what was lent: a search finds that for each, but not below a λ.
+use Rattle.std.proofs.Common.{◌≡◌, rules, IfOk, sym, subst}
+use Rattle.worker_pool.specs.Runs.{HasRun}
 use Rattle.worker_pool.proofs.running.run_in.Goals as goal
 
-pub returns-in-Ok-clause-told : goal.returns-in-Ok-clause-told
-returns-in-Ok-clause-told g c =
-    let back = c.run_scoped-ran.result.desk.now in
-    let there = subst (λ r. IfOk r (λ _. All (λ b. (goal.Listener-dyn g (b.vtable, b.value)).got b.value ≡ (dispatcher back.seat.seat.me.0).read) back.audience.listeners.items)) c.in-Ok.is c.run_scoped-ran.ensures.told in
-    carried {a = back} {b = c.desk-2-1.given.0} (search rules) (λ d. All (λ b. (goal.Listener-dyn g (b.vtable, b.value)).got b.value ≡ (dispatcher d.seat.seat.me.0).read) d.audience.listeners.items) there
+all_carried : {A B C : Type 0} {a a2 : A} {b b2 : B} {c c2 : C} → a2 ≡ a → b2 ≡ b → c2 ≡ c → (P : A → B → C → Type 0) → P a b c → P a2 b2 c2
+all_carried {A} {B} {C} same_a same_b same_c P p = subst (λ (z : A × B × C). P z.0 z.1 z.2) (λ k. (sym same_a k, sym same_b k, sym same_c k)) p
 
-pub returns-in-Ok-clause-heard : goal.returns-in-Ok-clause-heard
-returns-in-Ok-clause-heard g c =
-    let back = c.run_scoped-ran.result.desk.now in
-    let first = c.args.desk.audience.listeners.items in
-    let was = (dispatcher c.args.desk.seat.seat.me.0).read in
-    let there = subst (λ r. IfOk r (λ _. HaveHeardSince (λ b ts. (goal.Listener-dyn g (b.vtable, b.value)).heard b.value ts) back.texts was (dispatcher back.seat.seat.me.0).read first back.audience.listeners.items)) c.in-Ok.is c.run_scoped-ran.ensures.heard in
-    carried {a = back} {b = c.desk-2-1.given.0} (search rules) (λ d. HaveHeardSince (λ b ts. (goal.Listener-dyn g (b.vtable, b.value)).heard b.value ts) d.texts was (dispatcher d.seat.seat.me.0).read first d.audience.listeners.items) there
+pub returns-in-Ok-clause-run : goal.returns-in-Ok-clause-run
+returns-in-Ok-clause-run g c =
+    let scene = c.run_scoped-ran.result in
+    let first = c.args.audience.now.listeners.items in
+    let there = subst (λ r. IfOk r (λ _. HasRun g.B.Job.answers (λ l. (goal.Listener-dyn g (l.vtable, l.value)).got l.value) (λ l ts. (goal.Listener-dyn g (l.vtable, l.value)).heard l.value ts) g.V.Watcher.saw c.args.desk scene.desk.now first scene.audience.now.listeners.items c.args.watcher.now scene.watcher.now)) c.in-Ok.is c.run_scoped-ran.ensures.run in
+    all_carried {a = scene.desk.now} {b = scene.audience.now.listeners.items} {c = scene.watcher.now} (search rules) (search rules) (search rules)
+    (λ d a w. HasRun g.B.Job.answers (λ l. (goal.Listener-dyn g (l.vtable, l.value)).got l.value) (λ l ts. (goal.Listener-dyn g (l.vtable, l.value)).heard l.value ts) g.V.Watcher.saw c.args.desk d first a c.args.watcher.now w) there
