@@ -1,0 +1,8 @@
+use Rattle.worker_pool.proofs.Due.{admits}
+use Rattle.worker_pool.proofs.turns.pass_on.Goals as goal
+
+pub returns-in-Some-clause-steady : goal.returns-in-Some-clause-steady
+returns-in-Some-clause-steady g c = admits c.args.seat.now.seat c.admit_due.new.self.seat c.admit_due.ensures.same.about _ c.admit_due.ensures.done
+
+pub returns-in_default-clause-steady : goal.returns-in_default-clause-steady
+returns-in_default-clause-steady g c = admits c.args.seat.now.seat c.admit_due.new.self.seat c.admit_due.ensures.same.about _ c.admit_due.ensures.done
