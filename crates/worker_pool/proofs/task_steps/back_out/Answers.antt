@@ -1,5 +1,5 @@
 use Rattle.worker_pool.proofs.Due.{gives}
-use Rattle.worker_pool.proofs.turns.back_out.Goals as goal
+use Rattle.worker_pool.proofs.task_steps.back_out.Goals as goal
 
 pub returns-clause-steady : goal.returns-clause-steady
 returns-clause-steady g c =

@@ -1,5 +1,5 @@
 use Rattle.worker_pool.proofs.Due.{admits}
-use Rattle.worker_pool.proofs.turns.pass_on.Goals as goal
+use Rattle.worker_pool.proofs.task_steps.pass_on.Goals as goal
 
 pub returns-in-Some-clause-steady : goal.returns-in-Some-clause-steady
 returns-in-Some-clause-steady g c = admits c.args.seat.now.seat c.admit_due.new.self.seat c.admit_due.ensures.same.about _ c.admit_due.ensures.done

@@ -5,7 +5,7 @@ use Rattle.scheduling.specs.declared.task.Task.TheVariants.{Opens}
 use Rattle.worker_pool.proofs.Due.{draws, guards}
 use Rattle.worker_pool.proofs.Quiet.{quiet_begins, quiet_weighed, quiet_tried}
 use Rattle.worker_pool.proofs.Steps.{moved, opens_busy}
-use Rattle.worker_pool.proofs.turns.go_on_opening.Goals as goal
+use Rattle.worker_pool.proofs.task_steps.go_on_opening.Goals as goal
 
 pub returns-in-Registering-clause-steady : goal.returns-in-Registering-clause-steady
 returns-in-Registering-clause-steady g c = draws c.args.seat.now.seat c.draw_due.new.self.seat c.draw_due.ensures.same.about _ c.draw_due.ensures.done c.draw_due.ensures.unmoved

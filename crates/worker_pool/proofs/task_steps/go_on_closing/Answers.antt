@@ -11,7 +11,7 @@ use Rattle.worker_pool.proofs.Due.{draws, gives}
 use Rattle.worker_pool.proofs.Endings.{ends_steady}
 use Rattle.worker_pool.proofs.Quiet.{quiet_giving}
 use Rattle.worker_pool.proofs.Steps.{arrives, moved, closes_busy}
-use Rattle.worker_pool.proofs.turns.go_on_closing.Goals as goal
+use Rattle.worker_pool.proofs.task_steps.go_on_closing.Goals as goal
 
 pub returns-in-Ending-clause-steady : goal.returns-in-Ending-clause-steady
 returns-in-Ending-clause-steady g c = draws c.args.seat.now.seat c.draw_due.new.self.seat c.draw_due.ensures.same.about _ c.draw_due.ensures.done c.draw_due.ensures.unmoved
