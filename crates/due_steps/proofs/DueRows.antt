@@ -1,5 +1,5 @@
 -- The rows of the core are what is due: a task for which nothing is due has no row, and another goes on as it says.
-use Rattle.std.proofs.Common.{◌≡◌, ℕ, zero, suc, cond, Bool, true, false, Option, Some, None, slice_get, length, sym, refl, ap, ◌∙◌}
+use Rattle.std.proofs.Common.{◌≡◌, nat_lt, ℕ, zero, suc, cond, Bool, true, false, Option, Some, None, slice_get, length, sym, refl, ap, ◌∙◌}
 use Rattle.std.proofs.lemmas.Option.{none-some, same_Some}
 use Rattle.descriptor.specs.Nodes.{parent_of}
 use Rattle.plan_events.specs.declared.event.Event.{Event}
@@ -14,10 +14,10 @@ use Rattle.scheduling.specs.declared.task.Task.TheVariants.{Free, Opens, Closes}
 use Rattle.scheduling.specs.declared.seat.Hand.{Hand}
 use Rattle.scheduling.specs.declared.seat.Seat.{Seat}
 use Rattle.scheduling.specs.State.{State}
-use Rattle.scheduling.specs.Choices.{key_at, mode_at, given_back, giving, is_pulled, pulled_result}
+use Rattle.scheduling.specs.Choices.{next_spare, key_at, mode_at, given_back, giving, is_pulled, pulled_result}
 use Rattle.scheduling.specs.Shown.{named}
-use Rattle.scheduling.specs.Rows.{notice_row, raise_row, weigh_row, take_row, puts_word, gives_key, give_row, give_up_row, drawn, draw_row, shows, show_row, offers, admit_row, guard_given, counted_off, done_by_hand, done_hand, done_row, settle_row, look_row}
-use Rattle.due_steps.specs.Due.{event_due, drawn_seat, shown_seat, Offer, offer_due, admitted_seat, Back, back_due, given_seat, Guard, pulled_guard, hand_guard, guard_due, unasked}
+use Rattle.scheduling.specs.Rows.{notice_row, raise_row, weigh_row, take_row, puts_word, gives_key, give_row, give_up_row, drawn, draw_row, shows, show_row, offers, admit_row, guard_given, counted_off, done_by_hand, done_hand, done_row, settle_row, look_row, child_added, add_by_hand, add_child_hand, add_child_row}
+use Rattle.due_steps.specs.Due.{IsChildDue, event_due, drawn_seat, shown_seat, Offer, offer_due, admitted_seat, Back, back_due, given_seat, Guard, pulled_guard, hand_guard, guard_due, unasked}
 
 -- Draw.
 pub draw_none : (c : State) (w : ℕ) (seat : Seat) (t : Task) → event_due w t ≡ None → draw_row c w seat t ≡ None
@@ -76,6 +76,33 @@ give_key p c w seat back _ q = absurd (none-some back q)
 pub give_is : (p : PlanParts) (c : State) (w : ℕ) (seat : Seat) (back : Back) (word : LockWord) (t : Task) → back_due t ≡ Some back → slice_get c.locks (key_at p back.node back.place) ≡ Some word
     → give_row p c w seat t ≡ Some (puts_word c w seat (given_seat seat t).task (key_at p back.node back.place) (given_back (mode_at p back.node back.place) word))
 give_is p c w seat back word t q found = give_key p c w seat back t q ∙ ap (gives_key p c w seat (given_seat seat t).task back.node back.place) found
+
+-- Add a child: the next dynamic test of the factory in hand, if the reply has so many.
+no_child : (b : Bool) (row : Option State) → row ≡ None → cond b row None ≡ None
+no_child true row is = is
+no_child false row is = refl
+
+pub child_none : (p : PlanParts) (c : State) (w : ℕ) (seat : Seat) (reply : Reply) (t : Task) → ((h : Hand) (n : ℕ) → IsChildDue p t seat.hand h n → ⊥) → add_child_row p c w seat reply t ≡ None
+child_none p c w seat reply (Opens n d) none = refl
+child_none p c w seat reply (Closes n d) none = refl
+child_none p c w seat reply Free none = by seat.hand refl
+  where
+    by : (hand : Option Hand) → seat.hand ≡ hand → add_child_hand p c w seat reply hand ≡ None
+    by None held = refl
+    by (Some h) held = waits h.waiting refl
+      where
+        waits : (o : Option ℕ) → h.waiting ≡ o → add_by_hand p c w seat reply h.factory h.registered o ≡ None
+        waits (Some n) e = refl
+        waits None e = next (next_spare p h.factory h.registered) refl
+          where
+            next : (o : Option ℕ) → next_spare p h.factory h.registered ≡ o → cond (nat_lt h.registered reply.pulls) (child_added c w seat h.factory o) None ≡ None
+            next None q = no_child (nat_lt h.registered reply.pulls) None refl
+            next (Some n) q = absurd (none h n (refl, held, e, q))
+
+pub child_is : (p : PlanParts) (c : State) (w : ℕ) (seat : Seat) (reply : Reply) (h : Hand) (n : ℕ) (t : Task) → IsChildDue p t seat.hand h n → add_child_row p c w seat reply t ≡ cond (nat_lt h.registered reply.pulls) (child_added c w seat h.factory (Some n)) None
+child_is p c w seat reply h n t due =
+    ap (add_child_row p c w seat reply) due.0 ∙ ap (add_child_hand p c w seat reply) due.1 ∙ ap (add_by_hand p c w seat reply h.factory h.registered) due.2
+    ∙ ap (λ (o : Option ℕ). cond (nat_lt h.registered reply.pulls) (child_added c w seat h.factory o) None) due.3
 
 -- Done: a guard is given up, with the reply that is there; where none is asked for, with any.
 abbrev pub reply_or : Option Reply → Reply

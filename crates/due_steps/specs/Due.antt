@@ -1,5 +1,5 @@
 -- What is due of a worker's task, and what the seat is once that is done. How a runner keeps its state is not told here.
-use Rattle.std.specs.Prelude.{ℕ, suc, Bool, true, false, cond, [], Option, Some, None}
+use Rattle.std.specs.Prelude.{◌≡◌, ℕ, suc, Bool, true, false, cond, [], Option, Some, None}
 use Rattle.plan_events.specs.declared.event.Event.{Event}
 use Rattle.plan_events.specs.declared.event.EventKind.TheVariants.{Started, Finished, Skipped, Registered}
 use Rattle.plan_events.specs.declared.outcome.Reply.{Reply}
@@ -14,7 +14,7 @@ use Rattle.scheduling.specs.declared.task.Task.TheVariants.{Opens, Closes, Free}
 use Rattle.scheduling.specs.declared.seat.Hand.{Hand}
 use Rattle.scheduling.specs.declared.seat.Seat.{Seat}
 use Rattle.scheduling.specs.Answers.{reply_by}
-use Rattle.scheduling.specs.Choices.{lock_from, claims, giving, admit_from, after_settle, offered_to, after_finish, is_pulled, pulled_result, event_of}
+use Rattle.scheduling.specs.Choices.{lock_from, claims, giving, admit_from, after_settle, offered_to, after_finish, is_pulled, pulled_result, next_spare, event_of}
 use Rattle.scheduling.specs.Rows.{with_task, ends_or_free, after_start, one_more, waits_for, waits_no_more}
 
 -- a task, and what is in hand
@@ -124,6 +124,10 @@ guard_due p answer seat _ = None
 -- the seat after that, by what was outstanding: whoever takes the last one off ends the node
 abbrev pub ended_seat : PlanParts → Guard → ℕ → Seat
 ended_seat p g outstanding = record { task = ends_or_free p g.node g.result outstanding; hand = g.hand }
+
+-- the dynamic test n that is registered next: a free task has this factory in hand, which waits for none
+abbrev pub IsChildDue : PlanParts → Task → Option Hand → Hand → ℕ → Type 0
+IsChildDue p task hand h n = (task ≡ Free) × (hand ≡ Some h) × (h.waiting ≡ None) × (next_spare p h.factory h.registered ≡ Some n)
 
 -- a reply of which a step knows this, if there is one
 abbrev pub reply_in : Option Answer → Option Reply

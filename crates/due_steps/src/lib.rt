@@ -2,6 +2,7 @@
 #![tactic(auto)]
 
 mod cancelling;
+mod children;
 mod events;
 mod guards;
 mod keys;
@@ -10,6 +11,7 @@ mod offers;
 mod settling;
 
 pub use cancelling::{due_notice, due_raise};
+pub use children::due_child;
 pub use events::{after_draw, after_show, due_event, named_by};
 pub use guards::{DueGuard, counted_off, due_guard};
 pub use keys::{after_back, after_try, due_back, due_give_up, due_take, due_weigh};

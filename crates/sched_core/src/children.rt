@@ -19,12 +19,12 @@ ghost use Rattle.sched_core.specs.Inside.Fields.{state_of, seated, IsAnswered, K
 use crate::fault::NotEnabled;
 use crate::machine::Machine;
 use descriptor::NodeId;
-use due_steps::{after_offer, counted_off, due_guard, due_look, due_offer, due_settle};
+use due_steps::{after_offer, counted_off, due_child, due_guard, due_look, due_offer, due_settle};
 use plan_events::Status;
 use resource_locks::Plan;
 use scheduling::{
     Answer, Closing, Hand, NodeStatus, Opening, Seat, Task, Turns, after_settle, ends_or_free,
-    next_spare, waits_no_more,
+    waits_no_more,
 };
 
 impl Machine {
@@ -79,17 +79,15 @@ impl Machine {
         ensures { IsAnswered self.old (add_child_row plan.now (state_of self.old) place (seated task hand)
             (reply_by answer) task) result self.new }
     {
-        let (Task::Free, Some(held)) = (task, hand) else {
+        let hand = &hand;
+        let Some((held, child)) = due_child(plan, task, *hand) else {
             return Err(NotEnabled);
         };
-        if held.waiting.is_some() || held.registered >= usize::from(answer.pulls) {
+        if held.registered >= usize::from(answer.pulls) {
             return Err(NotEnabled);
         }
-        let Some(child) = next_spare(plan, held.factory, held.registered) else {
-            return Err(NotEnabled);
-        };
         self.counters[held.factory.index()] += 1;
-        self.go(place, hand, Task::Opens(child, Opening::Registering));
+        self.go(place, *hand, Task::Opens(child, Opening::Registering));
         Ok(())
     }
 

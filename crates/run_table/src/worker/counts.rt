@@ -9,6 +9,7 @@ ghost use Rattle.scheduling.specs.declared.seat.Hand.{Hand as HandValue};
 ghost use Rattle.scheduling.specs.declared.task.Opening.TheVariants.{Registering};
 ghost use Rattle.scheduling.specs.declared.task.Closing.TheVariants.{AwaitingAfter, CountingOff};
 ghost use Rattle.scheduling.specs.declared.task.Task.TheVariants.{Free, Opens, Closes};
+ghost use Rattle.due_steps.specs.Due.{IsChildDue};
 ghost use Rattle.table_rule.specs.Plays.{worker, outstanding_in, result_in, ready_in, Guard, guard_due, ended_seat};
 ghost use Rattle.table_rule.specs.Slots.{after_slot, made_of};
 ghost use Rattle.table_rule.specs.declared.view.Shelf.TheVariants.{Unmoved};
@@ -21,9 +22,9 @@ use crate::table::RunTable;
 use crate::words::{outstanding_from_word, result_from_word};
 use crate::worker::WorkerSeat;
 use descriptor::NodeId;
-use due_steps::{counted_off, due_guard};
+use due_steps::{counted_off, due_child, due_guard};
 use plan_events::{Job, Status};
-use scheduling::{Hand, Opening, Task, ends_or_free, next_spare};
+use scheduling::{Hand, Opening, Task, ends_or_free};
 use table_rule::{AddsChild, CountsOff, GivesGuard};
 
 impl<B: Job> WorkerSeat<B> {
@@ -40,22 +41,44 @@ impl<B: Job> WorkerSeat<B> {
             × ((h : HandValue) (n : ℕ) → self.old.task ≡ Free → self.old.hand ≡ Some h → h.waiting ≡ None →
             next_spare_of self.old.seat.me.0.about.plan h.factory h.registered ≡ Some n → ⊥)) }
     {
-        let (Task::Free, Some(held)) = (self.task, self.hand) else {
+        let Some((held, child)) = due_child(&table.plan, self.task, self.hand) else {
             return Err(NotEnabled);
         };
-        if held.waiting.is_some() {
-            return Err(NotEnabled);
-        }
-        let Some(child) = next_spare(&table.plan, held.factory, held.registered) else {
-            return Err(NotEnabled);
+        self.add_next(table, &held, child);
+        Ok(self.task)
+    }
+
+    /// Goes on to the next dynamic test of the factory in its hand, where that is due.
+    pub fn add_child_due(&mut self, table: &RunTable<B>)
+        requires table { IsSeatOf table.now.table self.old.seat }
+        requires due { (h : HandValue) × (n : ℕ)
+            × IsChildDue self.old.seat.me.0.about.plan self.old.task self.old.hand h n }
+        ensures same { SameSeat self.old.seat self.new.seat }
+        ensures done { (h : HandValue) × (n : ℕ)
+            × IsChildDue self.old.seat.me.0.about.plan self.old.task self.old.hand h n
+            × IsMove self.old.seat self.new.seat
+            (with_task (seated self.old.task self.old.hand) (Opens n Registering)) self.new.task }
+    {
+        let Some((held, child)) = due_child(&table.plan, self.task, self.hand) else {
+            unreachable!()
         };
+        self.add_next(table, &held, child);
+    }
+
+    /// Registers this dynamic test, the next one of the factory in hand.
+    fn add_next(&mut self, table: &RunTable<B>, held: &Hand, child: NodeId)
+        requires table { IsSeatOf table.now.table self.old.seat }
+        requires due { IsChildDue self.old.seat.me.0.about.plan self.old.task self.old.hand held.now child }
+        ensures same { SameSeat self.old.seat self.new.seat }
+        ensures done { IsMove self.old.seat self.new.seat
+            (with_task (seated self.old.task self.old.hand) (Opens child Registering)) self.new.task }
+    {
         table
             .table
             .shared
             .fetch_add::<AddsChild>(&mut self.seat, table.counter_at(held.factory), 1);
         self.task = Task::Opens(child, Opening::Registering);
         self.answer = None;
-        Ok(self.task)
     }
 
     /// Counts its node, which is settled, off at its parent, where that is due.
