@@ -1,9 +1,9 @@
 -- How a part is spelled, a character at a time.
-use Rattle.std.proofs.Common.{◌≡◌, ◌≢◌, ℕ, ◌+◌, ◌/◌, ◌≤◌, Bool, true, false, cond, ltb, List, [], ◌∷◌, ◌++◌, refl, ap, ◌∙◌, arith, append-nil}
+use Rattle.std.proofs.Common.{◌≡◌, ◌≢◌, ℕ, ◌+◌, ◌/◌, ◌≤◌, Bool, true, false, cond, ltb, List, [], ◌∷◌, ◌++◌, length, All, suc, ◌<◌, refl, ap, ◌∙◌, arith, append-nil}
 use Rattle.std.specs.Prelude.{encode_utf8_all}
 use lib.Utf8.{encode, next}
 use Rattle.std.proofs.lemmas.Bool.Decides.{nat_tests}
-use Rattle.std.proofs.lemmas.Grind.{flat_map-append}
+use Rattle.std.proofs.lemmas.Grind.{common_steps, flat_map-append}
 use Rattle.std.proofs.lemmas.Str.{encodes-append}
 use Rattle.unique_id.specs.Spelling.{spelled_byte, spelled_part}
 
@@ -53,3 +53,12 @@ spelled_char c p =
 -- one more character is spelled behind the others
 pub part_more : (cs : List ℕ) (c : ℕ) → spelled_part (encode_utf8_all (cs ++ c ∷ [])) ≡ spelled_part (encode_utf8_all cs) ++ spelled_part (encode c)
 part_more cs c = rw (encodes-append cs (c ∷ [])) (flat_map-append spelled_byte (encode_utf8_all cs) (encode_utf8_all (c ∷ [])) ∙ ap (λ l. spelled_part (encode_utf8_all cs) ++ l) (ap spelled_part (append-nil (encode c))))
+
+-- a byte whose spelling is one byte stands for itself
+pub byte_alone : (b : ℕ) → length (spelled_byte b) ≡ 1 → spelled_byte b ≡ b ∷ []
+byte_alone b short = grind (arith, nat_tests, common_steps, short)
+
+-- a part whose bytes need no escape is spelled as it is
+pub part_alone : (bytes : List ℕ) → All (λ b. spelled_byte b ≡ b ∷ []) bytes → spelled_part bytes ≡ bytes
+part_alone [] plain = refl
+part_alone (b ∷ rest) plain = rw (plain 0 0 (omega arith)) (ap (λ l. b ∷ l) (part_alone rest (λ k d inside. plain (suc k) d (omega arith))))

@@ -1,6 +1,6 @@
 //! Writes segments in the canonical spelling.
 
-ghost use Rattle.std.specs.Prelude.{◌≡◌, ◌≤◌, OnOk, ◌++◌, length, string_bytes, encode_utf8};
+ghost use Rattle.std.specs.Prelude.{◌≡◌, ◌≤◌, ◌↔◌, IsTrue, All, OnOk, ◌++◌, ◌∷◌, [], length, string_bytes, encode_utf8};
 ghost use Rattle.unique_id.specs.Spelling.{spelled_byte, spelled_part, spelled_segment};
 
 use std::alloc::AllocError;
@@ -20,14 +20,31 @@ fn push_char(text: &mut String, c: char) -> Result<(), AllocError>
     }
 }
 
-/// Writes a part with its escapes.
-fn push_part(text: &mut String, part: &str) -> Result<(), AllocError>
+/// Writes a part character by character.
+fn push_chars(text: &mut String, part: &str) -> Result<(), AllocError>
     ensures { OnOk result (string_bytes text.new ≡ string_bytes text.old ++ spelled_part part.now) }
 {
     for c in part.chars() {
         push_char(text, c)?;
     }
     Ok(())
+}
+
+/// Whether a part needs no escape.
+fn is_plain(part: &[u8]) -> bool
+    ensures { IsTrue result ↔ All (λ byte. spelled_byte byte ≡ byte ∷ []) part.now }
+{
+    part.iter().all(|byte| byte_len(*byte) == 1)
+}
+
+/// Writes a part with its escapes. One that needs none is written at once.
+fn push_part(text: &mut String, part: &str) -> Result<(), AllocError>
+    ensures { OnOk result (string_bytes text.new ≡ string_bytes text.old ++ spelled_part part.now) }
+{
+    if is_plain(part.as_bytes()) {
+        return text.push_str(part);
+    }
+    push_chars(text, part)
 }
 
 /// Writes a segment.
