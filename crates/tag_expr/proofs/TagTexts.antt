@@ -9,7 +9,7 @@ use Rattle.std.proofs.lemmas.List.Folds.{list_any-append}
 use Rattle.std.proofs.lemmas.List.Sorted.{list_any-IsPermutation}
 use Rattle.std.proofs.lemmas.Map.Text.{hash_set_updates_text}
 use Rattle.tag_expr.specs.TagSets.{has_tag}
-use Rattle.tag_expr.specs.Inside.TagSetFields.{HasTexts}
+use Rattle.tag_expr.specs.Inside.TagTableFields.{HasTexts}
 
 or_cond : (a b : Bool) → (a || (b || false)) ≡ cond b true a
 or_cond true true = refl

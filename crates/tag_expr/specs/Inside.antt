@@ -1,2 +1,2 @@
 -- What only private functions, models of types and proofs need.
-pub mod TagSetFields
+pub mod TagTableFields

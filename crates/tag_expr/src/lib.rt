@@ -9,6 +9,7 @@ mod node;
 mod parser;
 mod tag;
 mod tag_set;
+mod tag_table;
 mod token;
 
 pub use expression::TagExpr;

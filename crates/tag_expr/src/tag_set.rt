@@ -4,27 +4,25 @@ ghost use Rattle.std.specs.Prelude.{◌≡◌, [], ◌∷◌, ◌++◌, length, 
 ghost use Rattle.tag_expr.specs.TagSets.{has_tag, with_tag};
 
 use crate::tag::Tag;
+use crate::tag_table::TagTable;
 use std::alloc::{AllocError, Global};
-use std::collections::HashSet;
 use std::marker::Model;
 
-/// A set of tags.
+/// A set of tags. It is as small as a pointer, since most nodes of a tree have no tag.
 #[derive(Debug, Drop)]
 pub struct TagSet {
-    tags: Vec<Tag>,
-    // the texts of the tags, so that no search goes over all of them
-    texts: HashSet<String>,
+    alloc: Global,
+    // None: no tags
+    table: Option<Box<TagTable>>,
 }
 
 impl Model for TagSet {
     ghost use Rattle.std.specs.Prelude.{List, ℕ};
-    ghost use Rattle.tag_expr.specs.Inside.TagSetFields.{HasTexts};
+    ghost use Rattle.tag_expr.specs.TagSets.{tags_in};
 
     ghost Value = { List (List ℕ) };
 
-    ghost view = { λ s. s.tags.items };
-
-    ghost invariant = { λ s. HasTexts s.tags.items s.texts };
+    ghost view = { λ s. tags_in s.table };
 }
 
 impl TagSet {
@@ -32,10 +30,7 @@ impl TagSet {
     pub fn new(alloc: Global) -> TagSet
         ensures { result ≡ [] }
     {
-        TagSet {
-            tags: Vec::new(alloc),
-            texts: HashSet::new(alloc),
-        }
+        TagSet { alloc, table: None }
     }
 
     /// Puts the tag into the set.
@@ -53,14 +48,17 @@ impl TagSet {
     pub fn contains(&self, tag: &str) -> bool
         ensures { result ≡ has_tag self.now tag.now }
     {
-        self.texts.contains(tag)
+        match &self.table {
+            Some(table) => table.contains(tag),
+            None => false,
+        }
     }
 
     /// Whether the set has no tag.
     pub fn is_empty(&self) -> bool
         ensures { result ≡ (length self.now == 0) }
     {
-        self.tags.is_empty()
+        self.tags().is_empty()
     }
 
     /// The same set, in memory of its own.
@@ -68,23 +66,31 @@ impl TagSet {
         ensures { IfOk result (λ set. set ≡ self.now) }
     {
         let mut copy = TagSet::new(alloc);
-        for tag in &self.tags {
+        for tag in self.tags() {
             copy.append(tag.copy(alloc)?)?;
         }
         Ok(copy)
+    }
+
+    fn tags(&self) -> &[Tag]
+        ensures { result.now ≡ self.now }
+    {
+        match &self.table {
+            Some(table) => table.tags(),
+            None => &[],
+        }
     }
 
     fn append(&mut self, tag: Tag) -> Result<(), AllocError>
         ensures ok { OnOk result (self.new ≡ self.old ++ tag ∷ []) }
         ensures err { OnErr result (self.new ≡ self.old) }
     {
-        let text = String::from_str(*self.tags.allocator(), tag.as_str())?;
-        self.texts.reserve(1)?;
-        self.tags.push(tag)?;
-        // nothing below can fail, so that an `Err` leaves the set as it was
-        let Ok(_) = self.texts.insert(text) else {
-            unreachable!()
-        };
+        if let Some(table) = &mut self.table {
+            return table.append(tag);
+        }
+        let mut table = TagTable::new(self.alloc);
+        table.append(tag)?;
+        self.table = Some(Box::new(self.alloc, table)?);
         Ok(())
     }
 }

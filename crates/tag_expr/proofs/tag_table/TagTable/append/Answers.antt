@@ -2,7 +2,7 @@
 use Rattle.std.proofs.Common.{◌≡◌, ◌++◌, ◌∷◌, [], arith, string_bytes}
 use Rattle.std.proofs.lemmas.Grind.{common_steps}
 use Rattle.tag_expr.proofs.TagTexts.{texts_kept, texts_grown, texts_as}
-use Rattle.tag_expr.proofs.tag_set.TagSet.append.Goals as goal
+use Rattle.tag_expr.proofs.tag_table.TagTable.append.Goals as goal
 
 pub invariant_of-self-in_err-push : goal.invariant_of-self-in_err-push
 invariant_of-self-in_err-push c =

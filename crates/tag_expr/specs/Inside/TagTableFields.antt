@@ -1,4 +1,4 @@
--- What the fields of a set of tags keep, which only proofs need.
+-- What the fields of a table of tags keep, which only proofs need.
 use Rattle.std.specs.Prelude.{◌≡◌, ℕ, List, String}
 use Rattle.std.specs.Global.{Global}
 use Rattle.std.specs.HashSet.{HashSet, contains_text}
