@@ -1,22 +1,20 @@
 -- The ids and the bodies of a builder beside the tree's nodes.
-use Rattle.std.proofs.Common.{◌≡◌, ◌<◌, ℕ, Bool, true, false, cond, eq-eqb, ne_eqb, List, [], ◌∷◌, length, set, get_or, replicate, refl, ap, sym, ◌∙◌, Option, Some, String, Global}
+use Rattle.std.proofs.Common.{◌≡◌, ◌<◌, ℕ, Bool, true, false, cond, eq-eqb, ne_eqb, List, [], ◌∷◌, length, set, get_or, replicate, refl, ap, sym, ◌∙◌, Option, Some, nat_eq}
 use Rattle.std.specs.Prelude.{◌||◌}
-use Rattle.std.specs.List.Sorted.{IsPermutation}
 use Rattle.std.specs.Str.{bytes_eq}
 use Rattle.std.proofs.lemmas.List.{get_or-replicate, get_or-set_other}
 use Rattle.std.proofs.lemmas.List.Folds.{list_any-append}
 use Rattle.std.proofs.lemmas.Grind.{get_or-set_at}
 use mathlib.Core.Logic.{dite}
 use native.Mathlib.Decide.{ℕ_discrete}
-use Rattle.std.specs.HashSet.{HashSet, contains_text, UpdatesBy}
-use Rattle.std.specs.String.{string_bytes, string_eq}
-use Rattle.std.proofs.lemmas.List.Sorted.{list_any-IsPermutation}
-use Rattle.std.proofs.lemmas.Map.Text.{hash_set_updates_text}
+use Rattle.std.proofs.lemmas.Slice.Eq.{bytes_eq-Decides}
+use Rattle.std.specs.HashSet.{HashSet, contains}
 use Rattle.unique_id.specs.Spelling.{spelling}
 use Rattle.descriptor.specs.declared.node.Node.{Node}
 use Rattle.descriptor.specs.Nodes.{Nodes, appended}
 use Rattle.descriptor.specs.Bodies.{is_body, may_get_after_at, with_after}
 use Rattle.descriptor.specs.Refusals.{has_text, has_body, uses_body}
+use Rattle.descriptor.specs.Inside.Hashes.{hash_of}
 use Rattle.descriptor.proofs.AfterBodies.{texts_with_after, bodies_with_after}
 
 or_cond : (a b : Bool) → (a || (b || false)) ≡ cond b true a
@@ -41,28 +39,34 @@ cond_or true false c = refl
 cond_or false true c = refl
 cond_or false false c = refl
 
+picked : (same one old two : Bool) → (same ≡ true → one ≡ true) → (old ≡ true → two ≡ true) → cond same true old ≡ true → cond one true two ≡ true
+picked true one old two a b h = rw (a refl) refl
+picked false true old two a b h = refl
+picked false false old two a b h = b h
+
 module _ {S : Type 0} where
-  -- the set has the canonical texts of the tree's unique ids
-  abbrev pub HasIds : Nodes → HashSet (String Global) S → Type 0
-  HasIds t s = (key : List ℕ) → contains_text s key ≡ has_text t key
+  -- the set has the hash of each unique id of the tree
+  abbrev pub HasHashes : Nodes → HashSet ℕ S → Type 0
+  HasHashes t s = (key : List ℕ) → has_text t key ≡ true → contains nat_eq s (hash_of key) ≡ true
 
   -- a set in another order
-  pub ids_kept : (t : Nodes) (s n : HashSet (String Global) S) → HasIds t s → IsPermutation s.keys n.keys → HasIds t n
-  ids_kept t s n was order key = sym (list_any-IsPermutation (λ (k : String Global). bytes_eq key (string_bytes k)) s.keys n.keys order) ∙ was key
+  pub hashes_kept : (t : Nodes) (s n : HashSet ℕ S) → HasHashes t s → ((q : ℕ) → contains nat_eq n q ≡ contains nat_eq s q) → HasHashes t n
+  hashes_kept t s n was same key has = same (hash_of key) ∙ was key has
 
-  -- a set with one more key, as the tree has one more node
-  pub ids_grown : (t u : Nodes) (a : ℕ) (node : Node) (bs : List ℕ) (s n : HashSet (String Global) S) → u ≡ appended t a node → bs ≡ spelling node.id → HasIds t s → UpdatesBy string_eq (λ k. bytes_eq bs (string_bytes k)) s n true → HasIds u n
-  ids_grown t u a node bs s n grown text was updates key =
-      hash_set_updates_text bs s n true updates key ∙ ap (cond (bytes_eq bs key) true) (was key) ∙ ap (λ x. cond (bytes_eq x key) true (has_text t key)) text
-      ∙ sym (has_text_grown t a node key) ∙ ap (λ x. has_text x key) (sym grown)
+  -- a set with one more hash, as the tree has one more node
+  pub hashes_grown : (t u : Nodes) (a : ℕ) (node : Node) (hash : ℕ) (s n : HashSet ℕ S) → u ≡ appended t a node → hash ≡ hash_of (spelling node.id) → HasHashes t s → ((q : ℕ) → contains nat_eq n q ≡ cond (nat_eq hash q) true (contains nat_eq s q)) → HasHashes u n
+  hashes_grown t u a node hash s n grown hashed was updates key has =
+      updates (hash_of key) ∙ picked (bytes_eq (spelling node.id) key) (nat_eq hash (hash_of key)) (has_text t key) (contains nat_eq s (hash_of key))
+      (λ same. eq-eqb hash (hash_of key) (hashed ∙ ap hash_of ((bytes_eq-Decides (spelling node.id) key).0 same)))
+      (was key) (sym (has_text_grown t a node key) ∙ ap (λ x. has_text x key) (sym grown) ∙ has)
 
-  -- the same set of ids, as a node of the tree was given an after-body
-  pub ids_with_after : (t u : Nodes) (n b : ℕ) (s : HashSet (String Global) S) → u ≡ with_after t n b → HasIds t s → HasIds u s
-  ids_with_after t u n b s given was key = was key ∙ sym (texts_with_after t b n key) ∙ ap (λ x. has_text x key) (sym given)
+  -- the same hashes, as a node of the tree was given an after-body
+  pub hashes_with_after : (t u : Nodes) (n b : ℕ) (s : HashSet ℕ S) → u ≡ with_after t n b → HasHashes t s → HasHashes u s
+  hashes_with_after t u n b s given was key has = was key (sym (texts_with_after t b n key) ∙ ap (λ x. has_text x key) (sym given) ∙ has)
 
   -- the same set beside the same tree
-  pub ids_as : (t u : Nodes) (s : HashSet (String Global) S) → t ≡ u → HasIds t s → HasIds u s
-  ids_as t u s same was key = was key ∙ ap (λ x. has_text x key) same
+  pub hashes_as : (t u : Nodes) (s : HashSet ℕ S) → t ≡ u → HasHashes t s → HasHashes u s
+  hashes_as t u s same was key has = was key (ap (λ x. has_text x key) same ∙ has)
 
 -- at the place of each number, whether it is that of a body of the tree
 abbrev pub HasBodies : Nodes → List Bool → Type 0

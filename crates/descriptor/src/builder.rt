@@ -5,6 +5,7 @@ ghost use Rattle.std.specs.Prelude.{◌≡◌, ◌≢◌, ℕ, ◌<◌, ◌↔�
 use crate::body_id::BodyId;
 use crate::body_marks::BodyMarks;
 use crate::fault::TreeFault;
+use crate::hash::hash_of;
 use crate::node::Node;
 use crate::node_id::NodeId;
 use crate::tree::Tree;
@@ -22,8 +23,8 @@ const MOST_DEPTH: u8 = 64;
 #[derive(Drop)]
 pub struct TreeBuilder {
     tree: Tree,
-    // the canonical texts of the nodes' unique ids, so that no search goes over all nodes
-    ids: HashSet<String>,
+    // the hashes of the nodes' unique ids: only if it has that of an id are the nodes looked through for it
+    hashes: HashSet<u64>,
     // the bodies of the tree
     bodies: BodyMarks,
 }
@@ -44,7 +45,9 @@ impl TreeBuilder {
     ghost use Rattle.descriptor.specs.Children.{ListsChildren};
     ghost use Rattle.descriptor.specs.Nodes.{size, plan_alone, appended, MayTake, IsTree};
     ghost use Rattle.descriptor.specs.Bodies.{with_after};
-    ghost use Rattle.descriptor.specs.Refusals.{refusal, after_refusal, has_body, repeats_body};
+    ghost use Rattle.descriptor.specs.Refusals.{refusal, after_refusal, has_text, has_body, repeats_body};
+    ghost use Rattle.descriptor.specs.Inside.Hashes.{hash_of};
+    ghost use Rattle.unique_id.specs.Spelling.{spelling};
 
     /// The builder of a tree of the plan alone.
     pub fn new(alloc: Global) -> Result<TreeBuilder, AllocError>
@@ -60,7 +63,7 @@ impl TreeBuilder {
         let nodes = nodes.min(MOST_NODES);
         Ok(TreeBuilder {
             tree: Tree::with_capacity(alloc, nodes)?,
-            ids: HashSet::with_capacity(alloc, nodes)?,
+            hashes: HashSet::with_capacity(alloc, nodes)?,
             bodies: BodyMarks::none(alloc)?,
         })
     }
@@ -86,15 +89,15 @@ impl TreeBuilder {
         ensures no_memory { IfErr result (λ fault. fault ≡ TreeFault.NoMemory → refusal self.old parent node ≡ None) }
         ensures err { OnErr result (self.new ≡ self.old) }
     {
-        if let Some(fault) = self.refusal(parent, &node) {
+        let hash = hash_of(node.id.text());
+        if let Some(fault) = self.refusal(parent, &node, hash) {
             return Err(fault);
         }
-        let id = String::from_str(alloc, node.id.text())?;
         let (body, after) = (node.body, node.after);
-        self.ids.reserve(1)?;
+        self.hashes.reserve(1)?;
         let number = self.tree.push(alloc, parent, node)?;
         // nothing below can fail, so that an `Err` leaves the builder as it was
-        let Ok(_) = self.ids.insert(id) else {
+        let Ok(_) = self.hashes.insert(hash) else {
             unreachable!()
         };
         self.bodies.put(body);
@@ -142,8 +145,10 @@ impl TreeBuilder {
         self.tree
     }
 
-    fn refusal(&self, parent: NodeId, node: &Node) -> Option<TreeFault>
-        requires { parent < size self.now }
+    /// Why a node is refused, whose unique id has this hash.
+    fn refusal(&self, parent: NodeId, node: &Node, hash: u64) -> Option<TreeFault>
+        requires inside { parent < size self.now }
+        requires hashed { hash ≡ hash_of (spelling node.now.id) }
         ensures first { result ≡ refusal self.now parent node.now }
         ensures no_memory { IfSome result (λ fault. fault ≢ TreeFault.NoMemory) }
     {
@@ -151,7 +156,7 @@ impl TreeBuilder {
             Some(TreeFault::TooMany)
         } else if self.tree.depth(parent) == MOST_DEPTH {
             Some(TreeFault::TooDeep)
-        } else if self.ids.contains(node.id.text()) {
+        } else if self.has_id(node.id.text(), hash) {
             Some(TreeFault::DoubleId)
         } else if !self.tree.kind(parent).is_container() {
             Some(TreeFault::ParentIsTest)
@@ -168,6 +173,14 @@ impl TreeBuilder {
         } else {
             None
         }
+    }
+
+    /// Whether a node of the tree has the unique id of this canonical text, which has this hash.
+    fn has_id(&self, text: &str, hash: u64) -> bool
+        requires { hash ≡ hash_of text.now }
+        ensures { result ≡ has_text self.now text.now }
+    {
+        self.hashes.contains(&hash) && self.tree.has_id(text)
     }
 
     fn after_refusal(&self, node: NodeId, body: BodyId) -> Option<TreeFault>

@@ -6,6 +6,7 @@ mod body_id;
 mod body_marks;
 mod builder;
 mod fault;
+mod hash;
 mod kind;
 mod lock;
 mod lock_mode;

@@ -43,7 +43,7 @@ impl Tree {
     ghost use Rattle.descriptor.specs.Children.{ListsChildren};
     ghost use Rattle.descriptor.specs.Pruned.{IsClosed, KeepsNodes, pruned};
     ghost use Rattle.descriptor.specs.Bodies.{with_after};
-    ghost use Rattle.descriptor.specs.Refusals.{refusal, after_refusal};
+    ghost use Rattle.descriptor.specs.Refusals.{refusal, after_refusal, has_text};
     ghost use Rattle.descriptor.specs.Nodes.{size, plan_alone, parent_of, children_of, node_at, kind_of, role_of};
     ghost use Rattle.descriptor.specs.Nodes.{mode_of, locks_of, is_isolated_at, body_of, after_of, reason_of};
     ghost use Rattle.descriptor.specs.Nodes.{is_disabled, tags_of, depth_of, appended, Below, MayTake, IsTree};
@@ -336,6 +336,13 @@ impl Tree {
         self.children.push_reserved(Vec::new(alloc));
         self.nodes.push_reserved(node);
         Ok(next)
+    }
+
+    /// Whether a node has the unique id of this canonical text.
+    pub(crate) fn has_id(&self, text: &str) -> bool
+        ensures { result ≡ has_text self.now text.now }
+    {
+        self.nodes.iter().any(|node| node.id.text() == text)
     }
 
     /// Gives a node an after-body.

@@ -2,8 +2,8 @@
 use Rattle.std.proofs.Common.{rules}
 use Rattle.descriptor.proofs.builder.TreeBuilder.refusal.Goals as goal
 
-pub returns-then-contains-clause-first : goal.returns-then-contains-clause-first
-returns-then-contains-clause-first c = search rules
+pub returns-then-has_id-clause-first : goal.returns-then-has_id-clause-first
+returns-then-has_id-clause-first c = search rules
 
 pub returns-then-not-is_container-clause-first : goal.returns-then-not-is_container-clause-first
 returns-then-not-is_container-clause-first c = search rules

@@ -1,8 +1,5 @@
 -- The tree of the plan alone has no ids and no bodies.
-use Rattle.std.proofs.Common.{◌≡◌, Some, List, String, Global, ap, sym, ◌∙◌}
-use Rattle.std.specs.List.{list_any}
-use Rattle.std.specs.Str.{bytes_eq}
-use Rattle.std.specs.String.{string_bytes}
+use Rattle.std.proofs.Common.{◌≡◌, Some, ap, sym, ◌∙◌, true≢false}
 use Rattle.descriptor.specs.Nodes.{Nodes, plan_alone}
 use Rattle.descriptor.specs.Refusals.{has_text, has_body}
 use Rattle.descriptor.proofs.Sets.{no_bodies}
@@ -13,6 +10,6 @@ invariant_of-result c =
     let none = no_bodies c.in_ok-none.field-0 c.in_ok-none.ensures in
     let alone : c.in_ok-with_capacity.field-0 ≡ plan_alone = c.in_ok-with_capacity.ensures in
     record {
-      has_ids = λ text. ap (λ (keys : List (String Global)). list_any (λ (k : String Global). bytes_eq text (string_bytes k)) keys) c.in_ok-with_capacity-2.ensures.empty ∙ sym (ap (λ (t : Nodes). has_text t text) alone);
+      has_hashes = λ text has. absurd (true≢false (sym has ∙ ap (λ (t : Nodes). has_text t text) alone));
       has_bodies = λ b low. none b low ∙ sym (ap (λ (t : Nodes). has_body t (Some b)) alone);
     }
