@@ -1,5 +1,5 @@
 -- Which characters a printed text keeps, and how it grows.
-use Rattle.std.proofs.Common.{inl, inr, ◌≡◌, ◌≢◌, ℕ, ◌+◌, ◌/◌, ◌≤◌, ◌<◌, Bool, true, false, cond, ltb, List, [], ◌∷◌, ◌++◌, refl, ap, sym, ◌∙◌, arith, append-nil}
+use Rattle.std.proofs.Common.{inl, inr, ◌≡◌, ◌≢◌, ℕ, ◌+◌, ◌/◌, ◌≤◌, ◌<◌, Bool, true, false, cond, ltb, List, [], ◌∷◌, ◌++◌, refl, ap, sym, ◌∙◌, arith, append-nil, All, suc}
 use Rattle.std.specs.Prelude.{encode_utf8_all}
 use lib.Utf8.{encode, next}
 use Rattle.std.specs.Char.{IsAsciiControl}
@@ -53,3 +53,8 @@ pub cleaned_more : (cs : List ℕ) (c : ℕ) → cleaned (encode_utf8_all (cs ++
 cleaned_more cs c =
     rw (encodes-append cs (c ∷ []))
     (map-append printed_byte (encode_utf8_all cs) (encode_utf8_all (c ∷ [])) ∙ ap (λ l. cleaned (encode_utf8_all cs) ++ cleaned l) (append-nil (encode c)))
+
+-- a text without a control byte is printed as it is
+pub cleaned_alone : (text : List ℕ) → All (λ byte. printed_byte byte ≡ byte) text → cleaned text ≡ text
+cleaned_alone [] clean = refl
+cleaned_alone (b ∷ rest) clean = rw (clean 0 0 (omega arith)) (ap (λ l. b ∷ l) (cleaned_alone rest (λ k d inside. clean (suc k) d (omega arith))))

@@ -16,6 +16,9 @@ use descriptor::{NodeId, Tree};
 use plan_events::{Status, Texts};
 use std::alloc::{AllocError, Global};
 
+/// As many bytes as most lines have at the most.
+const LINE_ROOM: usize = 32;
+
 /// What a tree is drawn from.
 #[derive(Drop)]
 struct Drawing<'a> {
@@ -169,7 +172,7 @@ pub(crate) fn draw(
         texts,
         told,
     };
-    let mut text = String::new(alloc);
+    let mut text = String::with_capacity(alloc, LINE_ROOM * tree.len())?;
     drawing.push_below(alloc, &mut text, "", "", NodeId::ROOT)?;
     Ok(text)
 }

@@ -1,13 +1,12 @@
--- A character more is its cleaned bytes more.
-use Rattle.std.proofs.Common.{◌≡◌, ◌++◌, ◌∙◌, ◌∷◌, [], ap, arith, append_assoc, string_bytes, encode_utf8}
+-- A text without a control byte is appended as it is.
+use Rattle.std.proofs.Common.{◌≡◌, All, arith, subst}
 use Rattle.std.proofs.lemmas.Grind.{common_steps}
-use Rattle.std.specs.Prelude.{encode_utf8_all}
-use Rattle.listeners.specs.Printed.{cleaned}
-use Rattle.listeners.proofs.Cleaning.{cleaned_more}
+use Rattle.listeners.specs.Printed.{printed_byte, cleaned}
+use Rattle.listeners.proofs.Cleaning.{cleaned_alone}
 use Rattle.listeners.proofs.printed.push_cleaned.Goals as goal
 
-pub loop-c-preserved : goal.loop-c-preserved
-loop-c-preserved c =
-    let step : string_bytes c.push.new.self ≡ string_bytes c.loop-c.printed ++ cleaned (encode_utf8 c.in-Some.c) = grind (arith, common_steps) in
-    let more : cleaned (encode_utf8_all (c.loop-c.yielded ++ c.in-Some.c ∷ [])) ≡ cleaned (encode_utf8_all c.loop-c.yielded) ++ cleaned (encode_utf8 c.in-Some.c) = cleaned_more c.loop-c.yielded c.in-Some.c in
-    rw more (step ∙ ap (λ l. l ++ cleaned (encode_utf8 c.in-Some.c)) c.loop-c.invariant ∙ append_assoc (string_bytes c.args.printed.now) (cleaned (encode_utf8_all c.loop-c.yielded)) (cleaned (encode_utf8 c.in-Some.c)))
+pub returns-then-is_clean : goal.returns-then-is_clean
+returns-then-is_clean c =
+    let clean : All (λ byte. printed_byte byte ≡ byte) c.as_bytes.result.now = c.is_clean.ensures.0 c.if-is_clean.true in
+    let same : cleaned c.args.text.now ≡ c.args.text.now = cleaned_alone c.args.text.now (subst (All (λ byte. printed_byte byte ≡ byte)) c.as_bytes.ensures.value clean) in
+    rw same (grind (arith, common_steps))
