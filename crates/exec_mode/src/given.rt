@@ -55,8 +55,8 @@ pub fn modes(alloc: Global, tree: &Tree, settings: &Settings) -> Result<Vec<Mode
     ensures engines { IfOk result (λ modes. (e : ℕ) → IsChild tree.now 0 e →
         slice_get modes.items e ≡ Some SameThread) }
 {
-    let mut nearest = Vec::new(alloc);
-    let mut modes = Vec::new(alloc);
+    let mut nearest = Vec::with_capacity(alloc, tree.len())?;
+    let mut modes = Vec::with_capacity(alloc, tree.len())?;
     for number in 0..tree.len() {
         let node = NodeId::new(number as u16);
         let here = nearest_mode(tree, nearest.as_slice(), node);

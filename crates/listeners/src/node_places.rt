@@ -37,7 +37,7 @@ pub(crate) fn outline_of(alloc: Global, plan: &Plan) -> Result<Vec<NodePlace>, A
     ensures tree { IfOk result (λ _. IsTree plan.now.tree) }
 {
     let tree = plan.tree();
-    let mut outline = Vec::new(alloc);
+    let mut outline = Vec::with_capacity(alloc, tree.len())?;
     for number in 0..tree.len() {
         outline.push(place_of(tree, NodeId::new(number as u16)))?;
     }

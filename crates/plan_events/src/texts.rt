@@ -38,8 +38,8 @@ impl Texts {
         ensures notes { IfOk result (λ texts. texts.notes ≡ replicate (size tree.now) None) }
         ensures reasons { IfOk result (λ texts. texts.reasons ≡ reasons_of tree.now) }
     {
-        let mut notes = Vec::new(alloc);
-        let mut reasons = Vec::new(alloc);
+        let mut notes = Vec::with_capacity(alloc, tree.len())?;
+        let mut reasons = Vec::with_capacity(alloc, tree.len())?;
         for number in 0..tree.len() {
             notes.push(None)?;
             reasons.push(reason(alloc, tree, NodeId::new(number as u16))?)?;

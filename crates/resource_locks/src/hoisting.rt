@@ -215,7 +215,7 @@ fn own(
     ensures own { IfOk result (λ v. v.items ≡ table (own (declared_of tree.now)) (size tree.now)) }
     ensures len { IfOk result (λ v. length v.items ≡ size tree.now) }
 {
-    let mut sets = Vec::new(alloc);
+    let mut sets = Vec::with_capacity(alloc, node_count(tree))?;
     for node in 0..node_count(tree) {
         sets.push(own_of(alloc, tree, tops, wholes, node)?)?;
     }

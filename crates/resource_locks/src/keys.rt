@@ -123,7 +123,7 @@ impl Keys {
             number_of self.now key < length self.now }
         ensures { IfOk result (λ lists. map (λ v. v.items) lists.items ≡ map (numbers_of self.now) sets.now) }
     {
-        let mut lists = Vec::new(alloc);
+        let mut lists = Vec::with_capacity(alloc, sets.len())?;
         for set in sets {
             lists.push(self.numbers(alloc, set.locks())?)?;
         }

@@ -26,7 +26,7 @@ fn counter_at_start(tree: &Tree, node: NodeId) -> usize
 pub fn counters_at_start(alloc: Global, tree: &Tree) -> Result<Vec<usize>, AllocError>
     ensures { IfOk result (λ v. v.items ≡ table (guard_and_children tree.now) (size tree.now)) }
 {
-    let mut counters = Vec::new(alloc);
+    let mut counters = Vec::with_capacity(alloc, tree.len())?;
     for index in 0..tree.len() {
         counters.push(counter_at_start(tree, NodeId::new(index as u16)))?;
     }

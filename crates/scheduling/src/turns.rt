@@ -150,7 +150,7 @@ fn stays(plan: &Plan, node: NodeId) -> bool
 fn same_nodes(alloc: Global, plan: &Plan) -> Result<Vec<bool>, AllocError>
     ensures { IfOk result (λ v. v.items ≡ table (stays_of plan.now) (size plan.now.tree)) }
 {
-    let mut nodes = Vec::new(alloc);
+    let mut nodes = Vec::with_capacity(alloc, plan.tree().len())?;
     for number in 0..plan.tree().len() {
         nodes.push(stays(plan, NodeId::new(number as u16)))?;
     }
@@ -162,7 +162,7 @@ fn offered_nodes(alloc: Global, plan: &Plan, same: &Links) -> Result<Vec<bool>, 
     requires { IsLinked plan.now.tree (is_same_child plan.now) same.now }
     ensures { IfOk result (λ v. v.items ≡ table (is_offered_of plan.now) (size plan.now.tree)) }
 {
-    let mut nodes = Vec::new(alloc);
+    let mut nodes = Vec::with_capacity(alloc, plan.tree().len())?;
     for number in 0..plan.tree().len() {
         nodes.push(is_offered(plan, same, NodeId::new(number as u16)))?;
     }

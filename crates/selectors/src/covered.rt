@@ -47,7 +47,7 @@ pub(crate) fn covered(
     requires { IsTree tree.now }
     ensures { IfOk result (λ covered. covered.items ≡ truths (is_covered tree.now selectors.now) (size tree.now)) }
 {
-    let mut covered = Vec::new(alloc);
+    let mut covered = Vec::with_capacity(alloc, tree.len())?;
     for number in 0..tree.len() {
         let node = NodeId::new(number as u16);
         let here = is_covered(tree, selectors, covered.as_slice(), node);

@@ -87,7 +87,7 @@ pub(crate) fn taken(alloc: Global, tree: &Tree, request: &Request) -> Result<Vec
         (size tree.now)) }
 {
     let covered = covered(alloc, tree, request.selectors.as_slice())?;
-    let mut taken = Vec::new(alloc);
+    let mut taken = Vec::with_capacity(alloc, tree.len())?;
     for number in 0..tree.len() {
         let node = NodeId::new(number as u16);
         let before = taken.as_slice();
