@@ -71,6 +71,18 @@ fn details_text(
     }
 }
 
+/// The second text behind the first. It is not copied if the first is empty.
+fn put_behind(first: String, second: String) -> Result<String, AllocError>
+    ensures { IfOk result (λ text. string_bytes text ≡ string_bytes first ++ string_bytes second) }
+{
+    if first.is_empty() {
+        return Ok(second);
+    }
+    let mut text = first;
+    text.push_str(second.as_str())?;
+    Ok(text)
+}
+
 /// What is printed of a run: a line for each warning, what is printed of its results, and the schedule behind it.
 fn run_text(
     alloc: Global,
@@ -88,10 +100,10 @@ fn run_text(
         ++ (details_of options.now.details options.now.theme results.now.plan texts.now results.now.events
         ++ schedule.now)) }
 {
-    let mut text = String::new(alloc);
-    push_warnings(&mut text, warnings)?;
+    let mut head = String::new(alloc);
+    push_warnings(&mut head, warnings)?;
     let details = details_text(alloc, options, plan, history, results, texts)?;
-    text.push_str(details.as_str())?;
+    let mut text = put_behind(head, details)?;
     text.push_str(schedule)?;
     Ok(text)
 }
