@@ -1,2 +1,3 @@
 -- Lemmas on what is due.
+pub mod DueInside
 pub mod DueRows

@@ -8,7 +8,6 @@ pub mod Sound
 pub mod Tracing
 pub mod Running
 pub mod InRange
-pub mod DueInside
 pub mod Answering
 pub mod Knowing
 pub mod AtStart

@@ -5,7 +5,7 @@ use Rattle.due_steps.specs.Due.{guard_to}
 use Rattle.due_steps.proofs.DueRows.{guard_is}
 use Rattle.sched_core.specs.Inside.Fields.{state_of, seated}
 use Rattle.sched_core.proofs.Answering.{answered_by}
-use Rattle.sched_core.proofs.DueInside.{guard_inside}
+use Rattle.due_steps.proofs.DueInside.{guard_inside}
 use Rattle.sched_core.proofs.machine.Machine.done.Goals as goal
 
 pub due_guard-requires-clause-inside : goal.due_guard-requires-clause-inside
