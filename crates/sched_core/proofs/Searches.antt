@@ -54,13 +54,20 @@ module _ (l : List (ℕ × Reply)) (up : IsInOrder l) (body : ℕ) where
       let rise : (get_or l i d).0 ≤ (get_or l j d).0 = grind (arith, up i j d, λ (same : i ≡ j). ap (λ k. (get_or l k d).0) same) in
       grind (arith, nat_tests)
 
-  -- what it finds stands with the body, and none before it does
-  pub found : (i : ℕ) (x : ℕ × Reply) → i < length l → nat_cmp (get_or l i x).0 body ≡ Equal → reply_to l body ≡ Some (get_or l i x).1
-  found i x inside equal =
-      let same : (get_or l i x).0 ≡ body = ranked (get_or l i x).0 body Equal (sym equal) in
+  -- a reply that stands with the body is the only one, so none before it does
+  stands : (i : ℕ) (x : ℕ × Reply) → i < length l → (get_or l i x).0 ≡ body → reply_to l body ≡ Some (get_or l i x).1
+  stands i x inside same =
       let same_at : (d : ℕ × Reply) → (get_or l i d).0 ≡ body = λ d. ap (λ (y : ℕ × Reply). y.0) (get_or_default l i d x inside) ∙ same in
       let none : NoneBefore l body i = λ j d lt e. (let below = up j i d lt inside in omega (arith, below, e, same_at d)) in
       present l body i x inside same none
+
+  -- and so for one that was looked up at its place
+  pub looked_up : (i : ℕ) (x : ℕ × Reply) → true ≡ ltb i (length l) → x ≡ get_or l i x → x.0 ≡ body → reply_to l body ≡ Some x.1
+  looked_up i x inside at same = stands i x (ltb-true i (length l) (sym inside)) (ap (λ (y : ℕ × Reply). y.0) (sym at) ∙ same) ∙ ap (λ (y : ℕ × Reply). Some y.1) (sym at)
+
+  -- what the search finds stands with the body
+  pub found : (i : ℕ) (x : ℕ × Reply) → i < length l → nat_cmp (get_or l i x).0 body ≡ Equal → reply_to l body ≡ Some (get_or l i x).1
+  found i x inside equal = stands i x inside (ranked (get_or l i x).0 body Equal (sym equal))
 
   -- where it finds none, none does
   pub missed : (i : ℕ) → i ≤ length l → IsBinarySearchResult (λ (x : ℕ × Reply). nat_cmp x.0 body) l (Err i) → reply_to l body ≡ None

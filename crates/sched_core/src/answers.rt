@@ -70,6 +70,18 @@ fn found_in_a_row(replies: &[(BodyId, Reply)], body: BodyId) -> Option<&Reply>
     None
 }
 
+/// The reply that stands with a body, where the bodies rise along the replies. It is looked for first at this place.
+fn found_near(replies: &[(BodyId, Reply)], place: usize, body: BodyId) -> Option<&Reply>
+    requires { IsInOrder replies.now }
+    ensures { MatchOption result (reply_to replies.now body ≡ None)
+        (λ reply. reply_to replies.now body ≡ Some reply.now) }
+{
+    match replies.get(place) {
+        Some(answer) if answer.0 == body => Some(&answer.1),
+        _ => found_by_halving(replies, body),
+    }
+}
+
 impl Answers {
     /// These replies. Of two with the same body the first counts. Where each body is greater than the one before it,
     /// `reply` takes as many steps as the number of replies can be halved; else it may look at each of them.
@@ -87,6 +99,19 @@ impl Answers {
     {
         if self.in_order {
             found_by_halving(self.replies.as_slice(), body)
+        } else {
+            found_in_a_row(self.replies.as_slice(), body)
+        }
+    }
+
+    /// The same as `reply`. It is found at once if it stands at this place, from 0, and the bodies rise along the
+    /// replies.
+    pub fn reply_near(&self, place: usize, body: BodyId) -> Option<&Reply>
+        ensures { MatchOption result (reply_to self.now body ≡ None)
+            (λ reply. reply_to self.now body ≡ Some reply.now) }
+    {
+        if self.in_order {
+            found_near(self.replies.as_slice(), place, body)
         } else {
             found_in_a_row(self.replies.as_slice(), body)
         }
