@@ -101,11 +101,12 @@ fn spin_at(spins: &[u32], number: BodyId) -> u32
     }
 }
 
-/// The reply of a body, as the suite says it; without one it is successful, and says nothing.
-fn reply_to(answers: &Answers, body: BodyId) -> Result<Reply, AllocError>
+/// The reply of a body, as the suite says it; without one it is successful, and says nothing. It is looked for first
+/// at this place.
+fn reply_to(answers: &Answers, place: usize, body: BodyId) -> Result<Reply, AllocError>
     ensures { IfOk result (λ reply. reply ≡ reply_of answers.now body) }
 {
-    let Some(reply) = answers.reply(body) else {
+    let Some(reply) = answers.reply_near(place, body) else {
         return Ok(Reply {
             pulls: 0,
             outcome: Outcome {
@@ -130,10 +131,11 @@ fn is_pulled(plan: &Plan, slot: usize) -> bool
     slot < tree.len() && tree.role(NodeId::new(slot as u16)) == Role::Factory
 }
 
-/// The job of this number in this slot.
+/// The job of this number in this slot, at this place among the jobs.
 fn job_for(
     plan: &Plan,
     answers: &Answers,
+    place: usize,
     spins: &[u32],
     slot: usize,
     number: BodyId,
@@ -144,7 +146,7 @@ fn job_for(
         (reply_of answers.now number) ∷ []) }
     ensures spin { IfOk result (λ job. job.spin ≡ get_or spins.now number 0) }
 {
-    let mut reply = reply_to(answers, number)?;
+    let mut reply = reply_to(answers, place, number)?;
     if !is_pulled(plan, slot) {
         reply.pulls = 0;
     }
@@ -166,7 +168,8 @@ pub(crate) fn scripted_jobs(
     let mut jobs = Vec::with_capacity(alloc, plan.tree().len())?;
     for slot in 0..2 * plan.tree().len() {
         if let Some(number) = job_number(plan, slot) {
-            jobs.push((number, job_for(plan, answers, spins, slot, number)?))?;
+            let place = jobs.len();
+            jobs.push((number, job_for(plan, answers, place, spins, slot, number)?))?;
         }
     }
     Ok(jobs)
