@@ -1,5 +1,5 @@
 -- How a part is spelled, a character at a time.
-use Rattle.std.proofs.Common.{◌≡◌, ◌≢◌, ℕ, ◌+◌, ◌/◌, ◌≤◌, Bool, true, false, cond, ltb, List, [], ◌∷◌, ◌++◌, length, All, suc, ◌<◌, refl, ap, ◌∙◌, arith, append-nil}
+use Rattle.std.proofs.Common.{◌≡◌, ◌≢◌, ℕ, ◌+◌, ◌/◌, ◌≤◌, Bool, true, false, cond, ltb, List, [], ◌∷◌, ◌++◌, length, All, suc, refl, ap, ◌∙◌, arith, append-nil}
 use Rattle.std.specs.Prelude.{encode_utf8_all}
 use lib.Utf8.{encode, next}
 use Rattle.std.proofs.lemmas.Bool.Decides.{nat_tests}

@@ -4,6 +4,7 @@ use Rattle.std.proofs.lemmas.Bool.Decides.{nat_tests}
 use Rattle.unique_id.specs.declared.fault.UidFault.TheVariants.{TooLong}
 use Rattle.unique_id.specs.declared.unique_id.Segment.{Segment}
 use Rattle.unique_id.specs.Spelling.{spelling, spelled_byte, spelled_part, spelled_segment, refusal}
+use Rattle.unique_id.proofs.Parts.{byte_alone}
 use Rattle.unique_id.proofs.Spellings.{spelling_more}
 
 pub too_many : (xs : List Segment) (kind value : List ℕ) → 0 < length kind → 0 < length value → 64 ≤ length xs → refusal xs kind value ≡ Some TooLong
@@ -25,6 +26,25 @@ part_written (b ∷ part) = omega (arith, byte_written b, part_written part, len
 
 segment_written : (kind value : List ℕ) → length (spelled_segment kind value) ≡ length (spelled_part kind) + length (spelled_part value) + 3
 segment_written kind value = omega (arith, length-append (spelled_part kind ++ 58 ∷ spelled_part value) (93 ∷ []), length-append (spelled_part kind) (58 ∷ spelled_part value))
+
+-- a part that is written in as many bytes as it has is written as it is
+part_plain : (part : List ℕ) → length (spelled_part part) ≡ length part → spelled_part part ≡ part
+part_plain [] same = refl
+part_plain (b ∷ part) same =
+    let both = length-append (spelled_byte b) (spelled_part part) in
+    let one : length (spelled_byte b) ≡ 1 = omega (arith, same, both, byte_written b, part_written part) in
+    rw (byte_alone b one) (ap (λ l. b ∷ l) (part_plain part (omega (arith, same, both, one))))
+
+-- a segment is written in no fewer bytes than its parts have and three more
+pub segment_within : (kind value : List ℕ) → length kind + length value + 3 ≤ length (spelled_segment kind value)
+segment_within kind value = omega (arith, segment_written kind value, part_written kind, part_written value)
+
+-- a segment that is written in as many bytes as its parts have and three more needs no escape
+pub segment_plain : (kind value : List ℕ) → length (spelled_segment kind value) ≡ length kind + length value + 3 → (spelled_part kind ≡ kind) × (spelled_part value ≡ value)
+segment_plain kind value same = (
+  part_plain kind (omega (arith, same, segment_written kind value, part_written kind, part_written value)),
+  part_plain value (omega (arith, same, segment_written kind value, part_written kind, part_written value)),
+)
 
 -- the length of a longer spelling: `slash` is 1 where a segment stands before
 pub length_more : (xs : List Segment) (slash : ℕ) (s : Segment) → (length xs ≡ 0 → slash ≡ 0) → (0 < length xs → slash ≡ 1) → length (spelling (xs ++ s ∷ [])) ≡ length (spelling xs) + slash + length (spelled_segment s.kind s.value)

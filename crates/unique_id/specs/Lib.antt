@@ -4,6 +4,7 @@ pub mod Escapes
 pub mod Faults
 pub mod Fields
 pub mod Grammar
+pub mod Paths
 pub mod Places
 pub mod Prefixes
 pub mod Reading

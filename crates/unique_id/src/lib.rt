@@ -1,10 +1,12 @@
 //! Unique ids: where a node stands in the tree, and the canonical text of that.
 #![tactic(auto)]
 
+mod canonical_text;
 mod decoded;
 mod escape;
 mod fault;
 mod part;
+mod path;
 mod read;
 mod reading;
 mod spelling;

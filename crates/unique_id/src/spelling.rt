@@ -1,6 +1,6 @@
 //! Writes segments in the canonical spelling.
 
-ghost use Rattle.std.specs.Prelude.{◌≡◌, ◌≤◌, ◌↔◌, IsTrue, All, OnOk, ◌++◌, ◌∷◌, [], length, string_bytes, encode_utf8};
+ghost use Rattle.std.specs.Prelude.{◌≡◌, ◌≤◌, ◌+◌, ◌↔◌, IsTrue, All, OnOk, ◌++◌, ◌∷◌, [], length, string_bytes, encode_utf8};
 ghost use Rattle.unique_id.specs.Spelling.{spelled_byte, spelled_part, spelled_segment};
 
 use std::alloc::AllocError;
@@ -57,6 +57,38 @@ pub fn push_segment(text: &mut String, kind: &str, value: &str) -> Result<(), Al
     push_part(text, value)?;
     text.push_str("]")?;
     Ok(())
+}
+
+/// Writes a segment, no part of which needs an escape.
+fn push_plain_segment(text: &mut String, kind: &str, value: &str) -> Result<(), AllocError>
+    requires kind { spelled_part kind.now ≡ kind.now }
+    requires value { spelled_part value.now ≡ value.now }
+    ensures { OnOk result (string_bytes text.new ≡ string_bytes text.old ++ spelled_segment kind.now value.now) }
+{
+    text.push_str("[")?;
+    text.push_str(kind)?;
+    text.push_str(":")?;
+    text.push_str(value)?;
+    text.push_str("]")?;
+    Ok(())
+}
+
+/// Writes a segment, with which the text has so many bytes. They tell whether a part needs an escape.
+pub fn push_segment_up_to(
+    text: &mut String,
+    kind: &str,
+    value: &str,
+    len: usize,
+) -> Result<(), AllocError>
+    requires len { len ≡ length (string_bytes text.old) + length (spelled_segment kind.now value.now) }
+    requires short { len ≤ 1024 }
+    ensures { OnOk result (string_bytes text.new ≡ string_bytes text.old ++ spelled_segment kind.now value.now) }
+{
+    if text.len() + kind.len() + value.len() + 3 == len {
+        push_plain_segment(text, kind, value)
+    } else {
+        push_segment(text, kind, value)
+    }
 }
 
 /// How many bytes a byte of a part is written in.

@@ -1,6 +1,7 @@
 //! A unique id: its segments, with their canonical text beside them.
 
 ghost use Rattle.std.specs.Prelude.{◌≡◌, ◌≢◌, ◌<◌, ◌≤◌, ◌↔◌, IsTrue, Some, None, IfOk, IfErr, IsOk, [], ◌∷◌, ◌++◌};
+ghost use Rattle.std.specs.Arc.{arc_value};
 ghost use Rattle.std.specs.Prelude.{List, Ok, ℕ, drop, length, All, string_bytes};
 ghost use Rattle.unique_id.specs.declared.unique_id.Segment.{Segment};
 ghost use Rattle.unique_id.specs.Grammar.{IsId, IsWithinLimits};
@@ -10,12 +11,14 @@ ghost use Rattle.unique_id.specs.Places.{StopsAt, width};
 ghost use Rattle.unique_id.specs.Prefixes.{IsPrefix};
 ghost use Rattle.unique_id.specs.Reading.{id_of};
 ghost use Rattle.unique_id.specs.Segments.{IsWhole, IsText};
-ghost use Rattle.unique_id.specs.Spelling.{refusal, spelling};
+ghost use Rattle.unique_id.specs.Spelling.{refusal, spelled_segment, spelling};
 
+use crate::canonical_text::CanonicalText;
 use crate::fault::UidFault;
+use crate::path::Path;
 use crate::read::Read;
 use crate::reading::read;
-use crate::spelling::{push_segment, segment_len};
+use crate::spelling::{push_segment, push_segment_up_to, segment_len};
 use crate::text::Text;
 use std::alloc::{AllocError, Global};
 use std::marker::Model;
@@ -34,11 +37,19 @@ pub struct Parts {
     pub value: Text,
 }
 
+/// A segment, and the text of the id that ends with it, which stand in one block of memory.
+#[derive(Debug, Drop)]
+struct Named {
+    parts: Parts,
+    // empty where the segment was made for no id
+    text: CanonicalText,
+}
+
 /// One step down the tree: the kind of the node there, and what tells it from its siblings. All ids
 /// that lead through it share its parts.
 #[derive(Debug, Drop)]
 pub struct Segment {
-    parts: Arc<Parts>,
+    named: Arc<Named>,
 }
 
 impl Model for Segment {
@@ -47,7 +58,23 @@ impl Model for Segment {
 
     ghost Value = { Parts };
 
-    ghost view = { λ s. arc_value s.parts };
+    ghost view = { λ s. (arc_value s.named).parts };
+}
+
+/// The parts of a segment, with the text of the id that ends with it.
+fn block_of(
+    alloc: Global,
+    kind: &str,
+    value: &str,
+    text: CanonicalText,
+) -> Result<Arc<Named>, AllocError>
+    ensures { IfOk result (λ named. arc_value named ≡ record
+        { parts = record { kind = kind.now; value = value.now }; text = text }) }
+{
+    let kind = Text::new(alloc, kind)?;
+    let value = Text::new(alloc, value)?;
+    let parts = Parts { kind, value };
+    Ok(Arc::new(alloc, Named { parts, text })?)
 }
 
 impl Segment {
@@ -55,10 +82,8 @@ impl Segment {
     pub fn new(alloc: Global, kind: &str, value: &str) -> Result<Segment, AllocError>
         ensures { IfOk result (λ s. s ≡ record { kind = kind.now; value = value.now }) }
     {
-        let kind = Text::new(alloc, kind)?;
-        let value = Text::new(alloc, value)?;
         Ok(Segment {
-            parts: Arc::new(alloc, Parts { kind, value })?,
+            named: block_of(alloc, kind, value, CanonicalText::empty())?,
         })
     }
 
@@ -66,14 +91,14 @@ impl Segment {
     pub fn kind(&self) -> &str
         ensures { result.now ≡ self.now.kind }
     {
-        self.parts.kind.as_str()
+        self.named.parts.kind.as_str()
     }
 
     /// What tells the node from its siblings.
     pub fn value(&self) -> &str
         ensures { result.now ≡ self.now.value }
     {
-        self.parts.value.as_str()
+        self.named.parts.value.as_str()
     }
 
     /// Whether both have the same kind and the same value.
@@ -88,7 +113,7 @@ impl Segment {
         ensures { IfOk result (λ s. s ≡ self.now) }
     {
         Ok(Segment {
-            parts: Arc::try_clone(&self.parts)?,
+            named: Arc::try_clone(&self.named)?,
         })
     }
 }
@@ -96,8 +121,9 @@ impl Segment {
 /// Where a node stands: one segment for each step down the tree.
 #[derive(Debug, Drop)]
 pub struct UniqueId {
-    segments: Vec<Segment>,
-    text: String,
+    path: Path,
+    // holds the text; mostly it is the block of the last segment
+    named: Arc<Named>,
 }
 
 impl Model for UniqueId {
@@ -108,7 +134,7 @@ impl Model for UniqueId {
 
     ghost use Rattle.unique_id.specs.Fields.{IsSound};
 
-    ghost view = { λ u. u.segments.items };
+    ghost view = { λ u. u.path };
 
     ghost invariant = { IsSound };
 }
@@ -119,7 +145,7 @@ impl UniqueId {
         ensures spelled { result.now ≡ spelling self.now }
         ensures short { length result.now ≤ 1024 }
     {
-        self.text.as_str()
+        self.named.text.as_str()
     }
 
     /// The segments, from the root down: one to 64.
@@ -130,7 +156,7 @@ impl UniqueId {
         ensures whole { All IsWhole self.now }
         ensures texts { All IsText self.now }
     {
-        self.segments.as_slice()
+        self.path.as_slice()
     }
 
     /// The id with this one segment; an empty part is refusal 5, a text that gets too long refusal 6.
@@ -202,13 +228,16 @@ impl UniqueId {
         self.text() == other.text()
     }
 
-    /// The same id, in memory of its own.
+    /// The same id, which shares its parts and its text with this one.
     pub fn copy(&self, alloc: Global) -> Result<UniqueId, AllocError>
         ensures { IfOk result (λ id. id ≡ self.now) }
     {
+        let Some((last, front)) = self.segments().split_last() else {
+            unreachable!()
+        };
         Ok(UniqueId {
-            segments: copied(alloc, self.segments(), 0)?,
-            text: String::from_str(alloc, self.text())?,
+            path: Path::longer(alloc, front, last.copy()?)?,
+            named: Arc::try_clone(&self.named)?,
         })
     }
 }
@@ -218,6 +247,8 @@ fn longer_len(segments: &[Segment], text: &str, kind: &str, value: &str) -> Resu
     requires spelled { text.now ≡ spelling segments.now }
     requires short { length text.now ≤ 1024 }
     ensures accepted { IfOk result (λ _. refusal segments.now kind.now value.now ≡ None) }
+    ensures len { IfOk result (λ len. len ≡ length (spelling
+        (segments.now ++ record { kind = kind.now; value = value.now } ∷ []))) }
     ensures refused { IfErr result (λ fault. refusal segments.now kind.now value.now ≡ Some fault) }
     ensures real { IfErr result (λ fault. fault ≢ UidFault.NoMemory) }
 {
@@ -238,7 +269,26 @@ fn longer_len(segments: &[Segment], text: &str, kind: &str, value: &str) -> Resu
     Ok(len)
 }
 
-/// The spelling of `segments`, which is `text`, and one more, in room for so many bytes.
+/// What the spelling of `segments`, which is `text`, and of one more begins with, in room for so many bytes.
+fn spelled_before(
+    alloc: Global,
+    segments: &[Segment],
+    text: &str,
+    len: usize,
+) -> Result<String, AllocError>
+    requires { text.now ≡ spelling segments.now }
+    ensures { IfOk result (λ front. (more : Segment) → string_bytes front ++ spelled_segment more.kind more.value
+        ≡ spelling (segments.now ++ more ∷ [])) }
+{
+    let mut front = String::with_capacity(alloc, len)?;
+    front.push_str(text)?;
+    if !segments.is_empty() {
+        front.push_str("/")?;
+    }
+    Ok(front)
+}
+
+/// The spelling of `segments`, which is `text`, and one more, which has so many bytes.
 fn longer_text(
     alloc: Global,
     segments: &[Segment],
@@ -247,16 +297,14 @@ fn longer_text(
     value: &str,
     len: usize,
 ) -> Result<String, AllocError>
-    requires { text.now ≡ spelling segments.now }
+    requires spelled { text.now ≡ spelling segments.now }
+    requires len { len ≡ length (spelling (segments.now ++ record { kind = kind.now; value = value.now } ∷ [])) }
+    requires short { len ≤ 1024 }
     ensures { IfOk result (λ longer. string_bytes longer ≡ spelling
         (segments.now ++ record { kind = kind.now; value = value.now } ∷ [])) }
 {
-    let mut longer = String::with_capacity(alloc, len)?;
-    longer.push_str(text)?;
-    if !segments.is_empty() {
-        longer.push_str("/")?;
-    }
-    push_segment(&mut longer, kind, value)?;
+    let mut longer = spelled_before(alloc, segments, text, len)?;
+    push_segment_up_to(&mut longer, kind, value, len)?;
     Ok(longer)
 }
 
@@ -282,8 +330,11 @@ fn id_of(alloc: Global, text: &str) -> Result<UniqueId, UidFault>
     let Some(segments) = segments else {
         return Err(UidFault::NoMemory);
     };
-    let text = spelled(alloc, segments.as_slice(), len)?;
-    Ok(UniqueId { segments, text })
+    let text = CanonicalText::of(spelled(alloc, segments.as_slice(), len)?);
+    Ok(UniqueId {
+        path: Path::of(segments),
+        named: block_of(alloc, "", "", text)?,
+    })
 }
 
 /// The spelling of these segments, which has so many bytes.
@@ -321,23 +372,12 @@ fn grown(
 {
     let len = longer_len(segments, text, kind, value)?;
     let text = longer_text(alloc, segments, text, kind, value, len)?;
-    let mut longer = copied(alloc, segments, 1)?;
-    longer.push(Segment::new(alloc, kind, value)?)?;
+    let named = block_of(alloc, kind, value, CanonicalText::of(text))?;
+    let last = Segment {
+        named: Arc::try_clone(&named)?,
+    };
     Ok(UniqueId {
-        segments: longer,
-        text,
+        path: Path::longer(alloc, segments, last)?,
+        named,
     })
-}
-
-/// The same segments, with room for some more behind them.
-fn copied(alloc: Global, items: &[Segment], more: usize) -> Result<Vec<Segment>, AllocError>
-    requires few { length items.now ≤ 64 }
-    requires some { more ≤ 1 }
-    ensures { IfOk result (λ v. v.items ≡ items.now) }
-{
-    let mut copies = Vec::with_capacity(alloc, items.len() + more)?;
-    for item in items {
-        copies.push(item.copy()?)?;
-    }
-    Ok(copies)
 }

@@ -1,7 +1,8 @@
 -- The longer id is sound: its text was made for its segments, and nothing refused it.
 use Rattle.std.proofs.Common.{◌≡◌, ◌+◌, ◌++◌, ◌∷◌, [], length, None, arith, ap, sym, ◌∙◌, length-append}
-use Rattle.std.proofs.lemmas.Grind.{common_steps}
 use Rattle.std.proofs.lemmas.List.Elements.{All-push, All-same}
+use Rattle.std.specs.Arc.{arc_value}
+use Rattle.unique_id.specs.declared.unique_id.Named.{Named}
 use Rattle.unique_id.specs.declared.unique_id.Segment.{Segment}
 use Rattle.unique_id.specs.Segments.{IsWhole, IsText}
 use Rattle.unique_id.specs.Spelling.{spelling, refusal}
@@ -12,16 +13,19 @@ pub invariant_of-result : goal.invariant_of-result
 invariant_of-result c =
     let old = c.args.segments.now in
     let new : Segment = record { kind = c.args.kind.now; value = c.args.value.now } in
-    let none : refusal old new.kind new.value ≡ None = grind (arith, common_steps) in
+    let path = c.in_ok-longer.field-0 in
+    let none : refusal old new.kind new.value ≡ None = c.in_ok-len.ensures.accepted in
     let fine = accepted old new.kind new.value none in
-    let items : c.push.new.self.items ≡ old ++ new ∷ [] = grind (arith, common_steps) in
-    let count : length c.push.new.self.items ≡ length old + 1 = ap length items ∙ length-append old (new ∷ []) in
-    let spelled : spelling c.push.new.self.items ≡ spelling (old ++ new ∷ []) = ap spelling items in
+    let block : arc_value c.in_ok-named.named ≡ record { parts = new; text = c.of.result } = c.in_ok-named.ensures in
+    let last : arc_value c.in_ok-try_clone.field-0 ≡ record { parts = new; text = c.of.result } = c.in_ok-try_clone.ensures ∙ block in
+    let items : path ≡ old ++ new ∷ [] = c.in_ok-longer.ensures ∙ ap (λ (n : Named). old ++ n.parts ∷ []) last in
+    let count : length path ≡ length old + 1 = ap length items ∙ length-append old (new ∷ []) in
+    let spelled : spelling path ≡ spelling (old ++ new ∷ []) = ap spelling items in
     record {
-      text = c.in_ok-text.ensures ∙ sym spelled;
+      text = ap (λ (n : Named). n.text) block ∙ c.of.ensures ∙ c.in_ok-text.ensures ∙ sym spelled;
       some_segment = omega arith;
       few = omega (arith, fine.few);
-      whole = All-same IsWhole c.push.new.self.items (old ++ new ∷ []) items (All-push IsWhole old new c.requires.whole (fine.some_kind, fine.some_value));
-      texts = All-same IsText c.push.new.self.items (old ++ new ∷ []) items (All-push IsText old new c.requires.texts (record { kind = c.utf8.kind; value = c.utf8.value }));
+      whole = All-same IsWhole path (old ++ new ∷ []) items (All-push IsWhole old new c.requires.whole (fine.some_kind, fine.some_value));
+      texts = All-same IsText path (old ++ new ∷ []) items (All-push IsText old new c.requires.texts (record { kind = c.utf8.kind; value = c.utf8.value }));
       short = omega (arith, fine.short, ap length spelled);
     }

@@ -43,3 +43,14 @@ returns-clause-accepted c =
     let written : length (spelled_segment c.as_bytes.result.now c.as_bytes-2.result.now) ≡ length (spelled_segment new.kind new.value) =
     ap (λ k. length (spelled_segment k c.as_bytes-2.result.now)) c.as_bytes.ensures.value ∙ ap (λ v. length (spelled_segment new.kind v)) c.as_bytes-2.ensures.value in
     fits xs new.kind new.value kind value (omega arith) (omega (arith, more, ap length c.requires.spelled, c.segment_len.ensures.spelled, written))
+
+pub returns-clause-len : goal.returns-clause-len
+returns-clause-len c =
+    let xs = c.args.segments.now in
+    let new : Segment = record { kind = c.args.kind.now; value = c.args.value.now } in
+    let none : length xs ≡ 0 → c.from-slash.result ≡ 0 = λ h. grind (arith, nat_tests) in
+    let some : 0 < length xs → c.from-slash.result ≡ 1 = λ h. grind (arith, nat_tests) in
+    let more = length_more xs c.from-slash.result new none some in
+    let written : length (spelled_segment c.as_bytes.result.now c.as_bytes-2.result.now) ≡ length (spelled_segment new.kind new.value) =
+    ap (λ k. length (spelled_segment k c.as_bytes-2.result.now)) c.as_bytes.ensures.value ∙ ap (λ v. length (spelled_segment new.kind v)) c.as_bytes-2.ensures.value in
+    omega (arith, more, ap length c.requires.spelled, c.segment_len.ensures.spelled, written)

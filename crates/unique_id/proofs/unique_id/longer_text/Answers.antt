@@ -1,25 +1,16 @@
--- The longer text is the old one, a slash where a segment stands before, and the segment's spelling.
-use Rattle.std.proofs.Common.{◌≡◌, ◌<◌, length, ◌++◌, ◌∷◌, [], ◌∙◌, sym, ap, append_assoc, arith, string_bytes}
-use Rattle.std.proofs.lemmas.Bool.Decides.{nat_tests}
+-- The segment goes behind what stands before it.
+use Rattle.std.proofs.Common.{length, ◌∙◌, ap, arith, string_bytes, length-append}
 use Rattle.unique_id.specs.declared.unique_id.Segment.{Segment}
-use Rattle.unique_id.specs.Spelling.{spelling, spelled_segment}
-use Rattle.unique_id.proofs.Spellings.{spelling_more, spelling_first}
-use Rattle.unique_id.proofs.unique_id.longer_text.Goals.{then-not-is_empty+in_ok-push_str-2, else-not-is_empty}
+use Rattle.unique_id.specs.Spelling.{spelled_segment}
 use Rattle.unique_id.proofs.unique_id.longer_text.Goals as goal
+
+pub push_segment_up_to-requires-clause-len : goal.push_segment_up_to-requires-clause-len
+push_segment_up_to-requires-clause-len c =
+    let new : Segment = record { kind = c.args.kind.now; value = c.args.value.now } in
+    let both = c.in_ok-longer.ensures new in
+    omega (arith, c.requires.len, ap length both, length-append (string_bytes c.in_ok-longer.longer) (spelled_segment new.kind new.value))
 
 pub returns : goal.returns
 returns c =
-    let segments = c.args.segments.now in
     let new : Segment = record { kind = c.args.kind.now; value = c.args.value.now } in
-    let written = spelled_segment new.kind new.value in
-    let copy : string_bytes c.push_str.new.self ≡ spelling segments = c.in_ok-push_str.ensures.bytes ∙ ap (λ l. l ++ c.args.text.now) c.in_ok-longer.ensures.bytes ∙ c.requires in
-    elim c.if-not-is_empty.branch [
-      | then-not-is_empty+in_ok-push_str-2 w ↦
-          let some : 0 < length segments = grind (arith, nat_tests, w.if-not-is_empty.ensures) in
-          let before : string_bytes c.if-not-is_empty.longer ≡ spelling segments ++ 47 ∷ [] = ap string_bytes w.longer-is ∙ w.in_ok-push_str-2.ensures.bytes ∙ ap (λ l. l ++ 47 ∷ []) copy in
-          c.in_ok-push_segment.ensures ∙ ap (λ l. l ++ written) before ∙ append_assoc (spelling segments) (47 ∷ []) written ∙ sym (spelling_more segments new some)
-      | else-not-is_empty w ↦
-          let none : length segments ≡ 0 = grind (arith, nat_tests, w.if-not-is_empty.ensures) in
-          let before : string_bytes c.if-not-is_empty.longer ≡ spelling segments = ap string_bytes w.longer-is ∙ copy in
-          c.in_ok-push_segment.ensures ∙ ap (λ l. l ++ written) before ∙ sym (spelling_first segments new none)
-    ]
+    c.in_ok-push_segment_up_to.ensures ∙ c.in_ok-longer.ensures new

@@ -1,21 +1,24 @@
 -- The copy is sound as the id itself is.
-use Rattle.std.proofs.Common.{◌≡◌, length, ap, sym, ◌∙◌, arith}
+use Rattle.std.proofs.Common.{◌≡◌, length, ap, sym, arith}
+use Rattle.std.proofs.lemmas.Grind.{common_steps}
 use Rattle.std.proofs.lemmas.List.Elements.{All-same}
+use Rattle.std.specs.Arc.{arc_value}
 use Rattle.unique_id.specs.Segments.{IsWhole, IsText}
 use Rattle.unique_id.specs.Spelling.{spelling}
 use Rattle.unique_id.proofs.unique_id.UniqueId.copy.Goals as goal
 
 pub invariant_of-result : goal.invariant_of-result
 invariant_of-result c =
-    let copy = c.in_ok-copied.field-0.items in
+    let copy = c.in_ok-longer.field-0 in
     let self = c.args.self.now in
-    let same : copy ≡ self = c.in_ok-copied.ensures ∙ c.segments.ensures.items in
+    let same : copy ≡ self = grind (arith, common_steps) in
     let spelled : spelling copy ≡ spelling self = ap spelling same in
+    let text : spelling copy ≡ (arc_value c.in_ok-try_clone.field-0).text = grind (arith, common_steps, spelled, c.self.invariant.text) in
     record {
-      text = c.in_ok-from_str.ensures.ok ∙ c.text.ensures.spelled ∙ sym spelled;
+      text = sym text;
       some_segment = omega (arith, ap length same, c.segments.ensures.some);
       few = omega (arith, ap length same, c.segments.ensures.few);
       whole = All-same IsWhole copy self same c.segments.ensures.whole;
       texts = All-same IsText copy self same c.segments.ensures.texts;
-      short = omega (arith, ap length spelled, ap length c.text.ensures.spelled, c.text.ensures.short);
+      short = omega (arith, ap length spelled, ap (λ p. length (spelling p)) c.self.view_is, c.self.invariant.short);
     }

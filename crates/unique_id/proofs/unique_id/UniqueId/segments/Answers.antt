@@ -6,5 +6,5 @@ use Rattle.unique_id.proofs.unique_id.UniqueId.segments.Goals as goal
 
 pub returns-clause-texts : goal.returns-clause-texts
 returns-clause-texts c =
-    let same : c.args.self.now ≡ c.self.inside.segments.items = cc in
-    All-same IsText c.args.self.now c.self.inside.segments.items same c.self.invariant.texts
+    let same : c.args.self.now ≡ c.self.inside.path = cc in
+    All-same IsText c.args.self.now c.self.inside.path same c.self.invariant.texts

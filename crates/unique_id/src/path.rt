@@ -1,0 +1,94 @@
+//! The segments of a unique id.
+
+ghost use Rattle.std.specs.Prelude.{◌≡◌, ◌≤◌, ◌++◌, ◌∷◌, [], length, IfOk};
+
+use crate::unique_id::Segment;
+use std::alloc::{AllocError, Global};
+use std::marker::Model;
+
+/// The segments from the root down.
+#[derive(Debug, Drop)]
+enum Steps {
+    One([Segment; 1]),
+    Two([Segment; 2]),
+    Three([Segment; 3]),
+    Four([Segment; 4]),
+    Many(Vec<Segment>),
+}
+
+/// The segments of a unique id, from the root down. Up to four take no memory of their own.
+#[derive(Debug, Drop)]
+pub struct Path {
+    steps: Steps,
+}
+
+impl Model for Path {
+    ghost use Rattle.std.specs.Prelude.{List};
+    ghost use Rattle.unique_id.specs.Paths.{steps_of};
+    ghost use Rattle.unique_id.specs.declared.unique_id.Segment.{Segment};
+
+    ghost Value = { List Segment };
+
+    ghost view = { λ p. steps_of p.steps };
+}
+
+impl Path {
+    /// These segments.
+    pub fn of(segments: Vec<Segment>) -> Path
+        ensures { result ≡ segments.items }
+    {
+        Path {
+            steps: Steps::Many(segments),
+        }
+    }
+
+    /// These segments, and one more behind them.
+    pub fn longer(alloc: Global, front: &[Segment], last: Segment) -> Result<Path, AllocError>
+        requires { length front.now ≤ 64 }
+        ensures { IfOk result (λ path. path ≡ front.now ++ last ∷ []) }
+    {
+        let steps = match front {
+            [] => Steps::One([last]),
+            [one] => Steps::Two([one.copy()?, last]),
+            [one, two] => Steps::Three([one.copy()?, two.copy()?, last]),
+            [one, two, three] => Steps::Four([one.copy()?, two.copy()?, three.copy()?, last]),
+            _ => Steps::Many(with_last(alloc, front, last)?),
+        };
+        Ok(Path { steps })
+    }
+
+    /// The segments.
+    pub fn as_slice(&self) -> &[Segment]
+        ensures { result.now ≡ self.now }
+    {
+        match &self.steps {
+            Steps::One(segments) => segments,
+            Steps::Two(segments) => segments,
+            Steps::Three(segments) => segments,
+            Steps::Four(segments) => segments,
+            Steps::Many(segments) => segments.as_slice(),
+        }
+    }
+}
+
+/// Copies of these segments, with room for one more behind them.
+fn copied(alloc: Global, segments: &[Segment]) -> Result<Vec<Segment>, AllocError>
+    requires { length segments.now ≤ 64 }
+    ensures { IfOk result (λ v. v.items ≡ segments.now) }
+{
+    let mut copies = Vec::with_capacity(alloc, segments.len() + 1)?;
+    for segment in segments {
+        copies.push(segment.copy()?)?;
+    }
+    Ok(copies)
+}
+
+/// Copies of these segments, and one more behind them.
+fn with_last(alloc: Global, front: &[Segment], last: Segment) -> Result<Vec<Segment>, AllocError>
+    requires { length front.now ≤ 64 }
+    ensures { IfOk result (λ v. v.items ≡ front.now ++ last ∷ []) }
+{
+    let mut segments = copied(alloc, front)?;
+    segments.push(last)?;
+    Ok(segments)
+}
