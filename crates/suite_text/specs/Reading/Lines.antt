@@ -41,7 +41,10 @@ begins_with_sign (byte ∷ bytes) = is_number_sign byte
 abbrev pub says_nothing : List ℕ → Bool
 says_nothing line = begins_with_sign line || (length (without_front line) == 0)
 
--- the level of a line, two spaces each; a deeper one than this may not stand there
+-- the level of a line with so many spaces in front, two for each; a deeper one than this may not stand there
+abbrev pub level_by : ℕ → ℕ → ℕ → Result ℕ SuiteFault
+level_by number deepest spaces = if not (spaces % 2 == 0) || nat_lt deepest (spaces / 2) then Err (BadIndent number) else Ok (spaces / 2)
+
+-- the level of a line
 abbrev pub level_of : ℕ → ℕ → List ℕ → Result ℕ SuiteFault
-level_of number deepest line =
-    if not (indentation_of line % 2 == 0) || nat_lt deepest (indentation_of line / 2) then Err (BadIndent number) else Ok (indentation_of line / 2)
+level_of number deepest line = level_by number deepest (indentation_of line)

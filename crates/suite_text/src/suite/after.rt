@@ -5,7 +5,7 @@ ghost use Rattle.suite_text.specs.Reading.After.{after_said};
 ghost use Rattle.suite_text.specs.Reading.Faults.{Gives};
 
 use crate::suite::fault::SuiteFault;
-use crate::suite::lines::word_and_text;
+use crate::suite::lines::{between_spaces, next_word};
 use crate::suite::verdicts::{status_of, verdict_in};
 use crate::suite::words::Word;
 use plan_events::Status;
@@ -16,7 +16,8 @@ pub(crate) fn after_in<'a>(number: usize, rest: &'a str) -> Result<(Status, &'a 
     ensures exact { Gives (λ said. (said.0, said.1.now)) result (after_said number rest.now) }
     ensures real { IfErr result (λ fault. fault ≢ SuiteFault.NoMemory) }
 {
-    let (first, text) = word_and_text(rest);
+    let (first, rest) = next_word(rest);
+    let text = between_spaces(rest);
     match status_of(verdict_in(number, Word::Test, first, text)?) {
         Some(status) => Ok((status, text)),
         None => Err(SuiteFault::BadLine(number)),

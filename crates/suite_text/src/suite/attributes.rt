@@ -1,13 +1,13 @@
 //! The attributes of a line, which stand before its verdict.
 
-ghost use Rattle.std.specs.Prelude.{◌≡◌, ◌≢◌, OnOk, IfErr, Ok, Some, None};
+ghost use Rattle.std.specs.Prelude.{◌≡◌, ◌≢◌, OnOk, IfOk, IfErr, Ok, Some, None};
 ghost use Rattle.std.specs.List.{Contains};
 ghost use Rattle.suite_text.specs.Grammar.{attributes, attribute_text, bearer};
 ghost use Rattle.suite_text.specs.Reading.Attributes.{after_sign, declaration_in, attribute_of, no_attributes};
 ghost use Rattle.suite_text.specs.Reading.Attributes.{with_tag_of, with_spin_of, with_pulls_of, with_mode};
 ghost use Rattle.suite_text.specs.Reading.Attributes.{with_attribute, attributes_of, spin_said, pulls_said};
 ghost use Rattle.suite_text.specs.Reading.Faults.{Fails, Gives};
-ghost use Rattle.suite_text.specs.Reading.Lines.{first_word};
+ghost use Rattle.suite_text.specs.Reading.Lines.{first_word, after_word};
 ghost use Rattle.suite_text.specs.declared.suite.attributes.Attribute.{Attribute};
 ghost use Rattle.tag_expr.specs.Tags.{tag_refusal};
 
@@ -266,12 +266,16 @@ fn after_sign(text: &str) -> &str
     }
 }
 
-/// The attribute that the first word of a text is, where a node of this word may have it.
-fn first_attribute(word: Word, text: &str) -> Option<Attribute>
-    ensures { result ≡ attribute_of word (first_word text.now) }
-{
-    let (first, _) = next_word(text);
-    Attribute::of(word, first)
+/// What the attributes at the front of a text say, and what follows them.
+#[derive(Drop)]
+pub(crate) struct AttributesRead<'a> {
+    pub(crate) attributes: Attributes,
+    /// What follows the attributes.
+    pub(crate) rest: &'a str,
+    /// The first word of that.
+    pub(crate) first: &'a str,
+    /// What follows that word.
+    pub(crate) after: &'a str,
 }
 
 /// What the attributes at the front of a text say, and what follows them.
@@ -280,15 +284,23 @@ pub(crate) fn attributes_in<'a>(
     number: usize,
     word: Word,
     text: &'a str,
-) -> Result<(Attributes, &'a str), SuiteFault>
-    ensures { Gives (λ read. (read.0, read.1.now)) result (attributes_of number word text.now) }
+) -> Result<AttributesRead<'a>, SuiteFault>
+    ensures exact { Gives (λ read. (read.attributes, read.rest.now)) result (attributes_of number word text.now) }
+    ensures first { IfOk result (λ read. read.first.now ≡ first_word read.rest.now) }
+    ensures after { IfOk result (λ read. read.after.now ≡ after_word read.rest.now) }
 {
-    let mut said = Attributes::none(alloc);
-    let mut left = text;
-    while let Some(attribute) = first_attribute(word, left) {
-        let (first, after) = next_word(left);
-        said.add(alloc, number, attribute, first)?;
-        left = after;
+    let mut attributes = Attributes::none(alloc);
+    let mut rest = text;
+    let (mut first, mut after) = next_word(rest);
+    while let Some(attribute) = Attribute::of(word, first) {
+        attributes.add(alloc, number, attribute, first)?;
+        rest = after;
+        (first, after) = next_word(rest);
     }
-    Ok((said, left))
+    Ok(AttributesRead {
+        attributes,
+        rest,
+        first,
+        after,
+    })
 }

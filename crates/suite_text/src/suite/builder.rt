@@ -8,7 +8,7 @@ use crate::suite::Suite;
 use crate::suite::after::after_in;
 use crate::suite::fault::SuiteFault;
 use crate::suite::line_word::LineWord;
-use crate::suite::lines::{level_at, next_word, without_front};
+use crate::suite::lines::{indentation, level_at, next_word, says_nothing};
 use crate::suite::properties::{is_property, put_property};
 use crate::suite::pulls::{Pending, all_settled, lines_below};
 use crate::suite::words::{Declared, Word, declared_as};
@@ -200,6 +200,7 @@ fn node_or_plan(opened: Option<Opened>) -> NodeId
 impl SuiteBuilder {
     ghost use Rattle.suite_text.specs.Reading.Parts.{no_lines};
     ghost use Rattle.suite_text.specs.Reading.Ids.{IdsFollow};
+    ghost use Rattle.suite_text.specs.Reading.Lines.{indentation_of};
     ghost use Rattle.suite_text.specs.Reading.Nodes.{node_on, is_over_limit_on};
     ghost use Rattle.suite_text.specs.Reading.Faults.{Fails, Gives};
     ghost use Rattle.suite_text.specs.Reading.After.{class_of, after_body, with_after_body, with_after_line};
@@ -427,12 +428,19 @@ impl SuiteBuilder {
         }
     }
 
-    /// Reads a line of words: a property's, an after-body's or a node's.
-    fn read_words(&mut self, alloc: Global, number: usize, line: &str) -> Result<(), SuiteFault>
+    /// Reads a line of words with so many spaces in front: a property's, an after-body's or a node's.
+    fn read_words(
+        &mut self,
+        alloc: Global,
+        number: usize,
+        indentation: usize,
+        line: &str,
+    ) -> Result<(), SuiteFault>
+        requires { indentation ≡ indentation_of line.now }
         ensures added { OnOk result (with_words number self.old line.now ≡ Ok self.new) }
         ensures refused { IfErr result (λ fault. Fails fault (with_words number self.old line.now)) }
     {
-        let level = level_at(number, self.levels(), line)?;
+        let level = level_at(number, self.levels(), indentation)?;
         if self.is_property(line) {
             return put_property(alloc, &mut self.properties, number, line);
         }
@@ -456,10 +464,11 @@ impl SuiteBuilder {
         ensures added { OnOk result (with_line number self.old line.now ≡ Ok self.new) }
         ensures refused { IfErr result (λ fault. Fails fault (with_line number self.old line.now)) }
     {
-        if line.starts_with('#') || without_front(line).is_empty() {
+        let indentation = indentation(line);
+        if says_nothing(indentation, line) {
             return Ok(());
         }
-        self.read_words(alloc, number, line)
+        self.read_words(alloc, number, indentation, line)
     }
 
     /// What the lines have made.

@@ -1,11 +1,11 @@
 //! The lines of a suite text, and the indentation, the words and the end of one.
 
-ghost use Rattle.std.specs.Prelude.{◌≡◌, ◌≢◌, ◌≤◌, IfOk, IfErr};
+ghost use Rattle.std.specs.Prelude.{◌≡◌, ◌≢◌, ◌≤◌, ◌==◌, IfOk, IfErr, length};
 ghost use Rattle.std.specs.List.{before_first, after_first};
 ghost use Rattle.std.specs.Str.Lines.{lines};
 ghost use Rattle.suite_text.specs.Words.{is_space};
-ghost use Rattle.suite_text.specs.Reading.Lines.{without_front, without_end, first_word, after_word, text_after_word};
-ghost use Rattle.suite_text.specs.Reading.Lines.{indentation_of, level_of};
+ghost use Rattle.suite_text.specs.Reading.Lines.{without_front, without_end, first_word, after_word};
+ghost use Rattle.suite_text.specs.Reading.Lines.{indentation_of, level_by, says_nothing};
 ghost use Rattle.unique_id.specs.Answers.{texts};
 ghost use Rattle.suite_text.specs.Reading.Faults.{Gives};
 
@@ -20,7 +20,7 @@ pub(crate) fn lines_in(alloc: Global, text: &str) -> Result<Vec<&str>, AllocErro
 }
 
 /// The text without the spaces in front.
-pub(crate) fn without_front(text: &str) -> &str
+fn without_front(text: &str) -> &str
     ensures { result.now ≡ without_front text.now }
 {
     let mut left = text;
@@ -39,6 +39,13 @@ fn without_end(text: &str) -> &str
         left = shorter;
     }
     left
+}
+
+/// The text without the spaces at its ends.
+pub(crate) fn between_spaces(text: &str) -> &str
+    ensures { result.now ≡ without_end (without_front text.now) }
+{
+    without_end(without_front(text))
 }
 
 /// The text up to its first space, and what follows that space.
@@ -60,18 +67,8 @@ pub(crate) fn next_word(text: &str) -> (&str, &str)
     cut_at_space(without_front(text))
 }
 
-/// The first word of a text, empty where there is none, and what follows it, without the spaces
-/// at its ends.
-pub(crate) fn word_and_text(text: &str) -> (&str, &str)
-    ensures word { result.0.now ≡ first_word text.now }
-    ensures text { result.1.now ≡ text_after_word text.now }
-{
-    let (word, rest) = next_word(text);
-    (word, without_end(without_front(rest)))
-}
-
 /// The number of spaces that a line begins with.
-fn indentation(line: &str) -> usize
+pub(crate) fn indentation(line: &str) -> usize
     ensures { result ≡ indentation_of line.now }
 {
     line.as_bytes()
@@ -80,13 +77,32 @@ fn indentation(line: &str) -> usize
         .count()
 }
 
-/// The level of a line, of which no more than this one may stand there.
-pub(crate) fn level_at(number: usize, deepest: usize, line: &str) -> Result<usize, SuiteFault>
-    ensures exact { Gives (λ level. level) result (level_of number deepest line.now) }
+/// Whether a line with so many spaces in front has nothing behind them.
+fn is_blank(indentation: usize, line: &str) -> bool
+    requires { indentation ≡ indentation_of line.now }
+    ensures { result ≡ (length (without_front line.now) == 0) }
+{
+    indentation == line.len()
+}
+
+/// Whether a line with so many spaces in front is passed over.
+pub(crate) fn says_nothing(indentation: usize, line: &str) -> bool
+    requires { indentation ≡ indentation_of line.now }
+    ensures { result ≡ says_nothing line.now }
+{
+    line.starts_with('#') || is_blank(indentation, line)
+}
+
+/// The level of a line with so many spaces in front, of which no more than this one may stand there.
+pub(crate) fn level_at(
+    number: usize,
+    deepest: usize,
+    indentation: usize,
+) -> Result<usize, SuiteFault>
+    ensures exact { Gives (λ level. level) result (level_by number deepest indentation) }
     ensures within { IfOk result (λ level. level ≤ deepest) }
     ensures real { IfErr result (λ fault. fault ≢ SuiteFault.NoMemory) }
 {
-    let indentation = indentation(line);
     if indentation % 2 != 0 || deepest < indentation / 2 {
         return Err(SuiteFault::BadIndent(number));
     }

@@ -5,14 +5,15 @@ ghost use Rattle.std.specs.List.{Contains};
 ghost use Rattle.suite_text.specs.Reading.Words.{word_of, may_stand, placed, with_verdict, with_attributes};
 ghost use Rattle.suite_text.specs.Reading.Words.{with_name, declared_as, declaration_of};
 ghost use Rattle.suite_text.specs.Reading.Faults.{Gives};
+ghost use Rattle.suite_text.specs.Reading.Lines.{first_word, after_word};
 ghost use Rattle.suite_text.specs.Grammar.{words};
 ghost use Rattle.suite_text.specs.Writing.Lines.{word_text};
 ghost use Rattle.suite_text.specs.declared.suite.words.Word.{Word};
 
 use crate::script::Script;
-use crate::suite::attributes::{Attribute, Attributes, attributes_in};
+use crate::suite::attributes::{Attribute, Attributes, AttributesRead, attributes_in};
 use crate::suite::fault::SuiteFault;
-use crate::suite::lines::{next_word, word_and_text};
+use crate::suite::lines::{between_spaces, next_word};
 use crate::suite::pulls::Pending;
 use crate::suite::verdicts::{Verdict, status_of, verdict_in};
 use descriptor::{BodyId, Kind, Role};
@@ -89,11 +90,12 @@ impl Word {
         ensures { result ≡ word_of text.now }
     {
         match text {
-            ENGINE => Some(Word::Engine),
-            CLASS => Some(Word::Class),
+            // most lines are a test's
             TEST => Some(Word::Test),
+            CLASS => Some(Word::Class),
             FACTORY => Some(Word::Factory),
             DYN => Some(Word::Dyn),
+            ENGINE => Some(Word::Engine),
             _ => None,
         }
     }
@@ -246,18 +248,20 @@ fn with_verdict<'a>(
     number: usize,
     word: Word,
     name: &'a str,
-    attributes: Attributes,
-    rest: &'a str,
+    read: AttributesRead<'a>,
 ) -> Result<Declared<'a>, SuiteFault>
-    ensures exact { Gives declaration_of result (with_verdict number word name.now attributes rest.now) }
+    requires first { read.first.now ≡ first_word read.rest.now }
+    requires after { read.after.now ≡ after_word read.rest.now }
+    ensures exact { Gives declaration_of result (with_verdict number word name.now read.entry.attributes
+        read.entry.rest.now) }
     ensures real { IfErr result (λ fault. fault ≢ SuiteFault.NoMemory) }
 {
-    let (first, text) = word_and_text(rest);
-    let verdict = verdict_in(number, word, first, text)?;
+    let text = between_spaces(read.after);
+    let verdict = verdict_in(number, word, read.first, text)?;
     Ok(Declared {
         word,
         name,
-        attributes,
+        attributes: read.attributes,
         verdict,
         text,
     })
@@ -273,8 +277,8 @@ fn with_attributes<'a>(
 ) -> Result<Declared<'a>, SuiteFault>
     ensures { Gives declaration_of result (with_attributes number word name.now rest.now) }
 {
-    let (attributes, rest) = attributes_in(alloc, number, word, rest)?;
-    with_verdict(number, word, name, attributes, rest)
+    let read = attributes_in(alloc, number, word, rest)?;
+    with_verdict(number, word, name, read)
 }
 
 /// The node of this word, with the name and all else that is left of its line.

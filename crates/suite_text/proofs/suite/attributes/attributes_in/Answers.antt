@@ -1,5 +1,5 @@
 -- Each turn of the loop takes one attribute off the front.
-use Rattle.std.proofs.Common.{◌≡◌, List, ℕ, Some, Ok, rules, sym, ap, subst, ◌∙◌}
+use Rattle.std.proofs.Common.{◌≡◌, List, ℕ, Some, None, Ok, rules, sym, ap, subst, ◌∙◌}
 use Rattle.std.proofs.lemmas.Result.{err_from_is_err_and}
 use Rattle.suite_text.specs.Reading.Attributes.{attribute_of, with_attribute, attributes_from}
 use Rattle.suite_text.specs.Reading.Faults.{Fails}
@@ -11,28 +11,41 @@ use Rattle.suite_text.proofs.suite.attributes.attributes_in.Goals as goal
 
 pub loop-attribute-preserved : goal.loop-attribute-preserved
 loop-attribute-preserved c =
-    let said = c.loop-attribute.said in
-    let left = c.loop-attribute.left.now in
-    let is : attribute_of c.args.word (first_word left) ≡ Some c.in-Some.attribute = sym c.first_attribute.ensures ∙ c.in-Some.is in
-    let added : with_attribute c.args.number said (first_word left) c.in-Some.attribute ≡ Ok c.add.new.self =
-    ap (λ (x : List ℕ). with_attribute c.args.number said x c.in-Some.attribute) (sym c.next_word.ensures.word) ∙ c.in_ok-add.ensures.added in (
-      ap (λ (x : List ℕ). attributes_from c.args.number c.args.word c.add.new.self (words_in x) x) c.next_word.ensures.rest
-          ∙ next_read c.args.number c.args.word said left c.in-Some.attribute is c.add.new.self added
-          ∙ c.loop-attribute.invariant.0,
+    let said = c.loop-attribute.attributes in
+    let rest = c.loop-attribute.rest.now in
+    let inv = c.loop-attribute.invariant in
+    let is : attribute_of c.args.word (first_word rest) ≡ Some c.in-Some.attribute = ap (attribute_of c.args.word) (sym inv.1) ∙ sym c.of.ensures ∙ c.in-Some.is in
+    let added : with_attribute c.args.number said (first_word rest) c.in-Some.attribute ≡ Ok c.add.new.self =
+    ap (λ (x : List ℕ). with_attribute c.args.number said x c.in-Some.attribute) (sym inv.1) ∙ c.in_ok-add.ensures.added in (
+      ap (λ (x : List ℕ). attributes_from c.args.number c.args.word c.add.new.self (words_in x) x) inv.2
+          ∙ next_read c.args.number c.args.word said rest c.in-Some.attribute is c.add.new.self added
+          ∙ inv.0,
+      c.next_word-in-Some.ensures.word,
+      c.next_word-in-Some.ensures.rest,
+      search rules,
+      search rules,
       search rules,
     )
 
 pub returns-in_err-add : goal.returns-in_err-add
 returns-in_err-add c =
-    let said = c.loop-attribute.said in
-    let left = c.loop-attribute.left.now in
+    let said = c.loop-attribute.attributes in
+    let rest = c.loop-attribute.rest.now in
+    let inv = c.loop-attribute.invariant in
     let fault = c.in_err-add.field-0.0 in
-    let is : attribute_of c.args.word (first_word left) ≡ Some c.in-Some.attribute = sym c.first_attribute.ensures ∙ c.in-Some.is in
-    let fails : Fails fault (with_attribute c.args.number said (first_word left) c.in-Some.attribute) =
-    subst (λ (x : List ℕ). Fails fault (with_attribute c.args.number said x c.in-Some.attribute)) c.next_word.ensures.word c.in_err-add.ensures.refused in
+    let is : attribute_of c.args.word (first_word rest) ≡ Some c.in-Some.attribute = ap (attribute_of c.args.word) (sym inv.1) ∙ sym c.of.ensures ∙ c.in-Some.is in
+    let fails : Fails fault (with_attribute c.args.number said (first_word rest) c.in-Some.attribute) =
+    subst (λ (x : List ℕ). Fails fault (with_attribute c.args.number said x c.in-Some.attribute)) inv.1 c.in_err-add.ensures.refused in
     let p = err_from_is_err_and c.from_residual.result c.from_residual.ensures.1 in
-    rw (p.1, p.2) (fails_as fault _ _ c.loop-attribute.invariant.0 (breaks_off c.args.number c.args.word said left c.in-Some.attribute is fault fails))
+    let all = fails_as fault _ _ inv.0 (breaks_off c.args.number c.args.word said rest c.in-Some.attribute is fault fails) in
+    rw (p.1, p.2) (record { exact = all; first = search rules; after = search rules })
 
 pub returns : goal.returns
 returns c =
-    sym c.loop-attribute.invariant.0 ∙ at_end c.args.number c.args.word c.loop-attribute.said c.loop-attribute.left.now (sym c.first_attribute.ensures ∙ c.in_default.is)
+    let inv = c.loop-attribute.invariant in
+    let none : attribute_of c.args.word (first_word c.loop-attribute.rest.now) ≡ None = ap (attribute_of c.args.word) (sym inv.1) ∙ sym c.of.ensures ∙ c.in_default.is in
+    record {
+      exact = sym inv.0 ∙ at_end c.args.number c.args.word c.loop-attribute.attributes c.loop-attribute.rest.now none;
+      first = inv.1;
+      after = inv.2;
+    }

@@ -1,13 +1,17 @@
--- What is left, after the attributes so far, gives what the whole text gives.
+-- What is left, after the attributes so far, gives what the whole text gives, and its first word was cut off.
 use Rattle.std.proofs.Common.{◌≡◌, length}
 use denote.Shadow.{shadow}
 use denote.Text.{Utf8}
 use Rattle.suite_text.specs.Reading.Attributes.{attributes_from, attributes_of}
+use Rattle.suite_text.specs.Reading.Lines.{first_word, after_word}
 use Rattle.suite_text.specs.Words.{words_in}
 use Rattle.suite_text.proofs.suite.attributes.attributes_in.Given as goal
 
 abbrev pub invariant-loop-attribute : goal.invariant-loop-attribute
-invariant-loop-attribute l = (attributes_from l.number l.word l.said (words_in l.left) l.left ≡ attributes_of l.number l.word l.text) × shadow (Utf8 l.left)
+invariant-loop-attribute l =
+    (attributes_from l.number l.word l.attributes (words_in l.rest) l.rest ≡ attributes_of l.number l.word l.text)
+    × (l.first ≡ first_word l.rest) × (l.after ≡ after_word l.rest)
+    × shadow (Utf8 l.rest) × shadow (Utf8 l.first) × shadow (Utf8 l.after)
 
 abbrev pub decreases-loop-attribute : goal.decreases-loop-attribute
-decreases-loop-attribute l = length l.left
+decreases-loop-attribute l = length l.rest
