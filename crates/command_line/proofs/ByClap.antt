@@ -1,5 +1,5 @@
 -- From what clap found to what the words give, and to why they are refused.
-use Rattle.std.proofs.Common.{◌≡◌, ◌≢◌, List, [], ◌∷◌, ◌⊎◌, inl, inr, true, Option, Some, Result, Ok, Err, IfErr, ap, sym, subst, ◌∙◌, refl}
+use Rattle.std.proofs.Common.{◌≡◌, ◌≢◌, ◌≤◌, List, [], ◌∷◌, length, arith, ◌⊎◌, inl, inr, true, Option, Some, Result, Ok, Err, IfErr, ap, sym, subst, ◌∙◌, refl}
 use Rattle.std.specs.Result.{IsErrAnd}
 use Rattle.clap.specs.Words.{App, HasMatchesOf, IsAmong, Kinds, Text, fault_of, found_of, is_simple, is_simple_and_free, matches_of, rows_of}
 use Rattle.clap.specs.declared.error.kind.ErrorKind.{ErrorKind}
@@ -11,7 +11,7 @@ use Rattle.launcher.specs.declared.fault.LaunchFault.TheVariants.{NoMemory, BadW
 use Rattle.command_line.specs.Words.{IsWordsFault}
 use Rattle.launcher.specs.Asked.{refusal_of}
 use Rattle.command_line.specs.Commands.{program}
-use Rattle.command_line.specs.Found.{values_in}
+use Rattle.command_line.specs.Found.{nothing_given, values_in}
 use Rattle.command_line.specs.Words.{values_given, where_faultless, words_refusal}
 
 program_is_simple : is_simple program ≡ true
@@ -21,6 +21,20 @@ program_is_simple = refl
 program_is_free : is_simple_and_free program ≡ true
 unfolding clap_on_literals
 program_is_free = refl
+
+-- the program's name alone gives no option
+pub no_option : (words : List Text) → length words ≤ 1 → nothing_given ≡ values_given words
+unfolding clap_on_literals
+no_option [] few = refl
+no_option (name ∷ []) few = refl
+no_option (name ∷ word ∷ more) few = absurd (omega arith)
+
+-- and is refused for nothing
+pub no_fault : (words : List Text) → length words ≤ 1 → fault_of program words ≡ []
+unfolding clap_on_literals
+no_fault [] few = refl
+no_fault (name ∷ []) few = refl
+no_fault (name ∷ word ∷ more) few = absurd (omega arith)
 
 -- what clap found is what the words give
 pub given_by : (app : App) (words : List Text) (m : ArgMatches) → app ≡ program → HasMatchesOf app words m → values_in (rows_of (found_of m)) ≡ values_given words

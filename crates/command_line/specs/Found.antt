@@ -53,3 +53,21 @@ values_in rows = record {
   fail_fast = is_found (codes "fail-fast") rows;
   schedule = is_found (codes "schedule") rows;
 }
+
+-- where no option is given
+abbrev pub nothing_given : Values
+nothing_given = record {
+  selectors = [];
+  include_tags = [];
+  exclude_tags = [];
+  config = [];
+  system = [];
+  processors = None;
+  ring = None;
+  details = None;
+  theme = None;
+  replay = None;
+  fail_if_no_tests = false;
+  fail_fast = false;
+  schedule = false;
+}

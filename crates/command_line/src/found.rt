@@ -3,7 +3,8 @@
 ghost use Rattle.std.specs.Prelude.{◌≡◌, ◌++◌, IfOk, OnOk, map, option_map};
 ghost use Rattle.clap.specs.Words.{all_of, found_of, first_of, rows_of};
 ghost use Rattle.launcher.specs.Given.{behind, texts_of, values_of};
-ghost use Rattle.command_line.specs.Found.{all_found as all_in, is_found, of_kind, selectors_found, values_in};
+ghost use Rattle.command_line.specs.Found.{all_found as all_in, is_found, nothing_given, of_kind};
+ghost use Rattle.command_line.specs.Found.{selectors_found, values_in};
 
 use clap::ArgMatches;
 use launcher::Given;
@@ -113,4 +114,25 @@ pub(crate) fn given_in<'a>(alloc: Global, matches: &ArgMatches<'a>) -> Result<Gi
         fail_fast: is_found(matches, FAIL_FAST),
         schedule: is_found(matches, SCHEDULE),
     })
+}
+
+/// Where no option is given.
+pub(crate) fn nothing_given<'a>(alloc: Global) -> Given<'a>
+    ensures { values_of result ≡ nothing_given }
+{
+    Given {
+        selectors: Vec::new(alloc),
+        include_tags: Vec::new(alloc),
+        exclude_tags: Vec::new(alloc),
+        config: Vec::new(alloc),
+        system: Vec::new(alloc),
+        processors: None,
+        ring: None,
+        details: None,
+        theme: None,
+        replay: None,
+        fail_if_no_tests: false,
+        fail_fast: false,
+        schedule: false,
+    }
 }

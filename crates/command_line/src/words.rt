@@ -9,7 +9,7 @@ ghost use Rattle.command_line.specs.Commands.{program};
 ghost use Rattle.command_line.specs.Found.{values_in};
 ghost use Rattle.command_line.specs.Words.{values_given, words_refusal, IsWordsFault, ReadsWords};
 
-use crate::found::given_in;
+use crate::found::{given_in, nothing_given};
 use crate::option_names::command;
 use clap::ArgMatches;
 use clap::error::ErrorKind;
@@ -40,20 +40,23 @@ fn matches_of<'a>(alloc: Global, words: &'a [String]) -> Result<ArgMatches<'a>, 
     }
 }
 
-/// What the words give the options, each value as text.
+/// What the words give the options, each value as text. Clap is not asked where there is none but the program's name.
 pub(crate) fn given_by<'a>(alloc: Global, words: &'a [String]) -> Result<Given<'a>, LaunchFault>
     ensures given { IfOk result (λ given. values_of given ≡ values_given (map string_bytes words.entry.now)) }
     ensures accepted { IfOk result (λ _. fault_of program (map string_bytes words.entry.now) ≡ []) }
     ensures refused { IfErr result (λ fault. fault ≢ NoMemory → (fault ≡ LaunchFault.BadWords)
         × (fault_of program (map string_bytes words.entry.now) ≢ [])) }
 {
+    if words.len() <= 1 {
+        return Ok(nothing_given(alloc));
+    }
     let matches = matches_of(alloc, words)?;
     Ok(given_in(alloc, &matches)?)
 }
 
 /// The options that the words give. The first word is the program's name, whatever it is. Words
 /// that clap refuses are refusal 105; others ask for what `Options::of` says, and are refused as it
-/// says. Clap takes memory before it judges any word, so its want of memory may stand in place of
+/// says. Clap takes memory before it judges any other word, so its want of memory may stand in place of
 /// each of these refusals.
 pub fn read_options(alloc: Global, words: &[String]) -> Result<Options, LaunchFault>
     ensures asked { IfOk result (λ options. AreAsked (values_given (map string_bytes words.now)) (asked_by options)) }
