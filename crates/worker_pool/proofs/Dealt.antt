@@ -1,0 +1,81 @@
+-- A desk at which seats were dealt is as ready as before, and of a run from there on the same is known as from before.
+use Rattle.std.proofs.Common.{◌≡◌, ◌∙◌, ◌≤◌, ◌+◌, ◌-◌, ℕ, List, length, Result, IfOk, IfErr, Ok, Err, arith, refl, sym, ap, subst, vec_capacity}
+use Rattle.std.proofs.lemmas.Result.{IfOk-weaker}
+use Rattle.std.specs.List.{All}
+use Rattle.plan_events.specs.declared.event.Event.{Event}
+use Rattle.plan_events.specs.declared.outcome.Reply.{Reply}
+use Rattle.resource_locks.specs.Plans.{PlanParts, most_events}
+use Rattle.listeners.specs.Listeners.{Telling}
+use Rattle.table_rule.specs.Plays.{dispatcher}
+use Rattle.run_table.specs.Seats.{IsOf}
+use Rattle.worker_pool.specs.Hearings.{HaveHeardSince}
+use Rattle.worker_pool.specs.Runs.{IsReady, HasRun}
+use Rattle.worker_pool.specs.Telling.{KeepsTexts}
+use Rattle.worker_pool.specs.Watching.{HasSeenSince}
+use Rattle.worker_pool.specs.declared.running.Desk.{Desk}
+use Rattle.worker_pool.proofs.Reported.{carried}
+use Rattle.worker_pool.proofs.TextsRead.{read_alike}
+
+-- what was read stays, and the desk's texts and its list
+pub record IsDealt {B : Type 0} (before dealt : Desk B) : Type 0 where
+  pub same : IsOf before.seat.seat dealt.seat.seat
+  pub read : (dispatcher dealt.seat.seat.me.0).read ≡ (dispatcher before.seat.seat.me.0).read
+  pub texts : dealt.texts ≡ before.texts
+  pub events : dealt.events ≡ before.events
+
+module _ {B : Type 0} where
+  pub none_dealt : (desk : Desk B) → IsDealt desk desk
+  none_dealt desk = record { same = record { table = refl; about = refl }; read = refl; texts = refl; events = refl }
+
+  pub dealt_more : (before dealt now : Desk B) → IsOf dealt.seat.seat now.seat.seat → (dispatcher now.seat.seat.me.0).read ≡ (dispatcher dealt.seat.seat.me.0).read → now.texts ≡ dealt.texts → now.events ≡ dealt.events → IsDealt before dealt → IsDealt before now
+  dealt_more before dealt now same read texts events was = record {
+    same = record { table = same.table ∙ was.same.table; about = same.about ∙ was.same.about };
+    read = read ∙ was.read;
+    texts = texts ∙ was.texts;
+    events = events ∙ was.events;
+  }
+
+pub one_more : {A : Type 0} (m n : ℕ) → m ≡ n + 1 → m ≡ 0 → A
+one_more m n more none = absurd (omega (arith, more, none))
+
+-- where no seat was dealt nothing was changed
+pub untouched : {X E A : Type 0} (r : Result X E) (n : ℕ) (a b c : A) → IfErr r (λ _. n ≡ 0) → IfErr r (λ _. a ≡ b) → (n ≡ 0 → b ≡ c) → IfErr r (λ _. a ≡ c)
+untouched (Ok x) n a b c none same was = tt
+untouched (Err e) n a b c none same was = same ∙ was none
+
+module _ {B L : Type 0} (answers : B → List Reply) (got : L → List Event) (before dealt : Desk B) (is : IsDealt before dealt) where
+  pub ready_dealt : (room_of : L → ℕ) (listeners : List L) → IsReady answers got room_of before listeners → IsReady answers got room_of dealt listeners
+  ready_dealt room_of listeners ready =
+      let old = before.seat.seat.me.0 in
+      let new = dealt.seat.seat.me.0 in
+      record {
+        told = carried is.read (λ (r : List Event). All (λ l. got l ≡ r) listeners) ready.told;
+        room = carried is.same.about (λ a. All (λ l. most_events a.plan - length (dispatcher new).read ≤ room_of l) listeners)
+            (carried is.read (λ (r : List Event). All (λ l. most_events old.about.plan - length r ≤ room_of l) listeners) ready.room);
+        texts = carried is.texts (λ t. KeepsTexts answers new t) (read_alike answers old new before.texts is.same.about is.read ready.texts);
+        noted = record {
+          read = ap (λ e. e.items) is.events ∙ (ready.noted.read ∙ sym is.read);
+          enough = carried is.events (λ e. most_events new.about.plan ≤ vec_capacity e)
+              (carried is.same.about (λ a. most_events a.plan ≤ vec_capacity before.events) ready.noted.enough);
+        };
+      }
+
+  pub run_dealt : {W : Type 0} (heard_by : L → List Telling → Type 0) (saw : PlanParts → W → W → List Telling → Type 0) (after : Desk B) (first next : List L) (was now : W) → HasRun answers got heard_by saw dealt after first next was now → HasRun answers got heard_by saw before after first next was now
+  run_dealt heard_by saw after first next was now run =
+      let last = (dispatcher after.seat.seat.me.0).read in
+      record {
+        same = record { table = run.same.table ∙ is.same.table; about = run.same.about ∙ is.same.about };
+        noted = run.noted;
+        listeners = run.listeners;
+        told = run.told;
+        heard = subst (λ (r : List Event). HaveHeardSince heard_by after.texts r last first next) is.read run.heard;
+        seen = subst (λ a. HasSeenSince saw a.plan after.texts (dispatcher before.seat.seat.me.0).read last was now) is.same.about
+            (subst (λ (r : List Event). HasSeenSince saw dealt.seat.seat.me.0.about.plan after.texts r last was now) is.read run.seen);
+        texts = run.texts;
+        over = run.over;
+      }
+
+  pub ran_dealt : {X E W : Type 0} (ran : Result X E) (heard_by : L → List Telling → Type 0) (saw : PlanParts → W → W → List Telling → Type 0) (after : Desk B) (first next : List L) (was now : W) → IfOk ran (λ _. HasRun answers got heard_by saw dealt after first next was now) → IfOk ran (λ _. HasRun answers got heard_by saw before after first next was now)
+  ran_dealt ran heard_by saw after first next was now run =
+      IfOk-weaker ran (λ _. HasRun answers got heard_by saw dealt after first next was now) (λ _. HasRun answers got heard_by saw before after first next was now)
+      (λ _. run_dealt heard_by saw after first next was now) run
