@@ -1,16 +1,18 @@
 -- A desk at which seats were dealt is as ready as before, and of a run from there on the same is known as from before.
-use Rattle.std.proofs.Common.{◌≡◌, ◌∙◌, ◌≤◌, ◌+◌, ◌-◌, ℕ, List, length, Result, IfOk, IfErr, Ok, Err, arith, refl, sym, ap, subst, vec_capacity}
+use Rattle.std.proofs.Common.{◌≡◌, ◌∙◌, ◌≤◌, ◌-◌, ℕ, List, length, Result, IfOk, IfErr, Ok, Err, refl, sym, ap, subst, vec_capacity}
 use Rattle.std.proofs.lemmas.Result.{IfOk-weaker}
 use Rattle.std.specs.List.{All}
 use Rattle.plan_events.specs.declared.event.Event.{Event}
 use Rattle.plan_events.specs.declared.outcome.Reply.{Reply}
 use Rattle.resource_locks.specs.Plans.{PlanParts, most_events}
 use Rattle.listeners.specs.Listeners.{Telling}
+use Rattle.table_rule.specs.declared.view.View.{View}
 use Rattle.table_rule.specs.Plays.{dispatcher}
 use Rattle.run_table.specs.Seats.{IsOf}
+use Rattle.run_table.specs.declared.dispatcher.DispatcherSeat.{DispatcherSeat}
 use Rattle.worker_pool.specs.Hearings.{HaveHeardSince}
 use Rattle.worker_pool.specs.Runs.{IsReady, HasRun}
-use Rattle.worker_pool.specs.Telling.{KeepsTexts}
+use Rattle.worker_pool.specs.Telling.{IsNoted, KeepsTexts, left_to_read}
 use Rattle.worker_pool.specs.Watching.{HasSeenSince}
 use Rattle.worker_pool.specs.declared.running.Desk.{Desk}
 use Rattle.worker_pool.proofs.Reported.{carried}
@@ -23,25 +25,37 @@ pub record IsDealt {B : Type 0} (before dealt : Desk B) : Type 0 where
   pub texts : dealt.texts ≡ before.texts
   pub events : dealt.events ≡ before.events
 
-module _ {B : Type 0} where
-  pub none_dealt : (desk : Desk B) → IsDealt desk desk
-  none_dealt desk = record { same = record { table = refl; about = refl }; read = refl; texts = refl; events = refl }
+-- the desk whose seat dealt others
+module _ {B : Type 0} (before : Desk B) (seat : DispatcherSeat B) where
+  abbrev pub at_seat : Desk B
+  at_seat = record { seat = seat; texts = before.texts; events = before.events }
 
-  pub dealt_more : (before dealt now : Desk B) → IsOf dealt.seat.seat now.seat.seat → (dispatcher now.seat.seat.me.0).read ≡ (dispatcher dealt.seat.seat.me.0).read → now.texts ≡ dealt.texts → now.events ≡ dealt.events → IsDealt before dealt → IsDealt before now
-  dealt_more before dealt now same read texts events was = record {
-    same = record { table = same.table ∙ was.same.table; about = same.about ∙ was.same.about };
-    read = read ∙ was.read;
-    texts = texts ∙ was.texts;
-    events = events ∙ was.events;
-  }
+  pub is_dealt : IsOf before.seat.seat seat.seat → (dispatcher seat.seat.me.0).read ≡ (dispatcher before.seat.seat.me.0).read → IsDealt before at_seat
+  is_dealt same read = record { same = same; read = read; texts = refl; events = refl }
 
-pub one_more : {A : Type 0} (m n : ℕ) → m ≡ n + 1 → m ≡ 0 → A
-one_more m n more none = absurd (omega (arith, more, none))
+  pub none_dealt : (n : ℕ) → (n ≡ 0 → seat ≡ before.seat) → n ≡ 0 → at_seat ≡ before
+  none_dealt n was none = ap (λ (s : DispatcherSeat B). record { seat = s; texts = before.texts; events = before.events }) (was none)
 
 -- where no seat was dealt nothing was changed
 pub untouched : {X E A : Type 0} (r : Result X E) (n : ℕ) (a b c : A) → IfErr r (λ _. n ≡ 0) → IfErr r (λ _. a ≡ b) → (n ≡ 0 → b ≡ c) → IfErr r (λ _. a ≡ c)
 untouched (Ok x) n a b c none same was = tt
 untouched (Err e) n a b c none same was = same ∙ was none
+
+-- of a view that has read as much of the same plan as another, the same is known
+module _ {B : Type 0} (old new : View B) (about : new.about ≡ old.about) (read : (dispatcher new).read ≡ (dispatcher old).read) where
+  pub told_alike : {L : Type 0} (got : L → List Event) (listeners : List L) → All (λ l. got l ≡ (dispatcher old).read) listeners → All (λ l. got l ≡ (dispatcher new).read) listeners
+  told_alike got listeners told = carried read (λ (r : List Event). All (λ l. got l ≡ r) listeners) told
+
+  pub room_alike : {L : Type 0} (room_of : L → ℕ) (listeners : List L) → All (λ l. left_to_read old ≤ room_of l) listeners → All (λ l. left_to_read new ≤ room_of l) listeners
+  room_alike room_of listeners room =
+      carried about (λ a. All (λ l. most_events a.plan - length (dispatcher new).read ≤ room_of l) listeners)
+      (carried read (λ (r : List Event). All (λ l. most_events old.about.plan - length r ≤ room_of l) listeners) room)
+
+  pub noted_alike : (events : List Event) (wide : ℕ) → IsNoted old events wide → IsNoted new events wide
+  noted_alike events wide noted = record {
+    read = noted.read ∙ sym read;
+    enough = carried about (λ a. most_events a.plan ≤ wide) noted.enough;
+  }
 
 module _ {B L : Type 0} (answers : B → List Reply) (got : L → List Event) (before dealt : Desk B) (is : IsDealt before dealt) where
   pub ready_dealt : (room_of : L → ℕ) (listeners : List L) → IsReady answers got room_of before listeners → IsReady answers got room_of dealt listeners
@@ -49,15 +63,10 @@ module _ {B L : Type 0} (answers : B → List Reply) (got : L → List Event) (b
       let old = before.seat.seat.me.0 in
       let new = dealt.seat.seat.me.0 in
       record {
-        told = carried is.read (λ (r : List Event). All (λ l. got l ≡ r) listeners) ready.told;
-        room = carried is.same.about (λ a. All (λ l. most_events a.plan - length (dispatcher new).read ≤ room_of l) listeners)
-            (carried is.read (λ (r : List Event). All (λ l. most_events old.about.plan - length r ≤ room_of l) listeners) ready.room);
+        told = told_alike old new is.same.about is.read got listeners ready.told;
+        room = room_alike old new is.same.about is.read room_of listeners ready.room;
         texts = carried is.texts (λ t. KeepsTexts answers new t) (read_alike answers old new before.texts is.same.about is.read ready.texts);
-        noted = record {
-          read = ap (λ e. e.items) is.events ∙ (ready.noted.read ∙ sym is.read);
-          enough = carried is.events (λ e. most_events new.about.plan ≤ vec_capacity e)
-              (carried is.same.about (λ a. most_events a.plan ≤ vec_capacity before.events) ready.noted.enough);
-        };
+        noted = carried is.events (λ e. IsNoted new e.items (vec_capacity e)) (noted_alike old new is.same.about is.read before.events.items (vec_capacity before.events) ready.noted);
       }
 
   pub run_dealt : {W : Type 0} (heard_by : L → List Telling → Type 0) (saw : PlanParts → W → W → List Telling → Type 0) (after : Desk B) (first next : List L) (was now : W) → HasRun answers got heard_by saw dealt after first next was now → HasRun answers got heard_by saw before after first next was now

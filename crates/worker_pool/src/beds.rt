@@ -87,6 +87,11 @@ impl Beds {
         }
     }
 
+    /// Whether no worker lies there for want of a node.
+    pub(crate) fn are_empty(&self) -> bool {
+        self.idle.load(Ordering::SeqCst) == 0
+    }
+
     /// There will be no more nodes.
     pub(crate) fn end(&self) {
         self.wake_all(self.idle.swap(0, Ordering::SeqCst));

@@ -1,0 +1,12 @@
+use Rattle.std.proofs.Common.{◌≡◌, vec_len}
+use Rattle.table_rule.specs.Plays.{dispatcher}
+use Rattle.run_table.specs.Seats.{IsSeatOf, IsOf}
+use Rattle.worker_pool.proofs.pool.Pool.start_first.Given as goal
+
+abbrev pub invariant-loop : goal.invariant-loop
+invariant-loop g l = record {
+  table : IsSeatOf l.hall.table.table l.seat.seat;
+  same : IsOf l.fn.seat.seat l.seat.seat;
+  read : (dispatcher l.seat.seat.me.0).read ≡ (dispatcher l.fn.seat.seat.me.0).read;
+  none : vec_len l.self.started ≡ 0 → l.seat ≡ l.fn.seat;
+}
