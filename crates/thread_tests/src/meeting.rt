@@ -129,6 +129,11 @@ fn all_end_well<R: Threads + Wait + Sync>(rt: &R, alloc: Global, ring: u32) -> R
     )
 }
 
+/// Whether twelve bodies meet where as many workers run them, most of which start late on a small machine.
+fn many_meet<R: Threads + Wait + Sync>(rt: &R, alloc: Global, ring: u32) -> Result<bool, Fail> {
+    tests_end_well(rt, alloc, 12, Act::Meets(3, 14), 12, ring, 30)
+}
+
 #[test]
 fn bodies_run_side_by_side_where_they_may(rt: HostRuntime) -> Result<(), Fail> {
     for _round in 0..100 {
@@ -137,5 +142,7 @@ fn bodies_run_side_by_side_where_they_may(rt: HostRuntime) -> Result<(), Fail> {
         assert!(rt; all_meet(&rt, rt.alloc(), 1)?);
         assert!(rt; all_end_well(&rt, rt.alloc(), 1)?);
     }
+    assert!(rt; many_meet(&rt, rt.alloc(), WIDE)?);
+    assert!(rt; many_meet(&rt, rt.alloc(), 1)?);
     Ok(())
 }
