@@ -165,7 +165,7 @@ fn runs_go_alike_whatever_the_number_of_workers(rt: HostRuntime) -> Result<(), F
 
 #[test]
 fn runs_go_alike_in_a_ring_of_one_word(rt: HostRuntime) -> Result<(), Fail> {
-    for _round in 0..100 {
+    for _round in 0..20 {
         assert!(rt; all_go_alike(&rt, rt.alloc(), 1)?);
     }
     assert!(rt; large_ends_well(&rt, rt.alloc(), 1)?);
