@@ -4,6 +4,7 @@ ghost use Rattle.std.specs.Prelude.{◌≡◌, ◌≢◌, ℕ, ◌<◌, ◌↔�
 
 use crate::body_id::BodyId;
 use crate::body_marks::BodyMarks;
+use crate::both_of::both;
 use crate::fault::TreeFault;
 use crate::hash::hash_of;
 use crate::node::Node;
@@ -61,10 +62,13 @@ impl TreeBuilder {
         ensures { IfOk result (λ b. b ≡ plan_alone) }
     {
         let nodes = nodes.min(MOST_NODES);
+        let bodies = BodyMarks::none(alloc)?;
+        let hashes = HashSet::with_capacity(alloc, nodes);
+        let (tree, hashes) = both(Tree::with_capacity(alloc, nodes), hashes)?;
         Ok(TreeBuilder {
-            tree: Tree::with_capacity(alloc, nodes)?,
-            hashes: HashSet::with_capacity(alloc, nodes)?,
-            bodies: BodyMarks::none(alloc)?,
+            tree,
+            hashes,
+            bodies,
         })
     }
 
@@ -91,10 +95,14 @@ impl TreeBuilder {
     {
         let hash = hash_of(node.id.text());
         if let Some(fault) = self.refusal(parent, &node, hash) {
+            drop(node);
             return Err(fault);
         }
         let (body, after) = (node.body, node.after);
-        self.hashes.reserve(1)?;
+        if self.hashes.reserve(1).is_err() {
+            drop(node);
+            return Err(TreeFault::NoMemory);
+        }
         let number = self.tree.push(alloc, parent, node)?;
         // nothing below can fail, so that an `Err` leaves the builder as it was
         let Ok(_) = self.hashes.insert(hash) else {

@@ -4,6 +4,7 @@
 
 mod body_id;
 mod body_marks;
+mod both_of;
 mod builder;
 mod fault;
 mod hash;

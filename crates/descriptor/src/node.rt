@@ -3,6 +3,7 @@
 ghost use Rattle.std.specs.Prelude.{◌≡◌, IfOk};
 
 use crate::body_id::BodyId;
+use crate::both_of::both;
 use crate::kind::Kind;
 use crate::lock::Lock;
 use crate::locks::Locks;
@@ -76,22 +77,24 @@ impl Node {
     pub fn copy(&self, alloc: Global) -> Result<Node, AllocError>
         ensures { IfOk result (λ node. node ≡ self.now) }
     {
-        let disabled = match &self.disabled {
-            Some(reason) => Some(reason.copy()?),
-            None => None,
-        };
+        let names = both(self.id.copy(alloc), self.name.copy());
+        let rest = both(copied(&self.disabled), self.tags.copy(alloc));
+        let (names, rest) = both(names, both(self.locks.copy(), rest))?;
+        let (id, name) = names;
+        let (locks, rest) = rest;
+        let (disabled, tags) = rest;
         Ok(Node {
-            id: self.id.copy(alloc)?,
-            name: self.name.copy()?,
+            id,
+            name,
             kind: self.kind,
             role: self.role,
             mode: self.mode,
-            locks: self.locks.copy()?,
+            locks,
             isolated: self.isolated,
             body: self.body,
             after: self.after,
             disabled,
-            tags: self.tags.copy(alloc)?,
+            tags,
         })
     }
 
@@ -155,6 +158,15 @@ fn takes_after(kind: Kind, role: Role) -> bool
     ensures { result ≡ takes_after kind role }
 {
     kind.is_container() && !role.is_factory()
+}
+
+fn copied(text: &Option<Text>) -> Result<Option<Text>, AllocError>
+    ensures { IfOk result (λ copy. copy ≡ text.now) }
+{
+    match text {
+        Some(text) => Ok(Some(text.copy()?)),
+        None => Ok(None),
+    }
 }
 
 fn is_long(text: &Text) -> bool

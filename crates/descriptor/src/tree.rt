@@ -4,6 +4,7 @@ ghost use Rattle.std.specs.Prelude.{◌≡◌, ℕ, ◌<◌, ◌≤◌, ◌-◌,
 ghost use Rattle.std.specs.Prelude.{IfOk, IsNone, All, true};
 
 use crate::body_id::BodyId;
+use crate::both_of::both;
 use crate::kind::Kind;
 use crate::lock::Lock;
 use crate::mode::Mode;
@@ -237,16 +238,35 @@ impl Tree {
         ensures children { IfOk result (λ tree. (n : ℕ) → ListsChildren tree n) }
     {
         let mut tree = Tree::new(alloc)?;
+        match self.put_kept(alloc, keep, &mut tree) {
+            Ok(()) => Ok(tree),
+            Err(error) => {
+                drop(tree);
+                Err(error)
+            }
+        }
+    }
+
+    /// Adds copies of the nodes that are kept to a tree of the plan alone.
+    fn put_kept(&self, alloc: Global, keep: &[bool], tree: &mut Tree) -> Result<(), AllocError>
+        requires one_each { length keep.now ≡ size self.now }
+        requires closed { IsClosed self.now keep.now }
+        requires plan { tree.old ≡ plan_alone }
+        ensures same { OnOk result (tree.new ≡ pruned self.now keep.now) }
+        ensures kept { OnOk result (KeepsNodes self.now keep.now tree.new) }
+        ensures tree { OnOk result (IsTree tree.new) }
+        ensures children { OnOk result ((n : ℕ) → ListsChildren tree.new n) }
+    {
         // the new number of each node; where a node is not kept, that of the next one that is
         let mut numbers = vec![in alloc; NodeId::ROOT]?;
         for node in 1..self.len() {
             numbers.push(NodeId::new(tree.len() as u16))?;
             if keep[node] {
                 let parent = numbers[self.parents[node].index()];
-                tree.push(alloc, parent, self.nodes[node - 1].copy(alloc)?)?;
+                tree.push_copy(alloc, parent, &self.nodes[node - 1])?;
             }
         }
-        Ok(tree)
+        Ok(())
     }
 
     /// The same as `pruned`, without a copy where every node is kept.
@@ -296,17 +316,15 @@ impl Tree {
         requires { nodes ≤ 4096 }
         ensures { IfOk result (λ t. t ≡ plan_alone) }
     {
-        let mut parents = Vec::with_capacity(alloc, nodes + 1)?;
-        parents.push(NodeId::ROOT)?;
-        let mut depths = Vec::with_capacity(alloc, nodes + 1)?;
-        depths.push(0u8)?;
-        let mut children = Vec::with_capacity(alloc, nodes + 1)?;
-        children.push(Vec::new(alloc))?;
+        let parents = list_of_one(alloc, nodes, NodeId::ROOT);
+        let (parents, depths) = both(parents, list_of_one(alloc, nodes, 0u8))?;
+        let children = list_of_one(alloc, nodes, Vec::new(alloc));
+        let (children, nodes) = both(children, Vec::with_capacity(alloc, nodes))?;
         Ok(Tree {
             parents,
             depths,
             children,
-            nodes: Vec::with_capacity(alloc, nodes)?,
+            nodes,
         })
     }
 
@@ -323,19 +341,36 @@ impl Tree {
         ensures ok { OnOk result (self.new ≡ appended self.old parent node) }
         ensures err { OnErr result (self.new ≡ self.old) }
     {
-        let next = NodeId::new(self.parents.len() as u16);
-        let depth = self.depths[parent.index()] + 1;
-        // room first: from the last `?` on nothing can fail
-        self.parents.reserve(1)?;
-        self.depths.reserve(1)?;
-        self.children.reserve(1)?;
-        self.nodes.reserve(1)?;
-        self.children[parent.index()].push(next)?;
-        self.parents.push_reserved(parent);
-        self.depths.push_reserved(depth);
-        self.children.push_reserved(Vec::new(alloc));
-        self.nodes.push_reserved(node);
-        Ok(next)
+        let number = NodeId::new(self.parents.len() as u16);
+        let place = add_place(
+            alloc,
+            parent,
+            &mut self.parents,
+            &mut self.depths,
+            &mut self.children,
+            &mut self.nodes,
+        );
+        match place {
+            Ok(()) => {
+                self.nodes.push_reserved(node);
+                Ok(number)
+            }
+            Err(error) => {
+                drop(node);
+                Err(error)
+            }
+        }
+    }
+
+    /// Adds a copy of a node as the last node.
+    fn push_copy(&mut self, alloc: Global, parent: NodeId, node: &Node) -> Result<(), AllocError>
+        requires may_take { MayTake self.old parent }
+        requires accepted { refusal self.old parent node.now ≡ None }
+        ensures { OnOk result (self.new ≡ appended self.old parent node.now) }
+    {
+        let copy = node.copy(alloc)?;
+        self.push(alloc, parent, copy)?;
+        Ok(())
     }
 
     /// Whether a node has the unique id of this canonical text.
@@ -378,4 +413,53 @@ fn are_all(values: &[bool]) -> bool
     ensures { IsTrue result ↔ All (λ value. value ≡ true) values.now }
 {
     values.iter().all(|value| *value)
+}
+
+ghost use Rattle.std.specs.Prelude.{[], ◌∷◌, ◌++◌, ◌^◌, suc, slice_index_or, vec_len, vec_capacity};
+ghost use Rattle.descriptor.specs.Inside.Fields.{numbers_in, with_child};
+
+/// A list of one item, with room for so many besides.
+fn list_of_one<T: Drop>(alloc: Global, more: usize, item: T) -> Result<Vec<T>, AllocError>
+    requires { more ≤ 4096 }
+    ensures { IfOk result (λ list. list.items ≡ item ∷ []) }
+{
+    let mut list = Vec::with_capacity(alloc, more + 1)?;
+    list.push(item)?;
+    Ok(list)
+}
+
+/// Adds a last place, for a child of a node, and makes room for what is told of it.
+fn add_place(
+    alloc: Global,
+    parent: NodeId,
+    parents: &mut Vec<NodeId>,
+    depths: &mut Vec<u8>,
+    children: &mut Vec<Vec<NodeId>>,
+    nodes: &mut Vec<Node>,
+) -> Result<(), AllocError>
+    requires deep { parent < length depths.old.items }
+    requires listed { parent < length children.old.items }
+    requires few { length parents.old.items < 2 ^ 16 }
+    requires shallow { slice_index_or depths.old.items parent 0 < 255 }
+    ensures parents { OnOk result (parents.new.items ≡ parents.old.items ++ parent ∷ []) }
+    ensures depths { OnOk result (depths.new.items ≡ depths.old.items ++ suc (slice_index_or depths.old.items parent 0) ∷ []) }
+    ensures children { OnOk result (numbers_in children.new.items ≡ with_child (numbers_in children.old.items) parent (length parents.old.items)) }
+    ensures nodes { nodes.new.items ≡ nodes.old.items }
+    ensures room { OnOk result (vec_len nodes.new < vec_capacity nodes.new) }
+    ensures err_parents { OnErr result (parents.new.items ≡ parents.old.items) }
+    ensures err_depths { OnErr result (depths.new.items ≡ depths.old.items) }
+    ensures err_children { OnErr result (numbers_in children.new.items ≡ numbers_in children.old.items) }
+{
+    let number = NodeId::new(parents.len() as u16);
+    let depth = depths[parent.index()] + 1;
+    // room first: from the last `?` on nothing can fail
+    parents.reserve(1)?;
+    depths.reserve(1)?;
+    children.reserve(1)?;
+    nodes.reserve(1)?;
+    children[parent.index()].push(number)?;
+    parents.push_reserved(parent);
+    depths.push_reserved(depth);
+    children.push_reserved(Vec::new(alloc));
+    Ok(())
 }

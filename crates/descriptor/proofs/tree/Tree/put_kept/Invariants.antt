@@ -1,7 +1,7 @@
 -- The tree so far is that of the kept nodes so far, and each node so far has its new number.
 use Rattle.std.proofs.Common.{◌≡◌, ℕ, ◌<◌, length, get_or}
 use Rattle.descriptor.specs.Pruned.{pruned_below, new_number}
-use Rattle.descriptor.proofs.tree.Tree.pruned.Given as goal
+use Rattle.descriptor.proofs.tree.Tree.put_kept.Given as goal
 
 abbrev pub invariant-loop-node : goal.invariant-loop-node
 invariant-loop-node l = record {
