@@ -9,14 +9,14 @@ use std::marker::Model;
 const LONGEST_INLINE: usize = 64;
 
 /// Where the bytes of a canonical text are.
-#[derive(Debug, Drop)]
+#[derive(Drop)]
 enum Spelled {
     InPlace(ArrayString<LONGEST_INLINE>),
     Own(String),
 }
 
 /// A text that contracts see as its bytes. One of at most 64 bytes takes no memory of its own.
-#[derive(Debug, Drop)]
+#[derive(Drop)]
 pub struct CanonicalText {
     spelled: Spelled,
 }

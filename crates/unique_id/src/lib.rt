@@ -1,6 +1,7 @@
 //! Unique ids: where a node stands in the tree, and the canonical text of that.
 #![tactic(auto)]
 
+mod both_of;
 mod canonical_text;
 mod decoded;
 mod escape;
@@ -13,6 +14,7 @@ mod spelling;
 mod text;
 mod unique_id;
 
+pub use both_of::both;
 pub use fault::UidFault;
 pub use text::Text;
 pub use unique_id::{Segment, UniqueId};

@@ -2,12 +2,13 @@
 
 ghost use Rattle.std.specs.Prelude.{◌≡◌, ◌≤◌, ◌++◌, ◌∷◌, [], length, IfOk};
 
+use crate::both_of::both;
 use crate::unique_id::Segment;
 use std::alloc::{AllocError, Global};
 use std::marker::Model;
 
 /// The segments from the root down.
-#[derive(Debug, Drop)]
+#[derive(Drop)]
 enum Steps {
     One([Segment; 1]),
     Two([Segment; 2]),
@@ -17,7 +18,7 @@ enum Steps {
 }
 
 /// The segments of a unique id, from the root down. Up to four take no memory of their own.
-#[derive(Debug, Drop)]
+#[derive(Drop)]
 pub struct Path {
     steps: Steps,
 }
@@ -49,9 +50,19 @@ impl Path {
     {
         let steps = match front {
             [] => Steps::One([last]),
-            [one] => Steps::Two([one.copy()?, last]),
-            [one, two] => Steps::Three([one.copy()?, two.copy()?, last]),
-            [one, two, three] => Steps::Four([one.copy()?, two.copy()?, three.copy()?, last]),
+            [one] => {
+                let (one, last) = both(one.copy(), Ok(last))?;
+                Steps::Two([one, last])
+            }
+            [one, two] => {
+                let (front, last) = both(both(one.copy(), two.copy()), Ok(last))?;
+                Steps::Three([front.0, front.1, last])
+            }
+            [one, two, three] => {
+                let back = both(three.copy(), Ok(last));
+                let (front, back) = both(both(one.copy(), two.copy()), back)?;
+                Steps::Four([front.0, front.1, back.0, back.1])
+            }
             _ => Steps::Many(with_last(alloc, front, last)?),
         };
         Ok(Path { steps })

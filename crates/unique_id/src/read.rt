@@ -10,7 +10,7 @@ use crate::unique_id::Segment;
 use std::alloc::Global;
 
 /// The segments that were read.
-#[derive(Debug, Drop)]
+#[derive(Drop)]
 pub struct Read {
     /// None where the memory ran out. Reading goes on, so that a fault that comes later is found.
     pub segments: Option<Vec<Segment>>,
@@ -62,8 +62,14 @@ fn longer(
     ensures { IfSome result (λ new. IsSomeAnd segments
         (λ old. new.items ≡ old.items ++ record { kind = kind.now; value = value.now } ∷ [])) }
 {
-    let mut segments = segments?;
-    let segment = Segment::new(alloc, kind.text()?, value.text()?).ok()?;
+    let (mut segments, segment) = segments.zip(segment_of(alloc, kind, value))?;
     segments.push(segment).ok()?;
     Some(segments)
+}
+
+/// The segment of this kind and this value, unless they are no text or memory ran out.
+fn segment_of(alloc: Global, kind: &Decoded, value: &Decoded) -> Option<Segment>
+    ensures { IfSome result (λ segment. segment ≡ record { kind = kind.now; value = value.now }) }
+{
+    Segment::new(alloc, kind.text()?, value.text()?).ok()
 }

@@ -55,8 +55,7 @@ pub fn push_segment(text: &mut String, kind: &str, value: &str) -> Result<(), Al
     push_part(text, kind)?;
     text.push_str(":")?;
     push_part(text, value)?;
-    text.push_str("]")?;
-    Ok(())
+    text.push_str("]")
 }
 
 /// Writes a segment, no part of which needs an escape.
@@ -69,8 +68,7 @@ fn push_plain_segment(text: &mut String, kind: &str, value: &str) -> Result<(), 
     text.push_str(kind)?;
     text.push_str(":")?;
     text.push_str(value)?;
-    text.push_str("]")?;
-    Ok(())
+    text.push_str("]")
 }
 
 /// Writes a segment, with which the text has so many bytes. They tell whether a part needs an escape.

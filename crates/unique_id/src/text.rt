@@ -4,6 +4,7 @@ ghost use Rattle.std.specs.Prelude.{◌≡◌, [], IfOk};
 
 use arrayvec::ArrayString;
 use std::alloc::{AllocError, Global};
+use std::fmt;
 use std::marker::Model;
 use std::sync::Arc;
 
@@ -11,7 +12,7 @@ use std::sync::Arc;
 const LONGEST_INLINE: usize = 24;
 
 /// Where the bytes of a text are.
-#[derive(Debug, Drop)]
+#[derive(Drop)]
 enum Bytes {
     Inline(ArrayString<LONGEST_INLINE>),
     // all copies share them
@@ -20,7 +21,7 @@ enum Bytes {
 
 /// A text that contracts see as its bytes. It is cheap to copy: a text of at most 24 bytes takes no
 /// memory of its own, and all copies of a longer one share their bytes.
-#[derive(Debug, Drop)]
+#[derive(Drop)]
 pub struct Text {
     bytes: Bytes,
 }
@@ -32,6 +33,12 @@ impl Model for Text {
     ghost Value = { List ℕ };
 
     ghost view = { λ t. bytes_of t.bytes };
+}
+
+impl fmt::Debug for Text {
+    fn fmt<W: fmt::Write>(&self, f: &mut fmt::Formatter<W>) -> fmt::Result {
+        fmt::Debug::fmt(self.as_str(), f)
+    }
 }
 
 impl Text {

@@ -13,6 +13,7 @@ ghost use Rattle.unique_id.specs.Reading.{id_of};
 ghost use Rattle.unique_id.specs.Segments.{IsWhole, IsText};
 ghost use Rattle.unique_id.specs.Spelling.{refusal, spelled_segment, spelling};
 
+use crate::both_of::both;
 use crate::canonical_text::CanonicalText;
 use crate::fault::UidFault;
 use crate::path::Path;
@@ -21,6 +22,7 @@ use crate::reading::read;
 use crate::spelling::{push_segment, push_segment_up_to, segment_len};
 use crate::text::Text;
 use std::alloc::{AllocError, Global};
+use std::fmt;
 use std::marker::Model;
 use std::sync::Arc;
 
@@ -31,14 +33,14 @@ const MOST_SEGMENTS: usize = 64;
 const LONGEST_TEXT: usize = 1024;
 
 /// The kind and the value of a segment.
-#[derive(Debug, Drop)]
+#[derive(Drop)]
 pub struct Parts {
     pub kind: Text,
     pub value: Text,
 }
 
 /// A segment, and the text of the id that ends with it, which stand in one block of memory.
-#[derive(Debug, Drop)]
+#[derive(Drop)]
 struct Named {
     parts: Parts,
     // empty where the segment was made for no id
@@ -47,7 +49,7 @@ struct Named {
 
 /// One step down the tree: the kind of the node there, and what tells it from its siblings. All ids
 /// that lead through it share its parts.
-#[derive(Debug, Drop)]
+#[derive(Drop)]
 pub struct Segment {
     named: Arc<Named>,
 }
@@ -71,10 +73,17 @@ fn block_of(
     ensures { IfOk result (λ named. arc_value named ≡ record
         { parts = record { kind = kind.now; value = value.now }; text = text }) }
 {
-    let kind = Text::new(alloc, kind)?;
-    let value = Text::new(alloc, value)?;
+    let parts = both(Text::new(alloc, kind), Text::new(alloc, value));
+    let (parts, text) = both(parts, Ok(text))?;
+    let (kind, value) = parts;
     let parts = Parts { kind, value };
     Ok(Arc::new(alloc, Named { parts, text })?)
+}
+
+impl fmt::Debug for Segment {
+    fn fmt<W: fmt::Write>(&self, f: &mut fmt::Formatter<W>) -> fmt::Result {
+        write!(f, "[{:?}:{:?}]", self.kind(), self.value())
+    }
 }
 
 impl Segment {
@@ -119,7 +128,7 @@ impl Segment {
 }
 
 /// Where a node stands: one segment for each step down the tree.
-#[derive(Debug, Drop)]
+#[derive(Drop)]
 pub struct UniqueId {
     path: Path,
     // holds the text; mostly it is the block of the last segment
@@ -137,6 +146,12 @@ impl Model for UniqueId {
     ghost view = { λ u. u.path };
 
     ghost invariant = { IsSound };
+}
+
+impl fmt::Debug for UniqueId {
+    fn fmt<W: fmt::Write>(&self, f: &mut fmt::Formatter<W>) -> fmt::Result {
+        fmt::Debug::fmt(self.text(), f)
+    }
 }
 
 impl UniqueId {
@@ -235,10 +250,9 @@ impl UniqueId {
         let Some((last, front)) = self.segments().split_last() else {
             unreachable!()
         };
-        Ok(UniqueId {
-            path: Path::longer(alloc, front, last.copy()?)?,
-            named: Arc::try_clone(&self.named)?,
-        })
+        let path = Path::longer(alloc, front, last.copy()?);
+        let (path, named) = both(path, Arc::try_clone(&self.named))?;
+        Ok(UniqueId { path, named })
     }
 }
 
@@ -331,9 +345,10 @@ fn id_of(alloc: Global, text: &str) -> Result<UniqueId, UidFault>
         return Err(UidFault::NoMemory);
     };
     let text = CanonicalText::of(spelled(alloc, segments.as_slice(), len)?);
+    let named = block_of(alloc, "", "", text)?;
     Ok(UniqueId {
         path: Path::of(segments),
-        named: block_of(alloc, "", "", text)?,
+        named,
     })
 }
 

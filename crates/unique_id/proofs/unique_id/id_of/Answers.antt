@@ -63,12 +63,12 @@ returns-in_err-spelled-clause-no_memory c =
     let p = err_from_is_err_and c.from_residual-in_err-spelled.result c.from_residual-in_err-spelled.ensures.1 in
     rw p.1 (λ _. is_ok_from (id_of text) got.0 (all_read text c.as_bytes.result.now (Ok got.0) some (omega arith) c.as_bytes.ensures.value got.2 ∙ within_limits got.0 (omega (arith, got.1.count)) (omega (arith, got.1.spelled))))
 
-pub returns-in_err-block_of-clause-no_memory : goal.returns-in_err-block_of-clause-no_memory
-returns-in_err-block_of-clause-no_memory c =
+pub returns-in_err-named-clause-no_memory : goal.returns-in_err-named-clause-no_memory
+returns-in_err-named-clause-no_memory c =
     let text = c.args.text.now in
     let some : 0 < length text = grind (arith, nat_tests) in
     let got = c.in_ok-segments.ensures.read in
-    let p = err_from_is_err_and c.from_residual-in_err-block_of.result c.from_residual-in_err-block_of.ensures.1 in
+    let p = err_from_is_err_and c.from_residual-in_err-named.result c.from_residual-in_err-named.ensures.1 in
     rw p.1 (λ _. is_ok_from (id_of text) got.0 (all_read text c.as_bytes.result.now (Ok got.0) some (omega arith) c.as_bytes.ensures.value got.2 ∙ within_limits got.0 (omega (arith, got.1.count)) (omega (arith, got.1.spelled))))
 
 pub invariant_of-result : goal.invariant_of-result
@@ -76,7 +76,7 @@ invariant_of-result c =
     let got = c.in_ok-segments.ensures.read in
     let items : c.in-Some.segments.items ≡ got.0 = grind (arith, common_steps, got.1.kept) in
     let same : c.of.result ≡ got.0 = c.of.ensures ∙ items in
-    let block : (arc_value c.in_ok-block_of.field-0).text ≡ c.of-text.result = ap (λ (n : Named). n.text) c.in_ok-block_of.ensures in
+    let block : (arc_value c.in_ok-named.named).text ≡ c.of-text.result = ap (λ (n : Named). n.text) c.in_ok-named.ensures in
     let spelled : string_bytes c.in_ok-spelled.field-0 ≡ spelling c.in-Some.segments.items = c.in_ok-spelled.ensures ∙ ap spelling c.as_slice.ensures.value in
     let right = read_whole c.as_bytes.result.now c.of.result (got.2 ∙ ap Ok (sym same)) in
     record {
