@@ -90,7 +90,10 @@ fn read_whole(alloc: Global, text: &str) -> Result<Option<Node>, TagFault>
     };
     let read = alternatives(alloc, end, 0, text)?;
     match fault_behind(end, read.rest) {
-        Some(fault) => Err(fault),
+        Some(fault) => {
+            drop(read);
+            Err(fault)
+        }
         None => Ok(read.node),
     }
 }

@@ -1,11 +1,11 @@
 //! Reading an expression, phrase by phrase: an or is made of ands, an and of operands.
 
 ghost use Rattle.std.specs.Prelude.{◌≡◌, ◌≢◌, List, ◌+◌, ◌^◌, ◌≤◌, ◌<◌, ◌∷◌, length, None, Some, option_map};
-ghost use Rattle.std.specs.Prelude.{MatchOption, IfSome, IsSomeAnd, IfOk, IfErr, OnOk, false};
+ghost use Rattle.std.specs.Prelude.{MatchOption, IfSome, IsSomeAnd, IfOk, IfErr, OnOk, box_value, false};
 ghost use Rattle.std.specs.Str.{chars};
 ghost use Rattle.tag_expr.specs.Connectives.{phrase_of, part_of, sign_of, joins, begins, IsPartEnd, IsEnd};
 ghost use Rattle.tag_expr.specs.ExpressionFaults.{Pending, opened, operator, first_fault};
-ghost use Rattle.tag_expr.specs.Expressions.{tag, negation, conjunction, disjunction};
+ghost use Rattle.tag_expr.specs.Expressions.{tag, negation};
 ghost use Rattle.tag_expr.specs.Grammar.{or_phrase, not_phrase};
 ghost use Rattle.tag_expr.specs.Nodes.{expression_of};
 ghost use Rattle.tag_expr.specs.Parsing.{IsRead, IsRefused, Begins, begins_bar, begins_ampersand};
@@ -25,7 +25,7 @@ use std::alloc::Global;
 const MOST_PENDING: usize = 64;
 
 /// A phrase that was read.
-#[derive(Debug, Drop)]
+#[derive(Drop)]
 pub(crate) struct Read<'a> {
     /// None where the memory ran out. Reading goes on, so that a fault that comes later is found.
     pub(crate) node: Option<Node>,
@@ -61,36 +61,18 @@ fn word<'a>(alloc: Global, place: usize, text: &str, rest: &'a str) -> Result<Re
     })
 }
 
+/// The operand in memory of its own.
+fn boxed(alloc: Global, operand: Option<Node>) -> Option<Box<Node>>
+    ensures { IfSome result (λ place. IsSomeAnd operand (λ node. box_value place ≡ node)) }
+{
+    Box::new(alloc, operand?).ok()
+}
+
 fn negation(alloc: Global, operand: Option<Node>) -> Option<Node>
     ensures { IfSome (option_map expression_of result)
         (λ f. IsSomeAnd (option_map expression_of operand) (λ e. f ≡ negation e)) }
 {
-    match Box::new(alloc, operand?) {
-        Ok(operand) => Some(Node::Negation(operand)),
-        Err(_) => None,
-    }
-}
-
-fn conjunction(alloc: Global, left: Option<Node>, right: Option<Node>) -> Option<Node>
-    ensures { IfSome (option_map expression_of result)
-        (λ f. IsSomeAnd (option_map expression_of left)
-        (λ d. IsSomeAnd (option_map expression_of right) (λ e. f ≡ conjunction d e))) }
-{
-    match (Box::new(alloc, left?), Box::new(alloc, right?)) {
-        (Ok(left), Ok(right)) => Some(Node::Conjunction(left, right)),
-        _ => None,
-    }
-}
-
-fn disjunction(alloc: Global, left: Option<Node>, right: Option<Node>) -> Option<Node>
-    ensures { IfSome (option_map expression_of result)
-        (λ f. IsSomeAnd (option_map expression_of left)
-        (λ d. IsSomeAnd (option_map expression_of right) (λ e. f ≡ disjunction d e))) }
-{
-    match (Box::new(alloc, left?), Box::new(alloc, right?)) {
-        (Ok(left), Ok(right)) => Some(Node::Disjunction(left, right)),
-        _ => None,
-    }
+    Some(Node::Negation(boxed(alloc, operand)?))
 }
 
 /// Two operands and what joins them.
@@ -104,9 +86,10 @@ fn joined(
         (λ f. IsSomeAnd (option_map expression_of left)
         (λ d. IsSomeAnd (option_map expression_of right) (λ e. f ≡ joins connective d e))) }
 {
+    let (left, right) = boxed(alloc, left).zip(boxed(alloc, right))?;
     match connective {
-        Connective::And => conjunction(alloc, left, right),
-        Connective::Or => disjunction(alloc, left, right),
+        Connective::And => Some(Node::Conjunction(left, right)),
+        Connective::Or => Some(Node::Disjunction(left, right)),
     }
 }
 
@@ -230,11 +213,16 @@ fn operand<'a>(
                 return Err(TagFault::TooDeep);
             }
             let read = operands(alloc, end, pending + 1, Connective::Or, rest)?;
-            let rest = after_group(end, found.place, read.rest)?;
-            Ok(Read {
-                node: read.node,
-                rest,
-            })
+            match after_group(end, found.place, read.rest) {
+                Ok(rest) => Ok(Read {
+                    node: read.node,
+                    rest,
+                }),
+                Err(fault) => {
+                    drop(read);
+                    Err(fault)
+                }
+            }
         }
         Token::RightParen | Token::Ampersand | Token::Bar => {
             Err(TagFault::OperandMissing(found.place))

@@ -6,10 +6,11 @@ ghost use Rattle.tag_expr.specs.TagSets.{has_tag, with_tag};
 use crate::tag::Tag;
 use crate::tag_table::TagTable;
 use std::alloc::{AllocError, Global};
+use std::fmt;
 use std::marker::Model;
 
 /// A set of tags. It is as small as a pointer, since most nodes of a tree have no tag.
-#[derive(Debug, Drop)]
+#[derive(Drop)]
 pub struct TagSet {
     alloc: Global,
     // None: no tags
@@ -23,6 +24,12 @@ impl Model for TagSet {
     ghost Value = { List (List ℕ) };
 
     ghost view = { λ s. tags_in s.table };
+}
+
+impl fmt::Debug for TagSet {
+    fn fmt<W: fmt::Write>(&self, f: &mut fmt::Formatter<W>) -> fmt::Result {
+        fmt::Debug::fmt(self.tags(), f)
+    }
 }
 
 impl TagSet {

@@ -9,7 +9,7 @@ use std::collections::HashSet;
 use std::marker::Model;
 
 /// Tags in their order.
-#[derive(Debug, Drop)]
+#[derive(Drop)]
 pub(crate) struct TagTable {
     tags: Vec<Tag>,
     // the texts of the tags, so that no search goes over all of them

@@ -10,7 +10,7 @@ ghost use Rattle.tag_expr.specs.TokenTexts.{token_read, word_length, word_size, 
 use crate::characters::is_sign;
 
 /// A token.
-#[derive(Clone, Copy, Debug)]
+#[derive(Clone, Copy)]
 pub(crate) enum Token<'a> {
     LeftParen,
     RightParen,
@@ -23,7 +23,7 @@ pub(crate) enum Token<'a> {
 }
 
 /// A token that was found in a text.
-#[derive(Clone, Copy, Debug)]
+#[derive(Clone, Copy)]
 pub(crate) struct Found<'a> {
     /// Its byte offset in the text.
     pub(crate) place: usize,

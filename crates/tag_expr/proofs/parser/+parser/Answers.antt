@@ -26,11 +26,11 @@ operand-returns-in_ok-read-in-Bang-clause-read t c =
     let few : c.args.pending < 64 = omega arith in
     read_negation _ _ _ _ _ _ _ _ is few c.in_ok-read-in-Bang.ensures.read c.negation.ensures
 
-pub operand-returns-in_ok-rest-in-LeftParen-clause-read : goal.operand-returns-in_ok-rest-in-LeftParen-clause-read
-operand-returns-in_ok-rest-in-LeftParen-clause-read t c =
+pub operand-returns-in-Ok-clause-read : goal.operand-returns-in-Ok-clause-read
+operand-returns-in-Ok-clause-read t c =
     let is = c.in-Some.ensures.found ∙ ap (λ k. placed c.in-Some.found.place (token_read k) ∷ tokens_left c.args.end c.in-Some.found.rest.now) c.in-LeftParen.is in
     let few : c.args.pending < 64 = omega arith in
-    read_group _ _ _ _ _ _ _ _ is few c.in_ok-read-in-LeftParen.ensures.read c.in_ok-rest-in-LeftParen.ensures.closed
+    read_group _ _ _ _ _ _ _ _ is few c.in_ok-read-in-LeftParen.ensures.read c.in-Ok.ensures.closed
 
 pub operands-loop-after-init : goal.operands-loop-after-init
 operands-loop-after-init t c = (read_one c.args.connective _ _ _ _ _ c.in_ok-read.ensures.read, c.in_ok-read.ensures.shorter, c.in_ok-read.ensures.ended)
