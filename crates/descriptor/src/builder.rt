@@ -4,7 +4,6 @@ ghost use Rattle.std.specs.Prelude.{◌≡◌, ◌≢◌, ℕ, ◌<◌, ◌↔�
 
 use crate::body_id::BodyId;
 use crate::body_marks::BodyMarks;
-use crate::both_of::both;
 use crate::fault::TreeFault;
 use crate::hash::hash_of;
 use crate::node::Node;
@@ -13,6 +12,7 @@ use crate::tree::Tree;
 use std::alloc::{AllocError, Global};
 use std::collections::HashSet;
 use std::marker::Model;
+use unique_id::both;
 
 /// The greatest number of nodes of a tree, the plan included.
 pub const MOST_NODES: usize = 4096;

@@ -4,7 +4,6 @@
 
 mod body_id;
 mod body_marks;
-mod both_of;
 mod builder;
 mod fault;
 mod hash;

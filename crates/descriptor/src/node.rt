@@ -3,7 +3,6 @@
 ghost use Rattle.std.specs.Prelude.{◌≡◌, IfOk};
 
 use crate::body_id::BodyId;
-use crate::both_of::both;
 use crate::kind::Kind;
 use crate::lock::Lock;
 use crate::locks::Locks;
@@ -11,7 +10,7 @@ use crate::mode::Mode;
 use crate::role::Role;
 use std::alloc::{AllocError, Global};
 use tag_expr::TagSet;
-use unique_id::{Text, UniqueId};
+use unique_id::{Text, UniqueId, both};
 
 /// The greatest length of a name, of a reason and of a key, in bytes.
 const LONGEST_TEXT: usize = 1024;

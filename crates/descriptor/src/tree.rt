@@ -4,7 +4,6 @@ ghost use Rattle.std.specs.Prelude.{◌≡◌, ℕ, ◌<◌, ◌≤◌, ◌-◌,
 ghost use Rattle.std.specs.Prelude.{IfOk, IsNone, All, true};
 
 use crate::body_id::BodyId;
-use crate::both_of::both;
 use crate::kind::Kind;
 use crate::lock::Lock;
 use crate::mode::Mode;
@@ -14,7 +13,7 @@ use crate::role::Role;
 use std::alloc::{AllocError, Global};
 use std::marker::Model;
 use tag_expr::TagSet;
-use unique_id::Text;
+use unique_id::{Text, both};
 
 /// A tree of nodes, numbered in preorder. Node 0 is the plan.
 #[derive(Debug, Drop)]
