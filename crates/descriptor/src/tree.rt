@@ -280,7 +280,9 @@ impl Tree {
         if self.keeps_all(keep) {
             return Ok(self);
         }
-        self.pruned(alloc, keep)
+        let pruned = self.pruned(alloc, keep);
+        drop(self);
+        pruned
     }
 
     /// Whether every node is kept; the tree of the kept nodes is then this one.
@@ -452,10 +454,8 @@ fn add_place(
     let number = NodeId::new(parents.len() as u16);
     let depth = depths[parent.index()] + 1;
     // room first: from the last `?` on nothing can fail
-    parents.reserve(1)?;
-    depths.reserve(1)?;
-    children.reserve(1)?;
-    nodes.reserve(1)?;
+    let counted = both(parents.reserve(1), depths.reserve(1));
+    let _ = both(counted, both(children.reserve(1), nodes.reserve(1)))?;
     children[parent.index()].push(number)?;
     parents.push_reserved(parent);
     depths.push_reserved(depth);
