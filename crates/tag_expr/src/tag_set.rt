@@ -96,7 +96,10 @@ impl TagSet {
             return table.append(tag);
         }
         let mut table = TagTable::new(self.alloc);
-        table.append(tag)?;
+        if let Err(error) = table.append(tag) {
+            drop(table);
+            return Err(error);
+        }
         self.table = Some(Box::new(self.alloc, table)?);
         Ok(())
     }
