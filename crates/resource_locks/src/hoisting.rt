@@ -19,6 +19,7 @@ use crate::keys::GLOBAL;
 use crate::lock_set::{LockSet, is_writing};
 use descriptor::{Lock, LockMode, Mode, NodeId, Tree};
 use std::alloc::{AllocError, Global};
+use unique_id::both;
 
 /// The locks that each node holds.
 pub(crate) fn held_sets(alloc: Global, tree: &Tree) -> Result<Vec<LockSet>, AllocError>
@@ -27,8 +28,8 @@ pub(crate) fn held_sets(alloc: Global, tree: &Tree) -> Result<Vec<LockSet>, Allo
 {
     let tops = tops(alloc, tree)?;
     let wholes = wholes(alloc, tree, &tops)?;
-    let holders = holders(alloc, tree, &tops, &wholes)?;
-    let own = own(alloc, tree, &tops, &wholes)?;
+    let holders = holders(alloc, tree, &tops, &wholes);
+    let (holders, own) = both(holders, own(alloc, tree, &tops, &wholes))?;
     gathered(tree, &holders, own)
 }
 

@@ -50,9 +50,15 @@ impl Keys {
         let mut keys = Keys {
             keys: IndexSet::new(alloc),
         };
-        keys.add(alloc, GLOBAL)?;
+        if let Err(fault) = keys.add(alloc, GLOBAL) {
+            drop(keys);
+            return Err(fault);
+        }
         for node in 0..tree.len() {
-            keys.add_all(alloc, tree.locks(NodeId::new(node as u16)))?;
+            if let Err(fault) = keys.add_all(alloc, tree.locks(NodeId::new(node as u16))) {
+                drop(keys);
+                return Err(fault);
+            }
         }
         Ok(keys)
     }

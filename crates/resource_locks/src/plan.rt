@@ -2,14 +2,14 @@
 
 ghost use Rattle.std.specs.Prelude.{◌≡◌, ◌<◌, ◌≤◌, ◌==◌, ◌&&◌, ◌↔◌, not, ℕ, IfOk, IfErr, IsTrue, OnOk, length, map};
 ghost use Rattle.std.specs.Prelude.{slice_index_or};
-ghost use Rattle.descriptor.specs.Nodes.{size, IsChild};
+ghost use Rattle.descriptor.specs.Nodes.{size, IsChild, IsTree};
 ghost use Rattle.descriptor.specs.declared.mode.Mode.{Mode as ModeValue};
 ghost use Rattle.descriptor.specs.declared.mode.Mode.TheVariants.{SameThread};
 ghost use Rattle.resource_locks.specs.Declarations.{declared_of};
 ghost use Rattle.resource_locks.specs.Held.{plan_of};
 ghost use Rattle.resource_locks.specs.Hoisted.{IsHoisted, IsGuarded};
 ghost use Rattle.resource_locks.specs.Keys.{keys_of};
-ghost use Rattle.resource_locks.specs.Plans.{mode_of};
+ghost use Rattle.resource_locks.specs.Plans.{mode_of, numbers_of};
 ghost use Rattle.resource_locks.specs.Spares.{HasBareSpares, HasFreeSpares};
 
 use crate::fault::PlanFault;
@@ -19,7 +19,7 @@ use crate::lock_set::LockSet;
 use descriptor::{Mode, NodeId, Role, Tree};
 use std::alloc::{AllocError, Global};
 use std::marker::Model;
-use unique_id::Text;
+use unique_id::{Text, both};
 
 /// A tree that is to be executed, the execution mode of each node, and the locks that it holds
 /// while it runs. Node 0 is the plan itself.
@@ -104,17 +104,20 @@ impl Plan {
             mode_of plan e ≡ slice_index_or modes.items e SameThread) }
         ensures free { IfOk result (λ plan. HasBareSpares tree → HasFreeSpares plan) }
     {
-        let keys = Keys::of(alloc, &tree)?;
-        let held = held_sets(alloc, &tree)?;
-        let numbers = keys.all_numbers(alloc, &held)?;
-        Ok(Plan {
-            modes: hoisted_modes(alloc, &tree, &held, modes)?,
-            tree,
-            held,
-            keys: keys.texts(alloc)?,
-            numbers,
-            fail_fast: false,
-        })
+        match parts_of(alloc, &tree, modes) {
+            Ok(parts) => Ok(Plan {
+                tree,
+                modes: parts.modes,
+                held: parts.held,
+                keys: parts.keys,
+                numbers: parts.numbers,
+                fail_fast: false,
+            }),
+            Err(fault) => {
+                drop(tree);
+                Err(fault)
+            }
+        }
     }
 
     /// The tree that is to be executed.
@@ -228,15 +231,62 @@ impl Plan {
     {
         let mut modes = Vec::new(alloc);
         modes.extend_from_slice(&self.modes)?;
+        let held = copied_sets(alloc, &self.held);
+        let keys = copied_texts(alloc, &self.keys);
+        let rest = both(keys, copied_numbers(alloc, &self.numbers));
+        let (tree, rest) = both(self.tree.copy(alloc), both(held, rest))?;
+        let (held, rest) = rest;
+        let (keys, numbers) = rest;
         Ok(Plan {
-            tree: self.tree.copy(alloc)?,
+            tree,
             modes,
-            held: copied_sets(alloc, &self.held)?,
-            keys: copied_texts(alloc, &self.keys)?,
-            numbers: copied_numbers(alloc, &self.numbers)?,
+            held,
+            keys,
+            numbers,
             fail_fast: self.fail_fast,
         })
     }
+}
+
+/// What a plan has beside its tree.
+#[derive(Drop)]
+struct Parts {
+    modes: Vec<Mode>,
+    held: Vec<LockSet>,
+    keys: Vec<Text>,
+    numbers: Vec<Vec<u8>>,
+}
+
+/// The parts of the plan of a tree whose nodes were given these modes.
+fn parts_of(alloc: Global, tree: &Tree, given: Vec<Mode>) -> Result<Parts, PlanFault>
+    requires { length given.items ≡ size tree.now }
+    ensures modes { IfOk result (λ parts. parts.modes.items ≡ (plan_of tree.now given.items).modes) }
+    ensures held { IfOk result (λ parts. parts.held.items ≡ (plan_of tree.now given.items).held) }
+    ensures keys { IfOk result (λ parts. parts.keys.items ≡ (plan_of tree.now given.items).keys) }
+    ensures numbers { IfOk result (λ parts. map (λ v. v.items) parts.numbers.items
+        ≡ map (numbers_of (keys_of (declared_of tree.now))) (plan_of tree.now given.items).held) }
+    ensures tree { OnOk result (IsTree tree.now) }
+    ensures few { OnOk result (length (keys_of (declared_of tree.now)) ≤ 256) }
+    ensures refused { IfErr result (λ fault. fault ≡ PlanFault.TooManyKeys →
+        256 < length (keys_of (declared_of tree.now))) }
+{
+    let all = Keys::of(alloc, tree)?;
+    let Ok(held) = held_sets(alloc, tree) else {
+        drop(all);
+        return Err(PlanFault::NoMemory);
+    };
+    let numbers = all.all_numbers(alloc, &held);
+    let modes = hoisted_modes(alloc, tree, &held, given);
+    let texts = all.texts(alloc);
+    drop(all);
+    let (modes, rest) = both(modes, both(numbers, texts))?;
+    let (numbers, keys) = rest;
+    Ok(Parts {
+        modes,
+        held,
+        keys,
+        numbers,
+    })
 }
 
 /// The same sets, in a list of their own.
