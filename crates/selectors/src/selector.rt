@@ -5,7 +5,7 @@ ghost use Rattle.selectors.specs.Selectors.{class_of, method_of, package_of, sel
 
 use crate::selector_fault::SelectorFault;
 use std::alloc::Global;
-use unique_id::{Text, UidFault, UniqueId};
+use unique_id::{Text, UidFault, UniqueId, both};
 
 /// What a selector's text names.
 #[derive(Clone, Copy, PartialEq, Eq, Debug)]
@@ -111,8 +111,6 @@ fn method(alloc: Global, text: &str) -> Result<Selector, SelectorFault>
     if class.is_empty() || method.is_empty() {
         return Err(SelectorFault::BadSelector);
     }
-    Ok(Selector::Method {
-        class: Text::new(alloc, class)?,
-        method: Text::new(alloc, method)?,
-    })
+    let (class, method) = both(Text::new(alloc, class), Text::new(alloc, method))?;
+    Ok(Selector::Method { class, method })
 }
