@@ -1,5 +1,5 @@
 -- Tokens that spell an expression have no fault, but that too much is pending.
-use Rattle.std.proofs.Common.{◌≡◌, ◌≢◌, ℕ, ◌+◌, ◌==◌, ◌++◌, ◌∷◌, [], ◌∙◌, List, Bool, true, false, if◌then◌else◌, length, drop, map, refl, sym, ap, append_assoc, append-nil, inl, inr}
+use Rattle.std.proofs.Common.{◌≡◌, ◌≢◌, ℕ, ◌+◌, ◌==◌, ◌++◌, ◌∷◌, [], ◌∙◌, List, Bool, true, false, if◌then◌else◌, length, drop, get_or, map, refl, true≢false, sym, ap, append_assoc, append-nil, inl, inr}
 use Rattle.std.specs.Prelude.{◌⊎◌, ◌||◌, Some, None}
 use Rattle.std.specs.List.{list_any}
 use Rattle.std.specs.Str.{chars}
@@ -19,7 +19,7 @@ none_first at [] h = refl
 none_first at (c ∷ cs) h =
     let turn : (b : Bool) → (b || list_any is_bad cs) ≡ false → (if b then Some at else first_bad (at + len_utf8 c) cs) ≡ None =
     λ b. elim b as (λ b. (b || list_any is_bad cs) ≡ false → (if b then Some at else first_bad (at + len_utf8 c) cs) ≡ None) [
-      | true ↦ λ k. cc
+      | true ↦ λ k. absurd (true≢false k)
       | false ↦ λ k. none_first (at + len_utf8 c) cs k
     ] in
     turn (is_bad c) h
@@ -34,7 +34,7 @@ record Begun (ts : List PlacedToken) (token : Token) (tail : List Token) : Type 
 begun : (ts : List PlacedToken) (token : Token) (tail : List Token) → map token_of ts ≡ token ∷ tail → Begun ts token tail
 begun [] token tail h = absurd (cc)
 begun (placed place t ∷ ts) token tail h =
-    let same : t ≡ token = cc in
+    let same : t ≡ token = ap (λ l. get_or l 0 t) h in
     record { place = place; rest = ts; is = ap (λ k. placed place k ∷ ts) same; kinds = ap (drop 1) h }
 
 -- behind a phrase: too much is pending somewhere, or no fault came so far
