@@ -58,9 +58,13 @@ abbrev pub suite_from : ℕ → LinesRead → List (List ℕ) → Result LinesRe
 suite_from number read [] = Ok read
 suite_from number read (line ∷ more) = with_line number read line >>= (λ next. suite_from (number + 1) next more)
 
+-- the suite of all lines of a text
+abbrev pub suite_of_lines : List (List ℕ) → Result SuiteParts SuiteFault
+suite_of_lines all = suite_from 1 no_lines all >>= (λ read. Ok (parts_of read))
+
 -- the suite of a text
 abbrev pub suite_of : List ℕ → Result SuiteParts SuiteFault
-suite_of text = if nat_lt 1048576 (length text) then Err TooLarge else (suite_from 1 no_lines (lines text) >>= (λ read. Ok (parts_of read)))
+suite_of text = if nat_lt 1048576 (length text) then Err TooLarge else suite_of_lines (lines text)
 
 -- a suite, without where it lies in memory
 abbrev pub suite_parts : Suite → SuiteParts

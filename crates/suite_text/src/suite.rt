@@ -6,9 +6,10 @@ ghost use Rattle.resource_locks.specs.Spares.{HasBareSpares};
 ghost use Rattle.suite_text.specs.Reading.Bytes.{suite_read};
 ghost use Rattle.suite_text.specs.Reading.Faults.{Gives};
 ghost use Rattle.suite_text.specs.Reading.Ids.{IdsFollow};
-ghost use Rattle.suite_text.specs.Reading.Parts.{SuiteParts, AreBodiesOf, bodies_answered};
-ghost use Rattle.suite_text.specs.Suites.{suite_of, suite_parts};
+ghost use Rattle.suite_text.specs.Reading.Parts.{SuiteParts, no_lines, AreBodiesOf, bodies_answered};
+ghost use Rattle.suite_text.specs.Suites.{suite_from, suite_of, suite_of_lines, suite_parts};
 ghost use Rattle.suite_text.specs.Writing.Suites.{IsSuite};
+ghost use Rattle.unique_id.specs.Answers.{texts};
 
 mod after;
 mod attributes;
@@ -53,6 +54,24 @@ fn line_after(bytes: &[u8]) -> usize
     line
 }
 
+/// What all lines of a text have made.
+fn builder_of(alloc: Global, lines: &[&str]) -> Result<SuiteBuilder, SuiteFault>
+    ensures { Gives (λ builder. builder) result (suite_from 1 no_lines (texts lines.now)) }
+{
+    let mut builder = SuiteBuilder::new(alloc, lines.len())?;
+    builder.read_lines(alloc, lines)?;
+    Ok(builder)
+}
+
+/// The suite of all lines of a text.
+fn suite_of_lines(alloc: Global, lines: &[&str]) -> Result<Suite, SuiteFault>
+    ensures exact { Gives suite_parts result (suite_of_lines (texts lines.now)) }
+    ensures ids { IfOk result (λ suite. IdsFollow suite.tree) }
+    ensures answered { IfOk result (λ suite. AreBodiesOf suite.tree.nodes (bodies_answered suite.scripts.items)) }
+{
+    Ok(builder_of(alloc, lines)?.finish(alloc)?)
+}
+
 /// The suite of a text, line by line.
 fn suite_in(alloc: Global, text: &str) -> Result<Suite, SuiteFault>
     ensures exact { Gives suite_parts result (suite_of text.now) }
@@ -63,12 +82,7 @@ fn suite_in(alloc: Global, text: &str) -> Result<Suite, SuiteFault>
     if text.len() > LONGEST_SUITE {
         return Err(SuiteFault::TooLarge);
     }
-    let lines = lines_in(alloc, text)?;
-    let mut builder = SuiteBuilder::new(alloc, lines.len())?;
-    for (index, line) in lines.iter().enumerate() {
-        builder.read_line(alloc, index + 1, line)?;
-    }
-    Ok(builder.finish(alloc)?)
+    suite_of_lines(alloc, &lines_in(alloc, text)?)
 }
 
 /// The suite of bytes, which are judged before their lines.

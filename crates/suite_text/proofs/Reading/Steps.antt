@@ -9,8 +9,8 @@ use Rattle.suite_text.specs.declared.suite.fault.SuiteFault.{SuiteFault}
 use Rattle.suite_text.specs.Reading.Faults.{Fails}
 use Rattle.unique_id.specs.Answers.{◌>>=◌}
 use Rattle.unique_id.specs.Answers.{texts}
-use Rattle.suite_text.specs.Reading.Parts.{SuiteParts, LinesRead, no_lines, parts_of}
-use Rattle.suite_text.specs.Suites.{with_declared, with_node_words, with_line, suite_from, suite_of}
+use Rattle.suite_text.specs.Reading.Parts.{LinesRead}
+use Rattle.suite_text.specs.Suites.{with_declared, with_node_words, with_line, suite_from, suite_of_lines, suite_of}
 use Rattle.suite_text.specs.Reading.Nodes.{word_on}
 use Rattle.suite_text.specs.Reading.Words.{Declaration, declared_as}
 
@@ -38,28 +38,19 @@ module _ (xs : List (Bor (List ℕ))) (i : ℕ) (d : Bor (List ℕ)) (old : Line
   pub line_fails : (fault : SuiteFault) → Fails fault (with_line (i + 1) old (get_or xs i d).now) → Fails fault all
   line_fails fault h = fails_as fault _ all line_read (fails_then fault (with_line (i + 1) old (get_or xs i d).now) (λ next. suite_from (i + 1 + 1) next (drop (i + 1) (texts xs))) h)
 
+-- where no line is left, all were read
+pub lines_done : (xs : List (Bor (List ℕ))) (i : ℕ) (read : LinesRead) (all : Result LinesRead SuiteFault) → length xs ≤ i → suite_from (i + 1) read (drop i (texts xs)) ≡ all → all ≡ Ok read
+lines_done xs i read all past so_far =
+    let now : Bor (List ℕ) → List ℕ = λ x. x.now in
+    let len : length (texts xs) ≡ length xs = length-map xs now in
+    sym so_far ∙ ap (suite_from (i + 1) read) (drop_all i (texts xs) (omega (arith, len, past)))
+
 -- the suite of a text that is not too large
-small : (text : List ℕ) (b : Bool) → nat_lt 1048576 (length text) ≡ b → b ≡ false → suite_of text ≡ (suite_from 1 no_lines (lines text) >>= (λ read. Ok (parts_of read)))
+small : (text : List ℕ) (b : Bool) → nat_lt 1048576 (length text) ≡ b → b ≡ false → suite_of text ≡ suite_of_lines (lines text)
 small text b is e = rw (is ∙ e) refl
 
-pub suite_small : (text : List ℕ) → length text ≤ 1048576 → suite_of text ≡ (suite_from 1 no_lines (lines text) >>= (λ read. Ok (parts_of read)))
+pub suite_small : (text : List ℕ) → length text ≤ 1048576 → suite_of text ≡ suite_of_lines (lines text)
 suite_small text h = small text (nat_lt 1048576 (length text)) refl (search (rules, tests))
-
--- where no line is left, what was made is the suite
-pub suite_done : (text : List ℕ) (xs : List (Bor (List ℕ))) (i : ℕ) (read : LinesRead) (parts : SuiteParts) → length text ≤ 1048576 → texts xs ≡ lines text → length xs ≤ i
-    → suite_from (i + 1) read (drop i (texts xs)) ≡ suite_from 1 no_lines (texts xs) → parts ≡ parts_of read → suite_of text ≡ Ok parts
-suite_done text xs i read parts h e past so_far is =
-    let now : Bor (List ℕ) → List ℕ = λ x. x.now in
-    let all : length (texts xs) ≡ length xs = length-map xs now in
-    suite_small text h
-    ∙ ap (λ l. suite_from 1 no_lines l >>= (λ r. Ok (parts_of r))) (sym e)
-    ∙ ap (λ r. r >>= (λ x. Ok (parts_of x))) (sym so_far ∙ ap (suite_from (i + 1) read) (drop_all i (texts xs) (omega (arith, all, past))))
-    ∙ ap Ok (sym is)
-
-pub suite_fails : (text : List ℕ) (ls : List (List ℕ)) (fault : SuiteFault) → length text ≤ 1048576 → ls ≡ lines text → Fails fault (suite_from 1 no_lines ls) → Fails fault (suite_of text)
-suite_fails text ls fault h e fails =
-    fails_as fault _ (suite_of text) (ap (λ l. suite_from 1 no_lines l >>= (λ read. Ok (parts_of read))) e ∙ sym (suite_small text h))
-    (fails_then fault (suite_from 1 no_lines ls) (λ read. Ok (parts_of read)) fails)
 
 -- a node's line that is read fails as its node does
 pub node_fails : (number level : ℕ) (read : LinesRead) (first rest : List ℕ) (d : Declaration) (result : Result (Unit {0}) SuiteFault) → declared_as number (word_on read level) first rest ≡ Ok d

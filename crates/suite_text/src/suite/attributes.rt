@@ -5,9 +5,10 @@ ghost use Rattle.std.specs.List.{Contains};
 ghost use Rattle.suite_text.specs.Grammar.{attributes, attribute_text, bearer};
 ghost use Rattle.suite_text.specs.Reading.Attributes.{after_sign, declaration_in, attribute_of, no_attributes};
 ghost use Rattle.suite_text.specs.Reading.Attributes.{with_tag_of, with_spin_of, with_pulls_of, with_mode};
-ghost use Rattle.suite_text.specs.Reading.Attributes.{with_attribute, attributes_of, spin_said, pulls_said};
+ghost use Rattle.suite_text.specs.Reading.Attributes.{with_attribute, attributes_from, spin_said, pulls_said};
 ghost use Rattle.suite_text.specs.Reading.Faults.{Fails, Gives};
 ghost use Rattle.suite_text.specs.Reading.Lines.{first_word, after_word};
+ghost use Rattle.suite_text.specs.Words.{words_in};
 ghost use Rattle.suite_text.specs.declared.suite.attributes.Attribute.{Attribute};
 ghost use Rattle.tag_expr.specs.Tags.{tag_refusal};
 
@@ -145,7 +146,7 @@ pub(crate) struct Attributes {
 
 impl Attributes {
     /// Before the first attribute.
-    fn none(alloc: Global) -> Attributes
+    pub(crate) fn none(alloc: Global) -> Attributes
         ensures { result ≡ no_attributes }
     {
         Attributes {
@@ -254,6 +255,29 @@ impl Attributes {
             }
         }
     }
+
+    /// Adds what the attributes at the front of a text say. Answers what follows them.
+    pub(crate) fn read<'a>(
+        &mut self,
+        alloc: Global,
+        number: usize,
+        word: Word,
+        text: &'a str,
+    ) -> Result<Left<'a>, SuiteFault>
+        ensures exact { Gives (λ left. (self.new, left.rest.now)) result
+            (attributes_from number word self.old (words_in text.now) text.now) }
+        ensures first { IfOk result (λ left. left.first.now ≡ first_word left.rest.now) }
+        ensures after { IfOk result (λ left. left.after.now ≡ after_word left.rest.now) }
+    {
+        let mut rest = text;
+        let (mut first, mut after) = next_word(rest);
+        while let Some(attribute) = Attribute::of(word, first) {
+            self.add(alloc, number, attribute, first)?;
+            rest = after;
+            (first, after) = next_word(rest);
+        }
+        Ok(Left { rest, first, after })
+    }
 }
 
 /// What follows the first number sign of a word.
@@ -266,41 +290,12 @@ fn after_sign(text: &str) -> &str
     }
 }
 
-/// What the attributes at the front of a text say, and what follows them.
-#[derive(Drop)]
-pub(crate) struct AttributesRead<'a> {
-    pub(crate) attributes: Attributes,
-    /// What follows the attributes.
+/// What follows the attributes at the front of a text.
+#[derive(Clone, Copy)]
+pub(crate) struct Left<'a> {
     pub(crate) rest: &'a str,
     /// The first word of that.
     pub(crate) first: &'a str,
     /// What follows that word.
     pub(crate) after: &'a str,
-}
-
-/// What the attributes at the front of a text say, and what follows them.
-pub(crate) fn attributes_in<'a>(
-    alloc: Global,
-    number: usize,
-    word: Word,
-    text: &'a str,
-) -> Result<AttributesRead<'a>, SuiteFault>
-    ensures exact { Gives (λ read. (read.attributes, read.rest.now)) result (attributes_of number word text.now) }
-    ensures first { IfOk result (λ read. read.first.now ≡ first_word read.rest.now) }
-    ensures after { IfOk result (λ read. read.after.now ≡ after_word read.rest.now) }
-{
-    let mut attributes = Attributes::none(alloc);
-    let mut rest = text;
-    let (mut first, mut after) = next_word(rest);
-    while let Some(attribute) = Attribute::of(word, first) {
-        attributes.add(alloc, number, attribute, first)?;
-        rest = after;
-        (first, after) = next_word(rest);
-    }
-    Ok(AttributesRead {
-        attributes,
-        rest,
-        first,
-        after,
-    })
 }

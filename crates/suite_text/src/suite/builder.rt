@@ -1,7 +1,7 @@
 //! A suite that grows line by line.
 
 ghost use Rattle.std.specs.Prelude.{◌≡◌, ◌≢◌, ◌≤◌, ◌<◌, ◌+◌, length, OnOk, OnErr, IfOk, IfErr, IfSome, Some, None};
-ghost use Rattle.std.specs.Prelude.{Ok, false, true, [], ◌∷◌, ◌++◌, take, vec_len, vec_capacity};
+ghost use Rattle.std.specs.Prelude.{Ok, false, true, [], ◌∷◌, ◌++◌, take, vec_len, vec_capacity, option_to_list};
 
 use crate::script::Script;
 use crate::suite::Suite;
@@ -13,7 +13,7 @@ use crate::suite::properties::{is_property, put_property};
 use crate::suite::pulls::{Pending, all_settled, lines_below};
 use crate::suite::words::{Declared, Word, declared_as};
 use config_params::Params;
-use descriptor::{BodyId, MOST_NODES, Node, NodeId, Tree, TreeBuilder, TreeFault};
+use descriptor::{BodyId, Locks, MOST_NODES, Node, NodeId, Tree, TreeBuilder, TreeFault};
 use plan_events::Status;
 use std::alloc::{AllocError, Global};
 use std::marker::Model;
@@ -68,12 +68,14 @@ impl Model for SuiteBuilder {
 }
 
 ghost use Rattle.unique_id.specs.Spelling.{refusal};
-ghost use Rattle.descriptor.specs.Nodes.{size, IsTree, MayTake};
+ghost use Rattle.descriptor.specs.Nodes.{size, appended, IsTree, MayTake};
+ghost use Rattle.descriptor.specs.Refusals.{refusal as tree_refusal};
 ghost use Rattle.suite_text.specs.Reading.Parts.{above, word_of_opened, node_of_opened};
-ghost use Rattle.suite_text.specs.Inside.FewLocks.{DoesFor};
+ghost use Rattle.suite_text.specs.Inside.FewLocks.{DoesFor, StandFor};
 ghost use Rattle.suite_text.specs.Reading.Words.{declaration_of};
-ghost use Rattle.suite_text.specs.Reading.Nodes.{id_at, value_declared, node_with, node_declared, is_over_limit};
+ghost use Rattle.suite_text.specs.Reading.Nodes.{id_at, id_declared, segment_kind, value_of_dyn, value_declared, node_with, node_declared, is_over_limit};
 ghost use Rattle.suite_text.specs.Reading.Nodes.{place_on, word_on, refusal_on, grown};
+ghost use Rattle.suite_text.specs.Reading.Verdicts.{reason_declared};
 
 /// The unique id of a node below this one, or at level 0.
 fn id_below(
@@ -96,6 +98,22 @@ fn id_below(
     }
 }
 
+/// The name that a line declares, why its node is disabled, and its locks: all of a node that takes
+/// memory but its unique id.
+fn texts_of(
+    alloc: Global,
+    declared: &Declared<'_>,
+) -> Result<(Option<Text>, Text, Locks), AllocError>
+    ensures reason { IfOk result (λ made. made.0 ≡ reason_declared declared.now.verdict declared.now.text.now) }
+    ensures name { IfOk result (λ made. made.1 ≡ declared.now.name.now) }
+    ensures locks { IfOk result (λ made. StandFor made.2 declared.now.attributes.locks) }
+{
+    let disabled = declared.reason(alloc)?;
+    let name = Text::new(alloc, declared.name)?;
+    let locks = declared.attributes.locks.in_order(alloc)?;
+    Ok((disabled, name, locks))
+}
+
 /// The node of this unique id and number that a line declares.
 fn node_with(
     alloc: Global,
@@ -105,22 +123,41 @@ fn node_with(
 ) -> Result<Node, AllocError>
     ensures { IfOk result (λ node. DoesFor node (node_with number id (declaration_of declared.entry))) }
 {
+    let (disabled, name, locks) = texts_of(alloc, &declared)?;
     let body = declared.body(number);
-    let disabled = declared.reason(alloc)?;
-    let name = Text::new(alloc, declared.name)?;
-    let kind = declared.word.kind();
-    let role = declared.word.role();
-    let attributes = declared.attributes;
     Ok(Node {
-        role,
-        mode: attributes.mode,
-        locks: attributes.locks.in_order(alloc)?,
-        isolated: attributes.isolated,
+        id,
+        name,
+        kind: declared.word.kind(),
+        role: declared.word.role(),
+        mode: declared.attributes.mode,
+        locks,
+        isolated: declared.attributes.isolated,
         body,
+        after: None,
         disabled,
-        tags: attributes.tags,
-        ..Node::plain(alloc, id, name, kind)
+        tags: declared.attributes.tags,
     })
+}
+
+/// The unique id of the dynamic test that is the child of this place, from 1, of this node.
+fn id_of_dyn(
+    alloc: Global,
+    tree: &Tree,
+    parent: Option<Opened>,
+    kind: &str,
+    place: u16,
+) -> Result<UniqueId, UidFault>
+    requires { IfSome parent (λ opened. (0 < opened.node) × (opened.node < size tree.now)) }
+    ensures ok { IfOk result (λ id. id ≡ id_at tree.now (node_of_opened parent)
+        ++ record { kind = kind.now; value = value_of_dyn place } ∷ []) }
+    ensures accepted { IfOk result (λ _. refusal (id_at tree.now (node_of_opened parent)) kind.now
+        (value_of_dyn place) ≡ None) }
+    ensures refused { IfErr result (λ fault. fault ≢ UidFault.NoMemory →
+        refusal (id_at tree.now (node_of_opened parent)) kind.now (value_of_dyn place) ≡ Some fault) }
+{
+    let value = format!(in alloc; "#{place}")?;
+    id_below(alloc, tree, parent, kind, value.as_str())
 }
 
 /// The unique id of the node that a line declares as the child of this place, from 1, of this one,
@@ -143,10 +180,35 @@ fn id_declared(
         ≡ Some fault) }
 {
     if declared.word.role().is_spare() {
-        let value = format!(in alloc; "#{place}")?;
-        return id_below(alloc, tree, parent, kind, value.as_str());
+        return id_of_dyn(alloc, tree, parent, kind, place);
     }
     id_below(alloc, tree, parent, kind, declared.name)
+}
+
+/// The same, of which all refusals but want of memory are one.
+fn id_within(
+    alloc: Global,
+    tree: &Tree,
+    parent: Option<Opened>,
+    kind: &str,
+    place: u16,
+    declared: &Declared<'_>,
+) -> Result<UniqueId, TreeFault>
+    requires parent { IfSome parent (λ opened. (0 < opened.node) × (opened.node < size tree.now)) }
+    requires kind { kind.now ≡ segment_kind (word_of_opened parent) declared.now.word }
+    ensures ok { IfOk result (λ id. id ≡ id_declared (word_of_opened parent)
+        (id_at tree.now (node_of_opened parent)) place (declaration_of declared.now)) }
+    ensures accepted { IfOk result (λ _. is_over_limit (id_at tree.now (node_of_opened parent))
+        (word_of_opened parent) place (declaration_of declared.now) ≡ false) }
+    ensures refused { IfErr result (λ fault. fault ≢ TreeFault.NoMemory → (fault ≡ TreeFault.OverLimit)
+        × (is_over_limit (id_at tree.now (node_of_opened parent)) (word_of_opened parent) place
+        (declaration_of declared.now) ≡ true)) }
+{
+    match id_declared(alloc, tree, parent, kind, place, declared) {
+        Ok(id) => Ok(id),
+        Err(UidFault::NoMemory) => Err(TreeFault::NoMemory),
+        Err(_) => Err(TreeFault::OverLimit),
+    }
 }
 
 /// The node of this number that a line declares as the child of this place, from 1, of this one, or
@@ -170,11 +232,7 @@ fn node_below(
         (declaration_of declared.entry) ≡ true)) }
 {
     let kind = declared.word.segment_type(parent.map(|opened| opened.word));
-    let id = match id_declared(alloc, tree, parent, kind, place, &declared) {
-        Ok(id) => id,
-        Err(UidFault::NoMemory) => return Err(TreeFault::NoMemory),
-        Err(_) => return Err(TreeFault::OverLimit),
-    };
+    let id = id_within(alloc, tree, parent, kind, place, &declared)?;
     Ok(node_with(alloc, id, number, declared)?)
 }
 
@@ -185,6 +243,58 @@ fn open_on(path: &mut Vec<Opened>, level: usize, opened: Opened)
 {
     path.truncate(level);
     path.push_reserved(opened);
+}
+
+/// Makes room for one more open node and one more script.
+fn make_room(path: &mut Vec<Opened>, scripts: &mut Vec<Pending>) -> Result<(), AllocError>
+    ensures path { path.new.items ≡ path.old.items }
+    ensures scripts { scripts.new.items ≡ scripts.old.items }
+    ensures path_room { OnOk result (vec_len path.new < vec_capacity path.new) }
+    ensures scripts_room { OnOk result (vec_len scripts.new < vec_capacity scripts.new) }
+{
+    path.reserve(1)?;
+    scripts.reserve(1)
+}
+
+/// Adds the script of a node, where it has one.
+fn push_script(scripts: &mut Vec<Pending>, script: Option<Pending>)
+    requires { vec_len scripts.old < vec_capacity scripts.old }
+    ensures { scripts.new.items ≡ scripts.old.items ++ option_to_list script }
+{
+    if let Some(script) = script {
+        scripts.push_reserved(script);
+    }
+}
+
+/// A node that is to be added, and the script of its body.
+#[derive(Drop)]
+struct NewNode {
+    node: Node,
+    script: Option<Pending>,
+}
+
+/// Adds a node below this one, and its script, for which there is room.
+fn hang(
+    alloc: Global,
+    tree: &mut TreeBuilder,
+    scripts: &mut Vec<Pending>,
+    parent: NodeId,
+    made: NewNode,
+) -> Result<NodeId, TreeFault>
+    requires taken { MayTake tree.old parent }
+    requires room { vec_len scripts.old < vec_capacity scripts.old }
+    ensures ok { IfOk result (λ number. (number ≡ size tree.old) × (tree_refusal tree.old parent made.node ≡ None)) }
+    ensures added { OnOk result (tree.new ≡ appended tree.old parent made.node) }
+    ensures scripts { OnOk result (scripts.new.items ≡ scripts.old.items ++ option_to_list made.script) }
+    ensures refused { IfErr result (λ fault. fault ≢ TreeFault.NoMemory → tree_refusal tree.old parent made.node ≡ Some
+        fault) }
+    ensures tree_kept { OnErr result (tree.new ≡ tree.old) }
+    ensures scripts_kept { OnErr result (scripts.new.items ≡ scripts.old.items) }
+{
+    let NewNode { node, script } = made;
+    let number = tree.add(alloc, parent, node)?;
+    push_script(scripts, script);
+    Ok(number)
 }
 
 /// The node, or the plan where there is none.
@@ -201,23 +311,26 @@ impl SuiteBuilder {
     ghost use Rattle.suite_text.specs.Reading.Parts.{no_lines};
     ghost use Rattle.suite_text.specs.Reading.Ids.{IdsFollow};
     ghost use Rattle.suite_text.specs.Reading.Lines.{indentation_of};
-    ghost use Rattle.suite_text.specs.Reading.Nodes.{node_on, is_over_limit_on};
+    ghost use Rattle.suite_text.specs.Reading.Nodes.{node_on, is_over_limit_on, script_declared};
     ghost use Rattle.suite_text.specs.Reading.Faults.{Fails, Gives};
     ghost use Rattle.suite_text.specs.Reading.After.{class_of, after_body, with_after_body, with_after_line};
     ghost use Rattle.descriptor.specs.Refusals.{after_refusal};
     ghost use Rattle.suite_text.specs.Suites.{is_property_in, with_declared, with_node_words, with_declaration};
-    ghost use Rattle.suite_text.specs.Suites.{with_words, with_line, suite_parts};
+    ghost use Rattle.suite_text.specs.Suites.{with_words, with_line, suite_from, suite_parts};
     ghost use Rattle.suite_text.specs.Reading.Parts.{parts_of, AreBodiesOf, bodies_answered};
+    ghost use Rattle.unique_id.specs.Answers.{texts};
 
     /// Before the first line, with room for the nodes of so many lines, though for no more than a tree may have.
     pub(crate) fn new(alloc: Global, lines: usize) -> Result<SuiteBuilder, AllocError>
         ensures { IfOk result (λ b. b ≡ no_lines) }
     {
         let nodes = lines.min(MOST_NODES);
+        let tree = TreeBuilder::with_capacity(alloc, nodes)?;
+        let scripts = Vec::with_capacity(alloc, nodes)?;
         Ok(SuiteBuilder {
-            tree: TreeBuilder::with_capacity(alloc, nodes)?,
+            tree,
             path: Vec::new(alloc),
-            scripts: Vec::with_capacity(alloc, nodes)?,
+            scripts,
             afters: Vec::new(alloc),
             properties: Params::new(alloc),
         })
@@ -272,6 +385,27 @@ impl SuiteBuilder {
         node_below(alloc, self.tree.tree(), parent, place, number, declared)
     }
 
+    /// The node that a line of this level declares, with its script.
+    fn made_on(
+        &self,
+        alloc: Global,
+        level: usize,
+        declared: Declared<'_>,
+    ) -> Result<NewNode, TreeFault>
+        requires { level ≤ length self.now.path }
+        ensures node { IfOk result (λ made. DoesFor made.node (node_on self.now level (declaration_of declared.entry))) }
+        ensures script { IfOk result (λ made. made.script ≡ script_declared (declaration_of declared.entry)
+            (size self.now.tree)) }
+        ensures tree { IfOk result (λ _. IsTree self.now.tree) }
+        ensures accepted { IfOk result (λ _. is_over_limit_on self.now level (declaration_of declared.entry) ≡ false) }
+        ensures refused { IfErr result (λ fault. fault ≢ TreeFault.NoMemory → (fault ≡ TreeFault.OverLimit)
+            × (is_over_limit_on self.now level (declaration_of declared.entry) ≡ true)) }
+    {
+        let script = declared.script(alloc, self.next_number())?;
+        let node = self.node_on(alloc, level, declared)?;
+        Ok(NewNode { node, script })
+    }
+
     /// Adds the node that a line of this level declares.
     fn add(&mut self, alloc: Global, level: usize, declared: Declared<'_>) -> Result<(), TreeFault>
         requires { level ≤ length self.old.path }
@@ -281,17 +415,12 @@ impl SuiteBuilder {
             refusal_on self.old level (declaration_of declared.entry) ≡ Some fault) }
         ensures err { OnErr result (self.new ≡ self.old) }
     {
-        let script = declared.script(alloc, self.next_number())?;
         let word = declared.word;
-        let node = self.node_on(alloc, level, declared)?;
         let parent = node_or_plan(self.above(level));
-        self.path.reserve(1)?;
-        self.scripts.reserve(1)?;
-        let node = self.tree.add(alloc, parent, node)?;
+        let made = self.made_on(alloc, level, declared)?;
+        make_room(&mut self.path, &mut self.scripts)?;
+        let node = hang(alloc, &mut self.tree, &mut self.scripts, parent, made)?;
         open_on(&mut self.path, level, Opened { node, word });
-        if let Some(script) = script {
-            self.scripts.push_reserved(script);
-        }
         Ok(())
     }
 
@@ -355,8 +484,8 @@ impl SuiteBuilder {
             (after_body class) ≡ Some fault) }
     {
         let body = BodyId::new(FIRST_AFTER + class.number());
-        let script = Script::ending(alloc, body, 0, 0, status, text)?;
         self.afters.reserve(1)?;
+        let script = Script::ending(alloc, body, 0, 0, status, text)?;
         self.tree.set_after(class, body)?;
         self.afters.push_reserved(script);
         Ok(())
@@ -455,12 +584,7 @@ impl SuiteBuilder {
     }
 
     /// Reads the line of this number.
-    pub(crate) fn read_line(
-        &mut self,
-        alloc: Global,
-        number: usize,
-        line: &str,
-    ) -> Result<(), SuiteFault>
+    fn read_line(&mut self, alloc: Global, number: usize, line: &str) -> Result<(), SuiteFault>
         ensures added { OnOk result (with_line number self.old line.now ≡ Ok self.new) }
         ensures refused { IfErr result (λ fault. Fails fault (with_line number self.old line.now)) }
     {
@@ -469,6 +593,17 @@ impl SuiteBuilder {
             return Ok(());
         }
         self.read_words(alloc, number, indentation, line)
+    }
+
+    /// Reads all lines, which are counted from 1.
+    pub(crate) fn read_lines(&mut self, alloc: Global, lines: &[&str]) -> Result<(), SuiteFault>
+        ensures added { OnOk result (suite_from 1 self.old (texts lines.now) ≡ Ok self.new) }
+        ensures refused { IfErr result (λ fault. Fails fault (suite_from 1 self.old (texts lines.now))) }
+    {
+        for (index, line) in lines.iter().enumerate() {
+            self.read_line(alloc, index + 1, line)?;
+        }
+        Ok(())
     }
 
     /// What the lines have made.

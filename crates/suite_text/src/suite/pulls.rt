@@ -1,6 +1,6 @@
 //! The pulls of a factory, which follow from its lines where its own line does not say them.
 
-ghost use Rattle.std.specs.Prelude.{◌≡◌, ◌≤◌, ◌++◌, length, map, IfOk};
+ghost use Rattle.std.specs.Prelude.{◌≡◌, ◌≤◌, ◌++◌, length, map, IfOk, OnOk};
 ghost use Rattle.descriptor.specs.Nodes.{children_of};
 ghost use Rattle.suite_text.specs.Reading.Pulls.{settled};
 
@@ -41,6 +41,26 @@ impl Pending {
     }
 }
 
+/// Appends the scripts, once all lines are in the tree.
+fn push_settled(all: &mut Vec<Script>, tree: &Tree, scripts: Vec<Pending>) -> Result<(), AllocError>
+    ensures { OnOk result (all.new.items ≡ all.old.items ++ map (settled tree.now) scripts.items) }
+{
+    for pending in scripts {
+        all.push(pending.settled(tree))?;
+    }
+    Ok(())
+}
+
+/// Appends the scripts of after-bodies.
+fn push_afters(all: &mut Vec<Script>, afters: Vec<Script>) -> Result<(), AllocError>
+    ensures { OnOk result (all.new.items ≡ all.old.items ++ afters.items) }
+{
+    for script in afters {
+        all.push(script)?;
+    }
+    Ok(())
+}
+
 /// The scripts, once all lines are in the tree, and behind them those of the after-bodies.
 pub(crate) fn all_settled(
     alloc: Global,
@@ -51,11 +71,7 @@ pub(crate) fn all_settled(
     ensures { IfOk result (λ all. all.items ≡ map (settled tree.now) scripts.items ++ afters.items) }
 {
     let mut all = Vec::with_capacity(alloc, scripts.len())?;
-    for pending in scripts {
-        all.push(pending.settled(tree))?;
-    }
-    for script in afters {
-        all.push(script)?;
-    }
+    push_settled(&mut all, tree, scripts)?;
+    push_afters(&mut all, afters)?;
     Ok(all)
 }

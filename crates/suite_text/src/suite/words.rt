@@ -2,16 +2,15 @@
 
 ghost use Rattle.std.specs.Prelude.{◌≡◌, ◌≢◌, IfOk, IfErr, Some};
 ghost use Rattle.std.specs.List.{Contains};
-ghost use Rattle.suite_text.specs.Reading.Words.{word_of, may_stand, placed, with_verdict, with_attributes};
+ghost use Rattle.suite_text.specs.Reading.Words.{word_of, may_stand, placed, with_attributes};
 ghost use Rattle.suite_text.specs.Reading.Words.{with_name, declared_as, declaration_of};
 ghost use Rattle.suite_text.specs.Reading.Faults.{Gives};
-ghost use Rattle.suite_text.specs.Reading.Lines.{first_word, after_word};
 ghost use Rattle.suite_text.specs.Grammar.{words};
 ghost use Rattle.suite_text.specs.Writing.Lines.{word_text};
 ghost use Rattle.suite_text.specs.declared.suite.words.Word.{Word};
 
 use crate::script::Script;
-use crate::suite::attributes::{Attribute, Attributes, AttributesRead, attributes_in};
+use crate::suite::attributes::{Attribute, Attributes};
 use crate::suite::fault::SuiteFault;
 use crate::suite::lines::{between_spaces, next_word};
 use crate::suite::pulls::Pending;
@@ -243,30 +242,6 @@ fn placed(number: usize, above: Option<Word>, word: Option<Word>) -> Result<Word
     }
 }
 
-/// The node of this word, name and attributes, with the verdict that is left of its line.
-fn with_verdict<'a>(
-    number: usize,
-    word: Word,
-    name: &'a str,
-    read: AttributesRead<'a>,
-) -> Result<Declared<'a>, SuiteFault>
-    requires first { read.first.now ≡ first_word read.rest.now }
-    requires after { read.after.now ≡ after_word read.rest.now }
-    ensures exact { Gives declaration_of result (with_verdict number word name.now read.entry.attributes
-        read.entry.rest.now) }
-    ensures real { IfErr result (λ fault. fault ≢ SuiteFault.NoMemory) }
-{
-    let text = between_spaces(read.after);
-    let verdict = verdict_in(number, word, read.first, text)?;
-    Ok(Declared {
-        word,
-        name,
-        attributes: read.attributes,
-        verdict,
-        text,
-    })
-}
-
 /// The node of this word and name, with the attributes and the verdict that are left of its line.
 fn with_attributes<'a>(
     alloc: Global,
@@ -277,8 +252,17 @@ fn with_attributes<'a>(
 ) -> Result<Declared<'a>, SuiteFault>
     ensures { Gives declaration_of result (with_attributes number word name.now rest.now) }
 {
-    let read = attributes_in(alloc, number, word, rest)?;
-    with_verdict(number, word, name, read)
+    let mut attributes = Attributes::none(alloc);
+    let left = attributes.read(alloc, number, word, rest)?;
+    let text = between_spaces(left.after);
+    let verdict = verdict_in(number, word, left.first, text)?;
+    Ok(Declared {
+        word,
+        name,
+        attributes,
+        verdict,
+        text,
+    })
 }
 
 /// The node of this word, with the name and all else that is left of its line.

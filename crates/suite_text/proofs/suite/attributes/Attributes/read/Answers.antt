@@ -7,11 +7,11 @@ use Rattle.suite_text.specs.Reading.Lines.{first_word}
 use Rattle.suite_text.specs.Words.{words_in}
 use Rattle.suite_text.proofs.Reading.Attributes.{at_end, next_read, breaks_off}
 use Rattle.suite_text.proofs.Reading.Steps.{fails_as}
-use Rattle.suite_text.proofs.suite.attributes.attributes_in.Goals as goal
+use Rattle.suite_text.proofs.suite.attributes.Attributes.read.Goals as goal
 
 pub loop-attribute-preserved : goal.loop-attribute-preserved
 loop-attribute-preserved c =
-    let said = c.loop-attribute.attributes in
+    let said = c.loop-attribute.self in
     let rest = c.loop-attribute.rest.now in
     let inv = c.loop-attribute.invariant in
     let is : attribute_of c.args.word (first_word rest) ≡ Some c.in-Some.attribute = ap (attribute_of c.args.word) (sym inv.1) ∙ sym c.of.ensures ∙ c.in-Some.is in
@@ -29,7 +29,7 @@ loop-attribute-preserved c =
 
 pub returns-in_err-add : goal.returns-in_err-add
 returns-in_err-add c =
-    let said = c.loop-attribute.attributes in
+    let said = c.loop-attribute.self in
     let rest = c.loop-attribute.rest.now in
     let inv = c.loop-attribute.invariant in
     let fault = c.in_err-add.field-0.0 in
@@ -45,7 +45,7 @@ returns c =
     let inv = c.loop-attribute.invariant in
     let none : attribute_of c.args.word (first_word c.loop-attribute.rest.now) ≡ None = ap (attribute_of c.args.word) (sym inv.1) ∙ sym c.of.ensures ∙ c.in_default.is in
     record {
-      exact = sym inv.0 ∙ at_end c.args.number c.args.word c.loop-attribute.attributes c.loop-attribute.rest.now none;
+      exact = sym inv.0 ∙ at_end c.args.number c.args.word c.loop-attribute.self c.loop-attribute.rest.now none;
       first = inv.1;
       after = inv.2;
     }

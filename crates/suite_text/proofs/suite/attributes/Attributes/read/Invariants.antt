@@ -2,14 +2,14 @@
 use Rattle.std.proofs.Common.{◌≡◌, length}
 use denote.Shadow.{shadow}
 use denote.Text.{Utf8}
-use Rattle.suite_text.specs.Reading.Attributes.{attributes_from, attributes_of}
+use Rattle.suite_text.specs.Reading.Attributes.{attributes_from}
 use Rattle.suite_text.specs.Reading.Lines.{first_word, after_word}
 use Rattle.suite_text.specs.Words.{words_in}
-use Rattle.suite_text.proofs.suite.attributes.attributes_in.Given as goal
+use Rattle.suite_text.proofs.suite.attributes.Attributes.read.Given as goal
 
 abbrev pub invariant-loop-attribute : goal.invariant-loop-attribute
 invariant-loop-attribute l =
-    (attributes_from l.number l.word l.attributes (words_in l.rest) l.rest ≡ attributes_of l.number l.word l.text)
+    (attributes_from l.number l.word l.self (words_in l.rest) l.rest ≡ attributes_from l.number l.word l.fn.self (words_in l.text) l.text)
     × (l.first ≡ first_word l.rest) × (l.after ≡ after_word l.rest)
     × shadow (Utf8 l.rest) × shadow (Utf8 l.first) × shadow (Utf8 l.after)
 
