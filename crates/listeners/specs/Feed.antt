@@ -33,12 +33,21 @@ ending Skipped status text = text_after text
 ending Finished (Some status) text = status_and_text status text
 ending _ _ text = []
 
+-- the line of an event at node 0
+abbrev pub plan_line : Event → List ℕ
+plan_line e = codes "w" ++ decimal e.worker ++ codes " plan " ++ kind_word e.kind ++ codes "\n"
+
+-- the front of the line of an event at a node with this id
+abbrev pub node_front : Event → List ℕ → List ℕ
+node_front e id = codes "w" ++ decimal e.worker ++ codes " " ++ kind_word e.kind ++ codes " " ++ id
+
+-- the line of an event at a node with this id and this text
+abbrev pub node_line : Event → List ℕ → List ℕ → List ℕ
+node_line e id text = node_front e id ++ ending e.kind e.status text ++ codes "\n"
+
 -- the line of an event at a node with this id and this text; of node 0 it says `plan`, and no more than what happened
 abbrev pub event_line : Event → List ℕ → List ℕ → List ℕ
-event_line e id text =
-    cond (e.node == 0)
-    (codes "w" ++ decimal e.worker ++ codes " plan " ++ kind_word e.kind ++ codes "\n")
-    (codes "w" ++ decimal e.worker ++ codes " " ++ kind_word e.kind ++ codes " " ++ id ++ ending e.kind e.status text ++ codes "\n")
+event_line e id text = cond (e.node == 0) (plan_line e) (node_line e id text)
 
 -- the canonical id of a node that may be missing
 abbrev pub id_or : Option Node → List ℕ

@@ -47,10 +47,13 @@ name_or (Some node) = node.name
 abbrev pub name_at : Nodes → ℕ → List ℕ
 name_at t n = name_or (node_at t n)
 
--- the line of node n behind the items of its ancestors: a branch, the name, and what stands behind it
+-- the front of the line of node n behind the items of its ancestors: a branch, and the name
+abbrev pub front : Drawn → List ℕ → ℕ → Bool → List ℕ
+front d items n is_last = (items ++ branch d.theme is_last) ++ cleaned (name_at d.tree n)
+
+-- the line: its front, and what stands behind the name
 abbrev pub line : Drawn → List ℕ → ℕ → Bool → List ℕ
-line d items n is_last =
-    (((items ++ branch d.theme is_last) ++ cleaned (name_at d.tree n)) ++ ending d.theme (d.told n).skipped (d.told n).status (text_or (text_at d.texts n))) ++ codes "\n"
+line d items n is_last = (front d items n is_last ++ ending d.theme (d.told n).skipped (d.told n).status (text_or (text_at d.texts n))) ++ codes "\n"
 
 -- the children of node a that have lines
 abbrev pub children_drawn : Drawn → ℕ → List ℕ

@@ -1,6 +1,6 @@
 //! How many containers and tests there are, and what became of them.
 
-ghost use Rattle.std.specs.Prelude.{◌≡◌, ◌<◌, ◌≤◌, ◌++◌, length};
+ghost use Rattle.std.specs.Prelude.{◌≡◌, ◌<◌, ◌≤◌, ◌&&◌, ◌++◌, length};
 ghost use Rattle.descriptor.specs.Kinds.{is_container, is_test};
 ghost use Rattle.descriptor.specs.Nodes.{bit};
 ghost use Rattle.listeners.specs.Counts.{is_counted, is_found, is_lost, counts_as_skipped, six, counts_below};
@@ -8,7 +8,6 @@ ghost use Rattle.listeners.specs.Counts.{FollowParents};
 
 use crate::node_places::NodePlace;
 use crate::told::NodeEvents;
-use plan_events::Status;
 
 /// The counts of containers, or those of tests.
 #[derive(Clone, Copy)]
@@ -71,19 +70,19 @@ impl SortCounts {
         requires { AreAtMost self.old 4096 }
         ensures { self.new ≡ counts_with self.old counted told found lost }
     {
-        self.found += one_if(counted && found);
-        self.skipped += one_if(counted && lost);
-        self.started += one_if(counted && told.started);
-        self.aborted += one_if(counted && matches!(told.status, Some(Status::Aborted)));
-        self.successful += one_if(counted && matches!(told.status, Some(Status::Successful)));
-        self.failed += one_if(counted && matches!(told.status, Some(Status::Failed)));
+        self.found += one_if(counted, found);
+        self.skipped += one_if(counted, lost);
+        self.started += one_if(counted, told.started);
+        self.aborted += one_if(counted, told.has_aborted());
+        self.successful += one_if(counted, told.is_successful());
+        self.failed += one_if(counted, told.has_failed());
     }
 }
 
-fn one_if(passes: bool) -> u32
-    ensures { result ≡ bit passes }
+fn one_if(counted: bool, passes: bool) -> u32
+    ensures { result ≡ bit (counted && passes) }
 {
-    if passes { 1 } else { 0 }
+    if counted && passes { 1 } else { 0 }
 }
 
 /// Whether the node counts as a container; node 0 does not.

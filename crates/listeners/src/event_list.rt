@@ -7,7 +7,7 @@ use std::alloc::{AllocError, Global};
 use std::marker::Model;
 
 /// Events, and room for so many more that is used up as they come.
-#[derive(Debug, Drop)]
+#[derive(Drop)]
 pub(crate) struct EventList {
     events: Vec<Event>,
     room: usize,

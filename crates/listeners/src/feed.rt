@@ -2,7 +2,7 @@
 
 ghost use Rattle.std.specs.Prelude.{◌≡◌, ◌++◌, OnOk, IfOk, string_bytes};
 ghost use Rattle.plan_events.specs.Texts.{text_at};
-ghost use Rattle.listeners.specs.Feed.{kind_word, ending, event_line, id_at, text_or, feed_of};
+ghost use Rattle.listeners.specs.Feed.{kind_word, ending, plan_line, node_front, event_line, id_at, text_or, feed_of};
 
 use crate::printed::push_text;
 use descriptor::NodeId;
@@ -55,16 +55,32 @@ fn push_ending(feed: &mut String, event: Event, text: &str) -> Result<(), AllocE
     }
 }
 
+/// Appends the line of an event of the plan.
+fn push_plan_line(feed: &mut String, event: Event) -> Result<(), AllocError>
+    ensures { OnOk result (string_bytes feed.new ≡ string_bytes feed.old ++ plan_line event) }
+{
+    let worker = event.worker;
+    let word = word_of(event.kind);
+    writeln!(feed, "w{worker} plan {word}")
+}
+
+/// Appends the front of a node's line.
+fn push_node_front(feed: &mut String, event: Event, id: &str) -> Result<(), AllocError>
+    ensures { OnOk result (string_bytes feed.new ≡ string_bytes feed.old ++ node_front event id.now) }
+{
+    let worker = event.worker;
+    let word = word_of(event.kind);
+    write!(feed, "w{worker} {word} {id}")
+}
+
 /// Appends the line of an event.
 fn push_line(feed: &mut String, event: Event, id: &str, text: &str) -> Result<(), AllocError>
     ensures { OnOk result (string_bytes feed.new ≡ string_bytes feed.old ++ event_line event id.now text.now) }
 {
-    let worker = event.worker;
-    let word = word_of(event.kind);
     if event.node == NodeId::ROOT {
-        return writeln!(feed, "w{worker} plan {word}");
+        return push_plan_line(feed, event);
     }
-    write!(feed, "w{worker} {word} {id}")?;
+    push_node_front(feed, event, id)?;
     push_ending(feed, event, text)?;
     feed.push_str("\n")
 }

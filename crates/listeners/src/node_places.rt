@@ -9,7 +9,7 @@ use resource_locks::Plan;
 use std::alloc::{AllocError, Global};
 
 /// What is kept of a node to count it.
-#[derive(Clone, Copy, Debug)]
+#[derive(Clone, Copy)]
 pub struct NodePlace {
     /// For node 0, node 0 itself.
     pub parent: NodeId,

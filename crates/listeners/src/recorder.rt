@@ -11,7 +11,7 @@ use std::alloc::{AllocError, Global};
 use std::marker::Model;
 
 /// Keeps the events that it was told.
-#[derive(Debug, Drop)]
+#[derive(Drop)]
 pub struct Recorder {
     list: EventList,
 }

@@ -12,7 +12,7 @@ use std::alloc::{AllocError, Global};
 use std::marker::Model;
 
 /// Counts the nodes of the plan last prepared by what it was told of them.
-#[derive(Debug, Drop)]
+#[derive(Drop)]
 pub struct Summary {
     list: EventList,
     tally: Tally,

@@ -16,7 +16,7 @@ use std::alloc::{AllocError, Global};
 use std::marker::Model;
 
 /// The places of a plan's nodes, and what was told of each.
-#[derive(Debug, Drop)]
+#[derive(Drop)]
 pub(crate) struct Tally {
     outline: Vec<NodePlace>,
     told: Vec<NodeEvents>,

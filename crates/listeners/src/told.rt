@@ -3,7 +3,7 @@
 ghost use Rattle.std.specs.Prelude.{◌≡◌, ◌||◌, ◌++◌, ◌∷◌, ◌↔◌, [], List, IfOk, IsTrue, length};
 ghost use Rattle.std.specs.Option.{option_or};
 ghost use Rattle.plan_events.specs.declared.event.Event.{Event};
-ghost use Rattle.plan_events.specs.Statuses.{is_failed};
+ghost use Rattle.plan_events.specs.Statuses.{is_aborted, is_successful, is_failed};
 ghost use Rattle.listeners.specs.Told.{all_told, is_start, is_skip, is_registration, status_by, has_line, ended};
 ghost use Rattle.listeners.specs.Inside.Tallies.{TellsFailure};
 
@@ -11,7 +11,7 @@ use plan_events::{Event, EventKind, Status};
 use std::alloc::{AllocError, Global};
 
 /// What events tell of a node.
-#[derive(Clone, Copy, Debug)]
+#[derive(Clone, Copy)]
 pub(crate) struct NodeEvents {
     pub started: bool,
     pub skipped: bool,
@@ -61,7 +61,19 @@ impl NodeEvents {
         self.started || self.skipped
     }
 
-    fn has_failed(self) -> bool
+    pub(crate) fn is_successful(self) -> bool
+        ensures { result ≡ ended is_successful self.status }
+    {
+        matches!(self.status, Some(Status::Successful))
+    }
+
+    pub(crate) fn has_aborted(self) -> bool
+        ensures { result ≡ ended is_aborted self.status }
+    {
+        matches!(self.status, Some(Status::Aborted))
+    }
+
+    pub(crate) fn has_failed(self) -> bool
         ensures { result ≡ ended is_failed self.status }
     {
         matches!(self.status, Some(Status::Failed))

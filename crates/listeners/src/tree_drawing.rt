@@ -1,12 +1,12 @@
 //! The tree of a run, as text.
 
-ghost use Rattle.std.specs.Prelude.{◌≡◌, ℕ, ◌<◌, ◌≤◌, ◌-◌, ◌++◌, [], OnOk, IfOk, IfSome, string_bytes};
+ghost use Rattle.std.specs.Prelude.{◌≡◌, ℕ, ◌<◌, ◌≤◌, ◌-◌, ◌++◌, ◌∷◌, [], cond, codes, OnOk, IfOk, IfSome, string_bytes};
 ghost use Rattle.descriptor.specs.Nodes.{size, IsTree};
 ghost use Rattle.plan_events.specs.Texts.{text_at};
 ghost use Rattle.listeners.specs.Feed.{text_or};
-ghost use Rattle.listeners.specs.Told.{told_at};
+ghost use Rattle.listeners.specs.Told.{told_at, has_line};
 ghost use Rattle.listeners.specs.Inside.Drawings.{drawn_by, drawn_from};
-ghost use Rattle.listeners.specs.TreeTexts.{end_of, ending, name_at, line, children_drawn, lines_below};
+ghost use Rattle.listeners.specs.TreeTexts.{end_of, ending, name_at, front, line, children_drawn, lines_below};
 
 use crate::feed::text_of;
 use crate::printed::{push_cleaned, push_text};
@@ -28,6 +28,14 @@ struct Drawing<'a> {
     told: &'a [NodeEvents],
 }
 
+/// Appends a mark behind a space.
+fn push_mark(text: &mut String, mark: &str) -> Result<(), AllocError>
+    ensures { OnOk result (string_bytes text.new ≡ string_bytes text.old ++ (codes " " ++ mark.now)) }
+{
+    text.push_str(" ")?;
+    text.push_str(mark)
+}
+
 /// Appends how a node ended that was not skipped.
 fn push_end(
     text: &mut String,
@@ -40,8 +48,7 @@ fn push_end(
     let Some(status) = status else {
         return Ok(());
     };
-    text.push_str(" ")?;
-    text.push_str(theme.mark(status))?;
+    push_mark(text, theme.mark(status))?;
     match status {
         Status::Successful => Ok(()),
         _ => push_text(text, said),
@@ -61,8 +68,7 @@ fn push_ending(
     if !told.skipped {
         return push_end(text, theme, told.status, said);
     }
-    text.push_str(" ")?;
-    text.push_str(theme.skip_mark())?;
+    push_mark(text, theme.skip_mark())?;
     push_text(text, said)
 }
 
@@ -82,17 +88,46 @@ impl Drawing<'_> {
         self.told.get(node.index()).copied().unwrap_or(NOTHING)
     }
 
+    /// Adds a node, if it has a line.
+    fn push_drawn(&self, nodes: &mut Vec<NodeId>, node: NodeId) -> Result<(), AllocError>
+        ensures { OnOk result (nodes.new.items ≡ nodes.old.items
+            ++ cond (has_line ((drawn_by self.now).told node)) (node ∷ []) []) }
+    {
+        if self.told(node).has_line() {
+            nodes.push(node)?;
+        }
+        Ok(())
+    }
+
     /// The children of a node that have lines.
     fn children(&self, alloc: Global, node: NodeId) -> Result<Vec<NodeId>, AllocError>
         requires { node < size self.now.tree.now }
         ensures { IfOk result (λ children. children.items ≡ children_drawn (drawn_by self.now) node) }
     {
-        self.tree
-            .children(node)
-            .iter()
-            .copied()
-            .filter(|child| self.told(*child).has_line())
-            .collect(alloc)
+        let mut drawn = Vec::new(alloc);
+        let children = self.tree.children(node);
+        for child in children {
+            self.push_drawn(&mut drawn, *child)?;
+        }
+        Ok(drawn)
+    }
+
+    /// Appends the front of a node's line behind the items of its ancestors.
+    fn push_front(
+        &self,
+        text: &mut String,
+        items: &str,
+        node: NodeId,
+        is_last: bool,
+    ) -> Result<(), AllocError>
+        requires above_zero { 0 < node }
+        requires inside { node < size self.now.tree.now }
+        ensures { OnOk result (string_bytes text.new ≡ string_bytes text.old ++ front (drawn_by self.now) items.now
+            node is_last) }
+    {
+        text.push_str(items)?;
+        text.push_str(self.theme.branch(is_last))?;
+        push_cleaned(text, self.tree.node(node).name.as_str())
     }
 
     /// Appends the line of a node behind the items of its ancestors.
@@ -108,11 +143,13 @@ impl Drawing<'_> {
         ensures { OnOk result (string_bytes text.new ≡ string_bytes text.old ++ line (drawn_by self.now) items.now
             node is_last) }
     {
-        let told = self.told(node);
-        text.push_str(items)?;
-        text.push_str(self.theme.branch(is_last))?;
-        push_cleaned(text, self.tree.node(node).name.as_str())?;
-        push_ending(text, self.theme, told, text_of(self.texts, node))?;
+        self.push_front(text, items, node, is_last)?;
+        push_ending(
+            text,
+            self.theme,
+            self.told(node),
+            text_of(self.texts, node),
+        )?;
         text.push_str("\n")
     }
 
