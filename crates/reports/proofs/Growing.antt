@@ -12,6 +12,14 @@ then {A} old a b first second = second ∙ ap (λ (l : List A). l ++ b) first �
 pub behind : (whole a : List ℕ) {old new : List ℕ} → old ≡ whole → new ≡ old ++ a → new ≡ whole ++ a
 behind whole a is more = more ∙ ap (λ (l : List ℕ). l ++ a) is
 
+-- a list that ends in two pieces, told apart
+pub ends : {A : Type 0} (a g c e n : List A) → ((a ++ g) ++ c) ++ (e ++ n) ≡ (a ++ (g ++ (c ++ e))) ++ n
+ends a g c e n = simp append_assoc
+
+-- and in three
+pub ends_three : {A : Type 0} (a g c s e n : List A) → ((a ++ g) ++ c) ++ (s ++ (e ++ n)) ≡ (a ++ (g ++ ((c ++ s) ++ e))) ++ n
+ends_three a g c s e n = simp append_assoc
+
 -- what one element more gives
 pub element_more : {X A : Type 0} (f : X → List A) (xs : List X) (i : ℕ) (d : X) (old : List A) {text new : List A} → i < length xs → text ≡ old ++ flat_map f (take i xs) → new ≡ text ++ f (get_or xs i d) → new ≡ old ++ flat_map f (take (i + 1) xs)
 element_more {X} {A} f xs i d old inside before grown =
@@ -36,3 +44,13 @@ number_more {A} f a (suc n) m is =
 pub numbers_more : {A : Type 0} (f : ℕ → List A) (n : ℕ) (old : List A) {text new : List A} → text ≡ old ++ flat_map f (range_with_len 0 n) → new ≡ text ++ f n → new ≡ old ++ flat_map f (range_with_len 0 (n + 1))
 numbers_more {A} f n old before grown =
     then old (flat_map f (range_with_len 0 n)) (f n) before grown ∙ ap (λ (l : List A). old ++ l) (sym (number_more f 0 n n (omega arith)))
+
+-- what one element more gives, with nothing before the first
+pub list_more : {X A : Type 0} (f : X → List A) (xs : List X) (i : ℕ) (d : X) {text new : List A} → i < length xs → text ≡ flat_map f (take i xs) → new ≡ text ++ f (get_or xs i d) → new ≡ flat_map f (take (i + 1) xs)
+list_more {X} {A} f xs i d inside before grown = element_more f xs i d [] inside before grown
+
+-- what one thing more gives behind all so far
+pub yielded_more : {X A : Type 0} (f : X → List A) (xs : List X) (x : X) (old : List A) {text new : List A} → text ≡ old ++ flat_map f xs → new ≡ text ++ f x → new ≡ old ++ flat_map f (xs ++ x ∷ [])
+yielded_more {X} {A} f xs x old before grown =
+    then old (flat_map f xs) (f x) before grown
+    ∙ ap (λ (l : List A). old ++ l) (ap (λ (l : List A). flat_map f xs ++ l) (sym (append-nil (f x))) ∙ sym (flat_map-append f xs (x ∷ [])))

@@ -31,6 +31,10 @@ abbrev pub case_element : List ℕ → List ℕ → List ℕ → CaseEnd → Lis
 case_element class name text end =
     element (codes "testcase") (attribute (codes "name") name ++ attribute (codes "classname") class) (end_elements end text)
 
+-- the start of a case's line, to the end of its element's first tag
+abbrev pub case_start : List ℕ → List ℕ → List ℕ
+case_start class name = codes "    <testcase" ++ ((attribute (codes "name") name ++ attribute (codes "classname") class) ++ codes ">")
+
 -- a case's line
 abbrev pub case_line : Nodes → TextParts → List ℕ → Case → List ℕ
 case_line t texts class c = codes "    " ++ (case_element class (name_at t c.node) (text_or (text_at texts c.node)) c.end ++ codes "\n")

@@ -13,7 +13,7 @@ use plan_events::{Event, EventKind, Status};
 use std::alloc::{AllocError, Global};
 
 /// What became of a case.
-#[derive(Clone, Copy, Debug)]
+#[derive(Clone, Copy)]
 pub(crate) enum CaseEnd {
     Passed,
     Failed,
@@ -24,7 +24,7 @@ pub(crate) enum CaseEnd {
 }
 
 /// A node that is told of, and what became of it.
-#[derive(Clone, Copy, Debug)]
+#[derive(Clone, Copy)]
 pub(crate) struct Case {
     pub(crate) node: NodeId,
     pub(crate) end: CaseEnd,

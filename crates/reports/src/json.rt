@@ -87,9 +87,7 @@ fn push_event(json: &mut String, plan: &Plan, texts: &Texts, event: Event) -> Re
     push_member(json, "event", event_word(event.kind))?;
     push_number(json, "worker", event.worker)?;
     push_node(json, plan, texts, event)?;
-    json.push_str("}")?;
-    json.push_str("\n")?;
-    Ok(())
+    json.push_str("}\n")
 }
 
 /// The JSON of these events: an object for each, in their order, each on a line of its own. Of a

@@ -4,7 +4,7 @@ ghost use Rattle.std.specs.Prelude.{◌≡◌, ◌<◌, ◌++◌, OnOk, IfOk, co
 ghost use Rattle.std.specs.List.{count_by, flat_map, range_with_len};
 ghost use Rattle.descriptor.specs.Nodes.{size};
 ghost use Rattle.reports.specs.Cases.{is_failure, is_skip};
-ghost use Rattle.reports.specs.Junit.{message_element, end_elements, case_element, case_line, suite_attributes};
+ghost use Rattle.reports.specs.Junit.{message_element, end_elements, case_start, case_line, suite_attributes};
 ghost use Rattle.reports.specs.Junit.{suite_element, suite_of, junit_of};
 
 use crate::cases::{Case, CaseEnd, cases_of};
@@ -42,6 +42,16 @@ fn push_end(xml: &mut String, end: CaseEnd, text: &str) -> Result<(), AllocError
     }
 }
 
+/// Appends the start of a case's line, to the end of its element's first tag.
+fn push_case_start(xml: &mut String, class: &str, name: &str) -> Result<(), AllocError>
+    ensures { OnOk result (string_bytes xml.new ≡ string_bytes xml.old ++ case_start class.now name.now) }
+{
+    xml.push_str("    <testcase")?;
+    push_attribute(xml, "name", name)?;
+    push_attribute(xml, "classname", class)?;
+    xml.push_str(">")
+}
+
 /// Appends the line of a case in a class.
 fn push_case(
     xml: &mut String,
@@ -52,14 +62,9 @@ fn push_case(
 ) -> Result<(), AllocError>
     ensures { OnOk result (string_bytes xml.new ≡ string_bytes xml.old ++ case_line tree.now texts.now class.now case) }
 {
-    xml.push_str("    <testcase")?;
-    push_attribute(xml, "name", name_of(tree, case.node))?;
-    push_attribute(xml, "classname", class)?;
-    xml.push_str(">")?;
+    push_case_start(xml, class, name_of(tree, case.node))?;
     push_end(xml, case.end, text_of(texts, case.node))?;
-    xml.push_str("</testcase>")?;
-    xml.push_str("\n")?;
-    Ok(())
+    xml.push_str("</testcase>\n")
 }
 
 /// Appends the lines of the cases in a class.
@@ -101,8 +106,7 @@ fn push_counts(xml: &mut String, class: &str, cases: &[Case]) -> Result<(), Allo
     push_number(xml, "tests", cases.len())?;
     push_number(xml, "failures", failures(cases))?;
     push_number(xml, "errors", 0)?;
-    push_number(xml, "skipped", skips(cases))?;
-    Ok(())
+    push_number(xml, "skipped", skips(cases))
 }
 
 /// Appends the element of a suite of these cases.
@@ -120,10 +124,7 @@ fn push_cases(
     push_counts(xml, class, cases)?;
     xml.push_str(">\n")?;
     push_lines(xml, tree, texts, class, cases)?;
-    xml.push_str("  ")?;
-    xml.push_str("</testsuite>")?;
-    xml.push_str("\n")?;
-    Ok(())
+    xml.push_str("  </testsuite>\n")
 }
 
 /// Appends the suite of a node; nothing where it has no cases.
@@ -144,8 +145,7 @@ fn push_suite(
         return Ok(());
     }
     let class = class_name(alloc, tree, node)?;
-    push_cases(xml, tree, texts, class.as_str(), cases.as_slice())?;
-    Ok(())
+    push_cases(xml, tree, texts, class.as_str(), cases.as_slice())
 }
 
 /// Appends the suites of all nodes.
@@ -177,11 +177,11 @@ pub fn junit_text(
 ) -> Result<String, AllocError>
     ensures { IfOk result (λ xml. string_bytes xml ≡ junit_of plan.now texts.now events.now) }
 {
-    let mut xml = String::from_str(alloc, "<?xml version=\"1.0\" encoding=\"UTF-8\"?>\n")?;
-    xml.push_str("<testsuites>")?;
-    xml.push_str("\n")?;
+    let mut xml = String::from_str(
+        alloc,
+        "<?xml version=\"1.0\" encoding=\"UTF-8\"?>\n<testsuites>\n",
+    )?;
     push_suites(alloc, &mut xml, plan, texts, events)?;
-    xml.push_str("</testsuites>")?;
-    xml.push_str("\n")?;
+    xml.push_str("</testsuites>\n")?;
     Ok(xml)
 }

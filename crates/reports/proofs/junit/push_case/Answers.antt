@@ -1,18 +1,26 @@
--- The element, and the end of its line.
+-- The element's start, what is in it, and its end with that of the line.
 use Rattle.std.proofs.Common.{◌∙◌, ◌++◌, List, ℕ, codes, string_bytes, ap}
-use Rattle.reports.specs.Junit.{end_elements}
+use Rattle.std.proofs.lemmas.Result.{on_ok_weaker}
+use Rattle.listeners.specs.TreeTexts.{name_at}
+use Rattle.reports.specs.Junit.{case_start, case_element, end_elements}
 use Rattle.reports.specs.XmlStrings.{attribute}
-use Rattle.reports.proofs.Growing.{then}
+use Rattle.reports.proofs.Growing.{then, ends}
+use Rattle.reports.proofs.Pushing.{pushed}
 use Rattle.reports.proofs.junit.push_case.Goals as goal
 
 pub returns : goal.returns
 returns c =
-    let begun = string_bytes c.push_str.new.self in
-    let named = string_bytes c.push_attribute.new.xml in
-    let classed = string_bytes c.push_attribute-2.new.xml in
-    let opened = string_bytes c.push_str-2.new.self in
-    let name = c.in_ok-push_attribute.ensures ∙ ap (λ (text : List ℕ). begun ++ attribute (codes "name") text) c.name_of.ensures in
-    let inside = c.in_ok-push_end.ensures ∙ ap (λ (text : List ℕ). opened ++ end_elements c.args.case.end text) c.text_of.ensures in
-    let attributes = then begun _ _ name c.in_ok-push_attribute-2.ensures in
-    let content = then classed _ _ c.in_ok-push_str-2.ensures.bytes (then opened _ _ inside c.in_ok-push_str-3.ensures.bytes) in
-    then (string_bytes c.args.xml.now) _ _ c.in_ok-push_str.ensures.bytes (then begun _ _ (then begun _ _ attributes content) c.in_ok-push_str-4.ensures.bytes)
+    let old = string_bytes c.args.xml.now in
+    let class = c.args.class.now in
+    let name = c.name_of.result.now in
+    let text = c.text_of.result.now in
+    let inside = end_elements c.args.case.end text in
+    let content = then old (case_start class name) inside c.in_ok-push_case_start.ensures c.in_ok-push_end.ensures in
+    let attributes = attribute (codes "name") name ++ attribute (codes "classname") class in
+    on_ok_weaker c.push_str.result
+    (λ last.
+    then old (case_start class name ++ inside) (codes "</testcase>\n") content last
+    ∙ ap (λ (l : List ℕ). old ++ (codes "    <testcase" ++ l)) (ends attributes (codes ">") inside (codes "</testcase>") (codes "\n"))
+    ∙ ap (λ (l : List ℕ). old ++ (codes "    " ++ (case_element class l text c.args.case.end ++ codes "\n"))) c.name_of.ensures
+    ∙ ap (λ (l : List ℕ). old ++ (codes "    " ++ (case_element class (name_at c.args.tree.now c.args.case.node) l c.args.case.end ++ codes "\n"))) c.text_of.ensures)
+    (pushed c.push_str.result (string_bytes c.push_str.new.self) (string_bytes c.push_end.new.xml) (codes "</testcase>\n") c.push_str.ensures.bytes)

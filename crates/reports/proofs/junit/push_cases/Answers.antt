@@ -1,13 +1,22 @@
 -- The element, on lines of its own.
-use Rattle.std.proofs.Common.{string_bytes}
-use Rattle.reports.proofs.Growing.{then}
+use Rattle.std.proofs.Common.{◌∙◌, ◌++◌, List, ℕ, codes, string_bytes, ap}
+use Rattle.std.proofs.lemmas.Result.{on_ok_weaker}
+use Rattle.std.specs.List.{flat_map}
+use Rattle.reports.specs.Junit.{case_line, suite_attributes}
+use Rattle.reports.proofs.Growing.{then, ends_three}
+use Rattle.reports.proofs.Pushing.{pushed}
 use Rattle.reports.proofs.junit.push_cases.Goals as goal
 
 pub returns : goal.returns
 returns c =
+    let old = string_bytes c.args.xml.now in
     let begun = string_bytes c.push_str.new.self in
-    let counted = string_bytes c.push_counts.new.xml in
-    let opened = string_bytes c.push_str-2.new.self in
-    let lines = then opened _ _ (then opened _ _ c.in_ok-push_lines.ensures c.in_ok-push_str-3.ensures.bytes) c.in_ok-push_str-4.ensures.bytes in
-    let element = then begun _ _ c.in_ok-push_counts.ensures (then counted _ _ c.in_ok-push_str-2.ensures.bytes lines) in
-    then (string_bytes c.args.xml.now) _ _ c.in_ok-push_str.ensures.bytes (then begun _ _ element c.in_ok-push_str-5.ensures.bytes)
+    let attributes = suite_attributes c.args.class.now c.args.cases.now in
+    let lines = flat_map (case_line c.args.tree.now c.args.texts.now c.args.class.now) c.args.cases.now in
+    let start = then begun attributes (codes ">\n") c.in_ok-push_counts.ensures c.in_ok-push_str-2.ensures.bytes in
+    let content = then begun (attributes ++ codes ">\n") lines start c.in_ok-push_lines.ensures in
+    on_ok_weaker c.push_str-3.result
+    (λ last.
+    then old _ _ c.in_ok-push_str.ensures.bytes (then begun ((attributes ++ codes ">\n") ++ lines) (codes "  </testsuite>\n") content last)
+    ∙ ap (λ (l : List ℕ). old ++ (codes "  <testsuite" ++ l)) (ends_three attributes (codes ">\n") lines (codes "  ") (codes "</testsuite>") (codes "\n")))
+    (pushed c.push_str-3.result (string_bytes c.push_str-3.new.self) (string_bytes c.push_lines.new.xml) (codes "  </testsuite>\n") c.push_str-3.ensures.bytes)

@@ -1,5 +1,6 @@
 -- One attribute behind the other.
 use Rattle.std.proofs.Common.{◌∙◌, ◌++◌, ℕ, codes, string_bytes, ap}
+use Rattle.std.proofs.lemmas.Result.{on_ok_weaker}
 use Rattle.reports.specs.XmlStrings.{number_attribute}
 use Rattle.reports.proofs.Growing.{then}
 use Rattle.reports.proofs.junit.push_counts.Goals as goal
@@ -11,5 +12,8 @@ returns c =
     let judged = string_bytes c.push_number-2.new.xml in
     let zero = string_bytes c.push_number-3.new.xml in
     let failed = c.in_ok-push_number-2.ensures ∙ ap (λ (n : ℕ). counted ++ number_attribute (codes "failures") n) c.failures.ensures in
-    let skipped = c.in_ok-push_number-4.ensures ∙ ap (λ (n : ℕ). zero ++ number_attribute (codes "skipped") n) c.skips.ensures in
-    then (string_bytes c.args.xml.now) _ _ c.in_ok-push_attribute.ensures (then named _ _ c.in_ok-push_number.ensures (then counted _ _ failed (then judged _ _ c.in_ok-push_number-3.ensures skipped)))
+    on_ok_weaker c.push_number-4.result
+    (λ last.
+    let skipped = last ∙ ap (λ (n : ℕ). zero ++ number_attribute (codes "skipped") n) c.skips.ensures in
+    then (string_bytes c.args.xml.now) _ _ c.in_ok-push_attribute.ensures (then named _ _ c.in_ok-push_number.ensures (then counted _ _ failed (then judged _ _ c.in_ok-push_number-3.ensures skipped))))
+    c.push_number-4.ensures

@@ -1,11 +1,14 @@
 -- There are cases.
 use Rattle.std.proofs.Common.{◌≡◌, ◌==◌, false, length, ◌∙◌, string_bytes, arith}
 use Rattle.std.proofs.lemmas.Grind.{common_steps}
+use Rattle.std.proofs.lemmas.Result.{on_ok_weaker}
 use Rattle.reports.proofs.Suites.{told_suite}
 use Rattle.reports.proofs.junit.push_suite.Goals as goal
 
 pub returns : goal.returns
 returns c =
     let some : (length c.as_slice.result.now == 0) ≡ false = grind (arith, common_steps) in
-    told_suite c.args.plan.now c.args.texts.now c.args.events.now c.args.node c.tree-tree.result.now c.as_str.result.now c.as_slice.result.now (string_bytes c.args.xml.now) (string_bytes c.push_cases.new.xml)
-    c.tree-tree.ensures.same (c.as_str.ensures.value ∙ c.in_ok-class.ensures c.args.node (omega arith)) (c.as_slice.ensures.value ∙ c.in_ok-cases.ensures) some c.in_ok-push_cases.ensures
+    on_ok_weaker c.push_cases.result
+    (λ last. told_suite c.args.plan.now c.args.texts.now c.args.events.now c.args.node c.tree-tree.result.now c.as_str.result.now c.as_slice.result.now (string_bytes c.args.xml.now) (string_bytes c.push_cases.new.xml)
+    c.tree-tree.ensures.same (c.as_str.ensures.value ∙ c.in_ok-class.ensures c.args.node (omega arith)) (c.as_slice.ensures.value ∙ c.in_ok-cases.ensures) some last)
+    c.push_cases.ensures
