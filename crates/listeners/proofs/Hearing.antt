@@ -1,6 +1,8 @@
 -- How the lists and the rooms of listeners change one listener after the other.
-use Rattle.std.proofs.Common.{◌≡◌, ℕ, zero, suc, ◌+◌, ◌-◌, ◌<◌, ◌≤◌, List, [], ◌∷◌, ◌++◌, length, map, take, drop, set, get_or, refl, sym, ap, subst, ◌∙◌, arith}
+use Rattle.std.proofs.Common.{◌≡◌, ℕ, Bool, true, false, ltb, Some, slice_get, option_map, zero, suc, ◌+◌, ◌-◌, ◌<◌, ◌≤◌, List, [], ◌∷◌, ◌++◌, length, map, take, drop, set, get_or, refl, sym, ap, subst, ◌∙◌, arith}
 use Rattle.std.specs.List.{All, AllWithin}
+use Rattle.std.proofs.lemmas.Bool.{ltb-true}
+use Rattle.std.proofs.lemmas.Option.{slice_get-map, slice_get_read}
 use Rattle.std.proofs.Math.Seq.{map-set_same}
 use Rattle.std.proofs.lemmas.List.{length-map, length-set, map-set, get_or-map, get_or-drop, get_or-append_right, length-take-le, take_all, append-nil, map-id}
 use Rattle.std.proofs.lemmas.List.Edits.{map_over_more}
@@ -110,3 +112,16 @@ all_kept old new m x same all = all_changed old new m (λ y. y) x (same ∙ sym 
 
 pub kept_len : {L X : Type 0} (old new : List L) (m : L → X) → map m new ≡ map m old → length new ≡ length old
 kept_len old new m same = sym (length-map new m) ∙ ap length same ∙ length-map old m
+
+-- what the one at this place was told
+pub found_there : {L X : Type 0} (v : L → X) (all seen : List L) (i : ℕ) (l : L) (told : X) → seen ≡ all → true ≡ ltb i (length seen) → l ≡ get_or seen i l → told ≡ v l → slice_get (map v all) i ≡ Some told
+found_there {L} v all seen i l told same inside at is =
+    let lt : i < length seen = ltb-true i (length seen) (sym inside) in
+    slice_get-map v all i
+    ∙ ap (option_map v) (slice_get_read all (length all) i l refl (omega (arith, lt, ap length same)) (at ∙ ap (λ (ls : List L). get_or ls i l) same))
+    ∙ ap Some (sym is)
+
+pub is_inside : {L : Type 0} (all seen : List L) (i : ℕ) → seen ≡ all → true ≡ ltb i (length seen) → (true ≡ false → length all ≤ i) × (length all ≤ i → true ≡ false)
+is_inside all seen i same inside =
+    let lt : i < length seen = ltb-true i (length seen) (sym inside) in
+    (λ e. cc, λ past. absurd (omega (arith, lt, past, ap length same)))

@@ -4,6 +4,7 @@ pub mod Counting
 pub mod Hearing
 pub mod Places
 pub mod Printing
+mod Pushing
 pub mod Reading
 pub mod Retelling
 pub mod SameTold

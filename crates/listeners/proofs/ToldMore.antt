@@ -1,11 +1,11 @@
 -- What one more event tells of each node.
-use Rattle.std.proofs.Common.{◌≡◌, ◌≢◌, ℕ, zero, suc, ◌+◌, ◌<◌, ◌≤◌, ◌==◌, ◌&&◌, ◌||◌, Bool, true, false, cond, List, [], ◌∷◌, ◌++◌, length, map, get_or, set, Option, Some, None, refl, ap, sym, ◌∙◌, arith, inl, inr, eq-eqb, replicate, get_or-set_other, length-set}
+use Rattle.std.proofs.Common.{◌≡◌, ◌≢◌, ℕ, zero, suc, ◌+◌, ◌<◌, ◌≤◌, ◌==◌, ◌&&◌, ◌||◌, Bool, true, false, cond, List, [], ◌∷◌, ◌++◌, length, map, take, get_or, set, Option, Some, None, refl, ap, ap₂, sym, ◌∙◌, arith, inl, inr, eq-eqb, replicate, get_or-set_other, length-set}
 use Rattle.std.specs.List.{list_any, range_with_len}
 use Rattle.std.specs.Option.{option_or}
 use Rattle.std.proofs.lemmas.Bool.{cases_eq}
 use Rattle.std.proofs.lemmas.Bool.Decides.{nat_tests}
 use Rattle.std.proofs.lemmas.Grind.{get_or-set_at}
-use Rattle.std.proofs.lemmas.List.{same_lists}
+use Rattle.std.proofs.lemmas.List.{same_lists, take_more}
 use Rattle.std.proofs.lemmas.List.Folds.{list_any-append}
 use Rattle.std.proofs.lemmas.List.FromFn.{length-map-range_with_len, get_or-map-range_with_len}
 use Rattle.plan_events.specs.declared.event.Event.{Event}
@@ -110,3 +110,12 @@ told_past nodes events e told past so =
 -- of as many nodes as there are places
 pub told_each : (nodes : ℕ) (events : List Event) (told : List NodeEvents) → told ≡ all_told nodes events → length told ≡ nodes
 told_each nodes events told is = ap length is ∙ told_len nodes events
+
+-- what the first events tell, with one more
+pub told_next : (nodes i : ℕ) (events : List Event) (e : Event) (old new : List NodeEvents) → length old ≡ nodes → old ≡ all_told nodes (take i events) → i < length events → e ≡ get_or events i e → length new ≡ length old
+    → ((before : List Event) → old ≡ all_told (length old) before → new ≡ all_told (length old) (before ++ e ∷ [])) → (length new ≡ nodes) × (new ≡ all_told nodes (take (i + 1) events))
+told_next nodes i events e old new len told inside is same more =
+    let next : take (i + 1) events ≡ take i events ++ e ∷ [] = take_more events i e inside ∙ ap (λ (x : Event). take i events ++ x ∷ []) (sym is) in (
+      same ∙ len,
+      more (take i events) (told ∙ ap (λ (n : ℕ). all_told n (take i events)) (sym len)) ∙ ap₂ (λ (n : ℕ) (es : List Event). all_told n es) len (sym next),
+    )

@@ -144,12 +144,7 @@ impl Drawing<'_> {
             node is_last) }
     {
         self.push_front(text, items, node, is_last)?;
-        push_ending(
-            text,
-            self.theme,
-            self.told(node),
-            text_of(self.texts, node),
-        )?;
+        push_ending(text, self.theme, self.told(node), text_of(self.texts, node))?;
         text.push_str("\n")
     }
 

@@ -1,0 +1,11 @@
+-- The listener is the one at the place.
+use Rattle.listeners.proofs.Hearing.{found_there, is_inside}
+use Rattle.listeners.proofs.audience.Audience.got.Goals as goal
+
+pub returns-clause-some : goal.returns-clause-some
+returns-clause-some g c =
+    found_there (λ b. (goal.Listener-dyn g (b.vtable, b.value)).got b.value) c.args.self.now.listeners.items c.deref.result.now c.args.place c.in_ok-listener.listener.now c.got_by.result.now
+    c.deref.ensures.value c.in_ok-listener.ensures.lookup.0 c.in_ok-listener.ensures.lookup.1 c.got_by.ensures
+
+pub returns-clause-none : goal.returns-clause-none
+returns-clause-none g c = is_inside c.args.self.now.listeners.items c.deref.result.now c.args.place c.deref.ensures.value c.in_ok-listener.ensures.lookup.0
