@@ -1,7 +1,7 @@
 //! A suite that grows line by line.
 
 ghost use Rattle.std.specs.Prelude.{◌≡◌, ◌≢◌, ◌≤◌, ◌<◌, ◌+◌, length, OnOk, OnErr, IfOk, IfErr, IfSome, Some, None};
-ghost use Rattle.std.specs.Prelude.{Ok, false, true, [], ◌∷◌, ◌++◌, take, vec_len, vec_capacity, option_to_list};
+ghost use Rattle.std.specs.Prelude.{Ok, false, true, [], ◌∷◌, ◌++◌, take, map, vec_len, vec_capacity, option_to_list};
 
 use crate::script::Script;
 use crate::suite::Suite;
@@ -69,12 +69,16 @@ impl Model for SuiteBuilder {
 
 ghost use Rattle.unique_id.specs.Spelling.{refusal};
 ghost use Rattle.descriptor.specs.Nodes.{size, appended, IsTree, MayTake};
-ghost use Rattle.descriptor.specs.Refusals.{refusal as tree_refusal};
+ghost use Rattle.descriptor.specs.Bodies.{with_after};
+ghost use Rattle.descriptor.specs.Refusals.{refusal as tree_refusal, after_refusal};
 ghost use Rattle.suite_text.specs.Reading.Parts.{above, word_of_opened, node_of_opened};
 ghost use Rattle.suite_text.specs.Inside.FewLocks.{DoesFor, StandFor};
 ghost use Rattle.suite_text.specs.Reading.Words.{declaration_of};
 ghost use Rattle.suite_text.specs.Reading.Nodes.{id_at, id_declared, segment_kind, value_of_dyn, value_declared, node_with, node_declared, is_over_limit};
 ghost use Rattle.suite_text.specs.Reading.Nodes.{place_on, word_on, refusal_on, grown};
+ghost use Rattle.suite_text.specs.Reading.After.{after_body};
+ghost use Rattle.suite_text.specs.Reading.Pulls.{settled};
+ghost use Rattle.suite_text.specs.Reading.Scripts.{ending};
 ghost use Rattle.suite_text.specs.Reading.Verdicts.{reason_declared};
 
 /// The unique id of a node below this one, or at level 0.
@@ -266,35 +270,91 @@ fn push_script(scripts: &mut Vec<Pending>, script: Option<Pending>)
     }
 }
 
-/// A node that is to be added, and the script of its body.
+/// A node that is to be added, the word of its line, and the script of its body.
 #[derive(Drop)]
 struct NewNode {
+    word: Word,
     node: Node,
     script: Option<Pending>,
 }
 
-/// Adds a node below this one, and its script, for which there is room.
-fn hang(
+/// Adds a node below this one, on this level of the path, and its script.
+fn grow(
     alloc: Global,
     tree: &mut TreeBuilder,
+    path: &mut Vec<Opened>,
     scripts: &mut Vec<Pending>,
     parent: NodeId,
+    level: usize,
     made: NewNode,
-) -> Result<NodeId, TreeFault>
-    requires taken { MayTake tree.old parent }
-    requires room { vec_len scripts.old < vec_capacity scripts.old }
-    ensures ok { IfOk result (λ number. (number ≡ size tree.old) × (tree_refusal tree.old parent made.node ≡ None)) }
-    ensures added { OnOk result (tree.new ≡ appended tree.old parent made.node) }
+) -> Result<(), TreeFault>
+    requires { MayTake tree.old parent }
+    ensures accepted { OnOk result (tree_refusal tree.old parent made.node ≡ None) }
+    ensures tree { OnOk result (tree.new ≡ appended tree.old parent made.node) }
+    ensures path { OnOk result (path.new.items ≡ take level path.old.items
+        ++ record { node = size tree.old; word = made.word } ∷ []) }
     ensures scripts { OnOk result (scripts.new.items ≡ scripts.old.items ++ option_to_list made.script) }
     ensures refused { IfErr result (λ fault. fault ≢ TreeFault.NoMemory → tree_refusal tree.old parent made.node ≡ Some
         fault) }
     ensures tree_kept { OnErr result (tree.new ≡ tree.old) }
+    ensures path_kept { OnErr result (path.new.items ≡ path.old.items) }
     ensures scripts_kept { OnErr result (scripts.new.items ≡ scripts.old.items) }
 {
-    let NewNode { node, script } = made;
-    let number = tree.add(alloc, parent, node)?;
+    let NewNode { word, node, script } = made;
+    make_room(path, scripts)?;
+    let node = tree.add(alloc, parent, node)?;
+    open_on(path, level, Opened { node, word });
     push_script(scripts, script);
-    Ok(number)
+    Ok(())
+}
+
+/// Gives a class its after-body, which ends with this status and text, and adds the script of that.
+fn give_after(
+    alloc: Global,
+    tree: &mut TreeBuilder,
+    afters: &mut Vec<Script>,
+    class: NodeId,
+    status: Status,
+    text: &str,
+) -> Result<(), TreeFault>
+    requires inside { class < size tree.old }
+    requires few { class < 4096 }
+    ensures accepted { OnOk result (after_refusal tree.old class (after_body class) ≡ None) }
+    ensures tree { OnOk result (tree.new ≡ with_after tree.old class (after_body class)) }
+    ensures afters { OnOk result (afters.new.items ≡ afters.old.items
+        ++ ending (after_body class) 0 0 status text.now ∷ []) }
+    ensures refused { IfErr result (λ fault. fault ≢ TreeFault.NoMemory → after_refusal tree.old class
+        (after_body class) ≡ Some fault) }
+    ensures tree_kept { OnErr result (tree.new ≡ tree.old) }
+    ensures afters_kept { OnErr result (afters.new.items ≡ afters.old.items) }
+{
+    let body = BodyId::new(FIRST_AFTER + class.number());
+    afters.reserve(1)?;
+    let script = Script::ending(alloc, body, 0, 0, status, text)?;
+    tree.set_after(class, body)?;
+    afters.push_reserved(script);
+    Ok(())
+}
+
+/// The suite of a tree, of its scripts, whose pulls may follow from it, of those of after-bodies,
+/// and of what is said of the configuration.
+fn suite_with(
+    alloc: Global,
+    tree: Tree,
+    scripts: Vec<Pending>,
+    afters: Vec<Script>,
+    properties: Params,
+) -> Result<Suite, AllocError>
+    ensures tree { IfOk result (λ suite. suite.tree ≡ tree) }
+    ensures scripts { IfOk result (λ suite. suite.scripts.items ≡ map (settled tree) scripts.items ++ afters.items) }
+    ensures properties { IfOk result (λ suite. suite.properties ≡ properties) }
+{
+    let scripts = all_settled(alloc, &tree, scripts, afters)?;
+    Ok(Suite {
+        tree,
+        scripts,
+        properties,
+    })
 }
 
 /// The node, or the plan where there is none.
@@ -313,8 +373,7 @@ impl SuiteBuilder {
     ghost use Rattle.suite_text.specs.Reading.Lines.{indentation_of};
     ghost use Rattle.suite_text.specs.Reading.Nodes.{node_on, is_over_limit_on, script_declared};
     ghost use Rattle.suite_text.specs.Reading.Faults.{Fails, Gives};
-    ghost use Rattle.suite_text.specs.Reading.After.{class_of, after_body, with_after_body, with_after_line};
-    ghost use Rattle.descriptor.specs.Refusals.{after_refusal};
+    ghost use Rattle.suite_text.specs.Reading.After.{class_of, with_after_body, with_after_line};
     ghost use Rattle.suite_text.specs.Suites.{is_property_in, with_declared, with_node_words, with_declaration};
     ghost use Rattle.suite_text.specs.Suites.{with_words, with_line, suite_from, suite_parts};
     ghost use Rattle.suite_text.specs.Reading.Parts.{parts_of, AreBodiesOf, bodies_answered};
@@ -394,6 +453,7 @@ impl SuiteBuilder {
     ) -> Result<NewNode, TreeFault>
         requires { level ≤ length self.now.path }
         ensures node { IfOk result (λ made. DoesFor made.node (node_on self.now level (declaration_of declared.entry))) }
+        ensures word { IfOk result (λ made. made.word ≡ declared.entry.word) }
         ensures script { IfOk result (λ made. made.script ≡ script_declared (declaration_of declared.entry)
             (size self.now.tree)) }
         ensures tree { IfOk result (λ _. IsTree self.now.tree) }
@@ -402,8 +462,9 @@ impl SuiteBuilder {
             × (is_over_limit_on self.now level (declaration_of declared.entry) ≡ true)) }
     {
         let script = declared.script(alloc, self.next_number())?;
+        let word = declared.word;
         let node = self.node_on(alloc, level, declared)?;
-        Ok(NewNode { node, script })
+        Ok(NewNode { word, node, script })
     }
 
     /// Adds the node that a line of this level declares.
@@ -415,12 +476,17 @@ impl SuiteBuilder {
             refusal_on self.old level (declaration_of declared.entry) ≡ Some fault) }
         ensures err { OnErr result (self.new ≡ self.old) }
     {
-        let word = declared.word;
         let parent = node_or_plan(self.above(level));
         let made = self.made_on(alloc, level, declared)?;
-        make_room(&mut self.path, &mut self.scripts)?;
-        let node = hang(alloc, &mut self.tree, &mut self.scripts, parent, made)?;
-        open_on(&mut self.path, level, Opened { node, word });
+        grow(
+            alloc,
+            &mut self.tree,
+            &mut self.path,
+            &mut self.scripts,
+            parent,
+            level,
+            made,
+        )?;
         Ok(())
     }
 
@@ -483,11 +549,7 @@ impl SuiteBuilder {
         ensures refused { IfErr result (λ fault. fault ≢ TreeFault.NoMemory → after_refusal self.old.tree class
             (after_body class) ≡ Some fault) }
     {
-        let body = BodyId::new(FIRST_AFTER + class.number());
-        self.afters.reserve(1)?;
-        let script = Script::ending(alloc, body, 0, 0, status, text)?;
-        self.tree.set_after(class, body)?;
-        self.afters.push_reserved(script);
+        give_after(alloc, &mut self.tree, &mut self.afters, class, status, text)?;
         Ok(())
     }
 
@@ -613,11 +675,7 @@ impl SuiteBuilder {
         ensures answered { IfOk result (λ suite. AreBodiesOf suite.tree.nodes (bodies_answered suite.scripts.items)) }
     {
         let tree = self.tree.finish();
-        let scripts = all_settled(alloc, &tree, self.scripts, self.afters)?;
-        Ok(Suite {
-            tree,
-            scripts,
-            properties: self.properties,
-        })
+        let suite = suite_with(alloc, tree, self.scripts, self.afters, self.properties)?;
+        Ok(suite)
     }
 }

@@ -1,6 +1,6 @@
 //! The attribute `lock=KEY`: a resource that a node uses, and how.
 
-ghost use Rattle.std.specs.Prelude.{◌≡◌, ◌≢◌, [], OnOk, IfOk, IfErr, Ok};
+ghost use Rattle.std.specs.Prelude.{◌≡◌, ◌≢◌, ◌++◌, ◌∷◌, [], OnOk, IfOk, IfErr, Ok};
 ghost use Rattle.resource_locks.specs.LockSets.{put, of};
 ghost use Rattle.suite_text.specs.Inside.FewLocks.{StandFor};
 ghost use Rattle.suite_text.specs.Reading.Faults.{Fails};
@@ -105,13 +105,21 @@ fn few_of(alloc: Global, locks: &[Lock]) -> Result<LockSet, AllocError>
     Ok(set)
 }
 
+/// Adds a copy of a lock.
+fn push_copy(locks: &mut Locks, lock: &Lock) -> Result<(), AllocError>
+    ensures { OnOk result (locks.new ≡ locks.old ++ lock.now ∷ []) }
+{
+    locks.push(lock.copy()?)?;
+    Ok(())
+}
+
 /// The locks of a set, as a node has them.
 fn locks_of(alloc: Global, set: &LockSet) -> Result<Locks, AllocError>
     ensures { IfOk result (λ locks. locks ≡ set.now) }
 {
     let mut locks = Locks::new(alloc);
     for lock in set.locks() {
-        locks.push(lock.copy()?)?;
+        push_copy(&mut locks, lock)?;
     }
     Ok(locks)
 }

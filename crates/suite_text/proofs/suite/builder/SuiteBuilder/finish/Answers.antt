@@ -11,7 +11,7 @@ use Rattle.suite_text.proofs.suite.builder.SuiteBuilder.finish.Goals as goal
 pub returns-clause-answered : goal.returns-clause-answered
 returns-clause-answered c =
     let read = c.args.self in
-    let tree : c.finish-tree.result ≡ read.tree = grind (arith, common_steps) in
-    let items : c.in_ok-scripts.scripts.items ≡ (parts_of read).scripts = grind (arith, common_steps) in
-    subst (λ (l : List Script). AreBodiesOf c.finish-tree.result.nodes (bodies_answered l)) (sym items)
+    let tree : c.in_ok-suite.suite.tree ≡ read.tree = grind (arith, common_steps) in
+    let items : c.in_ok-suite.suite.scripts.items ≡ (parts_of read).scripts = grind (arith, common_steps) in
+    subst (λ (l : List Script). AreBodiesOf c.in_ok-suite.suite.tree.nodes (bodies_answered l)) (sym items)
     (subst (λ (t : Nodes). AreBodiesOf t.nodes (bodies_answered (parts_of read).scripts)) (sym tree) (all_answered read (subst IsSound c.self.view_is c.self.invariant)))
