@@ -278,6 +278,31 @@ struct NewNode {
     script: Option<Pending>,
 }
 
+/// Adds a node below this one, and its script, for which there is room.
+fn hang(
+    alloc: Global,
+    tree: &mut TreeBuilder,
+    scripts: &mut Vec<Pending>,
+    parent: NodeId,
+    made: NewNode,
+) -> Result<NodeId, TreeFault>
+    requires taken { MayTake tree.old parent }
+    requires room { vec_len scripts.old < vec_capacity scripts.old }
+    ensures number { IfOk result (λ number. number ≡ size tree.old) }
+    ensures accepted { OnOk result (tree_refusal tree.old parent made.node ≡ None) }
+    ensures tree { OnOk result (tree.new ≡ appended tree.old parent made.node) }
+    ensures scripts { OnOk result (scripts.new.items ≡ scripts.old.items ++ option_to_list made.script) }
+    ensures refused { IfErr result (λ fault. fault ≢ TreeFault.NoMemory → tree_refusal tree.old parent made.node ≡ Some
+        fault) }
+    ensures tree_kept { OnErr result (tree.new ≡ tree.old) }
+    ensures scripts_kept { OnErr result (scripts.new.items ≡ scripts.old.items) }
+{
+    let NewNode { node, script, .. } = made;
+    let number = tree.add(alloc, parent, node)?;
+    push_script(scripts, script);
+    Ok(number)
+}
+
 /// Adds a node below this one, on this level of the path, and its script.
 fn grow(
     alloc: Global,
@@ -300,11 +325,10 @@ fn grow(
     ensures path_kept { OnErr result (path.new.items ≡ path.old.items) }
     ensures scripts_kept { OnErr result (scripts.new.items ≡ scripts.old.items) }
 {
-    let NewNode { word, node, script } = made;
     make_room(path, scripts)?;
-    let node = tree.add(alloc, parent, node)?;
+    let word = made.word;
+    let node = hang(alloc, tree, scripts, parent, made)?;
     open_on(path, level, Opened { node, word });
-    push_script(scripts, script);
     Ok(())
 }
 

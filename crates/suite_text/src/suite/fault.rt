@@ -7,27 +7,44 @@ ghost use Rattle.suite_text.specs.declared.suite.fault.SuiteFault.TheVariants.{N
 use config_params::ParamsFault;
 use descriptor::TreeFault;
 use std::alloc::AllocError;
-use thiserror::Error;
+use std::error::Error;
+use std::fmt;
 
 /// Why a text is no suite. Lines are counted from 1.
-#[derive(Clone, Copy, PartialEq, Eq, Debug, Error)]
+#[derive(Clone, Copy, PartialEq, Eq, Debug)]
 pub enum SuiteFault {
-    #[error("no memory")]
     NoMemory,
-    #[error("line {0}: a word that may not stand there")]
     BadLine(usize),
-    #[error("line {0}: an indentation that no line above can take")]
     BadIndent(usize),
-    #[error("line {0}: no verdict")]
     MissingVerdict(usize),
-    #[error("more than 1048576 bytes")]
     TooLarge,
-    #[error("line {line}: {fault}")]
     Refused { fault: TreeFault, line: usize },
     /// A property's line, which the fault counts.
-    #[error("{0}")]
     BadProperty(ParamsFault),
 }
+
+/// Writes what is wrong with a line.
+fn write_line<W: fmt::Write>(f: &mut fmt::Formatter<W>, line: usize, what: &str) -> fmt::Result {
+    write!(f, "line {line}: {what}")
+}
+
+impl fmt::Display for SuiteFault {
+    fn fmt<W: fmt::Write>(&self, f: &mut fmt::Formatter<W>) -> fmt::Result {
+        match self {
+            SuiteFault::NoMemory => write!(f, "no memory"),
+            SuiteFault::BadLine(line) => write_line(f, *line, "a word that may not stand there"),
+            SuiteFault::BadIndent(line) => {
+                write_line(f, *line, "an indentation that no line above can take")
+            }
+            SuiteFault::MissingVerdict(line) => write_line(f, *line, "no verdict"),
+            SuiteFault::TooLarge => write!(f, "more than 1048576 bytes"),
+            SuiteFault::Refused { fault, line } => write!(f, "line {line}: {fault}"),
+            SuiteFault::BadProperty(fault) => write!(f, "{fault}"),
+        }
+    }
+}
+
+impl Error for SuiteFault {}
 
 impl From<AllocError> for SuiteFault {
     ghost from_gives = { λ _ e. e ≡ NoMemory };
