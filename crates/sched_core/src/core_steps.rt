@@ -1,6 +1,10 @@
 //! The core of a run, a step at a time.
 
-ghost use Rattle.std.specs.Prelude.{◌≡◌, ◌≢◌, ◌<◌, ◌≤◌, Some, None, IfOk, IfErr, length};
+ghost use Rattle.std.specs.Prelude.{◌≡◌, ◌≢◌, ◌<◌, ◌≤◌, ℕ, List, Some, None, IfOk, IfErr, length};
+ghost use Rattle.plan_events.specs.declared.outcome.Reply.{Reply};
+ghost use Rattle.scheduling.specs.LinkLists.{AreTurns};
+ghost use Rattle.scheduling.specs.Runs.{opening};
+ghost use Rattle.sched_core.specs.Inside.Fields.{state_of, IsSound};
 ghost use Rattle.sched_core.specs.Snapshot.{workers_refusal};
 
 use crate::answers::Answers;
@@ -26,6 +30,26 @@ pub(crate) fn count_of(workers: u32) -> Result<u8, CoreFault>
     }
 }
 
+/// The turns of a plan, and the machine of so many workers before its first step.
+pub(crate) fn started(
+    alloc: Global,
+    plan: &Plan,
+    workers: u32,
+) -> Result<(Turns, Machine), CoreFault>
+    ensures turns { IfOk result (λ s. AreTurns plan.now s.0) }
+    ensures opening { IfOk result (λ s. state_of s.1 ≡ opening plan.now workers) }
+    ensures workers { IfOk result (λ s. s.1.workers ≡ workers) }
+    ensures sound { IfOk result (λ s. (answers : List (ℕ × Reply)) → IsSound plan.now answers s.1) }
+    ensures accepted { IfOk result (λ _. workers_refusal workers ≡ None) }
+    ensures refused { IfErr result (λ fault. fault ≢ CoreFault.NoMemory → workers_refusal workers ≡ Some fault) }
+    ensures no_memory { IfErr result (λ fault. fault ≡ CoreFault.NoMemory → workers_refusal workers ≡ None) }
+{
+    let count = count_of(workers)?;
+    let turns = Turns::new(alloc, plan)?;
+    let machine = Machine::new(alloc, plan, count)?;
+    Ok((turns, machine))
+}
+
 /// A run of a plan with the answers of its jobs, a step at a time.
 #[derive(Drop)]
 pub struct Core {
@@ -48,7 +72,6 @@ impl Model for Core {
 }
 
 impl Core {
-    ghost use Rattle.scheduling.specs.Runs.{opening};
     ghost use Rattle.sched_core.specs.Snapshot.{stepped, IsStep};
     ghost use Rattle.scheduling.specs.Shown.{IsShown};
     ghost use Rattle.sched_core.specs.Endings.{IsNotStuck};
@@ -63,9 +86,7 @@ impl Core {
         ensures refused { IfErr result (λ fault. fault ≢ CoreFault.NoMemory → workers_refusal workers ≡ Some fault) }
         ensures no_memory { IfErr result (λ fault. fault ≡ CoreFault.NoMemory → workers_refusal workers ≡ None) }
     {
-        let count = count_of(workers)?;
-        let turns = Turns::new(alloc, &plan)?;
-        let machine = Machine::new(alloc, &plan, count)?;
+        let (turns, machine) = started(alloc, &plan, workers)?;
         Ok(Core {
             plan,
             answers,

@@ -1,7 +1,11 @@
 //! The words of a run, and its steps.
 
-ghost use Rattle.std.specs.Prelude.{◌≡◌, ◌≤◌, ◌<◌, ℕ, List, IfOk, false, length, slice_index_or};
+ghost use Rattle.std.specs.Prelude.{◌≡◌, ◌≤◌, ◌<◌, ℕ, List, [], None, IfOk, false, length, slice_index_or};
+ghost use Rattle.std.specs.Prelude.{replicate, set, vec_capacity};
 ghost use Rattle.descriptor.specs.Nodes.{size};
+ghost use Rattle.resource_locks.specs.Held.{table};
+ghost use Rattle.resource_locks.specs.Plans.{IsPlan, most_events};
+ghost use Rattle.scheduling.specs.Inside.Start.{guard_and_children};
 ghost use Rattle.plan_events.specs.declared.outcome.Reply.{Reply};
 ghost use Rattle.scheduling.specs.Answers.{reply_by};
 ghost use Rattle.scheduling.specs.LinkLists.{AreTurns};
@@ -38,6 +42,38 @@ pub(crate) struct Machine {
     pub(crate) given: usize,
 }
 
+/// The words of the nodes at the start: their statuses, their counters and their results.
+fn node_words(
+    alloc: Global,
+    plan: &Plan,
+) -> Result<(Vec<NodeStatus>, Vec<usize>, Vec<Status>), AllocError>
+    ensures plan { IfOk result (λ _. IsPlan plan.now) }
+    ensures statuses { IfOk result (λ w. w.0.items ≡ set (replicate (size plan.now.tree) NodeStatus.Hidden) 0
+        (NodeStatus.Ready None)) }
+    ensures counters { IfOk result (λ w. w.1.items ≡ table (guard_and_children plan.now.tree) (size plan.now.tree)) }
+    ensures results { IfOk result (λ w. w.2.items ≡ replicate (size plan.now.tree) Status.Successful) }
+{
+    let nodes = plan.tree().len();
+    let mut statuses = vec![in alloc; NodeStatus::Hidden; nodes]?;
+    statuses[0] = NodeStatus::Ready(None);
+    let counters = counters_at_start(alloc, plan.tree())?;
+    let results = vec![in alloc; Status::Successful; nodes]?;
+    Ok((statuses, counters, results))
+}
+
+/// Room for every event of the plan, and for whether it is shown.
+fn history_room(alloc: Global, plan: &Plan) -> Result<(Vec<Event>, Vec<bool>), AllocError>
+    ensures published { IfOk result (λ r. r.0.items ≡ []) }
+    ensures shown { IfOk result (λ r. r.1.items ≡ []) }
+    ensures published_room { IfOk result (λ r. most_events plan.now ≤ vec_capacity r.0) }
+    ensures shown_room { IfOk result (λ r. most_events plan.now ≤ vec_capacity r.1) }
+{
+    let most = plan.most_events();
+    let published = Vec::with_capacity(alloc, most)?;
+    let shown = Vec::with_capacity(alloc, most)?;
+    Ok((published, shown))
+}
+
 impl Machine {
     /// The opening state, with room for every event of the plan.
     pub(crate) fn new(alloc: Global, plan: &Plan, workers: u8) -> Result<Machine, AllocError>
@@ -47,20 +83,18 @@ impl Machine {
         ensures workers { IfOk result (λ m. m.workers ≡ workers) }
         ensures sound { IfOk result (λ m. (answers : List (ℕ × Reply)) → IsSound plan.now answers m) }
     {
-        let most = plan.most_events();
-        let nodes = plan.tree().len();
-        let mut statuses = vec![in alloc; NodeStatus::Hidden; nodes]?;
-        statuses[0] = NodeStatus::Ready(None);
+        let (statuses, counters, results) = node_words(alloc, plan)?;
+        let (published, shown) = history_room(alloc, plan)?;
         Ok(Machine {
             workers,
             statuses,
-            counters: counters_at_start(alloc, plan.tree())?,
-            results: vec![in alloc; Status::Successful; nodes]?,
+            counters,
+            results,
             locks: vec![in alloc; LockWord::Readers(0); plan.key_count()]?,
             cancel: false,
             seats: seats_at_start(alloc, workers)?,
-            published: Vec::with_capacity(alloc, most)?,
-            shown: Vec::with_capacity(alloc, most)?,
+            published,
+            shown,
             given: 0,
         })
     }

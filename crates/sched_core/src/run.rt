@@ -12,7 +12,7 @@ ghost use Rattle.sched_core.specs.Traces.{KeepsApart, HasExpected, IsOnlyHistory
 ghost use Rattle.sched_core.specs.Inside.Fields.{state_of, IsSound};
 
 use crate::answers::Answers;
-use crate::core_steps::count_of;
+use crate::core_steps::started;
 use crate::fault::CoreFault;
 use crate::machine::Machine;
 use crate::trace::Trace;
@@ -63,9 +63,7 @@ pub fn run_steps(
     ensures refused { IfErr result (λ fault. fault ≢ CoreFault.NoMemory → workers_refusal workers ≡ Some fault) }
     ensures no_memory { IfErr result (λ fault. fault ≡ CoreFault.NoMemory → workers_refusal workers ≡ None) }
 {
-    let count = count_of(workers)?;
-    let turns = Turns::new(alloc, plan)?;
-    let mut machine = Machine::new(alloc, plan, count)?;
+    let (turns, mut machine) = started(alloc, plan, workers)?;
     let missed = machine.run(plan, &turns, answers, steps);
     Ok(machine.trace(alloc, missed)?)
 }

@@ -1,6 +1,5 @@
 -- What the trace of a list of steps tells.
-use Rattle.std.proofs.Common.{◌∙◌, ap, subst, ℕ}
-use Rattle.scheduling.specs.Runs.{opening}
+use Rattle.std.proofs.Common.{◌∙◌, ap, subst}
 use Rattle.scheduling.specs.Shown.{IsShown}
 use Rattle.scheduling.specs.State.{State}
 use Rattle.sched_core.specs.Runs.{run}
@@ -11,17 +10,17 @@ use Rattle.sched_core.proofs.Tracing.{right_trace, shown_trace, right_apart, rig
 use Rattle.sched_core.proofs.run.run_steps.Goals as goal
 
 pub run-missed-requires-clause-sound : goal.run-missed-requires-clause-sound
-run-missed-requires-clause-sound c = c.in_ok-machine.ensures.sound c.args.answers.now
+run-missed-requires-clause-sound c = c.in_ok-turns.ensures.sound c.args.answers.now
 
 pub returns-clause-right : goal.returns-clause-right
 returns-clause-right c =
-    let count = c.run-missed.ensures.workers ∙ c.in_ok-machine.ensures.workers ∙ c.in_ok-count.ensures.count.0 in
+    let count = c.run-missed.ensures.workers ∙ c.in_ok-turns.ensures.workers in
     right_trace c.args.plan.now c.args.answers.now c.run-missed.new.self c.run-missed.ensures.sound c.args.workers c.run-missed.result count c.in_ok-trace.field-0 c.in_ok-trace.ensures
 
 pub returns-clause-shown : goal.returns-clause-shown
 returns-clause-shown c =
-    let count = c.run-missed.ensures.workers ∙ c.in_ok-machine.ensures.workers ∙ c.in_ok-count.ensures.count.0 in
-    let from = c.in_ok-machine.ensures.opening ∙ ap (λ (n : ℕ). opening c.args.plan.now n) c.in_ok-count.ensures.count.0 in
+    let count = c.run-missed.ensures.workers ∙ c.in_ok-turns.ensures.workers in
+    let from = c.in_ok-turns.ensures.opening in
     let ends = c.run-missed.ensures.state ∙ ap (λ (s : State). run c.args.plan.now c.args.answers.now s c.args.steps.now) from in
     subst (λ (s : State). IsShown s c.in_ok-trace.field-0.given.items) ends
     (shown_trace c.args.plan.now c.args.answers.now c.run-missed.new.self c.run-missed.ensures.sound c.args.workers c.run-missed.result count c.in_ok-trace.field-0 c.in_ok-trace.ensures)
@@ -35,6 +34,6 @@ returns-clause-expected c = right_expected c.args.plan.now c.args.answers.now c.
 pub returns-clause-never_stuck : goal.returns-clause-never_stuck
 returns-clause-never_stuck c =
     let sound = c.run-missed.ensures.sound in
-    let from = c.in_ok-machine.ensures.opening ∙ ap (λ (n : ℕ). opening c.args.plan.now n) c.in_ok-count.ensures.count.0 in
+    let from = c.in_ok-turns.ensures.opening in
     let ends = c.run-missed.ensures.state ∙ ap (λ (s : State). run c.args.plan.now c.args.answers.now s c.args.steps.now) from in
     subst (IsNotStuck c.args.plan.now c.args.answers.now) ends (not_stuck c.args.plan.now sound.plan c.args.answers.now (state_of c.run-missed.new.self) sound.live)
