@@ -3,7 +3,7 @@
 use plan_events::Status;
 
 /// What a step has to know of a job's reply: how many dynamic tests it registers, and how it ended.
-#[derive(Clone, Copy, Debug)]
+#[derive(Clone, Copy)]
 pub struct Answer {
     pub pulls: u16,
     pub status: Status,

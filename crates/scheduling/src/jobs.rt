@@ -11,7 +11,7 @@ use descriptor::{BodyId, Kind, NodeId, Role};
 use resource_locks::Plan;
 
 /// What is run for a node.
-#[derive(Clone, Copy, Debug, PartialEq, Eq)]
+#[derive(Clone, Copy)]
 pub enum NodeJobs {
     /// Nothing.
     Nothing,

@@ -8,7 +8,7 @@ use descriptor::{NodeId, Tree};
 use std::alloc::{AllocError, Global};
 
 /// Of the children of each node that are chosen the first, and for each node the next chosen child of its parent.
-#[derive(Debug, Drop)]
+#[derive(Drop)]
 pub(crate) struct Links {
     pub(crate) first: Vec<Option<NodeId>>,
     pub(crate) next: Vec<Option<NodeId>>,

@@ -4,7 +4,7 @@ use crate::task::Task;
 use descriptor::NodeId;
 
 /// A factory whose dynamic tests are being registered.
-#[derive(Clone, Copy, Debug)]
+#[derive(Clone, Copy)]
 pub struct Hand {
     pub factory: NodeId,
     /// How many of its dynamic tests are registered.
@@ -14,7 +14,7 @@ pub struct Hand {
 }
 
 /// A worker's task, and the factory in its hand.
-#[derive(Clone, Copy, Debug)]
+#[derive(Clone, Copy)]
 pub struct Seat {
     pub task: Task,
     pub hand: Option<Hand>,

@@ -5,7 +5,7 @@ use descriptor::NodeId;
 use plan_events::Status;
 
 /// What a worker does about a node until the node's own guard is given up, or until it is to end with the guard kept.
-#[derive(Clone, Copy, Debug)]
+#[derive(Clone, Copy)]
 pub enum Opening {
     /// A dynamic test that is to be registered.
     Registering,
@@ -34,7 +34,7 @@ pub enum Opening {
 }
 
 /// What a worker does about a node from then on.
-#[derive(Clone, Copy, Debug)]
+#[derive(Clone, Copy)]
 pub enum Closing {
     /// Its after-body is run: what that answers decides the task.
     AwaitingAfter,
@@ -60,7 +60,7 @@ pub enum Closing {
 }
 
 /// What a worker does next.
-#[derive(Clone, Copy, Debug)]
+#[derive(Clone, Copy)]
 pub enum Task {
     /// Nothing: it may take a node that is offered to it, or go on with the factory in its hand.
     Free,

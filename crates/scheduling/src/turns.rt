@@ -21,7 +21,7 @@ use resource_locks::Plan;
 use std::alloc::{AllocError, Global};
 
 /// Which child of a node is to be offered next, and which sibling takes its turn after it.
-#[derive(Debug, Drop)]
+#[derive(Drop)]
 pub struct Turns {
     // the children that a node offers itself
     batch: Links,
