@@ -5,60 +5,52 @@ use crate::search::Search;
 use plan_events::{Event, EventKind};
 use resource_locks::Plan;
 use scheduling::Action;
-use std::alloc::AllocError;
 
 impl Search {
     /// A worker takes a node, whose start is the next event, and the node's keys.
-    fn begin(&mut self, plan: &Plan, worker: u8, node: u16) -> Result<(), AllocError> {
-        self.come_to(plan, worker, node)?;
+    fn begin(&mut self, plan: &Plan, worker: u8, node: u16) {
+        self.come_to(plan, worker, node);
         for _key in 0..key_count(plan, node) {
-            self.push(worker, Action::Weigh)?;
-            self.push(worker, Action::Take)?;
+            self.push(worker, Action::Weigh);
+            self.push(worker, Action::Take);
         }
-        Ok(())
     }
 
     /// A worker takes off a node's counter what it is to take off.
-    fn count_at(&mut self, worker: u8, node: u16) -> Result<(), AllocError> {
+    fn count_at(&mut self, worker: u8, node: u16) {
         if self.worker(worker).counting == Some(node) {
-            self.count_off(worker)?;
+            self.count_off(worker);
         }
         if self.worker(worker).hand == Some(node) {
-            self.lay_down(worker)?;
+            self.lay_down(worker);
         }
-        Ok(())
     }
 
     /// A worker takes the last one off a node's counter, whose finish is the next event, unless its
     /// body has ended the node.
-    fn end(&mut self, worker: u8, node: u16) -> Result<(), AllocError> {
+    fn end(&mut self, worker: u8, node: u16) {
         let found = self.worker(worker);
         if found.counting != Some(node) && found.hand != Some(node) {
-            return Ok(());
+            return;
         }
         for other in 1..=self.last {
             if other != worker {
-                self.count_at(other, node)?;
+                self.count_at(other, node);
             }
         }
-        self.count_at(worker, node)
+        self.count_at(worker, node);
     }
 
     /// A worker goes on to the next dynamic test of the factory in its hand.
-    fn add(&mut self, worker: u8) -> Result<(), AllocError> {
-        self.count_off(worker)?;
-        self.push(worker, Action::AddChild)
+    fn add(&mut self, worker: u8) {
+        self.count_off(worker);
+        self.push(worker, Action::AddChild);
     }
 
     /// The steps before an event.
-    pub(crate) fn come_before(
-        &mut self,
-        plan: &Plan,
-        history: &[Event],
-        event: &Event,
-    ) -> Result<(), AllocError> {
+    pub(crate) fn come_before(&mut self, plan: &Plan, history: &[Event], event: &Event) {
         if self.is_cancelled_before(plan, event) {
-            self.cancel(plan, history)?;
+            self.cancel(plan, history);
         }
         let node = event.node.number();
         match event.kind {

@@ -4,7 +4,6 @@ use crate::facts::{keep_apart, notices, parent_of};
 use crate::search::Search;
 use plan_events::{Event, EventKind};
 use resource_locks::Plan;
-use std::alloc::AllocError;
 
 impl Search {
     /// Whether an event can only stand behind the end of a node that failed, and is finished: it
@@ -39,28 +38,27 @@ impl Search {
     }
 
     /// A worker takes the node that it starts next, if it can, and finds that the plan is not cancelled.
-    fn go_ahead(&mut self, plan: &Plan, history: &[Event], worker: u8) -> Result<(), AllocError> {
+    fn go_ahead(&mut self, plan: &Plan, history: &[Event], worker: u8) {
         let found = self.worker(worker);
         let Some(event) = history.get(found.next) else {
-            return Ok(());
+            return;
         };
         let node = event.node.number();
         if event.kind != EventKind::Started || found.raising.is_some() || !self.is_offered(node) {
-            return Ok(());
+            return;
         }
-        self.come_to(plan, worker, node)
+        self.come_to(plan, worker, node);
     }
 
     /// The plan is cancelled by all who are to. Before that the others go ahead, who could not
     /// start their nodes after it.
-    pub(crate) fn cancel(&mut self, plan: &Plan, history: &[Event]) -> Result<(), AllocError> {
+    pub(crate) fn cancel(&mut self, plan: &Plan, history: &[Event]) {
         for worker in 1..=self.last {
-            self.go_ahead(plan, history, worker)?;
+            self.go_ahead(plan, history, worker);
         }
         self.is_cancelled = true;
         for worker in 1..=self.last {
-            self.raise(plan, worker)?;
+            self.raise(plan, worker);
         }
-        Ok(())
     }
 }

@@ -54,6 +54,8 @@ pub(crate) struct Search {
     /// For each node whether it was offered.
     pub(crate) offered: Vec<bool>,
     pub(crate) is_cancelled: bool,
+    /// Whether there was no memory for a step.
+    pub(crate) is_incomplete: bool,
 }
 
 /// Workers whose next events stand at these places.
@@ -82,13 +84,16 @@ impl Search {
             turns: next_in_turn(alloc, plan)?,
             offered,
             is_cancelled: false,
+            is_incomplete: false,
         })
     }
 
-    /// One more step of a worker.
-    pub(crate) fn push(&mut self, worker: u8, action: Action) -> Result<(), AllocError> {
-        self.steps.push(Step::Worker(worker, action))?;
-        Ok(())
+    /// One more step of a worker. That there is no memory for it is kept until the search is over, so that no step in
+    /// between has to ask.
+    pub(crate) fn push(&mut self, worker: u8, action: Action) {
+        if self.steps.push(Step::Worker(worker, action)).is_err() {
+            self.is_incomplete = true;
+        }
     }
 
     /// The worker of this number.
@@ -141,7 +146,10 @@ pub(crate) fn steps_toward(
     };
     let mut search = Search::new(alloc, plan, last, history)?;
     for place in 0..history.len() {
-        search.follow(plan, answers, history, place)?;
+        search.follow(plan, answers, history, place);
+    }
+    if search.is_incomplete {
+        return Err(AllocError);
     }
     Ok(search.steps)
 }

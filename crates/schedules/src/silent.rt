@@ -5,92 +5,87 @@ use crate::search::Search;
 use descriptor::NodeId;
 use resource_locks::Plan;
 use scheduling::Action;
-use std::alloc::AllocError;
 
 impl Search {
     /// A worker takes one off the counter off which it is to take one.
-    pub(crate) fn count_off(&mut self, worker: u8) -> Result<(), AllocError> {
+    pub(crate) fn count_off(&mut self, worker: u8) {
         let mut found = self.worker(worker);
         if found.counting.is_some() {
-            self.push(worker, Action::Done)?;
+            self.push(worker, Action::Done);
             found.counting = None;
             self.set_worker(worker, found);
         }
-        Ok(())
     }
 
     /// A worker has registered all dynamic tests of the factory in its hand.
-    pub(crate) fn lay_down(&mut self, worker: u8) -> Result<(), AllocError> {
+    pub(crate) fn lay_down(&mut self, worker: u8) {
         let mut found = self.worker(worker);
         if found.hand.is_some() {
-            self.push(worker, Action::Done)?;
+            self.push(worker, Action::Done);
             found.hand = None;
             self.set_worker(worker, found);
         }
-        Ok(())
     }
 
     /// A worker settles its node, and passes its turn on.
-    pub(crate) fn settle(&mut self, plan: &Plan, worker: u8, node: u16) -> Result<(), AllocError> {
-        self.push(worker, Action::Settle)?;
+    pub(crate) fn settle(&mut self, plan: &Plan, worker: u8, node: u16) {
+        self.push(worker, Action::Settle);
         if let Some(sibling) = self.turn_after(node) {
-            self.push(worker, Action::Look)?;
-            self.push(worker, Action::Admit)?;
+            self.push(worker, Action::Look);
+            self.push(worker, Action::Admit);
             self.offer(sibling);
         }
         let mut found = self.worker(worker);
         found.counting = parent_of(plan, node);
         self.set_worker(worker, found);
-        Ok(())
     }
 
     /// A worker gives the keys of its node back, and settles it.
-    pub(crate) fn close(&mut self, plan: &Plan, worker: u8, node: u16) -> Result<(), AllocError> {
+    pub(crate) fn close(&mut self, plan: &Plan, worker: u8, node: u16) {
         for _key in 0..key_count(plan, node) {
-            self.push(worker, Action::Give)?;
+            self.push(worker, Action::Give);
         }
-        self.settle(plan, worker, node)
+        self.settle(plan, worker, node);
     }
 
     /// A worker cancels the plan, if it is to, and closes its node.
-    pub(crate) fn raise(&mut self, plan: &Plan, worker: u8) -> Result<(), AllocError> {
+    pub(crate) fn raise(&mut self, plan: &Plan, worker: u8) {
         let mut found = self.worker(worker);
         let Some(node) = found.raising else {
-            return Ok(());
+            return;
         };
         found.raising = None;
         self.set_worker(worker, found);
-        self.push(worker, Action::Raise)?;
-        self.close(plan, worker, node)
+        self.push(worker, Action::Raise);
+        self.close(plan, worker, node);
     }
 
     /// A worker becomes free for a node, and takes it.
-    fn take(&mut self, plan: &Plan, worker: u8, node: u16) -> Result<(), AllocError> {
-        self.count_off(worker)?;
+    fn take(&mut self, plan: &Plan, worker: u8, node: u16) {
+        self.count_off(worker);
         let is_same = node > 0 && is_same_thread(plan, node);
         let hand = self.worker(worker).hand;
         if !(is_same && hand == parent_of(plan, node)) {
-            self.lay_down(worker)?;
+            self.lay_down(worker);
         }
         if is_same {
-            self.push(worker, Action::Own(NodeId::new(node)))
+            self.push(worker, Action::Own(NodeId::new(node)));
         } else {
-            self.push(worker, Action::Claim(NodeId::new(node)))
+            self.push(worker, Action::Claim(NodeId::new(node)));
         }
     }
 
     /// A worker takes a node, and looks whether the plan is cancelled, if it has not done so ahead.
-    pub(crate) fn come_to(&mut self, plan: &Plan, worker: u8, node: u16) -> Result<(), AllocError> {
+    pub(crate) fn come_to(&mut self, plan: &Plan, worker: u8, node: u16) {
         if self.worker(worker).is_ahead {
-            return Ok(());
+            return;
         }
-        self.take(plan, worker, node)?;
+        self.take(plan, worker, node);
         if notices(plan, node) {
-            self.push(worker, Action::Notice)?;
+            self.push(worker, Action::Notice);
         }
         let mut found = self.worker(worker);
         found.is_ahead = true;
         self.set_worker(worker, found);
-        Ok(())
     }
 }
