@@ -67,21 +67,29 @@ fn workers_at(alloc: Global, places: &[usize]) -> Result<Vec<Worker>, AllocError
     Ok(workers)
 }
 
+/// Of so many nodes none is offered but the root.
+fn root_offered(alloc: Global, nodes: usize) -> Result<Vec<bool>, AllocError> {
+    let mut offered = vec![in alloc; false; nodes]?;
+    if let Some(root) = offered.get_mut(0) {
+        *root = true;
+    }
+    Ok(offered)
+}
+
 impl Search {
     /// No step so far.
     fn new(alloc: Global, plan: &Plan, last: u8, history: &[Event]) -> Result<Search, AllocError> {
+        let turns = next_in_turn(alloc, plan)?;
+        let offered = root_offered(alloc, plan.tree().len())?;
         // no worker has number 0
         let Places { first, next } = places_of(alloc, 1 + usize::from(last), history)?;
-        let mut offered = vec![in alloc; false; plan.tree().len()]?;
-        if let Some(root) = offered.get_mut(0) {
-            *root = true;
-        }
+        let workers = workers_at(alloc, first.as_slice())?;
         Ok(Search {
             steps: Vec::new(alloc),
             last,
-            workers: workers_at(alloc, first.as_slice())?,
+            workers,
             follows: next,
-            turns: next_in_turn(alloc, plan)?,
+            turns,
             offered,
             is_cancelled: false,
             is_incomplete: false,
