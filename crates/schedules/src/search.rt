@@ -96,7 +96,7 @@ impl Search {
         })
     }
 
-    /// One more step of a worker. That there is no memory for it is kept until the search is over, so that no step in
+    /// One more step of a worker. That there is no memory for it is kept until the event is done, so that no step in
     /// between has to ask.
     pub(crate) fn push(&mut self, worker: u8, action: Action) {
         if self.steps.push(Step::Worker(worker, action)).is_err() {
@@ -155,9 +155,9 @@ pub(crate) fn steps_toward(
     let mut search = Search::new(alloc, plan, last, history)?;
     for place in 0..history.len() {
         search.follow(plan, answers, history, place);
-    }
-    if search.is_incomplete {
-        return Err(AllocError);
+        if search.is_incomplete {
+            return Err(AllocError);
+        }
     }
     Ok(search.steps)
 }
