@@ -37,12 +37,9 @@ pub fn counters_at_start(alloc: Global, tree: &Tree) -> Result<Vec<usize>, Alloc
 pub fn seats_at_start(alloc: Global, workers: u8) -> Result<Vec<Seat>, AllocError>
     ensures { IfOk result (λ v. v.items ≡ replicate workers free_seat) }
 {
-    let mut seats = Vec::new(alloc);
-    for _worker in 0..workers {
-        seats.push(Seat {
-            task: Task::Free,
-            hand: None,
-        })?;
-    }
-    Ok(seats)
+    let free = Seat {
+        task: Task::Free,
+        hand: None,
+    };
+    vec![in alloc; free; usize::from(workers)]
 }
