@@ -1,10 +1,10 @@
 -- Links from one number on are those from the number before, with that one put before them.
-use Rattle.std.proofs.Common.{◌≡◌, ◌≢◌, ℕ, suc, ◌<◌, ◌≤◌, Bool, true, false, ◌==◌, ltb, cond, List, length, Option, Some, None, get_or, set, refl, sym, ap, ◌∙◌, arith, inl, inr, subst}
+use Rattle.std.proofs.Common.{◌≡◌, ◌≢◌, ℕ, suc, ◌-◌, ◌<◌, ◌≤◌, replicate, Bool, true, false, ◌==◌, ltb, cond, List, length, Option, Some, None, get_or, set, refl, sym, ap, ◌∙◌, arith, inl, inr, subst}
 use Rattle.std.proofs.lemmas.Bool.{and_from, and_left, and_right, cases_eq, cond-true, cond-false, eq-eqb, ne_eqb, lt-ltb, le-ltb}
-use Rattle.std.proofs.lemmas.List.{get_or-set_same, get_or-set_other, length-set}
+use Rattle.std.proofs.lemmas.List.{get_or-set_same, get_or-set_other, get_or-replicate, length-set, length-replicate}
 use Rattle.descriptor.specs.Nodes.{Nodes, size, parent_of, is_child}
 use Rattle.scheduling.specs.declared.links.Links.{Links}
-use Rattle.scheduling.specs.Choices.{first_from}
+use Rattle.scheduling.specs.Choices.{find, first_from}
 use Rattle.scheduling.specs.LinkLists.{IsLinked, IsLinkedFrom, chosen_child}
 use Rattle.scheduling.proofs.Finding.{first_agree, first_next}
 
@@ -14,6 +14,15 @@ first_pass q k size less e = first_next q k size less ∙ cond-true (q k) (Some 
 
 first_fail : (q : ℕ → Bool) (k size : ℕ) → k < size → q k ≡ false → first_from q k size ≡ first_from q (suc k) size
 first_fail q k size less e = first_next q k size less ∙ cond-false (q k) (Some k) (first_from q (suc k) size) e
+
+-- where no node is linked yet
+pub no_links : (t : Nodes) (q : ℕ → ℕ → Bool) (n : ℕ) (l : Links) → n ≡ size t → l.first.items ≡ replicate n None → l.next.items ≡ replicate n None → IsLinkedFrom t q n l
+no_links t q n l all first next = record {
+  first_len = ap (λ (v : List (Option ℕ)). length v) first ∙ length-replicate n None ∙ all;
+  next_len = ap (λ (v : List (Option ℕ)). length v) next ∙ length-replicate n None ∙ all;
+  first = λ k less. ap (λ (v : List (Option ℕ)). get_or v k None) first ∙ get_or-replicate n k None None (omega (arith, all, less)) ∙ sym (ap (find (q k) n) (let none : size t - n ≡ 0 = omega (arith, all) in none));
+  next = λ c low high from. absurd (omega (arith, all, high, from));
+}
 
 module _ (t : Nodes) (chosen : List Bool) where
   abbrev q : ℕ → ℕ → Bool

@@ -1,6 +1,6 @@
 //! Lists in which a node's first chosen child, and a child's next chosen sibling, are found at once.
 
-ghost use Rattle.std.specs.Prelude.{◌≡◌, ◌<◌, suc, IfOk, length};
+ghost use Rattle.std.specs.Prelude.{◌≡◌, ◌<◌, suc, None, IfOk, length, replicate};
 ghost use Rattle.descriptor.specs.Nodes.{size};
 ghost use Rattle.scheduling.specs.LinkLists.{IsLinked, IsLinkedFrom, chosen_child};
 
@@ -14,6 +14,13 @@ pub(crate) struct Links {
     pub(crate) next: Vec<Option<NodeId>>,
 }
 
+/// So many places, with no node in them.
+fn no_nodes(alloc: Global, many: usize) -> Result<Vec<Option<NodeId>>, AllocError>
+    ensures { IfOk result (λ nodes. nodes.items ≡ replicate many None) }
+{
+    vec![in alloc; None; many]
+}
+
 impl Links {
     /// The links between the chosen nodes of a tree: one place for each node says whether it is chosen.
     pub(crate) fn new(alloc: Global, tree: &Tree, chosen: &[bool]) -> Result<Links, AllocError>
@@ -21,8 +28,8 @@ impl Links {
         ensures { IfOk result (λ links. IsLinked tree.now (chosen_child tree.now chosen.now) links) }
     {
         let mut links = Links {
-            first: vec![in alloc; None; tree.len()]?,
-            next: vec![in alloc; None; tree.len()]?,
+            first: no_nodes(alloc, tree.len())?,
+            next: no_nodes(alloc, tree.len())?,
         };
         let mut number = tree.len();
         while number > 0 {
