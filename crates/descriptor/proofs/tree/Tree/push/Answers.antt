@@ -1,5 +1,5 @@
 -- The tree keeps its lists where one more node comes.
-use Rattle.std.proofs.Common.{◌≡◌, ℕ, length, List, map, arith, refl, sym, ◌∙◌, ap, subst}
+use Rattle.std.proofs.Common.{◌≡◌, length, arith, refl, sym, ◌∙◌, ap, subst}
 use Rattle.std.proofs.lemmas.Grind.{common_steps}
 use Rattle.descriptor.specs.Nodes.{size, Nodes}
 use Rattle.descriptor.specs.Inside.Fields.{numbers_in, with_child, IsKept}
