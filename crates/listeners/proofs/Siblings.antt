@@ -1,7 +1,7 @@
 -- The children that have lines, and how the text grows by each of them.
-use Rattle.std.proofs.Common.{◌≡◌, ℕ, zero, suc, ◌<◌, ◌≤◌, ◌-◌, ◌==◌, Bool, List, [], ◌∷◌, ◌++◌, length, get_or, refl, ap, sym, ◌∙◌, subst, arith, append_assoc, append-nil}
-use Rattle.std.specs.List.{AllByRecursion}
-use Rattle.std.proofs.lemmas.List.Elements.{All-filter, recursion_from_All}
+use Rattle.std.proofs.Common.{◌≡◌, ℕ, zero, suc, ◌+◌, ◌<◌, ◌≤◌, ◌-◌, ◌==◌, Bool, cond, List, [], ◌∷◌, ◌++◌, length, take, get_or, refl, ap, sym, ◌∙◌, subst, arith, append_assoc, append-nil}
+use Rattle.std.specs.List.{AllByRecursion, filter}
+use Rattle.std.proofs.lemmas.List.Elements.{All-filter, recursion_from_All, filter_more}
 use Rattle.std.proofs.lemmas.Option.{slice_get-get_or}
 use Rattle.descriptor.specs.Nodes.{Nodes, IsTree, IsChild, size, children_of}
 use Rattle.descriptor.proofs.Children.{children_listed}
@@ -69,6 +69,10 @@ grows_more d items a old text left c more is_last lined below grown grows first 
       whole = λ levels enough. sibling_more d levels items c more is_last text lined below grown _ last line_is below_is (below_grown levels (omega (arith, head.above, head.inside))) (now.whole levels enough);
     }
 
+-- the next of them
+pub next_between : (d : Drawn) (items : List ℕ) (a : ℕ) (old text left : List ℕ) (c : ℕ) (more : List ℕ) → Grows d items a old text left → left ≡ c ∷ more → IsBetween a (size d.tree) c
+next_between d items a old text left c more grows first = let now = subst (λ (xs : List ℕ). Grows d items a old text xs) first grows in now.between.0
+
 -- the text with all siblings is the text with the lines below their parent
 pub grows_all : (d : Drawn) (items : List ℕ) (a : ℕ) (old text left : List ℕ) → Grows d items a old text left → left ≡ [] → a < size d.tree
     → (levels : ℕ) → size d.tree - a ≤ levels → text ≡ old ++ lines_below d levels items a
@@ -81,3 +85,10 @@ grows_all d items a old text left grows none inside (suc levels) enough =
 pub nothing_below : (d : Drawn) (items : List ℕ) (a : ℕ) (text : List ℕ) → children_drawn d a ≡ [] → (levels : ℕ) → text ≡ text ++ lines_below d levels items a
 nothing_below d items a text none zero = sym (append-nil text)
 nothing_below d items a text none (suc levels) = sym (ap (λ l. text ++ each_sibling (sibling d levels items) l) none ∙ append-nil text)
+
+-- one more number, if it passes
+pub passed_more : (p : ℕ → Bool) (xs : List ℕ) (i x : ℕ) (old new : List ℕ) → i < length xs → x ≡ get_or xs i x → old ≡ filter p (take i xs) → new ≡ old ++ cond (p x) (x ∷ []) [] → new ≡ filter p (take (i + 1) xs)
+passed_more p xs i x old new inside is before grown =
+    grown
+    ∙ ap (λ (l : List ℕ). l ++ cond (p x) (x ∷ []) []) before
+    ∙ sym (filter_more p xs i x inside ∙ ap (λ (y : ℕ). filter p (take i xs) ++ cond (p y) (y ∷ []) []) (sym is))

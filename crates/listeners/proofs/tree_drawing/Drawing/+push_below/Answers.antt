@@ -5,7 +5,7 @@ use Rattle.descriptor.specs.Nodes.{IsTree, size}
 use Rattle.listeners.specs.Inside.Drawings.{drawn_by}
 use Rattle.listeners.specs.TreeSigns.{item}
 use Rattle.listeners.specs.TreeTexts.{children_drawn, line}
-use Rattle.listeners.proofs.Siblings.{grows_first, grows_more, grows_all, nothing_below}
+use Rattle.listeners.proofs.Siblings.{grows_first, grows_more, grows_all, next_between, nothing_below}
 use Rattle.listeners.proofs.tree_drawing.Drawing.+push_below.Goals as goal
 
 pub returns-then-is_empty : goal.returns-then-is_empty
@@ -19,6 +19,12 @@ loop-child-init t c =
     let all : c.as_slice-left.result.now ≡ children_drawn (drawn_by c.args.self.now) c.args.node = c.as_slice-left.ensures.value ∙ c.in_ok-children.ensures in
     let tree : IsTree c.args.self.now.tree.now = assumption in
     grows_first (drawn_by c.args.self.now) (c.args.above.now ++ c.args.own.now) c.args.node (string_bytes c.args.text.now) c.as_slice-left.result.now tree all
+
+pub push_line-requires : goal.push_line-requires
+push_line-requires t c =
+    let next = next_between (drawn_by c.args.self.now) (c.args.above.now ++ c.args.own.now) c.args.node (string_bytes c.args.text.now) (string_bytes c.loop-child.text) c.loop-child.left.now c.in-Some.child.now c.in-Some.rest.now
+    c.loop-child.invariant c.in-Some.ensures.cases.0 in
+    record { above_zero = omega (arith, next.above); inside = next.inside }
 
 pub loop-child-preserved : goal.loop-child-preserved
 loop-child-preserved t c =
