@@ -1,5 +1,5 @@
 -- At first nothing is told; then one event more.
-use Rattle.std.proofs.Common.{◌≡◌, ◌∙◌, length, ap, sym, arith}
+use Rattle.std.proofs.Common.{◌∙◌, length, ap, sym, arith}
 use Rattle.std.proofs.lemmas.List.{length-replicate}
 use Rattle.listeners.specs.Told.{nothing}
 use Rattle.listeners.proofs.ToldMore.{none_told, told_next}

@@ -1,5 +1,5 @@
 -- One line more.
-use Rattle.std.proofs.Common.{◌++◌, codes, string_bytes, arith}
+use Rattle.std.proofs.Common.{◌++◌, codes, arith}
 use Rattle.std.proofs.lemmas.Grind.{common_steps}
 use Rattle.reports.specs.Json.{event_object}
 use Rattle.reports.proofs.Growing.{list_more}

@@ -1,5 +1,5 @@
 -- The whole, on lines of its own.
-use Rattle.std.proofs.Common.{◌∙◌, ◌++◌, List, ℕ, codes, string_bytes, ap, sym, append_assoc}
+use Rattle.std.proofs.Common.{◌∙◌, ◌++◌, List, ℕ, codes, ap, sym, append_assoc}
 use Rattle.std.specs.List.{flat_map, range_with_len}
 use Rattle.descriptor.specs.Nodes.{size}
 use Rattle.reports.specs.Junit.{suite_of}
