@@ -5,6 +5,7 @@ use Rattle.plan_events.specs.Texts.{TextParts}
 use Rattle.table_rule.specs.Plays.{dispatcher}
 use Rattle.run_table.proofs.Facts.{plan_is}
 use Rattle.worker_pool.specs.Watching.{HasSeenSince}
+use Rattle.worker_pool.proofs.Desks.{of_then}
 use Rattle.worker_pool.proofs.Dealt.{noted_alike, room_alike, told_alike}
 use Rattle.worker_pool.proofs.Heard.{noted_more, seen_kept, seen_more, seen_none, since_more, since_none, since_same}
 use Rattle.worker_pool.proofs.TextsRead.{read_alike}
@@ -26,6 +27,21 @@ loop-init g c =
       noted = q.noted;
     }
 
+pub returns-then-ends_plan-clause-same : goal.returns-then-ends_plan-clause-same
+returns-then-ends_plan-clause-same g c = of_then _ _ _ c.loop.invariant.same c.dispatch_one.ensures.same
+
+pub returns-then-ends_plan-clause-listeners : goal.returns-then-ends_plan-clause-listeners
+returns-then-ends_plan-clause-listeners g c = c.dispatch_one.ensures.listeners ∙ c.loop.invariant.many
+
+pub returns-then-ends_plan-clause-noted : goal.returns-then-ends_plan-clause-noted
+returns-then-ends_plan-clause-noted g c =
+    noted_more c.loop.desk.seat.me.0 c.dispatch_one.new.desk.seat.me.0 c.loop.events.items c.push_reserved.new.self.items c.in-Some-dispatch_one.read _ _ c.dispatch_one.ensures.same.about c.in-Some-dispatch_one.ensures.some c.push_reserved.ensures.items c.push_reserved.ensures.capacity c.loop.invariant.noted
+
+pub returns-then-ends_plan-clause-over : goal.returns-then-ends_plan-clause-over
+returns-then-ends_plan-clause-over g c =
+    let finish = c.ends_plan.ensures.finish c.if-ends_plan.true in
+    record { before = (dispatcher c.loop.desk.seat.me.0).read; finish = c.in-Some-dispatch_one.read; last = c.in-Some-dispatch_one.ensures.some; kind = finish.0; node = finish.1 }
+
 pub returns-then-ends_plan-clause-heard : goal.returns-then-ends_plan-clause-heard
 returns-then-ends_plan-clause-heard g c =
     since_more (λ b ts. (goal.Listener-dyn g (b.vtable, b.value)).heard b.value ts) c.loop.texts c.dispatch_one.new.texts (dispatcher c.args.desk.now.seat.me.0).read (dispatcher c.loop.desk.seat.me.0).read (dispatcher c.dispatch_one.new.desk.seat.me.0).read
@@ -38,28 +54,8 @@ returns-then-ends_plan-clause-seen g c =
     c.in-Some-dispatch_one.read c.args.watcher.now c.loop.watcher c.show.new.watcher c.plan.result.now c.in-Some-dispatch_one.ensures.some c.dispatch_one.ensures.kept
     (plan_is _ _ _ c.args.desk.now.seat c.args.hall.now.table.fitting c.requires.seat ∙ sym c.plan.ensures) c.show.ensures c.loop.invariant.seen
 
-pub loop-preserved-then-len-eq0 : goal.loop-preserved-then-len-eq0
-loop-preserved-then-len-eq0 g c =
-    let q = c.dispatch_one.ensures in
-    let was = c.loop.invariant in
-    record {
-      seat = record { same = q.same.table ∙ was.seat.same; about = q.same.about ∙ was.seat.about };
-      same = record { table = q.same.table ∙ was.same.table; about = q.same.about ∙ was.same.about };
-      many = q.listeners ∙ was.many;
-      told = q.told;
-      heard = since_more (λ b ts. (goal.Listener-dyn g (b.vtable, b.value)).heard b.value ts) c.loop.texts c.dispatch_one.new.texts (dispatcher c.args.desk.now.seat.me.0).read (dispatcher c.loop.desk.seat.me.0).read (dispatcher c.dispatch_one.new.desk.seat.me.0).read
-          c.in-Some-dispatch_one.read c.args.audience.now.listeners.items c.loop.audience.listeners.items c.dispatch_one.new.audience.listeners.items
-          c.loop.invariant.many c.in-Some-dispatch_one.ensures.some c.dispatch_one.ensures.kept c.in-Some-dispatch_one.ensures.heard c.loop.invariant.heard;
-      seen = seen_more g.V.Watcher.saw c.args.desk.now.seat.me.0.about.plan c.loop.texts c.dispatch_one.new.texts (dispatcher c.args.desk.now.seat.me.0).read (dispatcher c.loop.desk.seat.me.0).read (dispatcher c.dispatch_one.new.desk.seat.me.0).read
-          c.in-Some-dispatch_one.read c.args.watcher.now c.loop.watcher c.show.new.watcher c.plan.result.now c.in-Some-dispatch_one.ensures.some c.dispatch_one.ensures.kept
-          (plan_is _ _ _ c.args.desk.now.seat c.args.hall.now.table.fitting c.requires.seat ∙ sym c.plan.ensures) c.show.ensures c.loop.invariant.seen;
-      room = q.room;
-      texts = q.texts;
-      noted = noted_more c.loop.desk.seat.me.0 c.dispatch_one.new.desk.seat.me.0 c.loop.events.items c.push_reserved.new.self.items c.in-Some-dispatch_one.read _ _ q.same.about c.in-Some-dispatch_one.ensures.some c.push_reserved.ensures.items c.push_reserved.ensures.capacity was.noted;
-    }
-
-pub loop-preserved-else-len-eq0 : goal.loop-preserved-else-len-eq0
-loop-preserved-else-len-eq0 g c =
+pub loop-preserved-in-Some-dispatch_one : goal.loop-preserved-in-Some-dispatch_one
+loop-preserved-in-Some-dispatch_one g c =
     let q = c.dispatch_one.ensures in
     let was = c.loop.invariant in
     record {

@@ -1,15 +1,63 @@
 -- One event less is left to read; and neither the texts nor the telling change what was read.
-use Rattle.std.proofs.Common.{◌≡◌, ◌+◌, ◌∙◌, [], ◌∷◌, ◌++◌, length, length-append, ap, subst, List}
+use Rattle.std.proofs.Common.{◌≡◌, ◌≤◌, ◌+◌, ◌∙◌, [], ◌∷◌, ◌++◌, length, length-append, ap, subst, List}
+use Rattle.std.specs.List.{All}
 use Rattle.plan_events.specs.declared.event.Event.{Event}
 use Rattle.resource_locks.specs.Plans.{most_events}
 use Rattle.event_history.specs.History.{IsLegal}
 use Rattle.table_rule.specs.Picture.{replies_of}
 use Rattle.table_rule.specs.Plays.{dispatcher}
-use Rattle.worker_pool.specs.Telling.{left_to_read}
+use Rattle.worker_pool.specs.Telling.{AreTextsRead, KeepsTexts, left_to_read}
+use Rattle.worker_pool.proofs.Desks.{of_then, one_is_left, seat_then}
 use Rattle.worker_pool.proofs.Heard.{tellings_stay}
 use Rattle.worker_pool.proofs.Moments.{moment_alike}
-use Rattle.worker_pool.proofs.Reported.{at_most_that, one_less_left}
+use Rattle.worker_pool.proofs.Reported.{at_most_that, carried, one_less_left}
+use Rattle.worker_pool.proofs.TextsRead.{read_alike}
 use Rattle.worker_pool.proofs.desk.dispatch_one.Goals as goal
+
+pub keep_text-requires-clause-seat : goal.keep_text-requires-clause-seat
+keep_text-requires-clause-seat g c = seat_then _ _ _ c.requires.seat c.read.ensures.same
+
+pub keep_text-requires-clause-last : goal.keep_text-requires-clause-last
+keep_text-requires-clause-last g c =
+    let v = c.args.desk.now.seat.me.0 in (
+      (dispatcher v).read,
+      ap (λ d. d.read) c.in_ok-read.ensures.read,
+      carried c.read.ensures.same.about (λ a. AreTextsRead a.plan (replies_of g.B.Job.answers a) (dispatcher v).read c.args.texts.now) c.requires.texts,
+    )
+
+pub tell-requires : goal.tell-requires
+tell-requires g c =
+    let v = c.args.desk.now.seat.me.0 in
+    λ k d inside. at_most_that 1 (left_to_read v) _ (one_is_left (most_events v.about.plan) (length (dispatcher v).read) c.in_ok-read.ensures.inside) (c.requires.room k d inside)
+
+pub advance-requires : goal.advance-requires
+advance-requires g c = seat_then _ _ _ (seat_then _ _ _ c.requires.seat c.read.ensures.same) c.keep_text.ensures.same
+
+pub returns-clause-same : goal.returns-clause-same
+returns-clause-same g c = of_then _ _ _ (of_then _ _ _ c.read.ensures.same c.keep_text.ensures.same) c.advance.ensures.same
+
+pub returns-clause-told : goal.returns-clause-told
+returns-clause-told g c =
+    let v = c.args.desk.now.seat.me.0 in
+    let w = c.advance.new.self.seat.me.0 in
+    let read : (dispatcher w).read ≡ (dispatcher v).read ++ c.in_ok-read.read ∷ [] = ap (λ d. d.read) c.advance.ensures.told ∙ (c.keep_text.ensures.read ∙ ap (λ d. d.read) c.in_ok-read.ensures.read) in
+    carried read (λ (r : List Event). All (λ b. (goal.Listener-dyn g (b.vtable, b.value)).got b.value ≡ r) c.tell.new.self.listeners.items) (c.tell.ensures.all_got (dispatcher v).read c.requires.told)
+
+pub returns-clause-texts : goal.returns-clause-texts
+returns-clause-texts g c =
+    read_alike g.B.Job.answers c.keep_text.new.desk.seat.me.0 c.advance.new.self.seat.me.0 c.keep_text.new.texts c.advance.ensures.same.about (ap (λ d. d.read) c.advance.ensures.told) c.keep_text.ensures.texts
+
+pub returns-clause-some : goal.returns-clause-some
+returns-clause-some g c = ap (λ d. d.read) c.advance.ensures.told ∙ (c.keep_text.ensures.read ∙ ap (λ d. d.read) c.in_ok-read.ensures.read)
+
+pub returns-in_err-read-clause-told : goal.returns-in_err-read-clause-told
+returns-in_err-read-clause-told g c = carried c.in_err-read.ensures.none (λ m. All (λ b. (goal.Listener-dyn g (b.vtable, b.value)).got b.value ≡ (dispatcher m.0).read) c.args.audience.now.listeners.items) c.requires.told
+
+pub returns-in_err-read-clause-room : goal.returns-in_err-read-clause-room
+returns-in_err-read-clause-room g c = carried c.in_err-read.ensures.none (λ m. All (λ b. left_to_read m.0 ≤ (goal.Listener-dyn g (b.vtable, b.value)).room b.value) c.args.audience.now.listeners.items) c.requires.room
+
+pub returns-in_err-read-clause-texts : goal.returns-in_err-read-clause-texts
+returns-in_err-read-clause-texts g c = carried c.in_err-read.ensures.none (λ m. KeepsTexts g.B.Job.answers m.0 c.args.texts.now) c.requires.texts
 
 pub returns-clause-moment : goal.returns-clause-moment
 returns-clause-moment g c =
