@@ -2,6 +2,7 @@
 use Rattle.std.proofs.Common.{◌∙◌, arith}
 use Rattle.descriptor.specs.Nodes.{size}
 use Rattle.worker_pool.proofs.Circles.{first_inside, others_inside}
+use Rattle.worker_pool.proofs.Going.{goes_itself}
 use Rattle.worker_pool.proofs.Outgoing.{then_goes}
 use Rattle.worker_pool.proofs.scan.take_next.Goals as goal
 
@@ -18,3 +19,9 @@ loop-number-preserved g c = record {
   empty = c.take.ensures.empty;
   inside = others_inside (size c.args.table.now.plan.tree) c.in-Some.number c.loop-number.circle c.next.new.self c.in-Some.ensures.some c.loop-number.invariant.inside;
 }
+
+pub loop-number-init : goal.loop-number-init
+loop-number-init g c = record { table = c.requires.table; goes_on = goes_itself _; free = c.requires.free; empty = c.requires.empty; inside = c.requires.inside }
+
+pub returns-then-take-clause-goes_on : goal.returns-then-take-clause-goes_on
+returns-then-take-clause-goes_on g c = then_goes _ _ _ c.loop-number.invariant.goes_on c.take.ensures.goes_on
