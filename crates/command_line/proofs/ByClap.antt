@@ -6,10 +6,10 @@ use Rattle.clap.specs.declared.error.kind.ErrorKind.{ErrorKind}
 use Rattle.clap.specs.declared.error.kind.ErrorKind.TheVariants as kinds
 use Rattle.clap.specs.declared.parser.matches.ArgMatches.{ArgMatches}
 use Rattle.clap.proofs.OnLiterals.{clap_on_literals}
-use Rattle.launcher.specs.declared.fault.LaunchFault.{LaunchFault}
-use Rattle.launcher.specs.declared.fault.LaunchFault.TheVariants.{NoMemory, BadWords}
+use Rattle.launch_options.specs.declared.fault.LaunchFault.{LaunchFault}
+use Rattle.launch_options.specs.declared.fault.LaunchFault.TheVariants.{NoMemory, BadWords}
 use Rattle.command_line.specs.Words.{IsWordsFault}
-use Rattle.launcher.specs.Asked.{refusal_of}
+use Rattle.launch_options.specs.Asked.{refusal_of}
 use Rattle.command_line.specs.Commands.{program}
 use Rattle.command_line.specs.Found.{nothing_given, values_in}
 use Rattle.command_line.specs.Words.{values_given, where_faultless, words_refusal}

@@ -5,7 +5,7 @@ use Rattle.launcher.specs.Closings.{line_after}
 use Rattle.launcher.specs.ExitStatuses.{number_of, status_after}
 use Rattle.launcher.specs.declared.closing.Closing.{Closing}
 use Rattle.launcher.specs.declared.exit_status.ExitStatus.{ExitStatus}
-use Rattle.launcher.specs.declared.fault.LaunchFault.{LaunchFault}
+use Rattle.launch_options.specs.declared.fault.LaunchFault.{LaunchFault}
 use Rattle.messages.specs.Messages.{message_text}
 use Rattle.messages.specs.declared.message.Message.{Message}
 use Rattle.command_line.specs.Runs.{Closes, HasMessage, PrintsLine, PrintsMessage, SaysWhy}

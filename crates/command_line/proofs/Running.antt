@@ -4,13 +4,13 @@ use Rattle.std.specs.Prelude.{false}
 use Rattle.std.specs.Io.KnownBytes.{Keeps}
 use Rattle.std.specs.Result.{IsErrAnd}
 use Rattle.clap.specs.Words.{Text}
-use Rattle.launcher.specs.Asked.{AreAsked, asked_by, refusal_of}
-use Rattle.launcher.specs.Given.{Values}
+use Rattle.launch_options.specs.Asked.{AreAsked, asked_by, refusal_of}
+use Rattle.launch_options.specs.Given.{Values}
 use Rattle.launcher.specs.Runs.{IsRun, TakesFrom, fault_in, is_writing}
-use Rattle.launcher.specs.declared.asked.Options.{Options}
+use Rattle.launch_options.specs.declared.asked.Options.{Options}
 use Rattle.launcher.specs.declared.exit_status.ExitStatus.{ExitStatus}
-use Rattle.launcher.specs.declared.fault.LaunchFault.{LaunchFault}
-use Rattle.launcher.specs.declared.fault.LaunchFault.TheVariants.{NoMemory}
+use Rattle.launch_options.specs.declared.fault.LaunchFault.{LaunchFault}
+use Rattle.launch_options.specs.declared.fault.LaunchFault.TheVariants.{NoMemory}
 use Rattle.std.specs.Prelude.{None, Some}
 use Rattle.suite_text.specs.Reading.Bytes.{suite_read}
 use Rattle.command_line.specs.Runs.{IsConsoleRun}

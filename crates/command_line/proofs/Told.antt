@@ -1,8 +1,8 @@
 -- From the words that the system gave to what is done.
 use Rattle.std.proofs.Common.{◌≡◌, ◌∙◌, ℕ, List, map, Option, IfErr, IfOk, Result, Ok, Err, subst}
 use Rattle.clap.specs.Words.{Text}
-use Rattle.launcher.specs.declared.fault.LaunchFault.{LaunchFault}
-use Rattle.launcher.specs.declared.fault.LaunchFault.TheVariants.{NoMemory}
+use Rattle.launch_options.specs.declared.fault.LaunchFault.{LaunchFault}
+use Rattle.launch_options.specs.declared.fault.LaunchFault.TheVariants.{NoMemory}
 use Rattle.command_line.specs.Runs.{Closes, IsProgramRun, IsTerminalRun}
 use Rattle.command_line.specs.declared.closing.Ending.{Ending}
 use Rattle.command_line.proofs.Running.{nothing_run}

@@ -2,7 +2,7 @@
 use Rattle.std.specs.Prelude.{ℕ, Bool, false, List, [], ◌++◌, map, codes, Option, Some, None}
 use Rattle.std.specs.Str.{bytes_eq}
 use Rattle.clap.specs.Words.{Row, Text, all_of, first_of}
-use Rattle.launcher.specs.Given.{Values}
+use Rattle.launch_options.specs.Given.{Values}
 use Rattle.selectors.specs.declared.selector.SelectorKind.{SelectorKind}
 use Rattle.selectors.specs.declared.selector.SelectorKind.TheVariants as kinds
 

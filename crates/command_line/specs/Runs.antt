@@ -2,14 +2,14 @@
 use Rattle.std.specs.Prelude.{◌≡◌, ◌++◌, ℕ, Bool, true, false, List, codes, take, string_bytes, Option, Some, None, IfErr, IfSome, IsSomeAnd, Result, Ok, Err}
 use Rattle.std.specs.Io.KnownBytes.{Appends, Keeps}
 use Rattle.clap.specs.Words.{Text}
-use Rattle.launcher.specs.Asked.{Asked, asked_by}
+use Rattle.launch_options.specs.Asked.{Asked, asked_by}
 use Rattle.launcher.specs.Closings.{line_after}
 use Rattle.launcher.specs.ExitStatuses.{number_of, status_after}
-use Rattle.launcher.specs.Faults.{refusal_text}
+use Rattle.launch_options.specs.Faults.{refusal_text}
 use Rattle.launcher.specs.Runs.{IsRun, TakesFrom, fault_in, is_writing}
-use Rattle.launcher.specs.declared.asked.Options.{Options}
+use Rattle.launch_options.specs.declared.asked.Options.{Options}
 use Rattle.launcher.specs.declared.exit_status.ExitStatus.{ExitStatus}
-use Rattle.launcher.specs.declared.fault.LaunchFault.{LaunchFault}
+use Rattle.launch_options.specs.declared.fault.LaunchFault.{LaunchFault}
 use Rattle.messages.specs.Messages.{message_text}
 use Rattle.messages.specs.Sentences.{sentence_of}
 use Rattle.messages.specs.declared.message.Message.{Message}

@@ -3,11 +3,11 @@ use Rattle.std.specs.Prelude.{◌≡◌, ◌≢◌, List, [], ◌∷◌, Option,
 use Rattle.clap.specs.Words.{Kinds, Text, fault_of, matches_of}
 use Rattle.clap.specs.declared.error.kind.ErrorKind.{ErrorKind}
 use Rattle.clap.specs.declared.error.kind.ErrorKind.TheVariants as kinds
-use Rattle.launcher.specs.Asked.{AreAsked, asked_by, refusal_of}
-use Rattle.launcher.specs.Given.{Values}
-use Rattle.launcher.specs.declared.asked.Options.{Options}
-use Rattle.launcher.specs.declared.fault.LaunchFault.{LaunchFault}
-use Rattle.launcher.specs.declared.fault.LaunchFault.TheVariants.{NoMemory, BadWords}
+use Rattle.launch_options.specs.Asked.{AreAsked, asked_by, refusal_of}
+use Rattle.launch_options.specs.Given.{Values}
+use Rattle.launch_options.specs.declared.asked.Options.{Options}
+use Rattle.launch_options.specs.declared.fault.LaunchFault.{LaunchFault}
+use Rattle.launch_options.specs.declared.fault.LaunchFault.TheVariants.{NoMemory, BadWords}
 use Rattle.command_line.specs.Commands.{program}
 use Rattle.command_line.specs.Found.{values_in}
 

@@ -2,7 +2,7 @@
 
 ghost use Rattle.std.specs.Prelude.{◌≡◌, ◌++◌, IfOk, OnOk, map, option_map};
 ghost use Rattle.clap.specs.Words.{all_of, found_of, first_of, rows_of};
-ghost use Rattle.launcher.specs.Given.{behind, texts_of, values_of};
+ghost use Rattle.launch_options.specs.Given.{behind, texts_of, values_of};
 ghost use Rattle.command_line.specs.Found.{all_found as all_in, is_found, nothing_given, of_kind};
 ghost use Rattle.command_line.specs.Found.{selectors_found, values_in};
 

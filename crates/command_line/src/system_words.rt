@@ -3,7 +3,7 @@
 ghost use Rattle.std.specs.Prelude.{◌≡◌, IfOk, IfErr, MatchResult};
 ghost use Rattle.std.specs.IoError.{error_kind};
 ghost use Rattle.std.specs.Vec.Iter.{into_iter_items};
-ghost use Rattle.launcher.specs.declared.fault.LaunchFault.TheVariants.{NoMemory};
+ghost use Rattle.launch_options.specs.declared.fault.LaunchFault.TheVariants.{NoMemory};
 ghost use Rattle.command_line.specs.GivenWords.{IsGivenFault};
 
 use launcher::LaunchFault;

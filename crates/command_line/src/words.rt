@@ -2,9 +2,9 @@
 
 ghost use Rattle.std.specs.Prelude.{◌≡◌, ◌≢◌, [], Some, None, IfOk, IfErr, map, string_bytes};
 ghost use Rattle.clap.specs.Words.{fault_of, found_of, kind_of, rows_of};
-ghost use Rattle.launcher.specs.Asked.{asked_by, AreAsked};
-ghost use Rattle.launcher.specs.Given.{values_of};
-ghost use Rattle.launcher.specs.declared.fault.LaunchFault.TheVariants.{NoMemory};
+ghost use Rattle.launch_options.specs.Asked.{asked_by, AreAsked};
+ghost use Rattle.launch_options.specs.Given.{values_of};
+ghost use Rattle.launch_options.specs.declared.fault.LaunchFault.TheVariants.{NoMemory};
 ghost use Rattle.command_line.specs.Commands.{program};
 ghost use Rattle.command_line.specs.Found.{values_in};
 ghost use Rattle.command_line.specs.Words.{values_given, words_refusal, IsWordsFault, ReadsWords};

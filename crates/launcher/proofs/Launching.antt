@@ -11,15 +11,16 @@ use Rattle.suite_text.specs.Suites.{suite_parts}
 use Rattle.suite_text.specs.declared.suite.Suite.{Suite}
 use Rattle.suite_text.specs.declared.suite.fault.SuiteFault.{SuiteFault}
 use Rattle.suite_text.specs.declared.suite.fault.SuiteFault.TheVariants as causes
-use Rattle.launcher.specs.Asked.{Asked}
+use Rattle.launch_options.specs.Asked.{Asked}
 use Rattle.launcher.specs.Bytes.{ReadsFront, BreaksOff}
-use Rattle.launcher.specs.Faults.{IsReadFault, IsSuiteFault}
+use Rattle.launch_options.specs.Faults.{IsSuiteFault}
+use Rattle.launcher.specs.Faults.{IsReadFault}
 use Rattle.launcher.specs.Runs.{EndsAs, FailsToRead, IsRun, IsSuiteRun, ReadsSuite, TakesFrom, fault_in}
 use Rattle.launcher.specs.declared.bytes.ReadFault.{ReadFault}
 use Rattle.launcher.specs.declared.bytes.ReadFault.TheVariants as reads
 use Rattle.launcher.specs.declared.exit_status.ExitStatus.{ExitStatus}
-use Rattle.launcher.specs.declared.fault.LaunchFault.{LaunchFault}
-use Rattle.launcher.specs.declared.fault.LaunchFault.TheVariants.{NoMemory, Suite as OfSuite, BadWords, BadStep, BadSelector, BadTags, BadPair, BadSettings, NothingMatches, TooManyKeys, TooManyWorkers, NoWorker, Reading, Writing}
+use Rattle.launch_options.specs.declared.fault.LaunchFault.{LaunchFault}
+use Rattle.launch_options.specs.declared.fault.LaunchFault.TheVariants.{NoMemory, Suite as OfSuite, BadWords, BadStep, BadSelector, BadTags, BadPair, BadSettings, NothingMatches, TooManyKeys, TooManyWorkers, NoWorker, Reading, Writing}
 
 module _ (asked : Asked) (old new : Option (List ℕ)) where
   -- a suite was read, and this is the answer of its run

@@ -25,13 +25,13 @@ use Rattle.selectors.specs.declared.request.Request.{Request}
 use Rattle.selectors.specs.declared.select_fault.SelectFault.{SelectFault}
 use Rattle.selectors.specs.declared.select_fault.SelectFault.TheVariants as selections
 use Rattle.suite_text.specs.Reading.Parts.{SuiteParts}
-use Rattle.launcher.specs.Asked.{Asked}
-use Rattle.launcher.specs.Faults.{IsPlanFault, IsSelectFault}
+use Rattle.launch_options.specs.Asked.{Asked}
+use Rattle.launch_options.specs.Faults.{IsPlanFault, IsSelectFault}
 use Rattle.launcher.specs.Reports.{IsOutput}
 use Rattle.launcher.specs.Runs.{FailsSuite, IsReady, IsSuiteOutput, IsUnrun, TakesMemory, answers_of, crowd_refusal, keys_refusal, plan_of, plan_refusal, run_refusal, selection_fault, selection_refusal, settings_in, settings_refusal, workers_refusal}
 use Rattle.launcher.specs.declared.exit_status.ExitStatus.{ExitStatus}
-use Rattle.launcher.specs.declared.fault.LaunchFault.{LaunchFault}
-use Rattle.launcher.specs.declared.fault.LaunchFault.TheVariants.{NoMemory, Suite as OfSuite, BadWords, BadStep, BadSelector, BadTags, BadPair, BadSettings, NothingMatches, TooManyKeys, TooManyWorkers, NoWorker, Reading, Writing}
+use Rattle.launch_options.specs.declared.fault.LaunchFault.{LaunchFault}
+use Rattle.launch_options.specs.declared.fault.LaunchFault.TheVariants.{NoMemory, Suite as OfSuite, BadWords, BadStep, BadSelector, BadTags, BadPair, BadSettings, NothingMatches, TooManyKeys, TooManyWorkers, NoWorker, Reading, Writing}
 
 or_none : {A : Type 0} (a b : Option A) → option_or a b ≡ None → a ≡ None
 or_none None b is = refl
@@ -143,21 +143,15 @@ module _ (asked : Asked) (suite : SuiteParts) where
     takes : selection_refusal suite.tree asked.request ≡ None → TakesMemory asked suite
     takes none = record { settings = ap settings_refusal (sym are); selection = none }
 
-    -- a plan that is none
-    pub plan_fails : {X : Type 0} (fault : LaunchFault) (result : Result X LaunchFault) → IsErrAnd result (λ e. e ≡ fault) → (fault ≢ NoMemory → plan_refusal suite.tree asked.request ≡ Some fault)
+    -- a plan that is none, or that too many workers would run
+    pub plan_fails : {X : Type 0} (fault : LaunchFault) (result : Result X LaunchFault) → IsErrAnd result (λ e. e ≡ fault) → (fault ≢ NoMemory → option_or (plan_refusal suite.tree asked.request) (workers_refusal settings.workers) ≡ Some fault)
         → (fault ≡ NoMemory → selection_refusal suite.tree asked.request ≡ None) → IfErr result (FailsSuite asked suite)
     plan_fails fault (Ok x) same refused memory = absurd same
-    plan_fails fault (Err e) same refused memory =
-        rw same (fails_by fault (λ other. run_is ∙ ap (λ o. option_or o (workers_refusal settings.workers)) (refused other)) (λ is. takes (memory is)))
+    plan_fails fault (Err e) same refused memory = rw same (fails_by fault (λ other. run_is ∙ refused other) (λ is. takes (memory is)))
 
     module _ (accepted : plan_refusal suite.tree asked.request ≡ None) where
       run_left : run_refusal asked suite ≡ workers_refusal settings.workers
       run_left = run_is ∙ ap (λ o. option_or o (workers_refusal settings.workers)) accepted
-
-      -- too many workers
-      pub workers_fail : {X : Type 0} (fault : LaunchFault) (result : Result X LaunchFault) → IsErrAnd result (λ e. e ≡ fault) → (fault ≡ TooManyWorkers) × (workers_refusal settings.workers ≡ Some fault) → IfErr result (FailsSuite asked suite)
-      workers_fail fault (Ok x) same is = absurd same
-      workers_fail fault (Err e) same is = rw (same ∙ is.0) (run_left ∙ is.1 ∙ ap Some is.0)
 
       -- want of memory
       pub memory_fails : {X : Type 0} (result : Result X LaunchFault) → IsErrAnd result (λ e. e ≡ NoMemory) → IfErr result (FailsSuite asked suite)
@@ -165,18 +159,25 @@ module _ (asked : Asked) (suite : SuiteParts) where
       memory_fails (Err e) same = rw same (takes (or_none _ _ accepted))
 
       -- nothing refuses the suite
-      pub made_ready : (plan : PlanParts) (answers : List (ℕ × Reply)) → workers_refusal settings.workers ≡ None → plan ≡ plan_of asked.fail_fast settings (answer suite.tree asked.request) → answers ≡ answers_of suite.scripts
-          → 1 ≤ settings.workers → settings.workers ≤ 64 → IsGuarded (declared_of plan.tree) plan → (HasBareSpares suite.tree → NeverStuck plan) → IsReady asked suite settings plan answers
-      made_ready plan answers count same replies some few safe never = record {
+      pub made_ready : (plan : PlanParts) → workers_refusal settings.workers ≡ None → plan ≡ plan_of asked.fail_fast settings (answer suite.tree asked.request) → 1 ≤ settings.workers → settings.workers ≤ 64 → IsGuarded (declared_of plan.tree) plan
+          → (HasBareSpares suite.tree → NeverStuck plan) → IsReady asked suite settings plan (answers_of suite.scripts)
+      made_ready plan count same some few safe never = record {
         accepted = run_left ∙ count;
         are = sym are;
         plan_is = same;
-        replies_are = replies;
+        replies_are = refl;
         some = some;
         few = few;
         guarded = safe;
         never_stuck = never;
       }
+
+-- what goes with settings and a plan is still them
+pub still_ready : (asked : Asked) (suite : SuiteParts) (settings made : Settings) (plan planned : PlanParts) (answers answered : List (ℕ × Reply)) → made ≡ settings → planned ≡ plan → answered ≡ answers → IsReady asked suite settings plan answers
+    → IsReady asked suite made planned answered
+still_ready asked suite settings made plan planned answers answered same_settings same_plan same_answers ready =
+    subst (λ (s : Settings). IsReady asked suite s planned answered) (sym same_settings)
+    (subst (λ (p : PlanParts). IsReady asked suite settings p answered) (sym same_plan) (subst (λ (a : List (ℕ × Reply)). IsReady asked suite settings plan a) (sym same_answers) ready))
 
 module _ (asked : Asked) (suite : SuiteParts) (settings : Settings) (plan : PlanParts) (answers : List (ℕ × Reply)) (ready : IsReady asked suite settings plan answers) where
   -- nothing that is judged before memory is taken refuses it

@@ -25,7 +25,7 @@ use Rattle.step_text.specs.StepSpelling.{steps_text, AreNamable}
 use Rattle.step_text.proofs.Written.{text_back}
 use Rattle.worker_pool.specs.Reports.{AreTexts as AreRunTexts}
 use Rattle.launcher.specs.declared.exit_status.ExitStatus.{ExitStatus}
-use Rattle.launcher.specs.Asked.{IsReplay}
+use Rattle.launch_options.specs.Asked.{IsReplay}
 use Rattle.launcher.specs.ReplayTexts.{replay_line}
 use Rattle.launcher.specs.Reports.{replayed, replay_counts, IsReplayOutput}
 

@@ -28,18 +28,18 @@ use Rattle.worker_pool.specs.declared.report.RunCause.{RunCause}
 use Rattle.worker_pool.specs.declared.report.RunCause.TheVariants.{Table, NoWorker}
 use Rattle.run_table.specs.Prepared.{HasAllJobs, IsRightRing}
 use Rattle.run_table.specs.declared.fault.TableFault.TheVariants.{NoMemory, NoWorkers, TooManyWorkers, BadRing, JobsMissing}
-use Rattle.launcher.specs.declared.details.Details.{Details}
-use Rattle.launcher.specs.declared.details.Details.TheVariants as details
+use Rattle.launch_options.specs.declared.details.Details.{Details}
+use Rattle.launch_options.specs.declared.details.Details.TheVariants as details
 use Rattle.launcher.specs.declared.exit_status.ExitStatus.{ExitStatus}
 use Rattle.launcher.specs.declared.scripted.ScriptedJob.{ScriptedJob}
-use Rattle.launcher.specs.Asked.{Asked}
+use Rattle.launch_options.specs.Asked.{Asked}
 use Rattle.launcher.specs.ExitStatuses.{status_of_run}
 use Rattle.launcher.specs.Reports.{details_of, expected_details, IsBehindDetails, IsExpectedOutput, IsHistory, IsRunOutput}
 use Rattle.launcher.specs.Scripted.{replies_left, AreScripted}
 use Rattle.launcher.specs.WarningTexts.{warning_lines}
 use Rattle.launcher.specs.ScheduleTexts.{schedule_line}
 use Rattle.launcher.specs.Watched.{HasWatchedInVain, Watches}
-use Rattle.launcher.specs.declared.fault.LaunchFault.{LaunchFault}
+use Rattle.launch_options.specs.declared.fault.LaunchFault.{LaunchFault}
 use Rattle.launcher.specs.declared.report.Output.{Output}
 use Rattle.listeners.specs.Listeners.{Telling, tellings_of}
 use Rattle.worker_pool.specs.Watching.{HasSeenMore}

@@ -14,19 +14,19 @@ use Rattle.live_feed.specs.declared.live_feed.LiveFeed.{LiveFeed}
 use Rattle.live_feed.specs.declared.live_feed.Outlet.{Outlet}
 use Rattle.live_feed.specs.declared.live_feed.Outlet.TheVariants.{Waiting, Open, Closed, Failed}
 use Rattle.live_feed.proofs.Fronts.{IsShort, front, front_short}
-use Rattle.launcher.specs.declared.details.Details.{Details}
-use Rattle.launcher.specs.declared.details.Details.TheVariants as details
+use Rattle.launch_options.specs.declared.details.Details.{Details}
+use Rattle.launch_options.specs.declared.details.Details.TheVariants as details
 use Rattle.launcher.specs.declared.exit_status.ExitStatus.{ExitStatus}
-use Rattle.launcher.specs.declared.fault.LaunchFault.{LaunchFault}
+use Rattle.launch_options.specs.declared.fault.LaunchFault.{LaunchFault}
 use Rattle.launcher.specs.declared.report.Output.{Output}
-use Rattle.launcher.specs.Asked.{Asked}
+use Rattle.launch_options.specs.Asked.{Asked}
 use Rattle.launcher.specs.Beside.{HasSeenRun, SeesBeside, SeesRun}
 use Rattle.launcher.specs.declared.watched_feed.WatchedFeed.{WatchedFeed}
 use Rattle.launcher.specs.Reports.{details_of, IsOutput, IsOutputWith, IsPlanOutput, IsRunOutput}
 use Rattle.launcher.specs.WarningTexts.{warning_lines}
 use Rattle.launcher.specs.Runs.{IsReady, IsSuiteRun, IsUnrun, IsWhole, TakesMemory}
 use Rattle.launcher.proofs.Planning.{ready_output, ready_takes, ready_unrun}
-use Rattle.launcher.specs.declared.fault.LaunchFault.TheVariants.{NoMemory, NoWorker, Writing}
+use Rattle.launch_options.specs.declared.fault.LaunchFault.TheVariants.{NoMemory, NoWorker, Writing}
 use Rattle.listeners.specs.declared.to_writer.WriteFault.{WriteFault}
 use Rattle.suite_text.specs.Reading.Parts.{SuiteParts}
 use Rattle.std.specs.Result.{IsErrAnd}

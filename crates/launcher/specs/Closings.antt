@@ -1,8 +1,8 @@
 -- What the program does after a run.
 use Rattle.std.specs.Prelude.{Option, Some, None, Result, Ok, Err}
 use Rattle.launcher.specs.declared.exit_status.ExitStatus.{ExitStatus}
-use Rattle.launcher.specs.declared.fault.LaunchFault.{LaunchFault}
-use Rattle.launcher.specs.declared.fault.LaunchFault.TheVariants.{Writing}
+use Rattle.launch_options.specs.declared.fault.LaunchFault.{LaunchFault}
+use Rattle.launch_options.specs.declared.fault.LaunchFault.TheVariants.{Writing}
 
 -- the refusal that a line is printed for: none where the output failed, since a line on it is of no use
 abbrev pub line_of : LaunchFault → Option LaunchFault

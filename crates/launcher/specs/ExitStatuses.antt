@@ -2,7 +2,7 @@
 use Rattle.std.specs.Prelude.{ℕ, ◌==◌, ◌&&◌, Bool, if◌then◌else◌, Result, Ok, Err}
 use Rattle.launcher.specs.declared.exit_status.ExitStatus.{ExitStatus}
 use Rattle.launcher.specs.declared.exit_status.ExitStatus.TheVariants.{Success, TestsFailed, NoTestsFound, Refused}
-use Rattle.launcher.specs.declared.fault.LaunchFault.{LaunchFault}
+use Rattle.launch_options.specs.declared.fault.LaunchFault.{LaunchFault}
 
 -- the number that the system is told
 abbrev pub number_of : ExitStatus → ℕ

@@ -1,91 +1,16 @@
--- The numbers and places of a launch's refusals.
-use Rattle.std.specs.Prelude.{◌≡◌, ℕ, List, [], ◌++◌, codes, Option, Some, None}
-use Rattle.std.specs.Fmt.{decimal}
-use Rattle.config_params.specs.Faults as params_faults
-use Rattle.config_params.specs.SettingsFaults as settings_faults
-use Rattle.resource_locks.specs.declared.fault.PlanFault.{PlanFault}
-use Rattle.resource_locks.specs.declared.fault.PlanFault.TheVariants as plans
-use Rattle.selectors.specs.declared.select_fault.SelectFault.{SelectFault}
-use Rattle.selectors.specs.declared.select_fault.SelectFault.TheVariants as selections
-use Rattle.suite_text.specs.Reading.Faults as suite_faults
-use Rattle.suite_text.specs.declared.suite.fault.SuiteFault.{SuiteFault}
-use Rattle.suite_text.specs.declared.suite.fault.SuiteFault.TheVariants as suites
+-- What a launch refuses where a reader failed, and where a run was not begun.
+use Rattle.std.specs.Prelude.{◌≡◌}
 use Rattle.worker_pool.specs.declared.report.RunCause.{RunCause}
 use Rattle.worker_pool.specs.declared.report.RunCause.TheVariants as runs
 use Rattle.launcher.specs.declared.bytes.ReadFault.{ReadFault}
 use Rattle.launcher.specs.declared.bytes.ReadFault.TheVariants as reads
-use Rattle.step_text.specs.declared.steps.StepsFault.{StepsFault}
-use Rattle.step_text.specs.declared.steps.StepsFault.TheVariants as steps
-use Rattle.tag_expr.specs.Faults as tag_faults
-use Rattle.tag_expr.specs.declared.fault.TagFault.{TagFault}
-use Rattle.tag_expr.specs.declared.fault.TagFault.TheVariants as tags
-use Rattle.launcher.specs.declared.fault.LaunchFault.{LaunchFault}
-use Rattle.launcher.specs.declared.fault.LaunchFault.TheVariants.{NoMemory, Suite, BadWords, BadStep, BadSelector, BadTags, BadPair, BadSettings, NothingMatches, TooManyKeys, TooManyWorkers, NoWorker, Reading, Writing}
+use Rattle.launch_options.specs.declared.fault.LaunchFault.{LaunchFault}
+use Rattle.launch_options.specs.declared.fault.LaunchFault.TheVariants.{NoMemory, NoWorker, Reading}
 
--- the number that is printed behind `error`
-abbrev pub number_of : LaunchFault → ℕ
-number_of NoMemory = 0
-number_of (Suite fault) = suite_faults.number_of fault
-number_of BadWords = 105
-number_of (BadStep number) = 104
-number_of (BadSelector number) = 40
-number_of (BadTags fault) = tag_faults.number fault
-number_of (BadPair fault) = params_faults.number fault
-number_of (BadSettings fault) = settings_faults.number fault
-number_of (NothingMatches number) = 41
-number_of TooManyKeys = 50
-number_of TooManyWorkers = 61
-number_of NoWorker = 90
-number_of Reading = 106
-number_of (Writing fault) = 81
-
--- the place that is printed behind `at`, if there is one
-abbrev pub place_of : LaunchFault → Option ℕ
-place_of (Suite fault) = suite_faults.place_of fault
-place_of (BadStep number) = Some number
-place_of (BadSelector number) = Some number
-place_of (BadTags fault) = tag_faults.place fault
-place_of (BadPair fault) = params_faults.place fault
-place_of (NothingMatches number) = Some number
-place_of (Writing fault) = Some fault.sent
-place_of _ = None
-
-abbrev pub place_text : Option ℕ → List ℕ
-place_text None = []
-place_text (Some place) = codes " at " ++ decimal place
-
--- the line that the program ends with, without its line end
-abbrev pub refusal_text : LaunchFault → List ℕ
-refusal_text fault = codes "error " ++ decimal (number_of fault) ++ place_text (place_of fault)
-
--- want of memory is the launch's own, and any other refusal of a suite is one of a suite
-abbrev pub IsSuiteFault : SuiteFault → LaunchFault → Type 0
-IsSuiteFault suites.NoMemory fault = fault ≡ NoMemory
-IsSuiteFault cause fault = fault ≡ Suite cause
-
+-- want of memory is the launch's own
 abbrev pub IsReadFault : ReadFault → LaunchFault → Type 0
 IsReadFault reads.NoMemory fault = fault ≡ NoMemory
 IsReadFault reads.Failed fault = fault ≡ Reading
-
--- want of memory is the launch's own, and a word that names no step keeps its number
-abbrev pub IsStepsFault : StepsFault → LaunchFault → Type 0
-IsStepsFault steps.NoMemory fault = fault ≡ NoMemory
-IsStepsFault (steps.BadStep number) fault = fault ≡ BadStep number
-
--- want of memory is the launch's own, and any other fault is one of a tag expression
-abbrev pub IsTagFault : TagFault → LaunchFault → Type 0
-IsTagFault tags.NoMemory fault = fault ≡ NoMemory
-IsTagFault cause fault = fault ≡ BadTags cause
-
--- want of memory is the launch's own, and so are too many keys
-abbrev pub IsPlanFault : PlanFault → LaunchFault → Type 0
-IsPlanFault plans.NoMemory fault = fault ≡ NoMemory
-IsPlanFault plans.TooManyKeys fault = fault ≡ TooManyKeys
-
--- want of memory is the launch's own, and a selector that covers nothing keeps its number
-abbrev pub IsSelectFault : SelectFault → LaunchFault → Type 0
-IsSelectFault selections.NoMemory fault = fault ≡ NoMemory
-IsSelectFault (selections.NothingMatches number) fault = fault ≡ NothingMatches number
 
 -- a run that was not begun: that no thread could be started is told apart from want of memory
 abbrev pub unrun_fault : RunCause → LaunchFault

@@ -1,16 +1,12 @@
-pub mod Asked
 pub mod Beside
 pub mod Bytes
 pub mod Closings
 pub mod ExitStatuses
 pub mod Faults
-pub mod Given
-pub mod Parameters
 pub mod ReplayTexts
 pub mod Reports
 pub mod Runs
 pub mod ScheduleTexts
 pub mod Scripted
-pub mod SettingKeys
 pub mod WarningTexts
 pub mod Watched

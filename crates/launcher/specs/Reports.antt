@@ -31,17 +31,17 @@ use Rattle.listeners.specs.TreeTexts.{tree_of}
 use Rattle.reports.specs.Json.{json_of}
 use Rattle.reports.specs.Junit.{junit_of}
 use Rattle.reports.specs.Lists.{list_of}
-use Rattle.launcher.specs.declared.details.Details.{Details}
+use Rattle.launch_options.specs.declared.details.Details.{Details}
 use Rattle.launcher.specs.declared.exit_status.ExitStatus.{ExitStatus}
 use Rattle.launcher.specs.declared.exit_status.ExitStatus.TheVariants.{Success}
 use Rattle.launcher.specs.ExitStatuses.{status_of_run}
 use Rattle.expected_output.specs.Expectations.{expected_tree, expected_counts, expected_tests, expects_failure}
-use Rattle.launcher.specs.declared.details.Details.TheVariants as details
+use Rattle.launch_options.specs.declared.details.Details.TheVariants as details
 use Rattle.launcher.specs.declared.replay.ReplayCounts.{ReplayCounts}
 use Rattle.launcher.specs.ReplayTexts.{replay_line}
 use Rattle.launcher.specs.ScheduleTexts.{schedule_line}
 use Rattle.launcher.specs.WarningTexts.{warning_lines}
-use Rattle.launcher.specs.Asked.{Asked}
+use Rattle.launch_options.specs.Asked.{Asked}
 
 -- A history of a run of the plan by so many workers, whatever these do first: it is legal for what the suite has its bodies answer,
 -- in same-thread order, nodes that hold conflicting locks stand apart in it, and so do those that declare them or are isolated, it is

@@ -12,12 +12,12 @@ use Rattle.listeners.specs.Listeners.{Telling, tellings_of}
 use Rattle.live_feed.specs.declared.live_feed.Outlet.{Outlet}
 use Rattle.live_feed.specs.declared.live_feed.Outlet.TheVariants.{Waiting, Closed}
 use Rattle.worker_pool.specs.Watching.{HasSeenMore}
-use Rattle.launcher.specs.declared.details.Details.{Details}
-use Rattle.launcher.specs.declared.details.Details.TheVariants as details
+use Rattle.launch_options.specs.declared.details.Details.{Details}
+use Rattle.launch_options.specs.declared.details.Details.TheVariants as details
 use Rattle.launcher.specs.declared.exit_status.ExitStatus.{ExitStatus}
-use Rattle.launcher.specs.declared.fault.LaunchFault.{LaunchFault}
+use Rattle.launch_options.specs.declared.fault.LaunchFault.{LaunchFault}
 use Rattle.launcher.specs.declared.report.Output.{Output}
-use Rattle.launcher.specs.Asked.{Asked}
+use Rattle.launch_options.specs.Asked.{Asked}
 use Rattle.launcher.specs.Reports.{details_of, IsRunOutput}
 use Rattle.launcher.specs.WarningTexts.{warning_lines}
 

@@ -2,8 +2,10 @@
 
 ghost use Rattle.std.specs.Prelude.{◌≡◌, take, IfOk, IfErr, IfSome};
 ghost use Rattle.launcher.specs.Bytes.{ReadsFront, BreaksOff};
+ghost use Rattle.launcher.specs.Faults.{IsReadFault};
 ghost use Rattle.launcher.specs.declared.bytes.ReadFault.TheVariants.{NoMemory};
 
+use launch_options::LaunchFault;
 use std::alloc::{AllocError, Global};
 use std::io::Read;
 
@@ -23,6 +25,17 @@ impl From<AllocError> for ReadFault {
 
     fn from(_error: AllocError) -> ReadFault {
         ReadFault::NoMemory
+    }
+}
+
+impl From<ReadFault> for LaunchFault {
+    ghost from_gives = { IsReadFault };
+
+    fn from(fault: ReadFault) -> LaunchFault {
+        match fault {
+            ReadFault::NoMemory => LaunchFault::NoMemory,
+            ReadFault::Failed => LaunchFault::Reading,
+        }
     }
 }
 

@@ -5,7 +5,7 @@ ghost use Rattle.launcher.specs.Closings.{line_after};
 ghost use Rattle.launcher.specs.ExitStatuses.{status_after};
 
 use crate::exit_status::ExitStatus;
-use crate::fault::LaunchFault;
+use launch_options::LaunchFault;
 
 /// What the program does after a run: it prints a line or none, and ends.
 #[derive(Clone, Copy, Debug, PartialEq, Eq)]

@@ -4,7 +4,7 @@ ghost use Rattle.std.specs.Prelude.{◌≡◌};
 ghost use Rattle.launcher.specs.ExitStatuses.{number_of, status_of_run, status_after};
 ghost use Rattle.launcher.specs.declared.exit_status.ExitStatus.TheVariants.{Success};
 
-use crate::fault::LaunchFault;
+use launch_options::LaunchFault;
 
 /// How the program ended.
 #[derive(Clone, Copy, Debug, PartialEq, Eq)]

@@ -1,8 +1,11 @@
 //! What is printed of a run or of a replay, and its status.
 
 ghost use Rattle.std.specs.Prelude.{◌≡◌, ℕ, ◌≤◌, List, ◌++◌, ◌⊎◌, IfOk, IfErr, string_bytes};
+ghost use Rattle.listeners.specs.Counts.{counts_of};
 ghost use Rattle.listeners.specs.Results.{tests_found, has_failed};
-ghost use Rattle.launcher.specs.Asked.{asked_by};
+ghost use Rattle.listeners.specs.SummaryTexts.{summary_of};
+ghost use Rattle.listeners.specs.TreeTexts.{tree_of};
+ghost use Rattle.launch_options.specs.Asked.{asked_by};
 ghost use Rattle.launcher.specs.ExitStatuses.{status_of_run};
 ghost use Rattle.launcher.specs.Faults.{unrun_fault};
 ghost use Rattle.launcher.specs.Reports.{details_of, ArePrinted, IsBehindDetails, IsRunOutput, IsReplayOutput};
@@ -13,16 +16,14 @@ ghost use Rattle.launcher.specs.WarningTexts.{warning_lines};
 ghost use Rattle.resource_locks.specs.Declarations.{declared_of};
 ghost use Rattle.resource_locks.specs.Hoisted.{IsGuarded};
 
-use crate::asked::Options;
-use crate::details::Details;
 use crate::exit_status::ExitStatus;
-use crate::fault::LaunchFault;
 use crate::replay::{ReplayCounts, push_replay_line};
 use crate::schedule_line::behind_details;
 use crate::scripted::{ScriptedJob, scripted_jobs};
-use crate::warning_lines::push_warnings;
+use crate::warning_lines::warnings_text;
 use config_params::{Settings, Warnings};
-use listeners::{Audience, Results, feed_text};
+use launch_options::{Details, LaunchFault, Options};
+use listeners::{Audience, Results, Theme, feed_text};
 use plan_events::{Event, Texts};
 use reports::{json_text, junit_text, list_text};
 use resource_locks::Plan;
@@ -39,6 +40,22 @@ use worker_pool::{Report, RunCause, Watcher, run_watched};
 pub(crate) struct Output {
     pub(crate) text: String,
     pub(crate) status: ExitStatus,
+}
+
+/// The tree of these results, and the summary behind it.
+fn tree_and_summary(
+    alloc: Global,
+    theme: Theme,
+    results: &Results<'_>,
+    texts: &Texts,
+) -> Result<String, AllocError>
+    ensures { IfOk result (λ text. string_bytes text ≡ tree_of theme results.now.plan texts.now results.now.events
+        ++ summary_of (counts_of results.now.plan results.now.events)) }
+{
+    let mut text = results.tree_text(alloc, texts, theme)?;
+    let summary = results.summary_text(alloc)?;
+    text.push_str(summary.as_str())?;
+    Ok(text)
 }
 
 /// What is printed of these results, which are those of this history on the plan.
@@ -58,12 +75,7 @@ fn details_text(
     match options.details {
         Details::None => Ok(String::new(alloc)),
         Details::Summary => results.summary_text(alloc),
-        Details::Tree => {
-            let mut text = results.tree_text(alloc, texts, options.theme)?;
-            let summary = results.summary_text(alloc)?;
-            text.push_str(summary.as_str())?;
-            Ok(text)
-        }
+        Details::Tree => tree_and_summary(alloc, options.theme, results, texts),
         Details::Testfeed => results.feed_text(alloc, texts),
         Details::Json => json_text(alloc, plan, history, texts),
         Details::Xml => junit_text(alloc, plan, history, texts),
@@ -100,8 +112,7 @@ fn run_text(
         ++ (details_of options.now.details options.now.theme results.now.plan texts.now results.now.events
         ++ schedule.now)) }
 {
-    let mut head = String::new(alloc);
-    push_warnings(&mut head, warnings)?;
+    let head = warnings_text(alloc, warnings)?;
     let details = details_text(alloc, options, plan, history, results, texts)?;
     let mut text = put_behind(head, details)?;
     text.push_str(schedule)?;

@@ -2,9 +2,13 @@
 
 ghost use Rattle.std.specs.Prelude.{◌≡◌, ◌≢◌, ◌<◌, ◌≤◌, None, Some, IfOk, IfErr, IfSome, false, take, string_bytes};
 ghost use Rattle.std.specs.Io.KnownBytes.{Keeps};
+ghost use Rattle.std.specs.Option.{option_or};
+ghost use Rattle.config_params.specs.Parameters.{answer_over};
+ghost use Rattle.config_params.specs.Settings.{settings_of};
 ghost use Rattle.resource_locks.specs.Spares.{HasBareSpares};
 ghost use Rattle.never_stuck.specs.Reaching.{NeverStuck};
 ghost use Rattle.suite_text.specs.Reading.Bytes.{suite_read};
+ghost use Rattle.suite_text.specs.Reading.Parts.{SuiteParts};
 ghost use Rattle.suite_text.specs.Suites.{suite_parts};
 ghost use Rattle.launcher.specs.Runs.{IsReady, IsRun, IsSuiteRun, IsUnrun, FailsSuite, ReadsSuite, TakesFrom};
 ghost use Rattle.launcher.specs.Runs.{TakesMemory, answers_of as answers_in, fault_in, is_writing};
@@ -12,25 +16,23 @@ ghost use Rattle.launcher.specs.Runs.{plan_of as plan_in, plan_refusal, selectio
 ghost use Rattle.resource_locks.specs.Declarations.{declared_of};
 ghost use Rattle.resource_locks.specs.Hoisted.{IsGuarded};
 ghost use Rattle.selectors.specs.Selections.{answer};
-ghost use Rattle.launcher.specs.Asked.{asked_by};
+ghost use Rattle.launch_options.specs.Asked.{asked_by};
 ghost use Rattle.launcher.specs.Beside.{SeesRun};
 ghost use Rattle.launcher.specs.Reports.{IsOutput};
 ghost use Rattle.launcher.specs.Watched.{IsBrokenOff, outlet_by};
 ghost use Rattle.launcher.specs.WarningTexts.{warning_lines};
 ghost use Rattle.live_feed.specs.LiveFeeds.{IsFront};
 
-use crate::asked::Options;
 use crate::bytes::{ReadFault, read_front};
-use crate::details::Details;
 use crate::exit_status::ExitStatus;
-use crate::fault::LaunchFault;
 use crate::report::{Output, report_of};
 use crate::scripted::spins_of;
-use crate::warning_lines::push_warnings;
+use crate::warning_lines::warnings_text;
 use crate::watched_feed::WatchedFeed;
-use config_params::Settings;
+use config_params::{Params, Settings, SettingsFault};
 use descriptor::Tree;
 use exec_mode::modes;
+use launch_options::{Details, LaunchFault, Options};
 use listeners::WriteFault;
 use live_feed::{LiveFeed, Outlet};
 use plan_events::MOST_WORKERS;
@@ -125,23 +127,74 @@ struct ReadyRun {
     spins: Vec<u32>,
 }
 
-/// Makes a suite ready to be run.
-fn ready_run(alloc: Global, options: &Options, suite: Suite) -> Result<ReadyRun, LaunchFault>
-    ensures ready { IfOk result (λ ready. IsReady (asked_by options.now) (suite_parts suite) ready.settings ready.plan
-        ready.answers) }
-    ensures refused { IfErr result (FailsSuite (asked_by options.now) (suite_parts suite)) }
+/// The settings of a run whose suite has these properties.
+fn settings_over(options: &Options, properties: Params) -> Result<Settings, SettingsFault>
+    ensures exact { result ≡ settings_of (answer_over options.now.params properties) options.now.processors }
+    ensures some { IfOk result (λ settings. 1 ≤ settings.workers) }
 {
-    let settings = Settings::read_over(&options.params, &suite.properties, options.processors)?;
-    let plan = plan_of(alloc, options, &settings, suite.tree)?;
+    Settings::read_over(&options.params, &properties, options.processors)
+}
+
+/// The plan that `plan_of` makes, for so many workers as may run it.
+fn crewed_plan(
+    alloc: Global,
+    options: &Options,
+    settings: &Settings,
+    tree: Tree,
+) -> Result<Plan, LaunchFault>
+    ensures plan { IfOk result (λ plan. plan ≡ plan_in options.now.fail_fast settings.now
+        (answer tree options.now.request)) }
+    ensures guarded { IfOk result (λ plan. IsGuarded (declared_of plan.tree) plan) }
+    ensures accepted { IfOk result (λ _. plan_refusal tree options.now.request ≡ None) }
+    ensures count { IfOk result (λ _. workers_refusal settings.now.workers ≡ None) }
+    ensures few { IfOk result (λ _. settings.now.workers ≤ 64) }
+    ensures refused { IfErr result (λ fault. fault ≢ LaunchFault.NoMemory →
+        option_or (plan_refusal tree options.now.request) (workers_refusal settings.now.workers) ≡ Some fault) }
+    ensures no_memory { IfErr result
+        (λ fault. fault ≡ LaunchFault.NoMemory → selection_refusal tree options.now.request ≡ None) }
+    ensures never_stuck { IfOk result (λ plan. HasBareSpares tree → NeverStuck plan) }
+{
+    let plan = plan_of(alloc, options, settings, tree)?;
     judge_workers(settings.workers)?;
-    let spins = spins_of(alloc, suite.scripts.as_slice())?;
-    let answers = answers_of(alloc, suite.scripts)?;
+    Ok(plan)
+}
+
+/// What the scripts say goes with settings and a plan.
+fn with_scripts(
+    alloc: Global,
+    settings: Settings,
+    plan: Plan,
+    scripts: Vec<Script>,
+) -> Result<ReadyRun, AllocError>
+    ensures settings { IfOk result (λ ready. ready.settings ≡ settings) }
+    ensures plan { IfOk result (λ ready. ready.plan ≡ plan) }
+    ensures answers { IfOk result (λ ready. ready.answers ≡ answers_in scripts.items) }
+{
+    let spins = spins_of(alloc, scripts.as_slice())?;
+    let answers = answers_of(alloc, scripts)?;
     Ok(ReadyRun {
         settings,
         plan,
         answers,
         spins,
     })
+}
+
+/// Makes a suite ready to be run.
+fn ready_run(alloc: Global, options: &Options, suite: Suite) -> Result<ReadyRun, LaunchFault>
+    ensures ready { IfOk result (λ ready. IsReady (asked_by options.now) (suite_parts suite) ready.settings ready.plan
+        ready.answers) }
+    ensures refused { IfErr result (FailsSuite (asked_by options.now) (suite_parts suite)) }
+{
+    // taken apart, so that each part ends where it is used
+    let Suite {
+        tree,
+        scripts,
+        properties,
+    } = suite;
+    let settings = settings_over(options, properties)?;
+    let plan = crewed_plan(alloc, options, &settings, tree)?;
+    Ok(with_scripts(alloc, settings, plan, scripts)?)
 }
 
 /// Whether lines are printed while the run goes on: those of the feed are.
@@ -210,6 +263,37 @@ fn broken_off(fault: LaunchFault, sent: usize) -> LaunchFault
     }
 }
 
+/// Runs what is ready to be run, and writes what the options print of it, behind this text.
+fn run_ready<T: Threads + Wait + Sync, W: Write, V: Watcher>(
+    rt: &T,
+    alloc: Global,
+    options: &Options,
+    ready: ReadyRun,
+    head: &str,
+    writer: &mut W,
+    watcher: &mut V,
+) -> Result<ExitStatus, LaunchFault>
+    requires some { 1 ≤ ready.settings.workers }
+    requires few { ready.settings.workers ≤ 64 }
+    requires guarded { IsGuarded (declared_of ready.plan.tree) ready.plan }
+    requires head { head.now ≡ warning_lines ready.settings.warnings }
+    ensures exact { (suite : SuiteParts) → IsReady (asked_by options.now) suite ready.settings ready.plan ready.answers
+        → IsSuiteRun (asked_by options.now) suite (W.contents writer.old) (W.contents writer.new) result }
+    ensures quiet { IfErr result (λ fault. is_writing fault ≡ false →
+        Keeps (W.contents writer.old) (W.contents writer.new)) }
+    ensures watched { SeesRun V.saw watcher.old watcher.new }
+{
+    let feed = LiveFeed::new(alloc, writer, head, outlet_for(options));
+    let mut live = WatchedFeed { feed, watcher };
+    match shown_report(rt, alloc, options, ready, &mut live) {
+        Ok(report) => {
+            live.finish(report.text.as_bytes())?;
+            Ok(report.status)
+        }
+        Err(fault) => Err(broken_off(fault, live.sent())),
+    }
+}
+
 /// Runs what the request selects of a suite with its settings, on as many threads as these have
 /// workers, or by the steps of a replay, and writes what the options ask for: the lines of a feed
 /// while the run goes on, and all else when it is over. Refused are, in this order, what gives no
@@ -236,17 +320,8 @@ pub fn run_suite_watched<T: Threads + Wait + Sync, W: Write, V: Watcher>(
     ensures watched { SeesRun V.saw watcher.old watcher.new }
 {
     let ready = ready_run(alloc, options, suite)?;
-    let mut head = String::new(alloc);
-    push_warnings(&mut head, ready.settings.warnings)?;
-    let feed = LiveFeed::new(alloc, writer, head.as_str(), outlet_for(options));
-    let mut live = WatchedFeed { feed, watcher };
-    match shown_report(rt, alloc, options, ready, &mut live) {
-        Ok(report) => {
-            live.finish(report.text.as_bytes())?;
-            Ok(report.status)
-        }
-        Err(fault) => Err(broken_off(fault, live.sent())),
-    }
+    let head = warnings_text(alloc, ready.settings.warnings)?;
+    run_ready(rt, alloc, options, ready, head.as_str(), writer, watcher)
 }
 
 /// Runs a suite as `run_suite_watched` does, where nobody watches.

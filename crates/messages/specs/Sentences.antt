@@ -6,8 +6,8 @@ use Rattle.config_params.specs.declared.settings_fault.SettingsFault.{SettingsFa
 use Rattle.config_params.specs.declared.settings_fault.SettingsFault.TheVariants as settings
 use Rattle.descriptor.specs.declared.fault.TreeFault.{TreeFault}
 use Rattle.descriptor.specs.declared.fault.TreeFault.TheVariants as trees
-use Rattle.launcher.specs.declared.fault.LaunchFault.{LaunchFault}
-use Rattle.launcher.specs.declared.fault.LaunchFault.TheVariants as launches
+use Rattle.launch_options.specs.declared.fault.LaunchFault.{LaunchFault}
+use Rattle.launch_options.specs.declared.fault.LaunchFault.TheVariants as launches
 use Rattle.suite_text.specs.declared.suite.fault.SuiteFault.{SuiteFault}
 use Rattle.suite_text.specs.declared.suite.fault.SuiteFault.TheVariants as suites
 use Rattle.tag_expr.specs.declared.fault.TagFault.{TagFault}

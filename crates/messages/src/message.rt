@@ -8,7 +8,7 @@ use crate::sentence::sentence_of;
 use crate::settings::push_settings;
 use crate::suite::push_suite;
 use crate::values::{push_covering, push_pair, push_selector, push_step, push_tags, push_words};
-use launcher::{Given, LaunchFault};
+use launch_options::{Given, LaunchFault};
 use std::alloc::{AllocError, Global};
 use std::fmt;
 

@@ -1,6 +1,6 @@
 //! The names of the options that have selectors or pairs, and what a selector looks like.
 
-use launcher::option_names::{
+use launch_options::option_names::{
     CONFIG, SELECT_CLASS, SELECT_METHOD, SELECT_PACKAGE, SELECT_UNIQUE_ID, SYSTEM,
 };
 use selectors::SelectorKind;

@@ -5,7 +5,7 @@ ghost use Rattle.messages.specs.Sentences.{of_params, of_settings, of_suite, of_
 
 use config_params::{ParamsFault, SettingsFault};
 use descriptor::TreeFault;
-use launcher::LaunchFault;
+use launch_options::LaunchFault;
 use suite_text::SuiteFault;
 use tag_expr::TagFault;
 

@@ -1,8 +1,8 @@
 //! What is wrong with what the configuration asks for.
 
 use crate::nearest::push_nearest;
-use config_params::{Settings, SettingsFault};
-use launcher::{Given, Options, key_judged, strategy_names};
+use config_params::{Params, Settings, SettingsFault};
+use launch_options::{Given, Options, key_judged, strategy_names};
 use std::alloc::{AllocError, Global};
 use suite_text::Suite;
 
@@ -41,21 +41,21 @@ fn push_value(
     text.push_str("\n")
 }
 
-/// The value that a key has: the options' before the suite's.
-fn value_of<'a>(options: &'a Options, suite: &'a Suite, key: &str) -> Option<&'a str> {
+/// The value that a key has: the options' before that of the suite's properties.
+fn value_of<'a>(options: &'a Options, properties: &'a Params, key: &str) -> Option<&'a str> {
     match options.params.get(key) {
         Some(value) => Some(value),
-        None => suite.properties.get(key),
+        None => properties.get(key),
     }
 }
 
-/// Appends how many workers these values and this suite ask for.
-fn push_workers(text: &mut String, options: &Options, suite: &Suite) -> Result<(), AllocError> {
-    if let Ok(settings) = Settings::read_over(
-        &options.params,
-        &suite.properties,
-        options.processors,
-    ) {
+/// Appends how many workers these values and a suite of these properties ask for.
+fn push_workers(
+    text: &mut String,
+    options: &Options,
+    properties: &Params,
+) -> Result<(), AllocError> {
+    if let Ok(settings) = Settings::read_over(&options.params, properties, options.processors) {
         let workers = settings.workers;
         write!(
             text,
@@ -67,6 +67,14 @@ fn push_workers(text: &mut String, options: &Options, suite: &Suite) -> Result<(
     Ok(())
 }
 
+/// The properties of the suite of these bytes, if they are one.
+fn properties_in(alloc: Global, suite: &[u8]) -> Option<Params> {
+    match Suite::read(alloc, suite) {
+        Ok(suite) => Some(suite.properties),
+        Err(_) => None,
+    }
+}
+
 /// Appends what the options and the suite of these bytes ask for that is none: the value that a
 /// fault is about, and without one the number of workers.
 fn push_over(
@@ -76,15 +84,15 @@ fn push_over(
     options: &Options,
     suite: &[u8],
 ) -> Result<(), AllocError> {
-    let Ok(suite) = Suite::read(alloc, suite) else {
+    let Some(properties) = properties_in(alloc, suite) else {
         return Ok(());
     };
     match fault {
         Some(fault) => {
-            let value = value_of(options, &suite, key_judged(fault));
+            let value = value_of(options, &properties, key_judged(fault));
             push_value(alloc, text, fault, value)
         }
-        None => push_workers(text, options, &suite),
+        None => push_workers(text, options, &properties),
     }
 }
 

@@ -6,10 +6,10 @@ use crate::marked::push_marked;
 use crate::nearest::push_nearest;
 use crate::options::{form_of, option_of, pair_option};
 use config_params::ParamsFault;
-use launcher::option_names::{
+use launch_options::option_names::{
     DETAILS, DETAILS_THEME, EXCLUDE_TAG, INCLUDE_TAG, PROCESSORS, REPLAY, RING, SELECT_UNIQUE_ID,
 };
-use launcher::{Details, Given, processors_named, ring_named, theme_names, theme_of};
+use launch_options::{Details, Given, processors_named, ring_named, theme_names, theme_of};
 use selectors::SelectorKind;
 use std::alloc::{AllocError, Global};
 use step_text::step_forms;

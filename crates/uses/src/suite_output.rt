@@ -1,7 +1,7 @@
 //! Calls `launcher`: a suite in memory is run, and what is printed is appended to a vector.
 
 ghost use Rattle.std.specs.Prelude.{Some, take};
-ghost use Rattle.launcher.specs.Asked.{asked_by};
+ghost use Rattle.launch_options.specs.Asked.{asked_by};
 ghost use Rattle.launcher.specs.Runs.{IsRun};
 ghost use Rattle.suite_text.specs.Reading.Bytes.{suite_read};
 

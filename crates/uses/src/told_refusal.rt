@@ -1,9 +1,9 @@
 //! Calls `messages`: a suite in memory is run, and if the run is refused its message comes back.
 
 ghost use Rattle.std.specs.Prelude.{◌≡◌, Some, Err, IfErr, take};
-ghost use Rattle.launcher.specs.Asked.{asked_by};
+ghost use Rattle.launch_options.specs.Asked.{asked_by};
 ghost use Rattle.launcher.specs.Runs.{IsRun};
-ghost use Rattle.launcher.specs.declared.fault.LaunchFault.{LaunchFault as Fault};
+ghost use Rattle.launch_options.specs.declared.fault.LaunchFault.{LaunchFault as Fault};
 ghost use Rattle.messages.specs.Sentences.{sentence_of};
 ghost use Rattle.suite_text.specs.Reading.Bytes.{suite_read};
 

@@ -1,6 +1,6 @@
 -- The values so far.
 use Rattle.std.proofs.Common.{◌≡◌, ◌++◌, map, take}
-use Rattle.launcher.specs.Given.{behind, texts_of}
+use Rattle.launch_options.specs.Given.{behind, texts_of}
 use Rattle.command_line.proofs.found.push_found.Given as goal
 
 abbrev pub invariant-loop-value : goal.invariant-loop-value

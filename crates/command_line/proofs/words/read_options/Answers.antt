@@ -1,6 +1,6 @@
 -- Words that clap refuses are refused; others are judged as their values are.
 use Rattle.std.proofs.Common.{map, string_bytes}
-use Rattle.launcher.specs.Given.{values_of}
+use Rattle.launch_options.specs.Given.{values_of}
 use Rattle.command_line.proofs.ByClap.{refused}
 use Rattle.command_line.proofs.Running.{reads_cut, reads_uncut}
 use Rattle.command_line.proofs.words.read_options.Goals as goal

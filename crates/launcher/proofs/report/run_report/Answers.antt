@@ -3,7 +3,7 @@ use Rattle.std.proofs.Common.{◌≡◌, ◌++◌, map, sym, subst, inr}
 use Rattle.std.specs.Prelude.{string_bytes}
 use Rattle.descriptor.specs.Nodes.{IsTree}
 use Rattle.resource_locks.specs.Plans.{PlanParts}
-use Rattle.launcher.specs.Asked.{asked_by}
+use Rattle.launch_options.specs.Asked.{asked_by}
 use Rattle.launcher.specs.Reports.{details_of, IsRunOutput}
 use Rattle.launcher.specs.WarningTexts.{warning_lines}
 use Rattle.launcher.proofs.Reporting.{IsTold, in_vain, told_of, ran, unrun, watches_in_vain}

@@ -1,5 +1,5 @@
 -- What was read is run, or refused.
-use Rattle.launcher.specs.Asked.{asked_by}
+use Rattle.launch_options.specs.Asked.{asked_by}
 use Rattle.launcher.proofs.Launching.{run_read, run_unread, takes_run, takes_unread}
 use Rattle.launcher.proofs.Reading.{if_known}
 use Rattle.launcher.proofs.run.run_options_watched.Goals as goal

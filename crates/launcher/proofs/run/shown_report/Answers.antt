@@ -1,5 +1,5 @@
 -- What the feed has printed is a front of the output.
-use Rattle.launcher.specs.Asked.{asked_by}
+use Rattle.launch_options.specs.Asked.{asked_by}
 use Rattle.launcher.proofs.Showing.{same_watcher, sees_run, shown_broken, shown_front, still_same}
 use Rattle.launcher.proofs.run.shown_report.Goals as goal
 

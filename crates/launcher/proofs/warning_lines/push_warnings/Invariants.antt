@@ -1,7 +1,7 @@
 -- The lines of the keys so far.
 use Rattle.std.proofs.Common.{◌≡◌, ◌++◌, take, string_bytes}
 use Rattle.std.specs.List.{flat_map}
-use Rattle.launcher.specs.Given.{behind}
+use Rattle.launch_options.specs.Given.{behind}
 use Rattle.launcher.specs.WarningTexts.{warning_line}
 use Rattle.launcher.proofs.warning_lines.push_warnings.Given as goal
 

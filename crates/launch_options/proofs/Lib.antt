@@ -1,0 +1,3 @@
+mod Named
+pub mod Pairing
+pub mod Requesting

@@ -1,0 +1,188 @@
+-- What the values of the options ask for, and why they ask for nothing.
+use Rattle.std.specs.Prelude.{◌≡◌, ℕ, ◌+◌, Bool, List, [], ◌∷◌, codes, map, if◌then◌else◌, Option, Some, None, option_map, Result, Ok, Err}
+use Rattle.std.specs.List.{filter_map}
+use Rattle.std.specs.Option.{option_or}
+use Rattle.std.specs.Str.{bytes_eq}
+use Rattle.config_params.specs.Parameters.{Parameters}
+use Rattle.listeners.specs.declared.theme.Theme.{Theme}
+use Rattle.listeners.specs.declared.theme.Theme.TheVariants as themes
+use Rattle.scheduling.specs.declared.step.Step.{Step}
+use Rattle.selectors.specs.declared.request.Request.{Request}
+use Rattle.selectors.specs.declared.selector.Selector.{Selector}
+use Rattle.selectors.specs.declared.selector.SelectorKind.{SelectorKind}
+use Rattle.selectors.specs.Selectors.{selector_of}
+use Rattle.tag_expr.specs.Expressions.{Expression}
+use Rattle.tag_expr.specs.Grammar.{or_phrase, Spells}
+use Rattle.tag_expr.specs.Tokens.{tokens, token_of}
+use Rattle.tag_expr.specs.ExpressionFaults.{expression_refusal}
+use Rattle.launch_options.specs.declared.details.Details.{Details}
+use Rattle.launch_options.specs.declared.details.Details.TheVariants as details
+use Rattle.launch_options.specs.declared.asked.Options.{Options}
+use Rattle.launch_options.specs.declared.fault.LaunchFault.{LaunchFault}
+use Rattle.launch_options.specs.declared.fault.LaunchFault.TheVariants.{BadWords, BadStep, BadSelector, BadTags}
+use Rattle.step_text.specs.StepTexts.{steps_of}
+use Rattle.launch_options.specs.Given.{Text, Values}
+use Rattle.launch_options.specs.Parameters.{processors_named, ring_named, params_said, params_refusal}
+
+-- what is asked for: what is to run, with which parameters and how many processors, how many events may be shown that are not
+-- told yet, what is printed and how, whether there have to be tests, whether nothing more is to start once a node has failed, whether
+-- the steps of a run are to be printed, and the steps that are to be replayed, if any are
+pub record Asked : Type 0 where
+  pub request : Request
+  pub params : Parameters
+  pub processors : ℕ
+  pub ring : ℕ
+  pub details : Details
+  pub theme : Theme
+  pub fail_if_no_tests : Bool
+  pub fail_fast : Bool
+  pub schedule : Bool
+  pub replay : Option (List Step)
+
+-- options, without where they lie in memory
+abbrev pub asked_by : Options → Asked
+asked_by options = record {
+  request = options.request;
+  params = options.params;
+  processors = options.processors;
+  ring = options.ring;
+  details = options.details;
+  theme = options.theme;
+  fail_if_no_tests = options.fail_if_no_tests;
+  fail_fast = options.fail_fast;
+  schedule = options.schedule;
+  replay = option_map (λ steps. steps.items) options.replay;
+}
+
+-- what `--details` asks for: there are seven, and it is the tree where it is not given
+abbrev pub details_named : Option Text → Option Details
+details_named None = Some details.Tree
+details_named (Some name) =
+    if bytes_eq name (codes "none") then Some details.None
+    else (if bytes_eq name (codes "summary") then Some details.Summary
+    else (if bytes_eq name (codes "tree") then Some details.Tree
+    else (if bytes_eq name (codes "testfeed") then Some details.Testfeed
+    else (if bytes_eq name (codes "json") then Some details.Json
+    else (if bytes_eq name (codes "xml") then Some details.Xml
+    else (if bytes_eq name (codes "list") then Some details.List else None))))))
+
+-- the name of what is printed
+abbrev pub details_text : Details → Text
+details_text details.None = codes "none"
+details_text details.Summary = codes "summary"
+details_text details.Tree = codes "tree"
+details_text details.Testfeed = codes "testfeed"
+details_text details.Json = codes "json"
+details_text details.Xml = codes "xml"
+details_text details.List = codes "list"
+
+-- all that may be printed
+abbrev pub all_details : List Details
+all_details =
+    details.None ∷ details.Summary ∷ details.Tree ∷ details.Testfeed ∷ details.Json ∷ details.Xml ∷ details.List ∷ []
+
+-- what `--details-theme` asks for: there are two, and it is Unicode where it is not given
+abbrev pub theme_named : Option Text → Option Theme
+theme_named None = Some themes.Unicode
+theme_named (Some name) =
+    if bytes_eq name (codes "unicode") then Some themes.Unicode
+    else (if bytes_eq name (codes "ascii") then Some themes.Ascii else None)
+
+-- the name of a theme
+abbrev pub theme_text : Theme → Text
+theme_text themes.Unicode = codes "unicode"
+theme_text themes.Ascii = codes "ascii"
+
+-- all themes
+abbrev pub all_themes : List Theme
+all_themes = themes.Unicode ∷ themes.Ascii ∷ []
+
+-- refused where the words name nothing
+abbrev pub unless_named : {A : Type 0} → Option A → Option LaunchFault
+unless_named None = Some BadWords
+unless_named (Some named) = None
+
+-- refused at the first word that names no step
+abbrev pub unless_steps : Result (List Step) ℕ → Option LaunchFault
+unless_steps (Ok steps) = None
+unless_steps (Err number) = Some (BadStep number)
+
+-- why the text of a replay is refused, if one is given
+abbrev pub replay_refusal : Option Text → Option LaunchFault
+replay_refusal None = None
+replay_refusal (Some text) = unless_steps (steps_of text)
+
+-- the steps that are to be replayed are those that the text names
+abbrev pub IsReplay : Option Text → Option (List Step) → Type 0
+IsReplay None steps = steps ≡ None
+IsReplay (Some text) None = ⊥
+IsReplay (Some text) (Some steps) = steps_of text ≡ Ok steps
+
+-- the selector that such a text spells, if it spells one
+abbrev pub spelled : SelectorKind × Text → Option Selector
+spelled text = selector_of text.0 text.1
+
+-- refused where a text of this number spells no selector, and else where another is
+abbrev pub unless_spelled : ℕ → Option Selector → Option LaunchFault → Option LaunchFault
+unless_spelled number None others = Some (BadSelector number)
+unless_spelled number (Some selector) others = others
+
+-- why texts of selectors, of which the first has this number, are refused: the number of the first that spells none
+abbrev pub selectors_refusal : ℕ → List (SelectorKind × Text) → Option LaunchFault
+selectors_refusal number [] = None
+selectors_refusal number (text ∷ texts) = unless_spelled number (spelled text) (selectors_refusal (number + 1) texts)
+
+-- why texts of tag expressions are refused: what is the matter with the first that is none
+abbrev pub tags_refusal : List Text → Option LaunchFault
+tags_refusal [] = None
+tags_refusal (text ∷ texts) = option_or (option_map BadTags (expression_refusal text)) (tags_refusal texts)
+
+-- a text spells an expression
+abbrev pub IsExpression : Text → Expression → Type 0
+IsExpression text e = Spells or_phrase (map token_of (tokens text)) e
+
+-- each text spells the expression at its place, and there are no others
+abbrev pub AreExpressions : List Text → List Expression → Type 0
+AreExpressions [] [] = Unit {0}
+AreExpressions (text ∷ texts) (e ∷ expressions) = IsExpression text e × AreExpressions texts expressions
+AreExpressions texts expressions = ⊥
+
+-- why the texts that are read are refused: what names no step, what spells no selector, and what is the matter with a tag
+-- expression
+abbrev pub texts_refusal : Values → Option LaunchFault
+texts_refusal given =
+    option_or (replay_refusal given.replay) (
+    option_or (selectors_refusal 1 given.selectors) (
+    option_or (tags_refusal given.include_tags) (
+    tags_refusal given.exclude_tags)))
+
+-- why what is asked for by a name or by a number is refused: other details, other themes, what is no number of processors, and
+-- what is no size of the ring
+abbrev pub names_refusal : Values → Option LaunchFault
+names_refusal given =
+    option_or (unless_named (details_named given.details)) (
+    option_or (unless_named (theme_named given.theme)) (
+    option_or (unless_named (processors_named given.processors)) (
+    unless_named (ring_named given.ring))))
+
+-- why the values are refused: what is asked for by a name or by a number, then the texts that are read, and what says no pair
+abbrev pub refusal_of : Values → Option LaunchFault
+refusal_of given =
+    option_or (names_refusal given) (
+    option_or (texts_refusal given) (
+    params_refusal given))
+
+-- the values ask for this
+pub record AreAsked (given : Values) (asked : Asked) : Type 0 where
+  pub details : details_named given.details ≡ Some asked.details
+  pub theme : theme_named given.theme ≡ Some asked.theme
+  pub processors : processors_named given.processors ≡ Some asked.processors
+  pub ring : ring_named given.ring ≡ Some asked.ring
+  pub tests : asked.fail_if_no_tests ≡ given.fail_if_no_tests
+  pub fail_fast : asked.fail_fast ≡ given.fail_fast
+  pub schedule : asked.schedule ≡ given.schedule
+  pub replay : IsReplay given.replay asked.replay
+  pub selectors : asked.request.selectors.items ≡ filter_map spelled given.selectors
+  pub include : AreExpressions given.include_tags asked.request.include.items
+  pub exclude : AreExpressions given.exclude_tags asked.request.exclude.items
+  pub params : asked.params ≡ params_said given

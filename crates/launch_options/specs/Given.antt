@@ -1,0 +1,55 @@
+-- What the words of a command line give the options, without where it lies in memory.
+use Rattle.std.specs.Prelude.{ℕ, Bool, List, map, Option, option_map}
+use Rattle.std.specs.Borrow.{Bor}
+use Rattle.selectors.specs.declared.selector.SelectorKind.{SelectorKind}
+use Rattle.launch_options.specs.declared.given.Given.{Given}
+
+abbrev pub Text : Type 0
+Text = List ℕ
+
+-- what is given to the options: the texts of selectors with their kinds, in the order of their numbers; all values of
+-- another option that may be given again, in their order; and the value of any other, if it is given
+pub record Values : Type 0 where
+  pub selectors : List (SelectorKind × Text)
+  pub include_tags : List Text
+  pub exclude_tags : List Text
+  pub config : List Text
+  pub system : List Text
+  pub processors : Option Text
+  pub ring : Option Text
+  pub details : Option Text
+  pub theme : Option Text
+  pub replay : Option Text
+  pub fail_if_no_tests : Bool
+  pub fail_fast : Bool
+  pub schedule : Bool
+
+-- the texts behind references
+abbrev pub behind : List (Bor Text) → List Text
+behind texts = map (λ text. text.now) texts
+
+-- the text behind a reference, if there is one
+abbrev pub maybe_behind : Option (Bor Text) → Option Text
+maybe_behind text = option_map (λ text. text.now) text
+
+-- texts with the kinds of their selectors
+abbrev pub texts_of : List (SelectorKind × Bor Text) → List (SelectorKind × Text)
+texts_of texts = map (λ text. (text.0, text.1.now)) texts
+
+-- what is given, as it can be read
+abbrev pub values_of : Given → Values
+values_of given = record {
+  selectors = texts_of given.selectors.items;
+  include_tags = behind given.include_tags.items;
+  exclude_tags = behind given.exclude_tags.items;
+  config = behind given.config.items;
+  system = behind given.system.items;
+  processors = maybe_behind given.processors;
+  ring = maybe_behind given.ring;
+  details = maybe_behind given.details;
+  theme = maybe_behind given.theme;
+  replay = maybe_behind given.replay;
+  fail_if_no_tests = given.fail_if_no_tests;
+  fail_fast = given.fail_fast;
+  schedule = given.schedule;
+}

@@ -1,0 +1,5 @@
+pub mod Asked
+pub mod Faults
+pub mod Given
+pub mod Parameters
+pub mod SettingKeys

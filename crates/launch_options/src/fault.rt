@@ -1,0 +1,197 @@
+//! The refusals of a launch, with their numbers and places.
+
+ghost use Rattle.std.specs.Prelude.{◌≡◌};
+ghost use Rattle.launch_options.specs.Faults.{number_of, place_of, IsPlanFault, IsSelectFault, IsStepsFault};
+ghost use Rattle.launch_options.specs.Faults.{IsSuiteFault, IsTagFault};
+ghost use Rattle.launch_options.specs.declared.fault.LaunchFault.TheVariants.{NoMemory, BadSettings, Writing};
+
+use config_params::{ParamsFault, SettingsFault};
+use listeners::WriteFault;
+use resource_locks::PlanFault;
+use selectors::SelectFault;
+use std::alloc::{AllocError, AllocFailed};
+use std::error::Error;
+use std::fmt;
+use step_text::StepsFault;
+use suite_text::SuiteFault;
+use tag_expr::TagFault;
+
+/// Why a launch was refused, or broke off. `{}` writes `error`, the number, and behind `at`
+/// the place where there is one.
+#[derive(Clone, Copy, Debug, PartialEq, Eq)]
+pub enum LaunchFault {
+    /// Refusal 0.
+    NoMemory,
+    /// Refusals 10 to 17 and 100 to 103, at the suite's line where it is about one.
+    Suite(SuiteFault),
+    /// Refusal 105: words that give no options.
+    BadWords,
+    /// Refusal 104: the word of this number, from 1, in the text of a replay names no step.
+    BadStep(usize),
+    /// Refusal 40: the selector of this number, from 1, is none of its kind.
+    BadSelector(usize),
+    /// Refusals 20 to 26, at a place in the tag expression.
+    BadTags(TagFault),
+    /// Refusals 30 and 31: the word of this number, from 1, among those of `--config` and then of
+    /// `--system`, says no pair.
+    BadPair(ParamsFault),
+    /// Refusals 32 to 34: what the configuration asks for is none.
+    BadSettings(SettingsFault),
+    /// Refusal 41: the selector of this number, from 1, covers nothing of the suite.
+    NothingMatches(usize),
+    /// Refusal 50: the nodes that are run declare more than 256 keys, the global one included.
+    TooManyKeys,
+    /// Refusal 61: the configuration asks for more than 64 workers.
+    TooManyWorkers,
+    /// Refusal 90: no thread could be started.
+    NoWorker,
+    /// Refusal 106: the reader failed.
+    Reading,
+    /// Refusal 81, at the number of bytes that the writer took.
+    Writing(WriteFault),
+}
+
+impl From<AllocError> for LaunchFault {
+    ghost from_gives = { λ _ fault. fault ≡ NoMemory };
+
+    fn from(_error: AllocError) -> LaunchFault {
+        LaunchFault::NoMemory
+    }
+}
+
+impl From<SuiteFault> for LaunchFault {
+    ghost from_gives = { IsSuiteFault };
+
+    fn from(fault: SuiteFault) -> LaunchFault {
+        match fault {
+            SuiteFault::NoMemory => LaunchFault::NoMemory,
+            _ => LaunchFault::Suite(fault),
+        }
+    }
+}
+
+impl From<StepsFault> for LaunchFault {
+    ghost from_gives = { IsStepsFault };
+
+    fn from(fault: StepsFault) -> LaunchFault {
+        match fault {
+            StepsFault::NoMemory => LaunchFault::NoMemory,
+            StepsFault::BadStep(number) => LaunchFault::BadStep(number),
+        }
+    }
+}
+
+impl From<TagFault> for LaunchFault {
+    ghost from_gives = { IsTagFault };
+
+    fn from(fault: TagFault) -> LaunchFault {
+        match fault {
+            TagFault::NoMemory => LaunchFault::NoMemory,
+            _ => LaunchFault::BadTags(fault),
+        }
+    }
+}
+
+impl From<SelectFault> for LaunchFault {
+    ghost from_gives = { IsSelectFault };
+
+    fn from(fault: SelectFault) -> LaunchFault {
+        match fault {
+            SelectFault::NoMemory => LaunchFault::NoMemory,
+            SelectFault::NothingMatches(number) => LaunchFault::NothingMatches(number),
+        }
+    }
+}
+
+impl From<SettingsFault> for LaunchFault {
+    ghost from_gives = { λ cause fault. fault ≡ BadSettings cause };
+
+    fn from(cause: SettingsFault) -> LaunchFault {
+        LaunchFault::BadSettings(cause)
+    }
+}
+
+impl From<PlanFault> for LaunchFault {
+    ghost from_gives = { IsPlanFault };
+
+    fn from(fault: PlanFault) -> LaunchFault {
+        match fault {
+            PlanFault::NoMemory => LaunchFault::NoMemory,
+            PlanFault::TooManyKeys => LaunchFault::TooManyKeys,
+        }
+    }
+}
+
+impl<T: Drop> From<AllocFailed<T>> for LaunchFault {
+    ghost from_gives = { λ _ fault. fault ≡ NoMemory };
+
+    fn from(_error: AllocFailed<T>) -> LaunchFault {
+        LaunchFault::NoMemory
+    }
+}
+
+impl From<WriteFault> for LaunchFault {
+    ghost from_gives = { λ cause fault. fault ≡ Writing cause };
+
+    fn from(cause: WriteFault) -> LaunchFault {
+        LaunchFault::Writing(cause)
+    }
+}
+
+impl fmt::Display for LaunchFault {
+    ghost use Rattle.std.specs.Prelude.{Some};
+    ghost use Rattle.launch_options.specs.Faults.{refusal_text};
+
+    ghost output = { λ fault. Some (refusal_text fault) };
+
+    fn fmt<W: fmt::Write>(&self, f: &mut fmt::Formatter<W>) -> fmt::Result {
+        let number = self.number();
+        match self.place() {
+            Some(place) => write!(f, "error {number} at {place}"),
+            None => write!(f, "error {number}"),
+        }
+    }
+}
+
+impl Error for LaunchFault {}
+
+impl LaunchFault {
+    /// The refusal's number: 0 for want of memory.
+    pub fn number(&self) -> u8
+        ensures { result ≡ number_of self.now }
+    {
+        match self {
+            LaunchFault::NoMemory => 0,
+            LaunchFault::Suite(fault) => fault.number(),
+            LaunchFault::BadWords => 105,
+            LaunchFault::BadStep(_) => 104,
+            LaunchFault::BadSelector(_) => 40,
+            LaunchFault::BadTags(fault) => fault.number(),
+            LaunchFault::BadPair(fault) => fault.number(),
+            LaunchFault::BadSettings(fault) => fault.number(),
+            LaunchFault::NothingMatches(_) => 41,
+            LaunchFault::TooManyKeys => 50,
+            LaunchFault::TooManyWorkers => 61,
+            LaunchFault::NoWorker => 90,
+            LaunchFault::Reading => 106,
+            LaunchFault::Writing(_) => 81,
+        }
+    }
+
+    /// The line of the suite, or the number of the step, the selector or the pair, from 1, or the
+    /// place in the tag expression, or how many bytes went out.
+    pub fn place(&self) -> Option<u64>
+        ensures { result ≡ place_of self.now }
+    {
+        match self {
+            LaunchFault::Suite(fault) => fault.place(),
+            LaunchFault::BadStep(number)
+            | LaunchFault::BadSelector(number)
+            | LaunchFault::NothingMatches(number) => Some(*number as u64),
+            LaunchFault::BadTags(fault) => fault.place().map(|place| place as u64),
+            LaunchFault::BadPair(fault) => fault.place(),
+            LaunchFault::Writing(fault) => Some(fault.sent as u64),
+            _ => None,
+        }
+    }
+}

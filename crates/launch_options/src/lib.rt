@@ -1,0 +1,21 @@
+//! What a launch is asked for, read from the values of its options, and why it is refused.
+#![tactic(auto)]
+
+mod asked;
+mod details;
+mod fault;
+mod given;
+mod judged;
+pub mod option_names;
+mod options;
+mod parameters;
+mod setting_keys;
+mod themes;
+
+pub use asked::Options;
+pub use details::Details;
+pub use fault::LaunchFault;
+pub use given::Given;
+pub use parameters::{processors_named, ring_named};
+pub use setting_keys::{key_judged, strategy_names};
+pub use themes::{theme_names, theme_of};

@@ -1,0 +1,217 @@
+//! What each value means that words give the options of a run.
+
+ghost use Rattle.std.specs.Prelude.{◌≡◌, ◌≢◌, Some, None, option_map, IfOk, IfErr, OnOk};
+ghost use Rattle.std.specs.List.{filter_map};
+ghost use Rattle.std.specs.Option.{option_or};
+ghost use Rattle.launch_options.specs.declared.fault.LaunchFault.TheVariants.{NoMemory};
+ghost use Rattle.launch_options.specs.Given.{behind, maybe_behind, texts_of, values_of};
+ghost use Rattle.launch_options.specs.Asked.{asked_by, details_named as details_of_name, theme_named as theme_of_name};
+ghost use Rattle.launch_options.specs.Asked.{unless_named, IsReplay, refusal_of, AreAsked, spelled, IsExpression};
+ghost use Rattle.launch_options.specs.Asked.{AreExpressions, names_refusal, texts_refusal};
+ghost use Rattle.launch_options.specs.Parameters.{params_refusal};
+ghost use Rattle.launch_options.specs.Parameters.{processors_named as processors_of_name, ring_named as ring_of_name};
+ghost use Rattle.run_table.specs.Prepared.{IsRightRing};
+
+use crate::asked::Options;
+use crate::details::Details;
+use crate::fault::LaunchFault;
+use crate::given::Given;
+use crate::judged::judge_texts;
+use crate::parameters::{judge_params, params_given, processors_named, ring_named};
+use crate::themes::theme_of;
+use config_params::Params;
+use listeners::Theme;
+use scheduling::Step;
+use selectors::{Request, Selector, SelectorKind};
+use std::alloc::{AllocError, Global};
+use step_text::parse_steps;
+use tag_expr::TagExpr;
+
+/// What `--details` asks for.
+fn details_named(name: Option<&str>) -> Result<Details, LaunchFault>
+    ensures named { IfOk result (λ details. details_of_name (maybe_behind name.entry) ≡ Some details) }
+    ensures refused { IfErr result (λ fault. unless_named (details_of_name (maybe_behind name.entry)) ≡ Some fault) }
+{
+    let Some(name) = name else {
+        return Ok(Details::Tree);
+    };
+    match Details::named(name) {
+        Some(details) => Ok(details),
+        None => Err(LaunchFault::BadWords),
+    }
+}
+
+/// What `--details-theme` asks for.
+fn theme_named(name: Option<&str>) -> Result<Theme, LaunchFault>
+    ensures named { IfOk result (λ theme. theme_of_name (maybe_behind name.entry) ≡ Some theme) }
+    ensures refused { IfErr result (λ fault. unless_named (theme_of_name (maybe_behind name.entry)) ≡ Some fault) }
+{
+    let Some(name) = name else {
+        return Ok(Theme::Unicode);
+    };
+    match theme_of(name) {
+        Some(theme) => Ok(theme),
+        None => Err(LaunchFault::BadWords),
+    }
+}
+
+/// The steps that `--replay` names.
+fn replay_named(alloc: Global, text: Option<&str>) -> Result<Option<Vec<Step>>, AllocError>
+    ensures { IfOk result (λ replay. IsReplay (maybe_behind text.entry) (option_map (λ steps. steps.items) replay)) }
+{
+    let Some(text) = text else {
+        return Ok(None);
+    };
+    match parse_steps(alloc, text) {
+        Ok(steps) => Ok(Some(steps)),
+        Err(_) => Err(AllocError),
+    }
+}
+
+/// The selector of this kind that a text spells.
+fn selector(alloc: Global, kind: SelectorKind, text: &str) -> Result<Selector, AllocError>
+    ensures { IfOk result (λ selector. spelled (kind, text.now) ≡ Some selector) }
+{
+    match Selector::parse(alloc, kind, text) {
+        Ok(selector) => Ok(selector),
+        Err(_) => Err(AllocError),
+    }
+}
+
+/// The selectors of these texts.
+fn selectors_of(alloc: Global, texts: &[(SelectorKind, &str)]) -> Result<Vec<Selector>, AllocError>
+    ensures { IfOk result (λ selectors. selectors.items ≡ filter_map spelled (texts_of texts.now)) }
+{
+    let mut selectors = Vec::new(alloc);
+    for (kind, text) in texts {
+        selectors.push(selector(alloc, *kind, text)?)?;
+    }
+    Ok(selectors)
+}
+
+/// The tag expression that a text spells.
+fn expression(alloc: Global, text: &str) -> Result<TagExpr, AllocError>
+    ensures { IfOk result (λ e. IsExpression text.now e) }
+{
+    match TagExpr::parse(alloc, text) {
+        Ok(expression) => Ok(expression),
+        Err(_) => Err(AllocError),
+    }
+}
+
+/// The tag expressions of an option's texts.
+fn expressions_of(alloc: Global, texts: &[&str]) -> Result<Vec<TagExpr>, AllocError>
+    ensures { IfOk result (λ expressions. AreExpressions (behind texts.now) expressions.items) }
+{
+    let mut expressions = Vec::new(alloc);
+    for text in texts {
+        expressions.push(expression(alloc, text)?)?;
+    }
+    Ok(expressions)
+}
+
+/// What is to run.
+fn request_of(alloc: Global, given: &Given<'_>) -> Result<Request, AllocError>
+    ensures selectors { IfOk result
+        (λ request. request.selectors.items ≡ filter_map spelled (texts_of given.now.selectors.items)) }
+    ensures include { IfOk result (λ request. AreExpressions (behind given.now.include_tags.items)
+        request.include.items) }
+    ensures exclude { IfOk result (λ request. AreExpressions (behind given.now.exclude_tags.items)
+        request.exclude.items) }
+{
+    Ok(Request {
+        selectors: selectors_of(alloc, given.selectors.as_slice())?,
+        include: expressions_of(alloc, given.include_tags.as_slice())?,
+        exclude: expressions_of(alloc, given.exclude_tags.as_slice())?,
+    })
+}
+
+/// What is asked for by a name or by a number.
+#[derive(Drop)]
+struct Choices {
+    details: Details,
+    theme: Theme,
+    processors: u32,
+    ring: u32,
+}
+
+/// What `--details`, `--details-theme`, `--processors` and `--ring` ask for, judged in this order.
+fn choices_of(given: &Given<'_>) -> Result<Choices, LaunchFault>
+    ensures details { IfOk result (λ choices. details_of_name (maybe_behind given.now.details) ≡ Some choices.details) }
+    ensures theme { IfOk result (λ choices. theme_of_name (maybe_behind given.now.theme) ≡ Some choices.theme) }
+    ensures processors { IfOk result (λ choices. processors_of_name (maybe_behind given.now.processors)
+        ≡ Some choices.processors) }
+    ensures ring { IfOk result (λ choices. ring_of_name (maybe_behind given.now.ring) ≡ Some choices.ring) }
+    ensures right { IfOk result (λ choices. IsRightRing choices.ring) }
+    ensures accepted { IfOk result (λ _. names_refusal (values_of given.now) ≡ None) }
+    ensures refused { IfErr result (λ fault. names_refusal (values_of given.now) ≡ Some fault) }
+    ensures real { IfErr result (λ fault. fault ≢ NoMemory) }
+{
+    Ok(Choices {
+        details: details_named(given.details)?,
+        theme: theme_named(given.theme)?,
+        processors: processors_named(given.processors)?,
+        ring: ring_named(given.ring)?,
+    })
+}
+
+/// Judges the values that are texts of their own, and then those that say pairs.
+fn judge_values(alloc: Global, given: &Given<'_>) -> Result<(), LaunchFault>
+    ensures accepted { OnOk result (option_or (texts_refusal (values_of given.now))
+        (params_refusal (values_of given.now)) ≡ None) }
+    ensures refused { IfErr result (λ fault. option_or (texts_refusal (values_of given.now))
+        (params_refusal (values_of given.now)) ≡ Some fault) }
+    ensures real { IfErr result (λ fault. fault ≢ NoMemory) }
+{
+    judge_texts(alloc, given)?;
+    judge_params(given)
+}
+
+/// The options of values that were judged, with these choices among them.
+fn options_of(alloc: Global, given: &Given<'_>, choices: Choices) -> Result<Options, AllocError>
+    requires details { details_of_name (maybe_behind given.now.details) ≡ Some choices.details }
+    requires theme { theme_of_name (maybe_behind given.now.theme) ≡ Some choices.theme }
+    requires processors { processors_of_name (maybe_behind given.now.processors) ≡ Some choices.processors }
+    requires ring { ring_of_name (maybe_behind given.now.ring) ≡ Some choices.ring }
+    requires right { IsRightRing choices.ring }
+    ensures asked { IfOk result (λ options. AreAsked (values_of given.now) (asked_by options)) }
+{
+    // what ends soonest is read first, so that little is alive where memory runs out
+    let replay = replay_named(alloc, given.replay)?;
+    let request = request_of(alloc, given)?;
+    let params = params_given(alloc, given)?;
+    Ok(Options {
+        request,
+        params,
+        processors: choices.processors,
+        ring: choices.ring,
+        details: choices.details,
+        theme: choices.theme,
+        fail_if_no_tests: given.fail_if_no_tests,
+        fail_fast: given.fail_fast,
+        schedule: given.schedule,
+        replay,
+    })
+}
+
+impl Options {
+    /// The options that these values ask for. Details and themes that are none of ours are refusal
+    /// 105, and so is what is no number of processors from 1 to 1,024, and what is no number of
+    /// places of the ring from 1 to 16,384; then a word in the text of `--replay` that names no
+    /// step is refusal 104, at its number; then a text that spells no selector is refusal 40, at
+    /// the selector's number; then an expression of `--include-tag`, and then of `--exclude-tag`,
+    /// is one of 20 to 26, at a place in it; then a word of `--config` or `--system` that has no
+    /// equals sign or an empty key is refusal 30 or 31, at its number, those of `--config` counted
+    /// first. Selectors are numbered from 1 in the order of `Given`. All of these are judged before
+    /// any of them is kept, so want of memory stands in their place nowhere.
+    pub fn of(alloc: Global, given: &Given<'_>) -> Result<Options, LaunchFault>
+        ensures asked { IfOk result (λ options. AreAsked (values_of given.now) (asked_by options)) }
+        ensures accepted { IfOk result (λ _. refusal_of (values_of given.now) ≡ None) }
+        ensures refused { IfErr result (λ fault. fault ≢ NoMemory → refusal_of (values_of given.now) ≡ Some fault) }
+        ensures no_memory { IfErr result (λ fault. fault ≡ NoMemory → refusal_of (values_of given.now) ≡ None) }
+    {
+        let choices = choices_of(given)?;
+        judge_values(alloc, given)?;
+        Ok(options_of(alloc, given, choices)?)
+    }
+}

@@ -1,6 +1,0 @@
--- Each one is listed.
-use Rattle.launcher.proofs.Named.{each_details}
-use Rattle.launcher.proofs.details.Details.all.Goals as goal
-
-pub returns-clause-every : goal.returns-clause-every
-returns-clause-every c = each_details

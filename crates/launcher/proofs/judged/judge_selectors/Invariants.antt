@@ -1,8 +1,0 @@
--- The first of the texts that are left which spells none is that of all.
-use Rattle.std.proofs.Common.{◌≡◌, ◌+◌, drop}
-use Rattle.launcher.specs.Given.{texts_of}
-use Rattle.launcher.specs.Asked.{selectors_refusal}
-use Rattle.launcher.proofs.judged.judge_selectors.Given as goal
-
-abbrev pub invariant-loop-index : goal.invariant-loop-index
-invariant-loop-index l = selectors_refusal (l.index + 1) (texts_of (drop l.index l.texts)) ≡ selectors_refusal 1 (texts_of l.texts)

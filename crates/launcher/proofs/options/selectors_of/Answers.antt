@@ -1,8 +1,0 @@
--- One selector more.
-use Rattle.std.proofs.Common.{◌∙◌}
-use Rattle.launcher.proofs.Requesting.{spelled_next}
-use Rattle.launcher.proofs.options.selectors_of.Goals as goal
-
-pub loop-kind-preserved : goal.loop-kind-preserved
-loop-kind-preserved c =
-    c.in_ok-push.ensures.items ∙ spelled_next c.args.texts.now c.loop-kind.kind-index _ c.loop-kind-test.true c.loop-kind.selectors.items _ c.loop-kind.invariant c.in_ok-selector.ensures

@@ -1,9 +1,0 @@
--- The texts so far spell the selectors.
-use Rattle.std.proofs.Common.{◌≡◌, take}
-use Rattle.std.specs.List.{filter_map}
-use Rattle.launcher.specs.Given.{texts_of}
-use Rattle.launcher.specs.Asked.{spelled}
-use Rattle.launcher.proofs.options.selectors_of.Given as goal
-
-abbrev pub invariant-loop-kind : goal.invariant-loop-kind
-invariant-loop-kind l = l.selectors.items ≡ filter_map spelled (texts_of (take l.kind-index l.texts))

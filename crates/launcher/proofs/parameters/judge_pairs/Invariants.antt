@@ -1,8 +1,0 @@
--- The first of the words that are left which says no pair is that of all.
-use Rattle.std.proofs.Common.{◌≡◌, ◌+◌, drop}
-use Rattle.launcher.specs.Given.{behind}
-use Rattle.launcher.specs.Parameters.{pairs_refusal}
-use Rattle.launcher.proofs.parameters.judge_pairs.Given as goal
-
-abbrev pub invariant-loop-index : goal.invariant-loop-index
-invariant-loop-index l = pairs_refusal (l.before + l.index + 1) (behind (drop l.index l.words)) ≡ pairs_refusal (l.before + 1) (behind l.words)

@@ -1,6 +1,0 @@
--- Each theme has one of the names.
-use Rattle.launcher.proofs.Named.{each_theme}
-use Rattle.launcher.proofs.themes.theme_names.Goals as goal
-
-pub returns-clause-every : goal.returns-clause-every
-returns-clause-every c = each_theme
