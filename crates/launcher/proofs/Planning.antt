@@ -37,26 +37,8 @@ or_none : {A : Type 0} (a b : Option A) → option_or a b ≡ None → a ≡ Non
 or_none None b is = refl
 or_none (Some x) b is = absurd (none-some _ (sym is))
 
--- so many keys are not too many
-few_by : (n : ℕ) (b : Bool) → nat_lt 256 n ≡ b → n ≤ 256 → b ≡ false
-few_by n true is few = absurd (grind arith)
-few_by n false is few = refl
-
 -- the plan of what a request finds in a tree
 module _ (tree : Nodes) (request : Request) where
-  pub selection_refused : {X : Type 0} (cause : SelectFault) (result : Result X LaunchFault) → IsErrAnd result (IsSelectFault cause) → (cause ≢ selections.NoMemory → refusal tree request ≡ Some cause)
-      → IfErr result (λ fault. fault ≢ NoMemory → plan_refusal tree request ≡ Some fault)
-  selection_refused cause (Ok x) is refused = absurd is
-  selection_refused selections.NoMemory (Err fault) is refused = λ other. absurd (other is)
-  selection_refused (selections.NothingMatches n) (Err fault) is refused =
-      λ other. ap (λ (o : Option SelectFault). option_or (option_map selection_fault o) (keys_refusal (answer tree request))) (refused (λ same. cc)) ∙ ap Some (sym is)
-
-  pub selection_memory : {X : Type 0} (cause : SelectFault) (result : Result X LaunchFault) → IsErrAnd result (IsSelectFault cause) → (cause ≡ selections.NoMemory → refusal tree request ≡ None)
-      → IfErr result (λ fault. fault ≡ NoMemory → selection_refusal tree request ≡ None)
-  selection_memory cause (Ok x) is memory = absurd is
-  selection_memory selections.NoMemory (Err fault) is memory = λ same. ap (option_map selection_fault) (memory refl)
-  selection_memory (selections.NothingMatches n) (Err fault) is memory = λ same. cc
-
   module _ (found : Nodes) (is_found : found ≡ answer tree request) (accepted : refusal tree request ≡ None) where
     pub selection_none : selection_refusal tree request ≡ None
     selection_none = ap (option_map selection_fault) accepted
@@ -70,9 +52,6 @@ module _ (tree : Nodes) (request : Request) where
     keys_refused plans.NoMemory (Err fault) is many = λ other. absurd (other is)
     keys_refused plans.TooManyKeys (Err fault) is many =
         λ other. plan_is ∙ ap (λ b. if b then Some TooManyKeys else None) (lt-ltb 256 (length (keys_of (declared_of found))) (many refl)) ∙ ap Some (sym is)
-
-    pub plan_accepted : length (keys_of (declared_of found)) ≤ 256 → plan_refusal tree request ≡ None
-    plan_accepted few = plan_is ∙ ap (λ b. if b then Some TooManyKeys else None) (few_by (length (keys_of (declared_of found))) _ refl few)
 
 -- the plan that was made
 pub plan_made : (tree found : Nodes) (request : Request) (settings : Settings) (fail_fast : Bool) (modes : List Mode) (made plan : PlanParts) → found ≡ answer tree request → modes ≡ given_modes found settings → made ≡ hoisted.plan_of found modes
@@ -130,11 +109,6 @@ module _ (asked : Asked) (suite : SuiteParts) where
   fails_by NoWorker refused memory = absurd (run_kind NoWorker (refused (λ same. cc)))
   fails_by Reading refused memory = absurd (run_kind Reading (refused (λ same. cc)))
   fails_by (Writing f) refused memory = absurd (run_kind (Writing f) (refused (λ same. cc)))
-
-  -- settings that are none
-  pub settings_fail : {X : Type 0} (cause : SettingsFault) (result : Result X LaunchFault) → IsErrAnd result (λ fault. fault ≡ BadSettings cause) → Err cause ≡ settings_in asked suite → IfErr result (FailsSuite asked suite)
-  settings_fail cause (Ok x) is same = absurd is
-  settings_fail cause (Err fault) is same = rw is (ap (λ r. option_or (settings_refusal r) (option_or (plan_refusal suite.tree asked.request) (crowd_refusal r))) (sym same))
 
   module _ (settings : Settings) (are : Ok settings ≡ settings_in asked suite) where
     run_is : run_refusal asked suite ≡ option_or (plan_refusal suite.tree asked.request) (workers_refusal settings.workers)

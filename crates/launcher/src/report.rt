@@ -1,6 +1,7 @@
 //! What is printed of a run or of a replay, and its status.
 
 ghost use Rattle.std.specs.Prelude.{◌≡◌, ℕ, ◌≤◌, List, ◌++◌, ◌⊎◌, IfOk, IfErr, string_bytes};
+ghost use Rattle.descriptor.specs.Nodes.{IsTree};
 ghost use Rattle.listeners.specs.Counts.{counts_of};
 ghost use Rattle.listeners.specs.Results.{tests_found, has_failed};
 ghost use Rattle.listeners.specs.SummaryTexts.{summary_of};
@@ -9,6 +10,8 @@ ghost use Rattle.launch_options.specs.Asked.{asked_by};
 ghost use Rattle.launcher.specs.ExitStatuses.{status_of_run};
 ghost use Rattle.launcher.specs.Faults.{unrun_fault};
 ghost use Rattle.launcher.specs.Reports.{details_of, ArePrinted, IsBehindDetails, IsRunOutput, IsReplayOutput};
+ghost use Rattle.table_rule.specs.Slots.{slot_count};
+ghost use Rattle.launcher.specs.Scripted.{AreScripted};
 ghost use Rattle.launcher.specs.Reports.{IsListing, IsPlanOutput, IsOutput};
 ghost use Rattle.launcher.specs.Runs.{IsUnrun};
 ghost use Rattle.launcher.specs.Watched.{Watches};
@@ -27,7 +30,7 @@ use listeners::{Audience, Results, Theme, feed_text};
 use plan_events::{Event, Texts};
 use reports::{json_text, junit_text, list_text};
 use resource_locks::Plan;
-use run_table::TableFault;
+use run_table::{Jobs, TableFault};
 use sched_core::{Answers, run_steps, texts_of};
 use scheduling::Step;
 use std::alloc::{AllocError, Global};
@@ -197,7 +200,67 @@ fn ended_report(
     )
 }
 
-/// The report of a run by the settings' workers, on threads of their own, which is shown to whoever watches.
+/// The same of a report that is not looked at again.
+fn output_of(
+    alloc: Global,
+    options: &Options,
+    settings: &Settings,
+    answers: &Answers,
+    ran: Report<ScriptedJob>,
+) -> Result<Output, AllocError>
+    ensures text { IfOk result (λ report. (schedule : List ℕ) × IsBehindDetails options.now.schedule
+        settings.now.workers ran.plan answers.now ran.events.items schedule
+        × (string_bytes report.text ≡ warning_lines settings.now.warnings
+        ++ (details_of options.now.details options.now.theme ran.plan ran.texts ran.events.items
+        ++ schedule))) }
+    ensures status { IfOk result (λ report. report.status ≡ status_of_run options.now.fail_if_no_tests
+        (tests_found ran.plan ran.events.items) (has_failed ran.plan ran.events.items)) }
+{
+    ended_report(alloc, options, settings, answers, &ran)
+}
+
+/// The report of a run of these jobs by the settings' workers, on threads of their own, which is shown to
+/// whoever watches.
+fn jobs_report<T: Threads + Wait + Sync, V: Watcher>(
+    rt: &T,
+    alloc: Global,
+    options: &Options,
+    settings: &Settings,
+    plan: Plan,
+    jobs: Jobs<ScriptedJob>,
+    answers: &Answers,
+    watcher: &mut V,
+) -> Result<Output, LaunchFault>
+    requires some { 1 ≤ settings.now.workers }
+    requires few { settings.now.workers ≤ 64 }
+    requires guarded { IsGuarded (declared_of plan.tree) plan }
+    requires tree { IsTree plan.tree }
+    requires jobs { AreScripted plan answers.now (slot_count plan) jobs.items }
+    ensures output { IfOk result (λ report. IsRunOutput (asked_by options.now) settings.now plan answers.now
+        (string_bytes report.text) report.status) }
+    ensures watched { Watches V.saw (asked_by options.now) settings.now plan answers.now watcher.old watcher.new
+        result }
+    ensures refused { IfErr result (λ fault. (fault ≡ LaunchFault.NoMemory) ⊎ (fault ≡ LaunchFault.NoWorker)) }
+{
+    let Ok(mut nobody) = Audience::new(Vec::new(alloc)) else {
+        unreachable!()
+    };
+    match run_watched(
+        rt,
+        alloc,
+        plan,
+        jobs,
+        settings.workers,
+        options.ring,
+        &mut nobody,
+        watcher,
+    ) {
+        Ok(ran) => Ok(output_of(alloc, options, settings, answers, ran)?),
+        Err(fault) => Err(unrun(fault.cause)),
+    }
+}
+
+/// The report of a run by the settings' workers of the jobs that the suite says.
 fn run_report<T: Threads + Wait + Sync, V: Watcher>(
     rt: &T,
     alloc: Global,
@@ -218,22 +281,7 @@ fn run_report<T: Threads + Wait + Sync, V: Watcher>(
     ensures refused { IfErr result (λ fault. (fault ≡ LaunchFault.NoMemory) ⊎ (fault ≡ LaunchFault.NoWorker)) }
 {
     let jobs = scripted_jobs(alloc, &plan, answers, spins)?;
-    let Ok(mut nobody) = Audience::new(Vec::new(alloc)) else {
-        unreachable!()
-    };
-    match run_watched(
-        rt,
-        alloc,
-        plan,
-        jobs,
-        settings.workers,
-        options.ring,
-        &mut nobody,
-        watcher,
-    ) {
-        Ok(ran) => Ok(ended_report(alloc, options, settings, answers, &ran)?),
-        Err(fault) => Err(unrun(fault.cause)),
-    }
+    jobs_report(rt, alloc, options, settings, plan, jobs, answers, watcher)
 }
 
 /// The report of these steps, taken by so many workers.

@@ -2,7 +2,7 @@
 use Rattle.suite_text.specs.Suites.{suite_parts}
 use Rattle.launch_options.specs.Asked.{asked_by}
 use Rattle.launcher.specs.Runs.{answers_of}
-use Rattle.launcher.proofs.Planning.{made_ready, memory_fails, plan_fails, settings_fail, still_ready}
+use Rattle.launcher.proofs.Planning.{made_ready, memory_fails, plan_fails, still_ready}
 use Rattle.launcher.proofs.run.ready_run.Goals as goal
 
 pub returns-in_err-plan-clause-refused : goal.returns-in_err-plan-clause-refused

@@ -16,12 +16,12 @@ returns-in_err-finish-in-Ok-clause-exact g c suite ready =
     let part = subst (λ w. Appends (contents w) (contents c.shown_report.new.live.feed.writer.now) (take c.shown_report.new.live.feed.sent c.as_bytes.result.now)) c.new-feed.ensures.writer
     (subst (λ (xs : List ℕ). Appends (contents c.new-feed.result.writer.now) (contents c.shown_report.new.live.feed.writer.now) (take c.shown_report.new.live.feed.sent xs)) (sym c.as_bytes.ensures.value) c.in-Ok.ensures.front.printed) in
     let sent = c.in_err-finish-in-Ok.ensures.whole old part in
-    carried {a = contents c.finish.new.self.feed.writer.now} (search rules) (λ new. IsSuiteRun (asked_by c.args.options.now) suite old new c.from_residual-in_err-finish-in-Ok.result)
-    (cut (asked_by c.args.options.now) suite c.args.ready.settings c.args.ready.plan c.args.ready.answers ready old (contents c.finish.new.self.feed.writer.now) c.as_bytes.result.now report.status c.in_err-finish-in-Ok.field-0.0 c.from_residual-in_err-finish-in-Ok.result
-    c.from_residual-in_err-finish-in-Ok.ensures.1 (subst (λ (xs : List ℕ). IsOutput (asked_by c.args.options.now) c.args.ready.settings c.args.ready.plan c.args.ready.answers xs report.status) (sym c.as_bytes.ensures.value) c.in-Ok.ensures.output) sent)
+    carried {a = contents c.finish.new.self.feed.writer.now} (search rules) (λ new. IsSuiteRun (asked_by c.args.options.now) suite old new c.from_residual.result)
+    (cut (asked_by c.args.options.now) suite c.args.ready.settings c.args.ready.plan c.args.ready.answers ready old (contents c.finish.new.self.feed.writer.now) c.as_bytes.result.now report.status c.in_err-finish-in-Ok.field-0.0 c.from_residual.result
+    c.from_residual.ensures.1 (subst (λ (xs : List ℕ). IsOutput (asked_by c.args.options.now) c.args.ready.settings c.args.ready.plan c.args.ready.answers xs report.status) (sym c.as_bytes.ensures.value) c.in-Ok.ensures.output) sent)
 
-pub returns-in-Ok-clause-exact : goal.returns-in-Ok-clause-exact
-returns-in-Ok-clause-exact g c suite ready =
+pub returns-in_ok-finish-in-Ok-clause-exact : goal.returns-in_ok-finish-in-Ok-clause-exact
+returns-in_ok-finish-in-Ok-clause-exact g c suite ready =
     let contents = g.W.Write.contents in
     let old = contents c.args.writer.now in
     let report = c.in-Ok.report in
@@ -32,8 +32,8 @@ returns-in-Ok-clause-exact g c suite ready =
     (whole (asked_by c.args.options.now) suite c.args.ready.settings c.args.ready.plan c.args.ready.answers ready old (contents c.finish.new.self.feed.writer.now) c.as_bytes.result.now report.status
     (subst (λ (xs : List ℕ). IsOutput (asked_by c.args.options.now) c.args.ready.settings c.args.ready.plan c.args.ready.answers xs report.status) (sym c.as_bytes.ensures.value) c.in-Ok.ensures.output) sent)
 
-pub returns-clause-exact : goal.returns-clause-exact
-returns-clause-exact g c suite ready =
+pub returns-in-Err-clause-exact : goal.returns-in-Err-clause-exact
+returns-in-Err-clause-exact g c suite ready =
     let contents = g.W.Write.contents in
     let old = contents c.args.writer.now in
     let off = subst (λ w. IsBrokenOff (IsOutput (asked_by c.args.options.now) c.args.ready.settings c.args.ready.plan c.args.ready.answers) (contents w) (contents c.shown_report.new.live.feed.writer.now) c.shown_report.new.live.feed.sent) c.new-feed.ensures.writer c.in-Err.ensures.broken_off in
