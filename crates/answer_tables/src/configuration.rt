@@ -1,7 +1,8 @@
 //! The parameters that a row puts in, and what was refused on the way.
 
+use crate::words::{PREFIX, key_and_value};
 use config_params::{Params, ParamsFault, Source, pair_of};
-use std::alloc::{AllocError, Global};
+use std::alloc::Global;
 
 /// Puts one word into a source; the number is the item's.
 fn put_word(
@@ -31,20 +32,39 @@ fn put_item(
     }
 }
 
+/// Puts one item in, and adds its refusal, where it was refused, to the answer.
+fn put_or_tell(alloc: Global, params: &mut Params, number: usize, item: &str, answer: &mut String) {
+    match put_item(alloc, params, number, item) {
+        Ok(()) => {},
+        Err(fault) => {
+            let place = fault.place().unwrap_or(0);
+            let _ = write!(answer, "error {} at {place}, ", fault.number());
+        }
+    }
+}
+
 /// Puts the items in, and adds the refusals of those that were refused to the answer.
-pub(crate) fn put_items(
-    alloc: Global,
-    params: &mut Params,
-    items: &str,
-    answer: &mut String,
-) -> Result<(), AllocError> {
+pub(crate) fn put_items(alloc: Global, params: &mut Params, items: &str, answer: &mut String) {
     let mut number: usize = 0;
     for item in items.split('|') {
         number = number.saturating_add(1);
-        if let Err(fault) = put_item(alloc, params, number, item) {
-            let place = fault.place().unwrap_or(0);
-            write!(answer, "error {} at {place}, ", fault.number())?;
-        }
+        put_or_tell(alloc, params, number, item, answer);
     }
-    Ok(())
+}
+
+/// Puts the value of a key, which is written without its beginning, into the request.
+fn request_word(alloc: Global, params: &mut Params, word: &str) {
+    let (key, value) = key_and_value(word);
+    let mut whole = String::new(alloc);
+    let _ = write!(whole, "{PREFIX}{key}");
+    let _ = params.add(alloc, Source::Request, whole.as_str(), value);
+}
+
+/// The parameters that a request's words give.
+pub(crate) fn requested(alloc: Global, words: &str) -> Params {
+    let mut params = Params::new(alloc);
+    for word in words.split(' ') {
+        request_word(alloc, &mut params, word);
+    }
+    params
 }

@@ -1,31 +1,48 @@
 //! Questions about the words of events.
 
+use crate::words::say;
 use plan_events::{Event, EventKind, Status};
-use std::alloc::{AllocError, Global};
 
-fn sign(event: &Event) -> &'static str {
-    match (event.kind, event.status) {
-        (EventKind::Started, _) => "started",
-        (EventKind::Skipped, _) => "skipped",
-        (EventKind::Registered, _) => "registered",
-        (EventKind::Finished, Some(Status::Aborted)) => "aborted",
-        (EventKind::Finished, Some(Status::Failed)) => "failed",
-        (EventKind::Finished, _) => "successful",
+pub(crate) fn kind_word(kind: EventKind) -> &'static str {
+    match kind {
+        EventKind::Started => "started",
+        EventKind::Finished => "finished",
+        EventKind::Skipped => "skipped",
+        EventKind::Registered => "registered",
     }
 }
 
-/// The event of a word of hexadecimal digits, and the word of that event.
-pub(crate) fn event(alloc: Global, digits: &str) -> Result<String, AllocError> {
-    let Ok(word) = u64::from_str_radix(digits, 16) else {
-        return String::from_str(alloc, "no number");
-    };
-    let Some(event) = Event::from_word(word) else {
-        return String::from_str(alloc, "no event");
-    };
+/// What happened, where a node is finished how it ended.
+fn sign(event: &Event) -> &'static str {
+    match event.status {
+        Some(Status::Successful) => "successful",
+        Some(Status::Aborted) => "aborted",
+        Some(Status::Failed) => "failed",
+        None => kind_word(event.kind),
+    }
+}
+
+/// Adds an event and its word.
+fn push_read(answer: &mut String, event: &Event, word: u64) {
     let (worker, node) = (event.worker, event.node.number());
-    let word = event.to_word();
-    format!(in alloc;
-        "node {node} {} by worker {worker}, {word:016x}",
-        sign(&event)
-    )
+    let sign = sign(event);
+    let _ = write!(
+        answer,
+        " => node {node} {sign} by worker {worker}, {word:016x}"
+    );
+}
+
+/// Adds the event of a word of hexadecimal digits, and the word of that event.
+pub(crate) fn push_event(answer: &mut String, digits: &str) {
+    let Ok(word) = u64::from_str_radix(digits, 16) else {
+        say(answer, " => no number");
+        return;
+    };
+    match Event::from_word(word) {
+        Some(event) => {
+            let word = event.to_word();
+            push_read(answer, &event, word);
+        }
+        None => say(answer, " => no event"),
+    }
 }

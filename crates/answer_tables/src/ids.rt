@@ -1,83 +1,93 @@
 //! Questions about unique ids.
 
-use std::alloc::{AllocError, Global};
+use crate::words::{cut, key_and_value, push_refusal, say};
+use std::alloc::Global;
 use unique_id::{Segment, UidFault, UniqueId};
 
-fn refusal(alloc: Global, fault: UidFault) -> Result<String, AllocError> {
-    let number = fault.number();
-    match fault.place() {
-        Some(place) => format!(in alloc; "error {number} at {place}: {fault}"),
-        None => format!(in alloc; "error {number}: {fault}"),
-    }
-}
-
-/// The canonical text, or the refusal.
-fn text_of(alloc: Global, read: Result<UniqueId, UidFault>) -> Result<String, AllocError> {
+/// Adds the canonical text, or the refusal.
+fn push_read(answer: &mut String, read: Result<UniqueId, UidFault>) {
     match read {
-        Ok(id) => format!(in alloc; "{:?}", id.text()),
-        Err(fault) => refusal(alloc, fault),
+        Ok(id) => {
+            let _ = write!(answer, " => {:?}", id.text());
+        }
+        Err(fault) => push_refusal(answer, fault.number(), fault.place(), &fault),
     }
 }
 
-/// The canonical text of the id that is read.
-pub(crate) fn canonical(alloc: Global, text: &str) -> Result<String, AllocError> {
-    text_of(alloc, UniqueId::parse(alloc, text))
+/// Adds the canonical text of the id that is read.
+pub(crate) fn push_id(alloc: Global, answer: &mut String, text: &str) {
+    push_read(answer, UniqueId::parse(alloc, text))
 }
 
-/// The kinds and values of segments, as they are meant.
-fn listed(alloc: Global, segments: &[Segment]) -> Result<String, AllocError> {
-    let mut pairs = format!(in alloc; "{} segments", segments.len())?;
+/// Adds the kind and the value of a segment, as they are meant.
+fn push_segment(answer: &mut String, segment: &Segment) {
+    let _ = write!(answer, "; {:?} {:?}", segment.kind(), segment.value());
+}
+
+/// Adds how many segments there are, and each of them.
+fn push_each(answer: &mut String, segments: &[Segment]) {
+    let _ = write!(answer, " => {} segments", segments.len());
     for segment in segments {
-        let (kind, value) = (segment.kind(), segment.value());
-        write!(pairs, "; {kind:?} {value:?}")?;
+        push_segment(answer, segment);
     }
-    Ok(pairs)
 }
 
-/// The segments of the id that is read.
-pub(crate) fn segments(alloc: Global, text: &str) -> Result<String, AllocError> {
+/// Adds the segments of the id that is read.
+pub(crate) fn push_segments(alloc: Global, answer: &mut String, text: &str) {
     match UniqueId::parse(alloc, text) {
-        Ok(id) => listed(alloc, id.segments()),
-        Err(_) => String::from_str(alloc, "no id"),
+        Ok(id) => push_each(answer, id.segments()),
+        Err(_) => say(answer, " => no id"),
     }
 }
 
-/// The kind and the value of `KIND=VALUE`.
-fn kind_and_value(pair: &str) -> (&str, &str) {
-    pair.split_once('=').unwrap_or((pair, ""))
+/// The id to which the segment of `KIND=VALUE` is appended.
+fn longer(alloc: Global, id: UniqueId, pair: &str) -> Result<UniqueId, UidFault> {
+    let (kind, value) = key_and_value(pair);
+    id.append(alloc, kind, value)
 }
 
-/// The id to which each of the pairs is appended, or the first refusal.
+/// The id to which each of the segments is appended, or the first refusal.
 fn joined(alloc: Global, first: UniqueId, pairs: &str) -> Result<UniqueId, UidFault> {
     let mut id = first;
     for pair in pairs.split(" / ") {
-        let (kind, value) = kind_and_value(pair);
-        id = id.append(alloc, kind, value)?;
+        id = longer(alloc, id, pair)?;
     }
     Ok(id)
 }
 
-/// The text of the id of `KIND=VALUE / KIND=VALUE`.
-pub(crate) fn made(alloc: Global, text: &str) -> Result<String, AllocError> {
-    let (first, more) = text.split_once(" / ").unwrap_or((text, ""));
-    let (kind, value) = kind_and_value(first);
-    match UniqueId::of(alloc, kind, value) {
-        Ok(id) if !more.is_empty() => text_of(alloc, joined(alloc, id, more)),
-        made => text_of(alloc, made),
+/// The id of one segment, `KIND=VALUE`.
+fn short(alloc: Global, pair: &str) -> Result<UniqueId, UidFault> {
+    let (kind, value) = key_and_value(pair);
+    UniqueId::of(alloc, kind, value)
+}
+
+/// The id of `KIND=VALUE / KIND=VALUE`.
+fn made(alloc: Global, text: &str) -> Result<UniqueId, UidFault> {
+    match text.split_once(" / ") {
+        Some((first, more)) => joined(alloc, short(alloc, first)?, more),
+        None => short(alloc, text),
     }
 }
 
-/// Whether the first of two ids begins the second, and whether they are the same.
-fn compared(alloc: Global, one: &UniqueId, other: &UniqueId) -> Result<String, AllocError> {
-    let (begins, same) = (one.is_prefix_of(other), one.same(other));
-    format!(in alloc; "begins {begins}, same {same}")
+/// Adds the text of the id of `KIND=VALUE / KIND=VALUE`.
+pub(crate) fn push_made(alloc: Global, answer: &mut String, text: &str) {
+    push_read(answer, made(alloc, text))
 }
 
-/// How two ids with a blank between them stand to each other.
-pub(crate) fn pair(alloc: Global, text: &str) -> Result<String, AllocError> {
-    let (one, other) = text.split_once(' ').unwrap_or((text, ""));
-    match (UniqueId::parse(alloc, one), UniqueId::parse(alloc, other)) {
-        (Ok(one), Ok(other)) => compared(alloc, &one, &other),
-        _ => String::from_str(alloc, "no ids"),
-    }
+/// Two ids with a blank between them.
+fn pair_of(alloc: Global, text: &str) -> Option<(UniqueId, UniqueId)> {
+    let (one, other) = cut(text);
+    let one = UniqueId::parse(alloc, one).ok()?;
+    let other = UniqueId::parse(alloc, other).ok()?;
+    Some((one, other))
+}
+
+/// Adds how two ids with a blank between them stand to each other: whether the first begins the second, and whether they are the same.
+pub(crate) fn push_pair(alloc: Global, answer: &mut String, text: &str) {
+    let Some((one, other)) = pair_of(alloc, text) else {
+        say(answer, " => no ids");
+        return;
+    };
+    let (begins, same) = (one.is_prefix_of(&other), one.same(&other));
+    let _ = write!(answer, " => begins {begins}, same {same}");
 }

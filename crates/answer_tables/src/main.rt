@@ -1,25 +1,64 @@
-//! Answers questions about texts from standard input, one a line: what is asked, a blank and the
-//! text. Each line is printed with its answer behind it, so the output is a table that a person can
-//! read; a line that begins with `#` heads a part of it.
+//! Answers questions from standard input, one a line, in three sections: `=== texts`, `=== trees` and
+//! `=== runs`. Each line is printed with its answer behind it or below it, so the output is a table that
+//! a person can read. Answers are judged by what is printed, so a part for which there is no memory is
+//! left out and not told.
 #![tactic(auto)]
 
-mod answers;
+mod adding;
 mod configuration;
 mod escapes;
+mod event_words;
 mod events;
+mod histories;
 mod ids;
+mod lock_sets;
+mod nodes;
+mod plans;
+mod repeats;
+mod run;
+mod runs;
+mod selection;
 mod settings;
 mod suites;
+mod table;
 mod tags;
+mod texts;
+mod told;
+mod traces;
+mod trees;
+mod words;
 
-use crate::answers::answered;
+use crate::repeats::push_answer;
+use crate::table::Table;
+use std::alloc::Global;
 use std::io;
+
+/// Adds a line with its answer.
+fn push_line(alloc: Global, answers: &mut String, table: &mut Table, line: &str) {
+    let mut answer = String::new(alloc);
+    push_answer(alloc, &mut answer, table, line);
+    let _ = writeln!(answers, "{line}{answer}");
+}
+
+/// Adds each line with its answer.
+fn push_lines(alloc: Global, answers: &mut String, table: &mut Table, text: &str) {
+    for line in text.lines() {
+        push_line(alloc, answers, table, line);
+    }
+}
+
+/// Adds each line of a text with its answer.
+fn push_answers(alloc: Global, answers: &mut String, text: &str) {
+    if let Ok(mut table) = Table::new(alloc) {
+        push_lines(alloc, answers, &mut table, text);
+    }
+}
 
 fn main(rt: HostRuntime) -> io::Result<()> {
     let alloc = rt.alloc();
-    for line in rt.lines(alloc) {
-        let line = answered(alloc, line?.as_str())?;
-        println!(rt; "{line}")?;
-    }
+    let text = io::read_to_string(alloc, rt.reader())?;
+    let mut answers = String::new(alloc);
+    push_answers(alloc, &mut answers, text.as_str());
+    print!(rt; "{answers}")?;
     Ok(())
 }

@@ -1,96 +1,100 @@
 //! Questions about the texts of suites, selectors and steps.
 
+use crate::words::{key_and_value, push_fault, push_refusal, say, selector_kind, subject_and_text};
+use config_params::Params;
+use descriptor::Tree;
 use scheduling::Step;
-use selectors::{Selector, SelectorKind};
-use std::alloc::{AllocError, Global};
+use selectors::Selector;
+use std::alloc::Global;
 use step_text::parse_steps;
-use suite_text::{Suite, SuiteFault};
+use suite_text::Suite;
 
-fn refusal(alloc: Global, fault: SuiteFault) -> Result<String, AllocError> {
-    let number = fault.number();
-    match fault.place() {
-        Some(place) => format!(in alloc; "error {number} at {place}: {fault}"),
-        None => format!(in alloc; "error {number}: {fault}"),
-    }
+/// Adds how many nodes a tree has.
+pub(crate) fn push_nodes(answer: &mut String, tree: &Tree) {
+    let _ = write!(answer, " => {} nodes", tree.len());
 }
 
-/// How many nodes the suite of a text has.
-pub(crate) fn size(alloc: Global, text: &str) -> Result<String, AllocError> {
+/// Adds how many nodes the suite of a text has.
+pub(crate) fn push_size(alloc: Global, answer: &mut String, text: &str) {
     match Suite::parse(alloc, text) {
-        Ok(suite) => format!(in alloc; "{} nodes", suite.tree.len()),
-        Err(fault) => refusal(alloc, fault),
+        Ok(suite) => push_nodes(answer, &suite.tree),
+        Err(fault) => push_refusal(answer, fault.number(), fault.place(), &fault),
     }
 }
 
-/// The value that the property lines of a suite have for a key.
-fn value(alloc: Global, suite: &Suite, key: &str) -> Result<String, AllocError> {
-    match suite.properties.get(key) {
-        Some(value) => format!(in alloc; "{value:?}"),
-        None => String::from_str(alloc, "none"),
-    }
-}
-
-/// The value of `KEY|TEXT`: the key's in the suite of the text.
-pub(crate) fn said(alloc: Global, text: &str) -> Result<String, AllocError> {
-    let (key, text) = text.split_once('|').unwrap_or((text, ""));
-    match Suite::parse(alloc, text) {
-        Ok(suite) => value(alloc, &suite, key),
-        Err(fault) => refusal(alloc, fault),
-    }
-}
-
-/// How many nodes a suite has whose third line is a test with this end.
-pub(crate) fn test_line(alloc: Global, end: &str) -> Result<String, AllocError> {
-    let text = format!(in alloc; "engine e\n  class A\n    test t {end}")?;
-    size(alloc, text.as_str())
-}
-
-fn selector_kind(word: &str) -> SelectorKind {
-    match word {
-        "id" => SelectorKind::UniqueId,
-        "method" => SelectorKind::Method,
-        "package" => SelectorKind::Package,
-        _ => SelectorKind::Class,
-    }
-}
-
-/// What a selector names.
-fn named(alloc: Global, selector: &Selector) -> Result<String, AllocError> {
-    match selector {
-        Selector::Uid(id) => format!(in alloc; "id {:?}", id.text()),
-        Selector::Class(name) => format!(in alloc; "class {:?}", name.as_str()),
-        Selector::Method { class, method } => {
-            format!(in alloc; "method {:?} of {:?}", method.as_str(), class.as_str())
+/// Adds the value of a key.
+pub(crate) fn push_value(answer: &mut String, params: &Params, key: &str) {
+    match params.get(key) {
+        Some(value) => {
+            let _ = write!(answer, "{value:?}");
         }
-        Selector::Package(name) => format!(in alloc; "package {:?}", name.as_str()),
+        None => say(answer, "none"),
     }
 }
 
-/// The selector of `KIND=TEXT`.
-pub(crate) fn selector(alloc: Global, text: &str) -> Result<String, AllocError> {
-    let (kind, text) = text.split_once('=').unwrap_or((text, ""));
+/// Adds the value of `KEY|TEXT`: the key's in the property lines of the suite of the text.
+pub(crate) fn push_said(alloc: Global, answer: &mut String, text: &str) {
+    let (key, text) = subject_and_text(text);
+    match Suite::parse(alloc, text) {
+        Ok(suite) => {
+            say(answer, " => ");
+            push_value(answer, &suite.properties, key)
+        }
+        Err(fault) => push_refusal(answer, fault.number(), fault.place(), &fault),
+    }
+}
+
+/// Adds how many nodes a suite has whose third line is a test with this end.
+pub(crate) fn push_test_line(alloc: Global, answer: &mut String, end: &str) {
+    let mut text = String::new(alloc);
+    let _ = write!(text, "engine e\n  class A\n    test t {end}");
+    push_size(alloc, answer, text.as_str())
+}
+
+/// Adds what a selector names.
+fn push_named(answer: &mut String, selector: &Selector) {
+    match selector {
+        Selector::Uid(id) => {
+            let _ = write!(answer, " => id {:?}", id.text());
+        }
+        Selector::Class(name) => {
+            let _ = write!(answer, " => class {:?}", name.as_str());
+        }
+        Selector::Method { class, method } => {
+            let _ = write!(
+                answer,
+                " => method {:?} of {:?}",
+                method.as_str(),
+                class.as_str()
+            );
+        }
+        Selector::Package(name) => {
+            let _ = write!(answer, " => package {:?}", name.as_str());
+        }
+    }
+}
+
+/// Adds the selector of `KIND=TEXT`.
+pub(crate) fn push_selector(alloc: Global, answer: &mut String, text: &str) {
+    let (kind, text) = key_and_value(text);
     match Selector::parse(alloc, selector_kind(kind), text) {
-        Ok(selector) => named(alloc, &selector),
-        Err(fault) => format!(in alloc; "error {}: {fault}", fault.number()),
+        Ok(selector) => push_named(answer, &selector),
+        Err(fault) => push_fault(answer, fault.number(), &fault),
     }
 }
 
-/// How many steps there are, and each of them.
-fn listed(alloc: Global, steps: &[Step]) -> Result<String, AllocError> {
-    let mut text = format!(in alloc; "{} steps", steps.len())?;
+/// Adds how many steps there are, and each of them.
+fn push_each(answer: &mut String, steps: &[Step]) {
+    let _ = write!(answer, " => {} steps", steps.len());
     for step in steps {
-        write!(text, "; {step:?}")?;
+        let _ = write!(answer, "; {step:?}");
     }
-    Ok(text)
 }
 
-/// The steps that a text spells.
-pub(crate) fn steps(alloc: Global, text: &str) -> Result<String, AllocError> {
+/// Adds the steps that a text spells.
+pub(crate) fn push_steps(alloc: Global, answer: &mut String, text: &str) {
     match parse_steps(alloc, text) {
-        Ok(steps) => listed(alloc, &steps),
-        Err(fault) => match fault.place() {
-            Some(place) => format!(in alloc; "error {} at {place}: {fault}", fault.number()),
-            None => format!(in alloc; "{fault}"),
-        },
+        Ok(steps) => push_each(answer, &steps),
+        Err(fault) => push_refusal(answer, fault.number(), fault.place(), &fault),
     }
 }

@@ -1,49 +1,52 @@
 //! Questions about tags and tag expressions.
 
-use std::alloc::{AllocError, Global};
-use tag_expr::{TagExpr, TagFault, TagSet, tag_of};
+use crate::words::push_refusal;
+use std::alloc::Global;
+use tag_expr::{TagExpr, TagSet, tag_of};
 
-fn refusal(alloc: Global, fault: TagFault) -> Result<String, AllocError> {
-    let number = fault.number();
-    match fault.place() {
-        Some(place) => format!(in alloc; "error {number} at {place}: {fault}"),
-        None => format!(in alloc; "error {number}: {fault}"),
+/// Adds the tag that a text is.
+pub(crate) fn push_tag(alloc: Global, answer: &mut String, text: &str) {
+    match tag_of(alloc, text) {
+        Ok(tag) => {
+            let _ = write!(answer, " => {:?}", tag.as_str());
+        }
+        Err(fault) => push_refusal(answer, fault.number(), fault.place(), &fault),
     }
 }
 
-/// The tag that a text is.
-pub(crate) fn tag(alloc: Global, text: &str) -> Result<String, AllocError> {
-    match tag_of(alloc, text) {
-        Ok(tag) => format!(in alloc; "{:?}", tag.as_str()),
-        Err(fault) => refusal(alloc, fault),
+/// Adds a tag to a set, if the text is one.
+pub(crate) fn add_tag(alloc: Global, set: &mut TagSet, text: &str) {
+    if let Ok(tag) = tag_of(alloc, text) {
+        let _ = set.add(tag);
     }
 }
 
 /// The set of the tags between commas.
-fn set_of(alloc: Global, tags: &str) -> Result<TagSet, AllocError> {
+fn set_of(alloc: Global, tags: &str) -> TagSet {
     let mut set = TagSet::new(alloc);
     for tag in tags.split(',') {
-        if let Ok(tag) = tag_of(alloc, tag) {
-            set.add(tag)?;
-        }
+        add_tag(alloc, &mut set, tag);
     }
-    Ok(set)
+    set
 }
 
 /// Whether an expression is true of the tags of words, or of those of two sets with `~` between them together.
-fn holds(alloc: Global, expression: &TagExpr, tags: &str) -> Result<bool, AllocError> {
-    let Some((one, other)) = tags.split_once('~') else {
-        return Ok(expression.matches(&set_of(alloc, tags)?));
-    };
-    let (one, other) = (set_of(alloc, one)?, set_of(alloc, other)?);
-    Ok(expression.matches_together(&[&one, &other]))
+fn holds(alloc: Global, expression: &TagExpr, tags: &str) -> bool {
+    match tags.split_once('~') {
+        Some((one, other)) => {
+            expression.matches_together(&[&set_of(alloc, one), &set_of(alloc, other)])
+        }
+        None => expression.matches(&set_of(alloc, tags)),
+    }
 }
 
-/// Whether an expression is true of what stands behind the first `~`.
-pub(crate) fn truth(alloc: Global, text: &str) -> Result<String, AllocError> {
+/// Adds whether an expression is true of what stands behind the first `~`.
+pub(crate) fn push_truth(alloc: Global, answer: &mut String, text: &str) {
     let (text, tags) = text.split_once('~').unwrap_or((text, ""));
     match TagExpr::parse(alloc, text) {
-        Ok(expression) => format!(in alloc; "{}", holds(alloc, &expression, tags)?),
-        Err(fault) => refusal(alloc, fault),
+        Ok(expression) => {
+            let _ = write!(answer, " => {}", holds(alloc, &expression, tags));
+        }
+        Err(fault) => push_refusal(answer, fault.number(), fault.place(), &fault),
     }
 }

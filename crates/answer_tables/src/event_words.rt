@@ -3,7 +3,6 @@
 
 use descriptor::NodeId;
 use plan_events::{Event, EventKind, Status};
-use std::alloc::{AllocError, Global};
 
 /// The sign of a kind.
 fn sign_of(kind: EventKind) -> char {
@@ -25,12 +24,11 @@ fn end_of(status: Option<Status>) -> &'static str {
 }
 
 /// Adds each event as a word behind a blank.
-pub(crate) fn push_words(text: &mut String, events: &[Event]) -> Result<(), AllocError> {
+pub(crate) fn push_words(text: &mut String, events: &[Event]) {
     for event in events {
         let (sign, end) = (sign_of(event.kind), end_of(event.status));
-        write!(text, " {}{sign}{}{end}", event.worker, event.node.number())?;
+        let _ = write!(text, " {}{sign}{}{end}", event.worker, event.node.number());
     }
-    Ok(())
 }
 
 /// What stands before and behind the sign of a word, and the kind that it stands for.
@@ -77,10 +75,16 @@ fn event_of(word: &str) -> Option<Event> {
     })
 }
 
-/// The events of words between blanks.
-pub(crate) fn events_of(alloc: Global, words: &str) -> Result<Vec<Event>, AllocError> {
-    words
-        .split(' ')
-        .filter_map(|word| event_of(word))
-        .collect(alloc)
+/// Adds the event that a word stands for, if it is one.
+fn push_event(events: &mut Vec<Event>, word: &str) {
+    if let Some(event) = event_of(word) {
+        let _ = events.push(event);
+    }
+}
+
+/// Adds the events of words between blanks.
+pub(crate) fn push_events(events: &mut Vec<Event>, words: &str) {
+    for word in words.split(' ') {
+        push_event(events, word);
+    }
 }

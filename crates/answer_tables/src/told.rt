@@ -25,14 +25,28 @@ fn counts(alloc: Global, plan: &Plan, events: &[Event]) -> Result<String, AllocE
     format!(in alloc; "{:?}\n", summary.counts())
 }
 
+/// Adds a line with a node's text, if it has one.
+fn push_text(list: &mut String, number: u16, text: Option<&str>) {
+    match text {
+        Some(text) => {
+            let _ = writeln!(list, "{number} {text:?}");
+        }
+        None => {},
+    }
+}
+
+/// Adds the text of each node that has one.
+fn push_texts(list: &mut String, plan: &Plan, texts: &Texts) {
+    for number in 0..plan.tree().len() {
+        let number = number as u16;
+        push_text(list, number, texts.of(NodeId::new(number)));
+    }
+}
+
 /// The text of each node that has one.
 fn node_texts(alloc: Global, plan: &Plan, texts: &Texts) -> Result<String, AllocError> {
     let mut list = String::new(alloc);
-    for number in 0..plan.tree().len() {
-        if let Some(text) = texts.of(NodeId::new(number as u16)) {
-            writeln!(list, "{number} {text:?}")?;
-        }
-    }
+    push_texts(&mut list, plan, texts);
     Ok(list)
 }
 
@@ -55,22 +69,40 @@ fn lines(
     }
 }
 
-/// The lines below the question, or a text that is no line behind it.
-fn shown(alloc: Global, text: &str) -> Result<String, AllocError> {
+/// Adds lines below the question, or a text that is no line behind it.
+fn push_shown(answer: &mut String, text: &str) {
     match text.strip_suffix('\n') {
-        Some(lines) => format!(in alloc; "\n{lines}"),
-        None => format!(in alloc; " => {text:?}"),
+        Some(lines) => {
+            let _ = write!(answer, "\n{lines}");
+        }
+        None => {
+            let _ = write!(answer, " => {text:?}");
+        }
     }
 }
 
-/// What is told of these events.
-pub(crate) fn told(
+/// Adds what is told of these events and texts.
+fn push_lines(
     alloc: Global,
+    answer: &mut String,
+    plan: &Plan,
+    (events, texts): (&[Event], &Texts),
+    way: &str,
+) {
+    if let Ok(text) = lines(alloc, plan, events, texts, way) {
+        push_shown(answer, text.as_str());
+    }
+}
+
+/// Adds what is told of these events.
+pub(crate) fn push_told(
+    alloc: Global,
+    answer: &mut String,
     run: &Run,
     events: &[Event],
     way: &str,
-) -> Result<String, AllocError> {
-    let texts = texts_of(alloc, &run.plan, &run.answers, events)?;
-    let text = lines(alloc, &run.plan, events, &texts, way)?;
-    shown(alloc, text.as_str())
+) {
+    if let Ok(texts) = texts_of(alloc, &run.plan, &run.answers, events) {
+        push_lines(alloc, answer, &run.plan, (events, &texts), way);
+    }
 }
