@@ -4,87 +4,105 @@ use crate::plans::node_of;
 use descriptor::{Kind, Node};
 use plan_events::{Outcome, Status};
 use std::alloc::Global;
-use std::test::Fail;
 use tag_expr::{TagSet, tag_of};
 use unique_id::{Segment, Text, UniqueId};
 
 /// Whether a segment that is made of the copy of this one is the class a/b.
-fn copies_class(alloc: Global, segment: &Segment) -> Result<bool, Fail> {
-    let copy = segment.copy()?;
-    let made = Segment::new(alloc, copy.kind(), copy.value())?;
-    Ok(made.kind() == "class" && made.value() == "a/b")
+fn copies_class(alloc: Global, segment: &Segment) -> Option<bool> {
+    let copy = segment.copy().ok()?;
+    let made = Segment::new(alloc, copy.kind(), copy.value()).ok()?;
+    Some(made.kind() == "class" && made.value() == "a/b")
 }
 
 /// Whether the copy of an id, of its last segment and of that one's value are the same.
-fn copies_ids(alloc: Global, id: &UniqueId) -> Result<bool, Fail> {
-    let copy = id.copy(alloc)?;
-    match copy.segments().last() {
-        Some(last) => Ok(copy.same(id) && copies_class(alloc, last)?),
-        None => Ok(false),
-    }
+fn copies_id(alloc: Global, id: &UniqueId) -> Option<bool> {
+    let copy = id.copy(alloc).ok()?;
+    let is_same = copy.same(id);
+    let is_class = copies_class(alloc, copy.segments().last()?)?;
+    Some(is_same && is_class)
+}
+
+/// Whether the copy of the id of a class, and of its parts, are the same.
+fn copies_ids(alloc: Global) -> Option<bool> {
+    let id = UniqueId::parse(alloc, "[engine:e]/[class:a%2Fb]").ok()?;
+    copies_id(alloc, &id)
 }
 
 #[test]
-fn copies_of_ids_are_the_same(rt: HostRuntime) -> Result<(), Fail> {
-    let id = UniqueId::parse(rt.alloc(), "[engine:e]/[class:a%2Fb]")?;
-    assert!(rt; copies_ids(rt.alloc(), &id)?);
-    Ok(())
+fn copies_of_ids_are_the_same(rt: HostRuntime) {
+    assert!(rt; copies_ids(rt.alloc()) == Some(true));
+}
+
+/// Adds the copy of a tag.
+fn add_copy(alloc: Global, set: &mut TagSet, name: &str) -> Option<()> {
+    let tag = tag_of(alloc, name).ok()?;
+    let copy = tag.copy(alloc).ok()?;
+    set.add(copy).ok()?;
+    Some(())
+}
+
+/// Whether the copy of this set has the tag a alone.
+fn copies_set(alloc: Global, set: &TagSet) -> Option<bool> {
+    let copy = set.copy(alloc).ok()?;
+    Some(copy.contains("a") && !copy.contains("b") && !copy.is_empty())
 }
 
 /// Whether the copy of a set to which a tag is added has that tag alone.
-fn copies_set(alloc: Global, set: &mut TagSet) -> Result<bool, Fail> {
-    set.add(tag_of(alloc, "a")?.copy(alloc)?)?;
-    let copy = set.copy(alloc)?;
-    Ok(copy.contains("a") && !copy.contains("b") && !copy.is_empty())
+fn copies_sets(alloc: Global) -> Option<bool> {
+    let mut set = TagSet::new(alloc);
+    let was_empty = set.is_empty();
+    add_copy(alloc, &mut set, "a")?;
+    let is_copied = copies_set(alloc, &set)?;
+    Some(was_empty && is_copied)
 }
 
 #[test]
-fn copies_of_sets_have_the_same_tags(rt: HostRuntime) -> Result<(), Fail> {
-    let mut set = TagSet::new(rt.alloc());
-    assert!(rt; set.is_empty() && copies_set(rt.alloc(), &mut set)?);
-    Ok(())
+fn copies_of_sets_have_the_same_tags(rt: HostRuntime) {
+    assert!(rt; copies_sets(rt.alloc()) == Some(true));
 }
 
 /// Disables a node for no reason, and gives it the tag slow.
-fn declare(alloc: Global, node: &mut Node) -> Result<(), Fail> {
-    node.disabled = Some(Text::new(alloc, "")?);
-    node.tags.add(tag_of(alloc, "slow")?)?;
-    Ok(())
+fn declare(alloc: Global, node: &mut Node) -> Option<()> {
+    node.disabled = Some(Text::new(alloc, "").ok()?);
+    let slow = tag_of(alloc, "slow").ok()?;
+    node.tags.add(slow).ok()?;
+    Some(())
 }
 
 /// Whether the copy of a node has its id, its reason and its tag.
-fn copies_declared(alloc: Global, node: &Node) -> Result<bool, Fail> {
-    let copy = node.copy(alloc)?;
+fn copies_declared(alloc: Global, node: &Node) -> Option<bool> {
+    let copy = node.copy(alloc).ok()?;
     let reason = copy.disabled.as_ref().map(Text::as_str);
-    Ok(copy.id.text() == "[d:test]" && reason == Some("") && copy.tags.contains("slow"))
+    Some(copy.id.text() == "[d:test]" && reason == Some("") && copy.tags.contains("slow"))
 }
 
 /// Whether the copy of a disabled node has its id, its reason and its tag.
-fn copies_nodes(alloc: Global) -> Result<bool, Fail> {
-    let id = UniqueId::of(alloc, "d", "test")?;
+fn copies_nodes(alloc: Global) -> Option<bool> {
+    let id = UniqueId::of(alloc, "d", "test").ok()?;
     let mut node = node_of(alloc, id, "test", Kind::Test)?;
     declare(alloc, &mut node)?;
     copies_declared(alloc, &node)
 }
 
 #[test]
-fn copies_of_nodes_say_the_same(rt: HostRuntime) -> Result<(), Fail> {
-    assert!(rt; copies_nodes(rt.alloc())?);
-    Ok(())
+fn copies_of_nodes_say_the_same(rt: HostRuntime) {
+    assert!(rt; copies_nodes(rt.alloc()) == Some(true));
 }
 
 /// Whether the copy of an outcome has its status and its text.
-fn copies_outcome(outcome: &Outcome) -> Result<bool, Fail> {
-    let copy = outcome.copy()?;
-    Ok(copy.status == Status::Aborted && copy.text.as_str() == "no service")
+fn copies_outcome(outcome: &Outcome) -> Option<bool> {
+    let copy = outcome.copy().ok()?;
+    Some(copy.status == Status::Aborted && copy.text.as_str() == "no service")
+}
+
+/// Whether the copy of an aborted outcome has its status and its text.
+fn copies_outcomes(alloc: Global) -> Option<bool> {
+    let text = Text::new(alloc, "no service").ok()?;
+    let status = Status::Aborted;
+    copies_outcome(&Outcome { status, text })
 }
 
 #[test]
-fn copies_of_outcomes_say_the_same(rt: HostRuntime) -> Result<(), Fail> {
-    let outcome = Outcome {
-        status: Status::Aborted,
-        text: Text::new(rt.alloc(), "no service")?,
-    };
-    assert!(rt; copies_outcome(&outcome)?);
-    Ok(())
+fn copies_of_outcomes_say_the_same(rt: HostRuntime) {
+    assert!(rt; copies_outcomes(rt.alloc()) == Some(true));
 }

@@ -6,8 +6,7 @@ use plan_events::{Event, Outcome, Reply, Status, Texts};
 use resource_locks::Plan;
 use sched_core::{Answers, Core, NotEnabled, drive, texts_of};
 use scheduling::{Action, Step};
-use std::alloc::{AllocError, Global};
-use std::test::Fail;
+use std::alloc::Global;
 use unique_id::Text;
 
 /// An engine with a class of two tests that pass: nodes 1 to 4.
@@ -34,33 +33,37 @@ fn refuses(core: &mut Core) -> bool {
 }
 
 /// Whether a core of 64 workers refuses them.
-fn core_refuses(alloc: Global, plan: Plan) -> bool {
+fn core_refuses(alloc: Global) -> Option<bool> {
+    let plan = plan_of(alloc, PASSING)?;
     match Core::new(alloc, plan, Answers::of(Vec::new(alloc)), 64) {
-        Ok(mut core) => refuses(&mut core),
-        Err(_) => false,
+        Ok(mut core) => Some(refuses(&mut core)),
+        Err(_) => None,
     }
 }
 
 #[test]
-fn refuses_what_no_worker_can_do(rt: HostRuntime) -> Result<(), Fail> {
-    let plan = plan_of(rt.alloc(), PASSING)?;
-    assert!(rt; core_refuses(rt.alloc(), plan));
-    Ok(())
+fn refuses_what_no_worker_can_do(rt: HostRuntime) {
+    assert!(rt; core_refuses(rt.alloc()) == Some(true));
 }
 
-/// The reply of a body with this status and text.
-fn reply_of(alloc: Global, status: Status, text: &str) -> Result<(BodyId, Reply), Fail> {
-    let text = Text::new(alloc, text)?;
+/// The replies of bodies.
+type Replies = Vec<(BodyId, Reply)>;
+
+/// Adds a reply of node 4's body with this status and text.
+fn push_reply(alloc: Global, replies: &mut Replies, status: Status, text: &str) -> Option<()> {
+    let text = Text::new(alloc, text).ok()?;
     let outcome = Outcome { status, text };
-    Ok((BodyId::new(4), Reply { pulls: 0, outcome }))
+    replies
+        .push((BodyId::new(4), Reply { pulls: 0, outcome }))
+        .ok()
 }
 
 /// Two replies of node 4's body, and none of node 3's.
-fn two_replies(alloc: Global) -> Result<Answers, Fail> {
+fn two_replies(alloc: Global) -> Option<Answers> {
     let mut replies = Vec::new(alloc);
-    replies.push(reply_of(alloc, Status::Aborted, "no disk")?)?;
-    replies.push(reply_of(alloc, Status::Failed, "late")?)?;
-    Ok(Answers::of(replies))
+    push_reply(alloc, &mut replies, Status::Aborted, "no disk")?;
+    push_reply(alloc, &mut replies, Status::Failed, "late")?;
+    Some(Answers::of(replies))
 }
 
 /// Whether node 3 ended by no reply, and node 4 by the first of its two.
@@ -78,22 +81,26 @@ fn said(texts: &Texts) -> bool {
         && texts.of(NodeId::new(2)).is_none()
 }
 
+/// What happens by the schedule.
+fn history(alloc: Global, plan: &Plan, answers: &Answers) -> Option<Vec<Event>> {
+    Some(drive(alloc, plan, answers).ok()?.published)
+}
+
 /// Whether the schedule takes the first of these answers of a body, or none.
-fn takes_first_of(alloc: Global, plan: &Plan, answers: &Answers) -> Result<bool, AllocError> {
-    let trace = drive(alloc, plan, answers)?;
-    let texts = texts_of(alloc, plan, answers, &trace.published)?;
-    Ok(ended(&trace.published) && said(&texts))
+fn takes_first_of(alloc: Global, plan: &Plan, answers: &Answers) -> Option<bool> {
+    let events = history(alloc, plan, answers)?;
+    let texts = texts_of(alloc, plan, answers, events.as_slice()).ok()?;
+    Some(ended(events.as_slice()) && said(&texts))
 }
 
 /// Whether the schedule takes the first of two replies, or none.
-fn takes_first(alloc: Global, plan: &Plan) -> Result<bool, Fail> {
+fn takes_first(alloc: Global) -> Option<bool> {
     let answers = two_replies(alloc)?;
-    Ok(takes_first_of(alloc, plan, &answers)?)
+    let plan = plan_of(alloc, PASSING)?;
+    takes_first_of(alloc, &plan, &answers)
 }
 
 #[test]
-fn takes_the_first_reply_or_none(rt: HostRuntime) -> Result<(), Fail> {
-    let plan = plan_of(rt.alloc(), PASSING)?;
-    assert!(rt; takes_first(rt.alloc(), &plan)?);
-    Ok(())
+fn takes_the_first_reply_or_none(rt: HostRuntime) {
+    assert!(rt; takes_first(rt.alloc()) == Some(true));
 }

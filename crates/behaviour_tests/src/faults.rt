@@ -4,7 +4,6 @@ use descriptor::TreeFault;
 use sched_core::CoreFault;
 use selectors::{SelectFault, SelectorFault};
 use std::alloc::{AllocError, Global};
-use std::test::Fail;
 use step_text::StepsFault;
 use suite_text::SuiteFault;
 use tag_expr::TagFault;
@@ -19,34 +18,38 @@ fn push_said(list: &mut String) -> Result<(), AllocError> {
     write!(list, ", {}, {}", SuiteFault::NoMemory, StepsFault::NoMemory)
 }
 
-/// What each type of fault says of want of memory.
-fn said(alloc: Global) -> Result<String, AllocError> {
+/// Whether this is what the types of faults say of want of memory.
+fn is_said(alloc: Global, all: &str) -> bool {
     let mut list = String::new(alloc);
-    push_said(&mut list)?;
-    Ok(list)
+    push_said(&mut list).is_ok() && list.as_str() == all
 }
 
 #[test]
-fn each_fault_says_that_there_is_no_memory(rt: HostRuntime) -> Result<(), Fail> {
+fn each_fault_says_that_there_is_no_memory(rt: HostRuntime) {
     let all =
         "no memory, no memory, no memory, no memory, no memory, no memory, no memory, no memory";
-    assert!(rt; said(rt.alloc())?.as_str() == all);
-    Ok(())
+    assert!(rt; is_said(rt.alloc(), all));
+}
+
+/// Whether want of memory has number 0 in each type of fault that has numbers.
+fn are_numbered() -> bool {
+    UidFault::NoMemory.number() == 0
+        && TagFault::NoMemory.number() == 0
+        && TreeFault::NoMemory.number() == 0
+        && SelectorFault::NoMemory.number() == 0
+        && SelectFault::NoMemory.number() == 0
+        && SuiteFault::NoMemory.number() == 0
+}
+
+/// Whether it has no place in each type of fault that has places.
+fn are_nowhere() -> bool {
+    UidFault::NoMemory.place().is_none()
+        && TagFault::NoMemory.place().is_none()
+        && SelectFault::NoMemory.place().is_none()
+        && SuiteFault::NoMemory.place().is_none()
 }
 
 #[test]
 fn want_of_memory_has_number_0_and_no_place(rt: HostRuntime) {
-    let numbers = [
-        UidFault::NoMemory.number(),
-        TagFault::NoMemory.number(),
-        TreeFault::NoMemory.number(),
-        SelectorFault::NoMemory.number(),
-        SelectFault::NoMemory.number(),
-        SuiteFault::NoMemory.number(),
-    ];
-    let placed = UidFault::NoMemory.place().is_some()
-        || TagFault::NoMemory.place().is_some()
-        || SelectFault::NoMemory.place().is_some()
-        || SuiteFault::NoMemory.place().is_some();
-    assert!(rt; numbers == [0; 6] && !placed);
+    assert!(rt; are_numbered() && are_nowhere());
 }

@@ -6,8 +6,7 @@ use descriptor::{Kind, NodeId};
 use listeners::{Theme, feed_text, print_to, tree_text};
 use plan_events::{EventKind, Note, Status, Texts};
 use resource_locks::Plan;
-use std::alloc::{AllocError, Global};
-use std::test::Fail;
+use std::alloc::Global;
 use unique_id::Text;
 
 /// What is printed.
@@ -43,75 +42,80 @@ fn a_writer_that_fails_ends_the_printing(rt: HostRuntime) {
     assert!(rt; refuses_at_each_place(rt.alloc()));
 }
 
-#[test]
-fn a_writer_that_takes_all_is_no_fault(rt: HostRuntime) {
+/// Whether a writer with just the room, which takes one byte at a time, takes all.
+fn is_taken(alloc: Global) -> bool {
     let mut writer = Failing {
-        taken: Vec::new(rt.alloc()),
+        taken: Vec::new(alloc),
         room: 19,
         step: 1,
         full: Full::Fails,
     };
-    let is_ok = print_to(&mut writer, BYTES).is_ok();
-    assert!(rt; is_ok && writer.taken.as_slice() == BYTES);
+    print_to(&mut writer, BYTES).is_ok() && writer.taken.as_slice() == BYTES
+}
+
+#[test]
+fn a_writer_that_takes_all_is_no_fault(rt: HostRuntime) {
+    assert!(rt; is_taken(rt.alloc()));
 }
 
 /// The texts of a plan of one node, which has this text of its own.
-fn texts_of_one(alloc: Global, plan: &Plan, text: &str) -> Result<Texts, Fail> {
-    let text = Text::new(alloc, text)?;
-    let mut texts = Texts::new(alloc, plan.tree())?;
-    if plan.tree().len() > 1 {
-        texts.set(NodeId::new(1), Note::Own(text));
+fn texts_of_one(alloc: Global, plan: &Plan, text: &str) -> Option<Texts> {
+    if plan.tree().len() <= 1 {
+        return None;
     }
-    Ok(texts)
+    let text = Text::new(alloc, text).ok()?;
+    let mut texts = Texts::new(alloc, plan.tree()).ok()?;
+    texts.set(NodeId::new(1), Note::Own(text));
+    Some(texts)
 }
 
-/// The feed of the node of a plan, with these texts.
-fn feed_of(alloc: Global, plan: &Plan, texts: &Texts) -> Result<String, AllocError> {
+/// Whether the feed of the node of a plan, with these texts, is these lines.
+fn is_fed(alloc: Global, plan: &Plan, texts: &Texts, lines: &str) -> Option<bool> {
     let events = [
         event(EventKind::Registered, 1, None),
         event(EventKind::Skipped, 1, None),
         finished(1, Status::Failed),
         finished(1, Status::Successful),
     ];
-    feed_text(alloc, plan, events.as_slice(), texts)
+    let feed = feed_text(alloc, plan, events.as_slice(), texts).ok()?;
+    Some(feed.as_str() == lines)
 }
 
-/// Whether the feed of the plan of one node, with this text of its own, is these lines.
-fn feeds(alloc: Global, plan: &Plan, text: &str, lines: &str) -> Result<bool, Fail> {
-    let texts = texts_of_one(alloc, plan, text)?;
-    Ok(feed_of(alloc, plan, &texts)?.as_str() == lines)
+/// Whether the feed of the plan of one node with this name and this text of its own is these lines.
+fn feeds(alloc: Global, name: &str, text: &str, lines: &str) -> Option<bool> {
+    let plan = plan_of_one(alloc, name, Kind::Container)?;
+    let texts = texts_of_one(alloc, &plan, text)?;
+    is_fed(alloc, &plan, &texts, lines)
 }
 
 #[test]
-fn a_feed_has_spaces_for_control_bytes_of_texts_alone(rt: HostRuntime) -> Result<(), Fail> {
+fn a_feed_has_spaces_for_control_bytes_of_texts_alone(rt: HostRuntime) {
     let lines = "w1 registered [engine:a\tb]
 w1 skipped [engine:a\tb] no file  x\u{e9}
 w1 finished [engine:a\tb] FAILED no file  x\u{e9}
 w1 finished [engine:a\tb] SUCCESSFUL\n";
-    let plan = plan_of_one(rt.alloc(), "a\tb", Kind::Container)?;
-    assert!(rt; feeds(rt.alloc(), &plan, "no\tfile\u{7f}\nx\u{e9}", lines)?);
-    Ok(())
+    let text = "no\tfile\u{7f}\nx\u{e9}";
+    assert!(rt; feeds(rt.alloc(), "a\tb", text, lines) == Some(true));
 }
 
-/// The tree of the failed node of a plan, with these texts.
-fn tree_of(alloc: Global, plan: &Plan, texts: &Texts) -> Result<String, AllocError> {
+/// Whether the tree of the failed node of a plan, with these texts, is this line.
+fn is_drawn(alloc: Global, plan: &Plan, texts: &Texts, line: &str) -> Option<bool> {
     let events = [started(1), finished(1, Status::Failed)];
-    tree_text(alloc, plan, events.as_slice(), texts, Theme::Ascii)
+    let tree = tree_text(alloc, plan, events.as_slice(), texts, Theme::Ascii).ok()?;
+    Some(tree.as_str() == line)
 }
 
-/// Whether the tree of the plan of one node, with this text of its own, is this line.
-fn draws(alloc: Global, plan: &Plan, text: &str, line: &str) -> Result<bool, Fail> {
-    let texts = texts_of_one(alloc, plan, text)?;
-    Ok(tree_of(alloc, plan, &texts)?.as_str() == line)
+/// Whether the tree of the plan of one node with this name and this text of its own is this line.
+fn draws(alloc: Global, name: &str, text: &str, line: &str) -> Option<bool> {
+    let plan = plan_of_one(alloc, name, Kind::Container)?;
+    let texts = texts_of_one(alloc, &plan, text)?;
+    is_drawn(alloc, &plan, &texts, line)
 }
 
 #[test]
-fn a_tree_has_spaces_for_control_bytes_and_other_characters_stay(
-    rt: HostRuntime,
-) -> Result<(), Fail> {
+fn a_tree_has_spaces_for_control_bytes_and_other_characters_stay(rt: HostRuntime) {
     let name = "a\tb\u{7f}\u{e9}\u{6f22}e\u{301}";
     let line = "'-- a b \u{e9}\u{6f22}e\u{301} [X] no file\u{1f600} \n";
-    let plan = plan_of_one(rt.alloc(), name, Kind::Container)?;
-    assert!(rt; draws(rt.alloc(), &plan, "no\nfile\u{1f600}\u{0}", line)?);
-    Ok(())
+    let text = "no\nfile\u{1f600}\u{0}";
+    assert!(rt; draws(rt.alloc(), name, text, line) == Some(true));
 }

@@ -8,7 +8,6 @@ use selectors::Request;
 use std::alloc::Global;
 use std::io::{Error, ErrorKind, Read, Result as IoResult};
 use std::sync::Wait;
-use std::test::Fail;
 use std::thread::Threads;
 
 /// A suite of one passing test.

@@ -1,12 +1,13 @@
 //! Texts of nodes: what a job said, reasons, a cancelled plan, and too many dynamic tests.
 
+ghost use Rattle.std.specs.Prelude.{◌≡◌, ◌<◌, length};
+
 use crate::plans::{event, factory_plan, finished, plan_of};
 use descriptor::{BodyId, NodeId};
 use plan_events::{EventKind, Note, Outcome, Reply, Status, Texts};
 use resource_locks::Plan;
 use sched_core::{Answers, texts_of};
-use std::alloc::{AllocError, Global};
-use std::test::Fail;
+use std::alloc::Global;
 use unique_id::Text;
 
 /// Node 3 is an enabled test; 4 and 5 are disabled ones, the last with an empty reason.
@@ -17,85 +18,101 @@ const TESTS: &str = "engine e
     test waits disabled
 ";
 
+/// Whether a node has this text behind this note.
+fn has_text(texts: &mut Texts, node: NodeId, note: Note, text: Option<&str>) -> bool
+    requires { node < length texts.old.notes }
+    ensures { length texts.new.notes ≡ length texts.old.notes }
+{
+    texts.set(node, note);
+    texts.of(node) == text
+}
+
 /// Whether a node has no text at first, and then after each of four notes that of the note: one of
 /// its own, that there were too many dynamic tests, that the plan was cancelled, and its reason.
-fn has_texts(
-    alloc: Global,
-    plan: &Plan,
-    number: u16,
-    reason: Option<&str>,
-) -> Result<bool, AllocError> {
-    let node = NodeId::new(number);
-    let own = Text::new(alloc, "broken")?;
-    let mut texts = Texts::new(alloc, plan.tree())?;
+fn has_all(texts: &mut Texts, node: NodeId, own: Text, reason: Option<&str>) -> bool
+    requires { node < length texts.old.notes }
+{
     let had_none = texts.of(node).is_none();
+    let has_own = has_text(texts, node, Note::Own(own), Some("broken"));
+    had_none
+        && has_own
+        && has_text(texts, node, Note::TooMany, Some("too many dynamic tests"))
+        && has_text(texts, node, Note::Cancelled, Some("cancelled"))
+        && has_text(texts, node, Note::Reason, reason)
+}
+
+/// Whether this node of a plan has these texts, and this reason.
+fn has_texts(alloc: Global, plan: &Plan, number: u16, reason: Option<&str>) -> Option<bool> {
+    let node = NodeId::new(number);
     if node.index() >= plan.tree().len() {
-        return Ok(false);
+        return None;
     }
-    texts.set(node, Note::Own(own));
-    let has_own = texts.of(node) == Some("broken");
-    texts.set(node, Note::TooMany);
-    let has_too_many = texts.of(node) == Some("too many dynamic tests");
-    texts.set(node, Note::Cancelled);
-    let has_cancelled = texts.of(node) == Some("cancelled");
-    texts.set(node, Note::Reason);
-    Ok(had_none && has_own && has_too_many && has_cancelled && texts.of(node) == reason)
+    let own = Text::new(alloc, "broken").ok()?;
+    let mut texts = Texts::new(alloc, plan.tree()).ok()?;
+    Some(has_all(&mut texts, node, own, reason))
 }
 
 /// Whether a node that is not there has no text.
-fn has_none(alloc: Global, plan: &Plan, number: u16) -> Result<bool, AllocError> {
-    let texts = Texts::new(alloc, plan.tree())?;
+fn has_none(alloc: Global, plan: &Plan, number: u16) -> Option<bool> {
+    let texts = Texts::new(alloc, plan.tree()).ok()?;
     let node = NodeId::new(number);
-    Ok(node.index() >= plan.tree().len() && texts.of(node).is_none())
+    Some(node.index() >= plan.tree().len() && texts.of(node).is_none())
 }
 
 /// Whether each node has the texts of its notes, and a node that is not there has none.
-fn have_texts(alloc: Global, plan: &Plan) -> Result<bool, AllocError> {
-    Ok(
-        has_texts(alloc, plan, 3, None)?
-            && has_texts(alloc, plan, 4, Some("flaky"))?
-            && has_texts(alloc, plan, 5, Some(""))?
-            && has_none(alloc, plan, 6)?,
-    )
+fn have_texts(alloc: Global) -> Option<bool> {
+    let plan = plan_of(alloc, TESTS)?;
+    let all = [
+        has_texts(alloc, &plan, 3, None),
+        has_texts(alloc, &plan, 4, Some("flaky")),
+        has_texts(alloc, &plan, 5, Some("")),
+        has_none(alloc, &plan, 6),
+    ];
+    Some(all == [Some(true); 4])
 }
 
 #[test]
-fn the_last_note_of_a_node_is_its_text(rt: HostRuntime) -> Result<(), Fail> {
-    let plan = plan_of(rt.alloc(), TESTS)?;
-    assert!(rt; have_texts(rt.alloc(), &plan)?);
-    Ok(())
+fn the_last_note_of_a_node_is_its_text(rt: HostRuntime) {
+    assert!(rt; have_texts(rt.alloc()) == Some(true));
 }
 
 /// The answer of body 1, which asks for so many dynamic tests.
-fn asking(alloc: Global, pulls: u16) -> Result<Answers, Fail> {
-    let text = Text::new(alloc, "made")?;
+fn asking(alloc: Global, pulls: u16) -> Option<Answers> {
+    let text = Text::new(alloc, "made").ok()?;
     let status = Status::Successful;
     let outcome = Outcome { status, text };
     let mut replies = Vec::new(alloc);
-    replies.push((BodyId::new(1), Reply { pulls, outcome }))?;
-    Ok(Answers::of(replies))
+    replies
+        .push((BodyId::new(1), Reply { pulls, outcome }))
+        .ok()?;
+    Some(Answers::of(replies))
 }
 
 /// Whether node 1, which is finished, has this text, and node 2, which is skipped, that of a cancelled plan.
-fn tells(alloc: Global, plan: &Plan, answers: &Answers, text: &str) -> Result<bool, AllocError> {
+fn tells(alloc: Global, plan: &Plan, answers: &Answers, text: &str) -> Option<bool> {
     let events = [
         event(EventKind::Skipped, 2, None),
         finished(1, Status::Failed),
     ];
-    let texts = texts_of(alloc, plan, answers, &events)?;
-    Ok(texts.of(NodeId::new(1)) == Some(text) && texts.of(NodeId::new(2)) == Some("cancelled"))
+    let texts = texts_of(alloc, plan, answers, &events).ok()?;
+    Some(texts.of(NodeId::new(1)) == Some(text) && texts.of(NodeId::new(2)) == Some("cancelled"))
 }
 
 /// Whether a factory that asks for so many dynamic tests has this text.
-fn factory_tells(alloc: Global, plan: &Plan, pulls: u16, text: &str) -> Result<bool, Fail> {
+fn factory_tells(alloc: Global, plan: &Plan, pulls: u16, text: &str) -> Option<bool> {
     let answers = asking(alloc, pulls)?;
-    Ok(tells(alloc, plan, &answers, text)?)
+    tells(alloc, plan, &answers, text)
+}
+
+/// Whether a factory with one spare has its own text, unless it asks for two dynamic tests.
+fn factory_tells_of_two(alloc: Global) -> Option<bool> {
+    let plan = factory_plan(alloc)?;
+    let one = factory_tells(alloc, &plan, 1, "made");
+    let two = factory_tells(alloc, &plan, 2, "too many dynamic tests");
+    Some(one == Some(true) && two == Some(true))
 }
 
 #[test]
-fn a_factory_tells_of_too_many_dynamic_tests(rt: HostRuntime) -> Result<(), Fail> {
-    let plan = factory_plan(rt.alloc())?;
-    assert!(rt; factory_tells(rt.alloc(), &plan, 1, "made")?);
-    assert!(rt; factory_tells(rt.alloc(), &plan, 2, "too many dynamic tests")?);
-    Ok(())
+fn a_factory_tells_of_too_many_dynamic_tests(rt: HostRuntime) {
+    assert!(rt; factory_tells_of_two(rt.alloc()) == Some(true));
 }
