@@ -10,7 +10,7 @@ use std::alloc::{AllocError, Global};
 use std::io::{Result as IoResult, Write};
 use std::sync::Wait;
 use std::thread::Threads;
-use thread_tests::Actor;
+use test_jobs::Actor;
 use worker_pool::{Report, RunFault, run_plan};
 
 /// How many of the last lists are empty.

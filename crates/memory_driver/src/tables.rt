@@ -2,7 +2,7 @@
 
 ghost use Rattle.std.specs.Prelude.{ℕ, IfOk};
 ghost use Rattle.run_table.specs.Seats.{IsSeatOf};
-ghost use Rattle.thread_tests.specs.Acting.{replies_left};
+ghost use Rattle.test_jobs.specs.Acting.{replies_left};
 ghost use Rattle.worker_pool.specs.Premises.{JobsMayAnswer};
 ghost use Rattle.worker_pool.specs.Reports.{run_of};
 
@@ -15,7 +15,7 @@ use run_table::{Closed, DispatcherSeat, Jobs, Refused, RunTable};
 use std::alloc::{AllocError, Global};
 use std::io::{Result as IoResult, Write};
 use std::sync::Arc;
-use thread_tests::{Act, Actor, Board, cast};
+use test_jobs::{Act, Actor, Board, cast};
 
 /// The jobs of a suite's plan, each of which ends as its line says.
 pub(crate) fn jobs_of(alloc: Global, plan: &Plan, text: &str) -> Result<Jobs<Actor>, AllocError>

@@ -1,10 +1,12 @@
 //! Lanes: that a number is put, taken and stolen at all, and that three threads may do so at once.
 
+ghost use Rattle.std.specs.Prelude.{◌≡◌};
+
 use crate::sharing::share_out;
 use descriptor::NodeId;
 use ready_deques::{Lane, Thief};
-use std::test::*;
-use std::thread::join;
+use std::alloc::Global;
+use std::thread::{Threads, join};
 
 /// How many numbers the owner puts while thieves steal.
 const NUMBERS: u16 = 3000;
@@ -20,19 +22,40 @@ fn number(got: Option<NodeId>) -> u64 {
     }
 }
 
+/// Whether two numbers that are put come out, the first to the owner and the second to the thief.
+fn come_out(lane: &mut Lane, thief: &mut Thief) -> bool
+    ensures lane { lane.new.which ≡ lane.old.which }
+    ensures thieves { lane.new.thieves ≡ lane.old.thieves }
+    ensures thief { thief.new.which ≡ thief.old.which }
+{
+    let are_put = lane.put(NodeId::new(3)).is_ok() && lane.put(NodeId::new(5)).is_ok();
+    let (taken, stolen) = (number(lane.take()), number(thief.steal()));
+    are_put && taken == 3 && stolen == 5
+}
+
+/// Whether nothing is left then, and a number can be put once more.
+fn is_empty(lane: &mut Lane, thief: &mut Thief) -> bool
+    ensures lane { lane.new.which ≡ lane.old.which }
+    ensures thieves { lane.new.thieves ≡ lane.old.thieves }
+    ensures thief { thief.new.which ≡ thief.old.which }
+{
+    let is_left = lane.take().is_some() || thief.steal().is_some();
+    let is_put = lane.put(NodeId::new(7)).is_ok();
+    is_put && !is_left
+}
+
+/// How many numbers are left at last, where all of this is so.
+fn left_of_three<R: Threads>(rt: &R, alloc: Global) -> Option<usize> {
+    let mut lane = Lane::new(alloc).ok()?;
+    let mut thief = lane.thief().ok()?;
+    let is_so = come_out(&mut lane, &mut thief) && is_empty(&mut lane, &mut thief);
+    let left = share_out(rt, &mut lane, thief, TURNS);
+    is_so.then_some(left)
+}
+
 #[test]
-fn two_numbers_come_out_once(rt: HostRuntime) -> Result<(), Fail> {
-    let mut lane = Lane::new(rt.alloc())?;
-    let mut thief = lane.thief()?;
-    assert_eq!(rt; lane.put(NodeId::new(3)), Ok(()));
-    assert_eq!(rt; lane.put(NodeId::new(5)), Ok(()));
-    let taken = lane.take();
-    let stolen = thief.steal();
-    assert_eq!(rt; (number(taken), number(stolen)), (3, 5));
-    assert_eq!(rt; (lane.take(), thief.steal()), (None, None));
-    assert_eq!(rt; lane.put(NodeId::new(7)), Ok(()));
-    assert_eq!(rt; share_out(&rt, &mut lane, thief, TURNS), 0);
-    Ok(())
+fn two_numbers_come_out_once(rt: HostRuntime) {
+    assert!(rt; left_of_three(&rt, rt.alloc()) == Some(0));
 }
 
 /// Puts the numbers from 1, and takes a third as often; the sum of what it took, or none where a number was refused.
@@ -67,22 +90,22 @@ fn left_in(lane: &mut Lane) -> u64 {
     sum
 }
 
-#[test]
-fn three_threads_get_each_number_once(rt: HostRuntime) -> Result<(), Fail> {
-    let mut lane = Lane::new(rt.alloc())?;
-    let mut first = lane.thief()?;
-    let mut second = lane.thief()?;
+/// The sum of what three threads got of a lane, and of what they left, or none where a number was refused.
+fn got_by_three<R: Threads>(rt: &R, alloc: Global) -> Option<u64> {
+    let mut lane = Lane::new(alloc).ok()?;
+    let mut first = lane.thief().ok()?;
+    let mut second = lane.thief().ok()?;
     let (own, (a, b)) = join(
-        &rt,
+        rt,
         || puts_and_takes(&mut lane),
-        || join(&rt, || steals(&mut first), || steals(&mut second)),
+        || join(rt, || steals(&mut first), || steals(&mut second)),
     );
     let left = left_in(&mut lane);
-    let stolen = u64::wrapping_add(a, b);
-    let rest = u64::wrapping_add(left, stolen);
-    assert_eq!(rt;
-        own.map(|own| u64::wrapping_add(own, rest)),
-        Some(4_501_500)
-    );
-    Ok(())
+    let rest = u64::wrapping_add(left, u64::wrapping_add(a, b));
+    Some(u64::wrapping_add(own?, rest))
+}
+
+#[test]
+fn three_threads_get_each_number_once(rt: HostRuntime) {
+    assert!(rt; got_by_three(&rt, rt.alloc()) == Some(4_501_500));
 }

@@ -1,12 +1,9 @@
 //! What no clause says of runs on threads: that bodies run side by side, when their jobs are run,
-//! and that numbers come out of lanes. Tests, the jobs that these hand in, and two threads that
-//! take from one lane.
+//! and that numbers come out of lanes. Tests alone, in a crate of their own, since a crate with
+//! tests is proved once with them and once without.
 
 #![tactic(auto)]
 
-mod acting;
-mod board;
-mod casting;
 #[cfg(test)]
 mod lanes;
 #[cfg(test)]
@@ -17,11 +14,9 @@ mod ring;
 mod rows;
 #[cfg(test)]
 mod running;
+#[cfg(test)]
 mod sharing;
 #[cfg(test)]
 mod stepping;
-
-pub use acting::{Act, Actor};
-pub use board::Board;
-pub use casting::cast;
-pub use sharing::share_out;
+#[cfg(test)]
+mod watching;

@@ -1,11 +1,10 @@
 //! Bodies that run side by side, and bodies that must not.
 
-use crate::acting::Act;
-use crate::running::{WIDE, run_of_suite};
+use crate::running::{Setup, WIDE, how, run_of_suite};
 use std::alloc::{AllocError, Global};
 use std::sync::Wait;
-use std::test::Fail;
 use std::thread::Threads;
+use test_jobs::Act;
 
 /// Two tests that write one key.
 const WRITERS: &str = "property junit.jupiter.execution.parallel.enabled=true
@@ -42,33 +41,36 @@ engine e
     test d() pass
 ";
 
-/// A class of so many tests, from node 3 on, that may run side by side.
-fn suite_of(alloc: Global, tests: u32) -> Result<String, AllocError> {
-    let mut text = String::new(alloc);
+/// Adds a class of so many tests, from node 3 on, that may run side by side.
+fn push_class(text: &mut String, tests: u32) -> Result<(), AllocError> {
     text.push_str("property junit.jupiter.execution.parallel.enabled=true\n")?;
     text.push_str("property junit.jupiter.execution.parallel.mode.default=concurrent\n")?;
     text.push_str("engine e\n  class a.B\n")?;
     for number in 0..tests {
         write!(text, "    test t{number}() pass\n")?;
     }
-    Ok(text)
+    Ok(())
 }
 
-/// Whether a run of this suite, whose bodies do this, has so many events, and the last part of what
-/// is said of it is this.
+/// Whether what is said of a run is that it ended well: so many events, and no job unused.
+fn is_well(said: &str, events: usize) -> bool {
+    let (told, rest) = said.split_once("unused ").unwrap_or((said, ""));
+    rest == "asked 0 told 0" && told.split_whitespace().count() == events && !told.contains('!')
+}
+
+/// Whether a run of this suite has so many events, and the last part of what is said of it is that
+/// it went well.
 fn ends_well<R: Threads + Wait + Sync>(
     rt: &R,
     alloc: Global,
     suite: &str,
-    act: Act,
-    workers: u32,
-    ring: u32,
+    how: Setup,
     events: usize,
-) -> Result<bool, Fail> {
-    let said = run_of_suite(rt, alloc, suite, false, act, workers, ring)?;
-    let all = said.as_str();
-    let (told, rest) = all.split_once("unused ").unwrap_or((all, ""));
-    Ok(rest == "asked 0 told 0" && told.split_whitespace().count() == events && !told.contains('!'))
+) -> bool {
+    match run_of_suite(rt, alloc, suite, how) {
+        Some(said) => is_well(said.as_str(), events),
+        None => false,
+    }
 }
 
 /// Whether a run of so many tests that may run side by side ends so.
@@ -76,13 +78,11 @@ pub(crate) fn tests_end_well<R: Threads + Wait + Sync>(
     rt: &R,
     alloc: Global,
     tests: u32,
-    act: Act,
-    workers: u32,
-    ring: u32,
+    how: Setup,
     events: usize,
-) -> Result<bool, Fail> {
-    let suite = suite_of(alloc, tests)?;
-    ends_well(rt, alloc, suite.as_str(), act, workers, ring, events)
+) -> bool {
+    let mut suite = String::new(alloc);
+    push_class(&mut suite, tests).is_ok() && ends_well(rt, alloc, suite.as_str(), how, events)
 }
 
 /// Whether one part of what is said stands before another.
@@ -93,56 +93,73 @@ fn stands_before(said: &str, one: &str, other: &str) -> bool {
     }
 }
 
-/// Whether the class with the isolated test has ended before the other and its test start, or
-/// starts when both have ended.
-fn keeps_apart<R: Threads + Wait + Sync>(
-    rt: &R,
-    alloc: Global,
-    workers: u32,
-    ring: u32,
-) -> Result<bool, Fail> {
-    let said = run_of_suite(rt, alloc, ISOLATED, false, Act::Ends, workers, ring)?;
-    let all = said.as_str();
-    let first = stands_before(all, "-2 ", "+4 ") && stands_before(all, "-2 ", "+5 ");
-    let last = stands_before(all, "-4 ", "+2 ") && stands_before(all, "-5 ", "+2 ");
-    Ok(first || last)
+/// Whether it is said that the class with the isolated test has ended before the other and its test
+/// start, or starts when both have ended.
+fn are_apart(said: &str) -> bool {
+    let first = stands_before(said, "-2 ", "+4 ") && stands_before(said, "-2 ", "+5 ");
+    let last = stands_before(said, "-4 ", "+2 ") && stands_before(said, "-5 ", "+2 ");
+    first || last
 }
 
-/// Whether two, three and four bodies meet where as many workers, or one more, run them, with a ring of so many words.
-fn all_meet<R: Threads + Wait + Sync>(rt: &R, alloc: Global, ring: u32) -> Result<bool, Fail> {
-    Ok(
-        tests_end_well(rt, alloc, 2, Act::Meets(3, 4), 2, ring, 10)?
-            && tests_end_well(rt, alloc, 2, Act::Meets(3, 4), 3, ring, 10)?
-            && tests_end_well(rt, alloc, 3, Act::Meets(3, 5), 3, ring, 12)?
-            && tests_end_well(rt, alloc, 4, Act::Meets(3, 6), 4, ring, 14)?,
+/// Whether it is so in a run.
+fn keeps_apart<R: Threads + Wait + Sync>(rt: &R, alloc: Global, ring: u32) -> bool {
+    match run_of_suite(rt, alloc, ISOLATED, how(Act::Ends, 4, ring)) {
+        Some(said) => are_apart(said.as_str()),
+        None => false,
+    }
+}
+
+/// Whether so many bodies meet where so many workers run them, with a ring of so many words.
+fn meet<R: Threads + Wait + Sync>(
+    rt: &R,
+    alloc: Global,
+    bodies: u16,
+    workers: u32,
+    ring: u32,
+) -> bool {
+    let act = Act::Meets(3, 2 + usize::from(bodies));
+    let events = 6 + 2 * usize::from(bodies);
+    tests_end_well(
+        rt,
+        alloc,
+        u32::from(bodies),
+        how(act, workers, ring),
+        events,
     )
+}
+
+/// Whether two, three and four bodies meet where as many workers, or one more, run them.
+fn all_meet<R: Threads + Wait + Sync>(rt: &R, alloc: Global, ring: u32) -> bool {
+    meet(rt, alloc, 2, 2, ring)
+        && meet(rt, alloc, 2, 3, ring)
+        && meet(rt, alloc, 3, 3, ring)
+        && meet(rt, alloc, 4, 4, ring)
 }
 
 /// Whether bodies of one key and an isolated one meet none, those of one worker see that their
 /// start is told, and a worker comes to the node that is offered to it alone.
-fn all_end_well<R: Threads + Wait + Sync>(rt: &R, alloc: Global, ring: u32) -> Result<bool, Fail> {
-    Ok(
-        ends_well(rt, alloc, WRITERS, Act::Waits, 2, ring, 10)?
-            && keeps_apart(rt, alloc, 4, ring)?
-            && tests_end_well(rt, alloc, 2, Act::Waits, 1, ring, 10)?
-            && ends_well(rt, alloc, BUSY, Act::Meets(4, 5), 2, ring, 20)?,
-    )
+fn all_end_well<R: Threads + Wait + Sync>(rt: &R, alloc: Global, ring: u32) -> bool {
+    ends_well(rt, alloc, WRITERS, how(Act::Waits, 2, ring), 10)
+        && keeps_apart(rt, alloc, ring)
+        && tests_end_well(rt, alloc, 2, how(Act::Waits, 1, ring), 10)
+        && ends_well(rt, alloc, BUSY, how(Act::Meets(4, 5), 2, ring), 20)
 }
 
-/// Whether twelve bodies meet where as many workers run them, most of which start late on a small machine.
-fn many_meet<R: Threads + Wait + Sync>(rt: &R, alloc: Global, ring: u32) -> Result<bool, Fail> {
-    tests_end_well(rt, alloc, 12, Act::Meets(3, 14), 12, ring, 30)
+/// Whether all of that is so in each of so many rounds, with a wide ring and with one of one word.
+fn all_go_well<R: Threads + Wait + Sync>(rt: &R, alloc: Global, rounds: u32) -> bool {
+    for _round in 0..rounds {
+        for ring in [WIDE, 1] {
+            if !all_meet(rt, alloc, ring) || !all_end_well(rt, alloc, ring) {
+                return false;
+            }
+        }
+    }
+    true
 }
 
 #[test]
-fn bodies_run_side_by_side_where_they_may(rt: HostRuntime) -> Result<(), Fail> {
-    for _round in 0..100 {
-        assert!(rt; all_meet(&rt, rt.alloc(), WIDE)?);
-        assert!(rt; all_end_well(&rt, rt.alloc(), WIDE)?);
-        assert!(rt; all_meet(&rt, rt.alloc(), 1)?);
-        assert!(rt; all_end_well(&rt, rt.alloc(), 1)?);
-    }
-    assert!(rt; many_meet(&rt, rt.alloc(), WIDE)?);
-    assert!(rt; many_meet(&rt, rt.alloc(), 1)?);
-    Ok(())
+fn bodies_run_side_by_side_where_they_may(rt: HostRuntime) {
+    assert!(rt; all_go_well(&rt, rt.alloc(), 20));
+    // most of twelve workers start late on a small machine
+    assert!(rt; meet(&rt, rt.alloc(), 12, 12, WIDE) && meet(&rt, rt.alloc(), 12, 12, 1));
 }

@@ -4,17 +4,16 @@
 ghost use Rattle.std.specs.Prelude.{[]};
 ghost use Rattle.run_table.specs.Seats.{IsSeatOf};
 
-use crate::acting::Act;
-use crate::running::{run_of_suite, run_with_a_look};
+use crate::running::{how, is_said, run_of_suite};
 use crate::stepping::{ONE, comes_to_the_engine, is_start};
-use descriptor::{Kind, Mode, Node, NodeId, TreeBuilder};
+use descriptor::{Kind, Mode, Node, NodeId, Tree, TreeBuilder};
 use plan_events::{Job, Outcome, Pull, Status};
 use resource_locks::Plan;
 use run_table::{DispatcherSeat, RunTable, WorkerSeat};
 use std::alloc::Global;
 use std::sync::Wait;
-use std::test::Fail;
 use std::thread::Threads;
+use test_jobs::Act;
 use unique_id::{Text, UniqueId};
 
 /// A job. No plan here has one.
@@ -36,19 +35,26 @@ impl Job for AnyJob {
     }
 }
 
-/// A plan of one engine, with nothing below it.
-fn engine_plan(alloc: Global) -> Result<Plan, Fail> {
-    let mut builder = TreeBuilder::new(alloc)?;
-    let id = UniqueId::of(alloc, "engine", "e")?;
-    let name = Text::new(alloc, "e")?;
-    builder.add(
-        alloc,
-        NodeId::ROOT,
-        Node::plain(alloc, id, name, Kind::Container),
-    )?;
-    let tree = builder.finish();
-    let modes = vec![in alloc; Mode::SameThread; tree.len()]?;
-    Ok(Plan::of(alloc, tree, modes)?)
+/// The node of an engine.
+fn engine(alloc: Global) -> Option<Node> {
+    let id = UniqueId::of(alloc, "engine", "e").ok()?;
+    let name = Text::new(alloc, "e").ok()?;
+    Some(Node::plain(alloc, id, name, Kind::Container))
+}
+
+/// A tree of one engine, with nothing below it.
+fn engine_tree(alloc: Global) -> Option<Tree> {
+    let engine = engine(alloc)?;
+    let mut builder = TreeBuilder::new(alloc).ok()?;
+    builder.add(alloc, NodeId::ROOT, engine).ok()?;
+    Some(builder.finish())
+}
+
+/// Its plan.
+fn engine_plan(alloc: Global) -> Option<Plan> {
+    let tree = engine_tree(alloc)?;
+    let modes = vec![in alloc; Mode::SameThread; tree.len()].ok()?;
+    Plan::of(alloc, tree, modes).ok()
 }
 
 /// Whether the engine's start has room once the plan's start is read and that is told, and not before.
@@ -77,17 +83,23 @@ fn room_is_made(
     came && full && early && first && untold && again && free && shown && second && last
 }
 
+/// Whether it is so at this table, which nobody has used.
+fn room_is_made_at(table: &RunTable<AnyJob>, desk: &mut DispatcherSeat<AnyJob>) -> bool
+    requires { IsSeatOf table.now.table desk.old.seat }
+{
+    match desk.split(table) {
+        Some(mut worker) => room_is_made(table, &mut worker, desk),
+        None => false,
+    }
+}
+
 /// Whether it is so at a table with a ring of one word.
-fn room_is_made_in_one_word(alloc: Global) -> Result<bool, Fail> {
+fn room_is_made_in_one_word(alloc: Global) -> Option<bool> {
     let plan = engine_plan(alloc)?;
-    let Ok((table, mut desk)) = RunTable::<AnyJob>::prepare(alloc, plan, Vec::new(alloc), 1, 1)
-    else {
-        return Ok(false);
-    };
-    let Some(mut worker) = desk.split(&table) else {
-        return Ok(false);
-    };
-    Ok(room_is_made(&table, &mut worker, &mut desk))
+    match RunTable::<AnyJob>::prepare(alloc, plan, Vec::new(alloc), 1, 1) {
+        Ok((table, mut desk)) => Some(room_is_made_at(&table, &mut desk)),
+        Err(_) => None,
+    }
 }
 
 /// Whether a run by so many workers with a ring of so many words is refused so.
@@ -97,33 +109,32 @@ fn is_refused<R: Threads + Wait + Sync>(
     workers: u32,
     ring: u32,
     wanted: &str,
-) -> Result<bool, Fail> {
-    let said = run_of_suite(rt, alloc, "engine e\n", false, Act::Ends, workers, ring)?;
-    Ok(said.as_str() == wanted)
+) -> bool {
+    let said = run_of_suite(rt, alloc, "engine e\n", how(Act::Ends, workers, ring));
+    is_said(said, wanted)
 }
 
 /// Whether other numbers of workers and other rings are refused, the workers first.
-fn others_are_refused<R: Threads + Wait + Sync>(rt: &R, alloc: Global) -> Result<bool, Fail> {
-    Ok(
-        is_refused(rt, alloc, 0, 0, "refused 60")?
-            && is_refused(rt, alloc, 65, 0, "refused 61")?
-            && is_refused(rt, alloc, 1, 0, "refused 71")?
-            && is_refused(rt, alloc, 1, 16_385, "refused 71")?,
-    )
+fn others_are_refused<R: Threads + Wait + Sync>(rt: &R, alloc: Global) -> bool {
+    is_refused(rt, alloc, 0, 0, "refused 60")
+        && is_refused(rt, alloc, 65, 0, "refused 61")
+        && is_refused(rt, alloc, 1, 0, "refused 71")
+        && is_refused(rt, alloc, 1, 16_385, "refused 71")
 }
 
 /// Whether the body of the test has not begun while the listener is still told the start of its class.
-fn body_waits<R: Threads + Wait + Sync>(rt: &R, alloc: Global, workers: u32) -> Result<bool, Fail> {
-    let said = run_with_a_look(rt, alloc, ONE, workers, 3)?;
-    Ok(said.as_str() == "+0 +1 +2 +3 -3 -2 -1 -0 unused asked 0 told 0")
+fn body_waits<R: Threads + Wait + Sync>(rt: &R, alloc: Global, workers: u32) -> bool {
+    let mut how = how(Act::Meets(3, 3), workers, 1);
+    how.looks_for = Some(3);
+    let said = run_of_suite(rt, alloc, ONE, how);
+    is_said(said, "+0 +1 +2 +3 -3 -2 -1 -0 unused asked 0 told 0")
 }
 
 #[test]
-fn room_is_made_by_reading(rt: HostRuntime) -> Result<(), Fail> {
-    assert!(rt; room_is_made_in_one_word(rt.alloc())?);
-    assert!(rt; others_are_refused(&rt, rt.alloc())?);
+fn room_is_made_by_reading(rt: HostRuntime) {
+    assert!(rt; room_is_made_in_one_word(rt.alloc()).unwrap_or(false));
+    assert!(rt; others_are_refused(&rt, rt.alloc()));
     for workers in 1..=3 {
-        assert!(rt; body_waits(&rt, rt.alloc(), workers)?);
+        assert!(rt; body_waits(&rt, rt.alloc(), workers));
     }
-    Ok(())
 }

@@ -1,12 +1,11 @@
 //! Runs whose events stand in one order, whoever takes the nodes.
 
-use crate::acting::Act;
 use crate::meeting::tests_end_well;
-use crate::running::{WIDE, run_of_suite, run_without_jobs};
+use crate::running::{WIDE, how, is_said, run_of_suite, run_without_jobs};
 use std::alloc::Global;
 use std::sync::Wait;
-use std::test::Fail;
 use std::thread::Threads;
+use test_jobs::Act;
 
 /// What is to happen, and below it the suite: nothing; a test; a test that is aborted; a class
 /// whose body fails, and the same before an after-body; a disabled class; a test that fails; a
@@ -106,18 +105,19 @@ fn goes_as_wanted<R: Threads + Wait + Sync>(
     row: &str,
     workers: u32,
     ring: u32,
-) -> Result<bool, Fail> {
+) -> bool {
+    let mut how = how(Act::Ends, workers, ring);
     let (wanted, suite) = row.split_once('\n').unwrap_or((row, ""));
     if let Some(wanted) = wanted.strip_prefix("without jobs ") {
-        let said = run_without_jobs(rt, alloc, suite, workers, ring)?;
-        return Ok(said.as_str() == wanted);
+        return is_said(run_without_jobs(rt, alloc, suite, how), wanted);
     }
-    let (fail_fast, wanted) = match wanted.strip_prefix("fail-fast ") {
-        Some(rest) => (true, rest),
-        None => (false, wanted),
-    };
-    let said = run_of_suite(rt, alloc, suite, fail_fast, Act::Ends, workers, ring)?;
-    Ok(said.as_str() == wanted)
+    match wanted.strip_prefix("fail-fast ") {
+        Some(wanted) => {
+            how.fail_fast = true;
+            is_said(run_of_suite(rt, alloc, suite, how), wanted)
+        }
+        None => is_said(run_of_suite(rt, alloc, suite, how), wanted),
+    }
 }
 
 /// Whether all rows do so.
@@ -126,48 +126,43 @@ fn all_go_as_wanted<R: Threads + Wait + Sync>(
     alloc: Global,
     workers: u32,
     ring: u32,
-) -> Result<bool, Fail> {
+) -> bool {
     for row in ROWS.split("==\n") {
-        if !goes_as_wanted(rt, alloc, row, workers, ring)? {
-            return Ok(false);
+        if !goes_as_wanted(rt, alloc, row, workers, ring) {
+            return false;
         }
     }
-    Ok(true)
+    true
 }
 
-/// Whether all rows do so whoever takes the nodes, with a ring of so many words.
-fn all_go_alike<R: Threads + Wait + Sync>(rt: &R, alloc: Global, ring: u32) -> Result<bool, Fail> {
-    Ok(
-        all_go_as_wanted(rt, alloc, 1, ring)?
-            && all_go_as_wanted(rt, alloc, 2, ring)?
-            && all_go_as_wanted(rt, alloc, 4, ring)?,
-    )
+/// Whether all rows do so in each of so many rounds, whoever takes the nodes, with a ring of so many words.
+fn all_go_alike<R: Threads + Wait + Sync>(rt: &R, alloc: Global, ring: u32, rounds: u32) -> bool {
+    for _round in 0..rounds {
+        for workers in [1, 2, 4] {
+            if !all_go_as_wanted(rt, alloc, workers, ring) {
+                return false;
+            }
+        }
+    }
+    true
 }
 
-/// Whether a plan of 4,095 nodes below its own runs to its end, with a ring of so many words.
-fn large_ends_well<R: Threads + Wait + Sync>(
-    rt: &R,
-    alloc: Global,
-    ring: u32,
-) -> Result<bool, Fail> {
-    tests_end_well(rt, alloc, 4093, Act::Ends, 4, ring, 8192)
+/// Whether a plan of so many tests and three nodes above them runs to its end, with a ring of so many words.
+fn large_ends_well<R: Threads + Wait + Sync>(rt: &R, alloc: Global, tests: u16, ring: u32) -> bool {
+    let events = 2 * (usize::from(tests) + 3);
+    tests_end_well(rt, alloc, u32::from(tests), how(Act::Ends, 4, ring), events)
 }
 
 #[test]
-fn runs_go_alike_whatever_the_number_of_workers(rt: HostRuntime) -> Result<(), Fail> {
-    for _round in 0..100 {
-        assert!(rt; all_go_alike(&rt, rt.alloc(), WIDE)?);
-    }
-    assert!(rt; large_ends_well(&rt, rt.alloc(), WIDE)?);
-    assert!(rt; large_ends_well(&rt, rt.alloc(), 16_384)?);
-    Ok(())
+fn runs_go_alike_whatever_the_number_of_workers(rt: HostRuntime) {
+    assert!(rt; all_go_alike(&rt, rt.alloc(), WIDE, 20));
+    assert!(rt; large_ends_well(&rt, rt.alloc(), 4093, WIDE));
+    assert!(rt; large_ends_well(&rt, rt.alloc(), 4093, 16_384));
 }
 
 #[test]
-fn runs_go_alike_in_a_ring_of_one_word(rt: HostRuntime) -> Result<(), Fail> {
-    for _round in 0..20 {
-        assert!(rt; all_go_alike(&rt, rt.alloc(), 1)?);
-    }
-    assert!(rt; large_ends_well(&rt, rt.alloc(), 1)?);
-    Ok(())
+fn runs_go_alike_in_a_ring_of_one_word(rt: HostRuntime) {
+    assert!(rt; all_go_alike(&rt, rt.alloc(), 1, 5));
+    // more events than 12 bits count
+    assert!(rt; large_ends_well(&rt, rt.alloc(), 2100, 1));
 }

@@ -6,23 +6,22 @@ ghost use Rattle.scheduling.specs.declared.task.Task.TheVariants.{Free};
 ghost use Rattle.table_rule.specs.Picture.{about_of};
 ghost use Rattle.table_rule.specs.Plays.{dispatcher};
 ghost use Rattle.run_table.specs.Seats.{IsSeatOf};
-ghost use Rattle.thread_tests.specs.Acting.{replies_left};
+ghost use Rattle.test_jobs.specs.Acting.{replies_left};
 ghost use Rattle.worker_pool.specs.Premises.{JobsMayAnswer, MayAnswer};
 ghost use Rattle.worker_pool.specs.Reports.{run_of};
 ghost use Rattle.worker_pool.specs.Telling.{KeepsTexts, left_to_read};
 
-use crate::acting::{Act, Actor};
-use crate::board::Board;
-use crate::casting::cast;
-use crate::running::{WIDE, one_watcher, push_events, staged};
+use crate::running::{WIDE, push_events, staged};
+use crate::watching::{audience_of_one, board_of, one_watcher};
 use descriptor::NodeId;
-use listeners::{Audience, Listener};
+use listeners::Audience;
 use plan_events::{Event, EventKind, Job, Texts};
 use resource_locks::Plan;
 use run_table::{DispatcherSeat, Jobs, RunTable, WorkerSeat};
-use std::alloc::{AllocError, Global};
+use std::alloc::Global;
 use std::sync::{Arc, Wait};
-use std::test::Fail;
+use suite_text::Script;
+use test_jobs::{Act, Actor, Board, cast};
 use worker_pool::{Beds, Sources, dispatch_one, work};
 
 /// One test.
@@ -131,16 +130,29 @@ fn tells_at_last(
 }
 
 /// Whether the listener was told just the first events, one a call, and no more than there are.
-fn has_first(
-    alloc: Global,
-    audience: &Audience,
-    calls: usize,
-    is_told: bool,
-) -> Result<bool, AllocError> {
+fn has_first(alloc: Global, audience: &Audience, calls: usize, is_told: bool) -> bool {
     let mut told = String::new(alloc);
-    push_events(&mut told, audience.got(0).unwrap_or(&[]))?;
+    let is_said = push_events(&mut told, audience.got(0).unwrap_or(&[])).is_ok();
     let wanted = EVENTS.get(..3 * calls.min(8)).unwrap_or("");
-    Ok(told.as_str() == wanted && is_told == (calls > 0 && calls <= 8))
+    is_said && told.as_str() == wanted && is_told == (calls > 0 && calls <= 8)
+}
+
+/// Whether the only worker did all its work at the table.
+fn is_worked<R: Wait>(
+    rt: &R,
+    alloc: Global,
+    table: &RunTable<Actor>,
+    worker: &mut WorkerSeat<Actor>,
+) -> Option<()>
+    requires jobs { MayAnswer replies_left (about_of table.now.table.shared.key) }
+    requires worker { IsSeatOf table.now.table worker.old.seat }
+    requires free { worker.old.task ≡ Free }
+    requires empty { worker.old.hand ≡ None }
+{
+    let beds = Arc::new(alloc, Beds::new(alloc, 1).ok()?).ok()?;
+    let mut sources = Sources::new(alloc, &beds, 0).ok()?;
+    work(rt, table, worker, &mut sources);
+    Some(())
 }
 
 /// Whether the listener is told what it should be, where the only worker does this at the table.
@@ -153,7 +165,7 @@ fn is_told_at<R: Wait>(
     audience: &mut Audience,
     texts: &mut Texts,
     course: Course,
-) -> Result<bool, AllocError>
+) -> bool
     requires jobs { MayAnswer replies_left (about_of table.now.table.shared.key) }
     requires worker { IsSeatOf table.now.table worker.old.seat }
     requires free { worker.old.task ≡ Free }
@@ -165,13 +177,11 @@ fn is_told_at<R: Wait>(
     requires texts { KeepsTexts replies_left desk.old.seat.me.0 texts.old }
 {
     match course {
-        Course::Begins => Ok(starts_are_told_when_shown(table, worker, desk, audience, texts)),
+        Course::Begins => starts_are_told_when_shown(table, worker, desk, audience, texts),
         Course::Works(calls) => {
-            let beds = Arc::new(alloc, Beds::new(alloc, 1)?)?;
-            let mut sources = Sources::new(alloc, &beds, 0)?;
-            work(rt, table, worker, &mut sources);
+            let is_worked = is_worked(rt, alloc, table, worker).is_some();
             let is_told = tells_at_last(table, desk, audience, texts, calls);
-            has_first(alloc, audience, calls, is_told)
+            is_worked && has_first(alloc, audience, calls, is_told)
         }
     }
 }
@@ -182,57 +192,69 @@ fn is_told_of<R: Wait>(
     alloc: Global,
     plan: Plan,
     jobs: Jobs<Actor>,
-    mut audience: Audience,
+    audience: &mut Audience,
     course: Course,
     ring: u32,
-) -> Result<bool, AllocError>
+) -> Option<bool>
     requires { JobsMayAnswer replies_left (run_of plan 1 ring jobs.items) }
 {
     if !audience.fresh() {
-        return Ok(false);
+        return None;
     }
-    audience.prepare(&plan)?;
-    let mut texts = Texts::new(alloc, plan.tree())?;
-    let Ok((table, mut desk)) = RunTable::prepare(alloc, plan, jobs, 1, ring) else {
-        return Ok(false);
-    };
-    let Some(mut worker) = desk.split(&table) else {
-        return Ok(false);
-    };
-    is_told_at(
+    audience.prepare(&plan).ok()?;
+    let mut texts = Texts::new(alloc, plan.tree()).ok()?;
+    let (table, mut desk) = RunTable::prepare(alloc, plan, jobs, 1, ring).ok()?;
+    let mut worker = desk.split(&table)?;
+    Some(is_told_at(
         rt,
         alloc,
         &table,
         &mut worker,
         &mut desk,
-        &mut audience,
+        audience,
         &mut texts,
         course,
-    )
+    ))
+}
+
+/// An audience of one watcher.
+fn one_audience(alloc: Global, board: &Arc<Board>) -> Option<Audience> {
+    audience_of_one(alloc, one_watcher(alloc, Act::Ends, board, None)?)
+}
+
+/// Whether it is so of this plan, whose bodies end as they are told.
+fn is_told_by<R: Wait>(
+    rt: &R,
+    alloc: Global,
+    plan: Plan,
+    scripts: &[Script],
+    board: &Arc<Board>,
+    course: Course,
+) -> Option<bool> {
+    let mut audience = one_audience(alloc, board)?;
+    let jobs = cast(alloc, &plan, scripts, Act::Ends, board).ok()?;
+    is_told_of(rt, alloc, plan, jobs, &mut audience, course, course.ring())
 }
 
 /// Whether it is so of the suite with one test.
-fn is_told<R: Wait>(rt: &R, alloc: Global, course: Course) -> Result<bool, Fail> {
-    let (plan, scripts) = staged(alloc, ONE, false)?;
-    let board = Arc::new(alloc, Board::new(alloc, 0)?)?;
-    let jobs = cast(alloc, &plan, scripts.as_slice(), Act::Ends, &board)?;
-    let watcher = one_watcher(alloc, Act::Ends, &board)?;
-    let mut listeners: Vec<Box<dyn Listener>> = Vec::new(alloc);
-    listeners.push(Box::new(alloc, watcher)?)?;
-    match Audience::new(listeners) {
-        Ok(audience) => {
-            let ring = course.ring();
-            Ok(is_told_of(rt, alloc, plan, jobs, audience, course, ring)?)
+fn is_told<R: Wait>(rt: &R, alloc: Global, course: Course) -> Option<bool> {
+    let board = board_of(alloc)?;
+    let (plan, scripts) = staged(alloc, ONE)?;
+    is_told_by(rt, alloc, plan, scripts.as_slice(), &board, course)
+}
+
+/// Whether it is so where the dispatcher is called so often once all is done, for each number of calls up to ten.
+fn all_are_told<R: Wait>(rt: &R, alloc: Global) -> bool {
+    for calls in 0..10 {
+        if is_told(rt, alloc, Course::Works(calls)) != Some(true) {
+            return false;
         }
-        Err(_) => Ok(false),
     }
+    true
 }
 
 #[test]
-fn events_are_told_one_by_one_once_they_are_shown(rt: HostRuntime) -> Result<(), Fail> {
-    assert!(rt; is_told(&rt, rt.alloc(), Course::Begins)?);
-    for calls in 0..10 {
-        assert!(rt; is_told(&rt, rt.alloc(), Course::Works(calls))?);
-    }
-    Ok(())
+fn events_are_told_one_by_one_once_they_are_shown(rt: HostRuntime) {
+    assert!(rt; is_told(&rt, rt.alloc(), Course::Begins) == Some(true));
+    assert!(rt; all_are_told(&rt, rt.alloc()));
 }

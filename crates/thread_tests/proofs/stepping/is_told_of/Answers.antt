@@ -3,7 +3,7 @@ use Rattle.std.proofs.Common.{◌≡◌, ◌∙◌, List, [], ap}
 use Rattle.std.specs.List.{All}
 use Rattle.plan_events.specs.declared.event.Event.{Event}
 use Rattle.table_rule.specs.Plays.{dispatcher}
-use Rattle.thread_tests.specs.Acting.{replies_left}
+use Rattle.test_jobs.specs.Acting.{replies_left}
 use Rattle.worker_pool.specs.Premises.{MayAnswer}
 use Rattle.worker_pool.specs.Reports.{run_of}
 use Rattle.worker_pool.proofs.Handed.{may_answer}

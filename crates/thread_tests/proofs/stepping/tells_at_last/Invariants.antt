@@ -3,7 +3,7 @@ use Rattle.std.proofs.Common.{◌≡◌, ◌≤◌}
 use Rattle.std.specs.List.{All}
 use Rattle.table_rule.specs.Plays.{dispatcher}
 use Rattle.run_table.specs.Seats.{IsSeatOf}
-use Rattle.thread_tests.specs.Acting.{replies_left}
+use Rattle.test_jobs.specs.Acting.{replies_left}
 use Rattle.worker_pool.specs.Telling.{KeepsTexts, left_to_read}
 use Rattle.thread_tests.proofs.stepping.tells_at_last.Given as goal
 

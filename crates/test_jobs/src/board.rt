@@ -66,7 +66,7 @@ impl Board {
     }
 
     /// The listener was told a text of so many bytes.
-    pub(crate) fn hear(&self, bytes: usize) {
+    pub fn hear(&self, bytes: usize) {
         self.heard.fetch_add(bytes as u64, Ordering::SeqCst);
     }
 
@@ -76,7 +76,7 @@ impl Board {
     }
 
     /// A body began before its start could be shown.
-    pub(crate) fn hurry(&self) {
+    pub fn hurry(&self) {
         self.early.store(true, Ordering::SeqCst);
     }
 

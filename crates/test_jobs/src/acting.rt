@@ -1,7 +1,7 @@
 //! Jobs that end as they are told, or by what they see of others.
 
 ghost use Rattle.std.specs.Prelude.{◌≡◌};
-ghost use Rattle.thread_tests.specs.Acting.{replies_left};
+ghost use Rattle.test_jobs.specs.Acting.{replies_left};
 
 use crate::board::Board;
 use plan_events::{Job, Outcome, Pull, Status};
@@ -77,7 +77,7 @@ fn sees(board: &Board, first: usize, last: usize, turns: u64) -> bool {
 }
 
 /// Looks for the flag of this node for a while, and says whether it saw it set.
-pub(crate) fn sees_begin(board: &Board, node: usize) -> bool {
+pub fn sees_begin(board: &Board, node: usize) -> bool {
     sees(board, node, node, SOME_TURNS)
 }
 

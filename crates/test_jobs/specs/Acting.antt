@@ -3,8 +3,8 @@ use Rattle.std.specs.Prelude.{ℕ, ◌<◌, Bool, true, false, List, [], ◌∷�
 use Rattle.plan_events.specs.Jobs.{unpulled}
 use Rattle.plan_events.specs.declared.outcome.Outcome.{Outcome}
 use Rattle.plan_events.specs.declared.outcome.Reply.{Reply}
-use Rattle.thread_tests.specs.declared.acting.Ends.{Ends}
-use Rattle.thread_tests.specs.declared.acting.Actor.{Actor}
+use Rattle.test_jobs.specs.declared.acting.Ends.{Ends}
+use Rattle.test_jobs.specs.declared.acting.Actor.{Actor}
 
 abbrev pub reply : ℕ → Outcome → Reply
 reply pulls outcome = record { pulls = pulls; outcome = outcome }

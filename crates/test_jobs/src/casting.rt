@@ -2,10 +2,11 @@
 
 ghost use Rattle.std.specs.Prelude.{◌<◌, ℕ, IfOk, OnOk, length};
 ghost use Rattle.plan_events.specs.Jobs.{unpulled};
+ghost use Rattle.resource_locks.specs.Plans.{PlanParts};
 ghost use Rattle.table_rule.specs.Slots.{slot_count};
 ghost use Rattle.worker_pool.specs.Premises.{JobsMayAnswer};
 ghost use Rattle.worker_pool.specs.Reports.{run_of};
-ghost use Rattle.thread_tests.specs.Acting.{replies_left, AreFresh};
+ghost use Rattle.test_jobs.specs.Acting.{replies_left, AreFresh};
 
 use crate::acting::{Act, Actor, Ends};
 use crate::board::Board;
@@ -111,4 +112,13 @@ pub fn cast(
         JobsMayAnswer replies_left (run_of plan.now workers ring jobs.items)) }
 {
     filled(alloc, plan, scripts, act, board)
+}
+
+/// No job of any plan.
+#[tactic(auto, using(crate::proofs::Replying::none_fresh, crate::proofs::Replying::may_answer))]
+pub fn no_jobs(alloc: Global) -> Jobs<Actor>
+    ensures { (plan : PlanParts) (workers ring : ℕ) →
+        JobsMayAnswer replies_left (run_of plan workers ring result.items) }
+{
+    Vec::new(alloc)
 }

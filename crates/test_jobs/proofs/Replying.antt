@@ -9,9 +9,9 @@ use Rattle.resource_locks.specs.Plans.{PlanParts}
 use Rattle.table_rule.specs.Slots.{job_with}
 use Rattle.worker_pool.specs.Premises.{JobsMayAnswer}
 use Rattle.worker_pool.specs.Reports.{run_of}
-use Rattle.thread_tests.specs.declared.acting.Actor.{Actor}
-use Rattle.thread_tests.specs.declared.acting.Ends.{Ends}
-use Rattle.thread_tests.specs.Acting.{reply, left_of, replies_left, AreFresh}
+use Rattle.test_jobs.specs.declared.acting.Actor.{Actor}
+use Rattle.test_jobs.specs.declared.acting.Ends.{Ends}
+use Rattle.test_jobs.specs.Acting.{reply, left_of, replies_left, AreFresh}
 
 -- a job that was run has ended well, or badly if it was not asked
 pub ends_well : (ends : Ends) (left : Option Ends) (fresh : Bool) (pulls : ℕ) → left ≡ Some ends → 0 < length (unpulled (left_of left fresh pulls)) → HasOutcome (left_of left fresh pulls) ends.well
