@@ -1,7 +1,10 @@
 //! What is handed in: suites, and what is made of them.
 
+ghost use Rattle.std.specs.Prelude.{◌≡◌, IfOk, length};
+ghost use Rattle.descriptor.specs.Nodes.{size};
+
 use config_params::Settings;
-use descriptor::BodyId;
+use descriptor::{BodyId, Mode};
 use exec_mode::modes;
 use plan_events::Reply;
 use resource_locks::Plan;
@@ -59,11 +62,18 @@ pub(crate) fn settings_of(suite: &Suite) -> Result<Settings, AllocError> {
     Settings::read(&suite.properties, 4).map_err(|_| AllocError)
 }
 
+/// The modes of a suite's nodes.
+pub(crate) fn modes_of(alloc: Global, suite: &Suite) -> Result<Vec<Mode>, AllocError>
+    ensures { IfOk result (λ modes. length modes.items ≡ size suite.now.tree) }
+{
+    let settings = settings_of(suite)?;
+    modes(alloc, &suite.tree, &settings)
+}
+
 /// The plan of a suite.
 pub(crate) fn plan_of(alloc: Global, text: &str) -> Result<Plan, AllocError> {
     let suite = suite_of(alloc, text)?;
-    let settings = settings_of(&suite)?;
-    let modes = modes(alloc, &suite.tree, &settings)?;
+    let modes = modes_of(alloc, &suite)?;
     Plan::of(alloc, suite.tree, modes).map_err(|_| AllocError)
 }
 
@@ -72,11 +82,30 @@ pub(crate) fn scripts_of(alloc: Global, text: &str) -> Result<Vec<Script>, Alloc
     Ok(suite_of(alloc, text)?.scripts)
 }
 
-/// What the bodies of a suite answer.
-pub(crate) fn answers_of(alloc: Global, text: &str) -> Result<Answers, AllocError> {
+/// What these bodies answer.
+fn answers_by(alloc: Global, scripts: Vec<Script>) -> Result<Answers, AllocError> {
     let mut replies: Vec<(BodyId, Reply)> = Vec::new(alloc);
-    for script in scripts_of(alloc, text)? {
+    for script in scripts {
         replies.push((script.body, script.reply))?;
     }
     Ok(Answers::of(replies))
+}
+
+/// What the bodies of a suite answer.
+fn answers_of(alloc: Global, text: &str) -> Result<Answers, AllocError> {
+    answers_by(alloc, scripts_of(alloc, text)?)
+}
+
+/// A plan, and what its bodies answer.
+#[derive(Drop)]
+pub(crate) struct Run {
+    pub(crate) plan: Plan,
+    pub(crate) answers: Answers,
+}
+
+/// The run of a suite.
+pub(crate) fn run_of(alloc: Global, text: &str) -> Result<Run, AllocError> {
+    let answers = answers_of(alloc, text)?;
+    let plan = plan_of(alloc, text)?;
+    Ok(Run { plan, answers })
 }

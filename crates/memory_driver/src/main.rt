@@ -3,10 +3,11 @@
 //! which growths are the call's.
 #![tactic(auto)]
 
+mod calls;
 mod inputs;
 mod lists;
-mod marks;
 mod plans;
+mod printer;
 mod printing;
 mod reading;
 mod rows;
@@ -14,13 +15,15 @@ mod runs;
 mod tables;
 mod values;
 
+use crate::printer::Printer;
 use crate::rows::answer;
 use std::io;
 
 fn main(rt: HostRuntime) -> io::Result<()> {
     let alloc = rt.alloc();
+    let mut out = Printer::new(io::writer(&rt));
     for line in rt.lines(alloc) {
-        answer(&rt, alloc, &mut io::writer(&rt), line?.as_str())?;
+        answer(&rt, alloc, &mut out, line?.as_str())?;
     }
-    Ok(())
+    out.finish()
 }

@@ -1,15 +1,45 @@
-//! Calls that print what happened.
+//! Calls that print what happened, and the one that finds steps for it.
 
-use crate::inputs::{SHOP, answers_of, plan_of};
-use crate::marks::{begin, end, tell};
+use crate::calls::{Call, note, push_refusal};
+use crate::inputs::{Run, SHOP, run_of};
+use crate::printer::Printer;
 use listeners::{Theme, feed_text, summary_text, tree_text};
 use plan_events::{Event, Texts};
-use resource_locks::Plan;
 use sched_core::{drive, texts_of};
+use schedules::schedule_of;
+use scheduling::Step;
 use std::alloc::{AllocError, Global};
-use std::io::{Result as IoResult, Write};
+use std::io::Write;
 
-/// What is printed of a run.
+/// What happened in a run, and the texts of its nodes.
+#[derive(Drop)]
+struct History {
+    events: Vec<Event>,
+    texts: Texts,
+}
+
+/// What happens in a run by the fixed schedule.
+fn history_of(alloc: Global, run: &Run) -> Result<History, AllocError> {
+    let events = drive(alloc, &run.plan, &run.answers)?.published;
+    let texts = texts_of(alloc, &run.plan, &run.answers, events.as_slice())?;
+    Ok(History { events, texts })
+}
+
+/// A run, and what happened in it.
+#[derive(Drop)]
+pub(crate) struct Past {
+    run: Run,
+    history: History,
+}
+
+/// The run of a suite with all that a line may declare, by the fixed schedule.
+fn past_of_shop(alloc: Global) -> Result<Past, AllocError> {
+    let run = run_of(alloc, SHOP)?;
+    let history = history_of(alloc, &run)?;
+    Ok(Past { run, history })
+}
+
+/// `feed_text`, `tree_text` or `summary_text`.
 #[derive(Clone, Copy)]
 pub(crate) enum Print {
     Feed,
@@ -17,44 +47,61 @@ pub(crate) enum Print {
     Summary,
 }
 
-/// A run of a plan.
+impl Call for Print {
+    type Input = Past;
+
+    type Answer = Result<String, AllocError>;
+
+    fn make(self, alloc: Global, past: &Past) -> Result<String, AllocError> {
+        let (plan, history) = (&past.run.plan, &past.history);
+        match self {
+            Print::Feed => feed_text(alloc, plan, &history.events, &history.texts),
+            Print::Tree => tree_text(alloc, plan, &history.events, &history.texts, Theme::Unicode),
+            Print::Summary => summary_text(alloc, plan, &history.events),
+        }
+    }
+
+    fn push(text: &mut String, printed: &Result<String, AllocError>) -> Result<(), AllocError> {
+        match printed {
+            Ok(printed) => text.push_str(printed.as_str()),
+            Err(_) => push_refusal(text, 0),
+        }
+    }
+}
+
+/// `schedule_of`, of the history that the fixed schedule publishes.
 #[derive(Drop)]
-struct History {
-    plan: Plan,
-    events: Vec<Event>,
-    texts: Texts,
-}
+pub(crate) struct Schedules;
 
-/// A run by the fixed schedule.
-fn ran(alloc: Global) -> Result<History, AllocError> {
-    let plan = plan_of(alloc, SHOP)?;
-    let answers = answers_of(alloc, SHOP)?;
-    let events = drive(alloc, &plan, &answers)?.published;
-    let texts = texts_of(alloc, &plan, &answers, events.as_slice())?;
-    Ok(History {
-        plan,
-        events,
-        texts,
-    })
-}
+impl Call for Schedules {
+    type Input = Past;
 
-/// What is printed of this run.
-fn printed(alloc: Global, print: Print, ran: &History) -> Result<String, AllocError> {
-    match print {
-        Print::Feed => feed_text(alloc, &ran.plan, &ran.events, &ran.texts),
-        Print::Tree => tree_text(alloc, &ran.plan, &ran.events, &ran.texts, Theme::Unicode),
-        Print::Summary => summary_text(alloc, &ran.plan, &ran.events),
+    type Answer = Result<Option<Vec<Step>>, AllocError>;
+
+    fn make(self, alloc: Global, past: &Past) -> Result<Option<Vec<Step>>, AllocError> {
+        let run = &past.run;
+        let events = past.history.events.as_slice();
+        schedule_of(alloc, &run.plan, &run.answers, 1, events)
+    }
+
+    fn push(
+        text: &mut String,
+        steps: &Result<Option<Vec<Step>>, AllocError>,
+    ) -> Result<(), AllocError> {
+        match steps {
+            Ok(steps) => write!(text, "{steps:?}"),
+            Err(_) => push_refusal(text, 0),
+        }
     }
 }
 
-/// `feed_text`, `tree_text` or `summary_text`.
-pub(crate) fn prints<W: Write>(alloc: Global, out: &mut W, print: Print) -> IoResult<()> {
-    let ran = ran(alloc)?;
-    begin(out, "")?;
-    let text = printed(alloc, print, &ran);
-    end(out)?;
-    match text {
-        Ok(text) => tell(out, Ok(text)),
-        Err(_) => tell(out, format!(in alloc; "refused 0")),
-    }
+/// Makes a call that reads what happened.
+pub(crate) fn looks_back<C: Call<Input = Past> + Drop, W: Write>(
+    alloc: Global,
+    out: &mut Printer<W>,
+    call: C,
+) -> Result<(), AllocError> {
+    let past = past_of_shop(alloc)?;
+    note(alloc, out, &past, call);
+    Ok(())
 }

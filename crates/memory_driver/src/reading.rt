@@ -1,84 +1,130 @@
 //! Calls that read texts, or find what is to run.
 
+use crate::calls::{Call, note, push_refusal};
 use crate::inputs::{SHOP, STEPS, suite_of};
-use crate::marks::{begin, end, tell};
-use crate::values::{options_said, suite_said};
+use crate::printer::Printer;
+use crate::values::{push_options, push_suite};
 use command_line::read_options;
 use descriptor::Tree;
 use launcher::{LaunchFault, Options};
 use selectors::{Request, SelectFault, Selector, SelectorKind, discover};
 use std::alloc::{AllocError, Global};
-use std::io::{Result as IoResult, Write};
+use std::io::Write;
 use suite_text::{Suite, SuiteFault};
 use tag_expr::TagExpr;
 
-/// What is said of a suite that was parsed.
-fn parsed(alloc: Global, suite: &Result<Suite, SuiteFault>) -> Result<String, AllocError> {
-    match suite {
-        Ok(suite) => suite_said(alloc, suite),
-        Err(fault) => format!(in alloc; "refused {}", fault.number()),
+/// `Suite::parse`.
+#[derive(Drop)]
+struct Parses;
+
+impl Call for Parses {
+    type Input = ();
+
+    type Answer = Result<Suite, SuiteFault>;
+
+    fn make(self, alloc: Global, _input: &()) -> Result<Suite, SuiteFault> {
+        Suite::parse(alloc, SHOP)
+    }
+
+    fn push(text: &mut String, suite: &Result<Suite, SuiteFault>) -> Result<(), AllocError> {
+        match suite {
+            Ok(suite) => push_suite(text, suite),
+            Err(fault) => push_refusal(text, fault.number()),
+        }
     }
 }
 
 /// `Suite::parse`.
-pub(crate) fn parse<W: Write>(alloc: Global, out: &mut W) -> IoResult<()> {
-    begin(out, "")?;
-    let suite = Suite::parse(alloc, SHOP);
-    end(out)?;
-    tell(out, parsed(alloc, &suite))
+pub(crate) fn parse<W: Write>(alloc: Global, out: &mut Printer<W>) {
+    note(alloc, out, &(), Parses);
 }
 
 /// The words of a command line, the program's name before them.
-fn words(alloc: Global) -> Result<Vec<String>, AllocError> {
-    let mut words = Vec::new(alloc);
-    for word in [
-        "console",
-        "--select-class",
-        "shop.Orders",
-        "--select-unique-id",
-        "[engine:shop]/[class:shop.Mail]",
-        "--select-method",
-        "shop.Mail#sends()",
-        "--include-tag",
-        "!slow & (a | b)",
-        "--exclude-tag",
-        "quick",
-        "--config",
-        "junit.jupiter.execution.parallel.enabled=true",
-        "--system",
-        "junit.jupiter.execution.parallel.mode.default=concurrent",
-        "--details",
-        "testfeed",
-        "--fail-fast",
-        "--schedule",
-        "--replay",
-        STEPS,
-    ] {
-        words.push(String::from_str(alloc, word)?)?;
-    }
-    Ok(words)
+const WORDS: [&str; 20] = [
+    "console",
+    "--select-class",
+    "shop.Orders",
+    "--select-unique-id",
+    "[engine:shop]/[class:shop.Mail]",
+    "--select-method",
+    "shop.Mail#sends()",
+    "--include-tag",
+    "!slow & (a | b)",
+    "--exclude-tag",
+    "quick",
+    "--config",
+    "junit.jupiter.execution.parallel.enabled=true",
+    "--system",
+    "junit.jupiter.execution.parallel.mode.default=concurrent",
+    "--details",
+    "testfeed",
+    "--fail-fast",
+    "--schedule",
+    "--replay",
+];
+
+/// Adds a word.
+fn push_word(alloc: Global, words: &mut Vec<String>, word: &str) -> Result<(), AllocError> {
+    words.push(String::from_str(alloc, word)?)?;
+    Ok(())
 }
 
-/// What is said of options that were read.
-fn read(alloc: Global, options: &Result<Options, LaunchFault>) -> Result<String, AllocError> {
-    match options {
-        Ok(options) => options_said(alloc, options),
-        Err(fault) => format!(in alloc; "refused {}", fault.number()),
+/// Adds the words, and behind them the steps of a replay.
+fn push_words(alloc: Global, words: &mut Vec<String>) -> Result<(), AllocError> {
+    for word in WORDS {
+        push_word(alloc, words, word)?;
+    }
+    push_word(alloc, words, STEPS)
+}
+
+/// `read_options`.
+#[derive(Drop)]
+struct Reads;
+
+impl Call for Reads {
+    type Input = Vec<String>;
+
+    type Answer = Result<Options, LaunchFault>;
+
+    fn make(self, alloc: Global, words: &Vec<String>) -> Result<Options, LaunchFault> {
+        read_options(alloc, words.as_slice())
+    }
+
+    fn push(text: &mut String, options: &Result<Options, LaunchFault>) -> Result<(), AllocError> {
+        match options {
+            Ok(options) => push_options(text, options),
+            Err(fault) => push_refusal(text, fault.number()),
+        }
     }
 }
 
 /// `read_options`.
-pub(crate) fn options<W: Write>(alloc: Global, out: &mut W) -> IoResult<()> {
-    let words = words(alloc)?;
-    begin(out, "")?;
-    let options = read_options(alloc, words.as_slice());
-    end(out)?;
-    tell(out, read(alloc, &options))
+pub(crate) fn options<W: Write>(alloc: Global, out: &mut Printer<W>) -> Result<(), AllocError> {
+    let mut words = Vec::new(alloc);
+    push_words(alloc, &mut words)?;
+    note(alloc, out, &words, Reads);
+    Ok(())
 }
 
-/// The selector of a class.
-fn class(alloc: Global, name: &str) -> Result<Selector, AllocError> {
-    Selector::parse(alloc, SelectorKind::Class, name).map_err(|_| AllocError)
+/// Adds the selector of a class.
+fn push_class(alloc: Global, request: &mut Request, name: &str) -> Result<(), AllocError> {
+    let class = Selector::parse(alloc, SelectorKind::Class, name).map_err(|_| AllocError)?;
+    request.selectors.push(class)?;
+    Ok(())
+}
+
+/// Adds an expression of tags that are left out.
+fn push_excluded(alloc: Global, request: &mut Request) -> Result<(), AllocError> {
+    let expression = TagExpr::parse(alloc, "slow & !db").map_err(|_| AllocError)?;
+    request.exclude.push(expression)?;
+    Ok(())
+}
+
+/// Adds what is to run.
+fn push_asked(alloc: Global, request: &mut Request) -> Result<(), AllocError> {
+    push_class(alloc, request, "shop.Reports")?;
+    push_class(alloc, request, "shop.Mail$Inner")?;
+    push_excluded(alloc, request)
 }
 
 /// What is to run.
@@ -88,27 +134,42 @@ fn request(alloc: Global) -> Result<Request, AllocError> {
         include: Vec::new(alloc),
         exclude: Vec::new(alloc),
     };
-    request.selectors.push(class(alloc, "shop.Reports")?)?;
-    request.selectors.push(class(alloc, "shop.Mail$Inner")?)?;
-    let expression = TagExpr::parse(alloc, "slow & !db").map_err(|_| AllocError)?;
-    request.exclude.push(expression)?;
+    push_asked(alloc, &mut request)?;
     Ok(request)
 }
 
-/// What is said of a tree that was found.
-fn found(alloc: Global, tree: &Result<Tree, SelectFault>) -> Result<String, AllocError> {
-    match tree {
-        Ok(tree) => format!(in alloc; "{tree:?}"),
-        Err(fault) => format!(in alloc; "refused {}", fault.number()),
+/// `discover`, in a tree of its own.
+struct Finds {
+    tree: Tree,
+}
+
+impl Call for Finds {
+    type Input = Request;
+
+    type Answer = Result<Tree, SelectFault>;
+
+    fn make(self, alloc: Global, request: &Request) -> Result<Tree, SelectFault> {
+        let Finds { tree } = self;
+        discover(alloc, tree, request)
+    }
+
+    fn push(text: &mut String, tree: &Result<Tree, SelectFault>) -> Result<(), AllocError> {
+        match tree {
+            Ok(tree) => write!(text, "{tree:?}"),
+            Err(fault) => push_refusal(text, fault.number()),
+        }
     }
 }
 
+/// The tree of a suite with all that a line may declare.
+fn tree(alloc: Global) -> Result<Tree, AllocError> {
+    Ok(suite_of(alloc, SHOP)?.tree)
+}
+
 /// `discover`.
-pub(crate) fn find<W: Write>(alloc: Global, out: &mut W) -> IoResult<()> {
+pub(crate) fn find<W: Write>(alloc: Global, out: &mut Printer<W>) -> Result<(), AllocError> {
     let request = request(alloc)?;
-    let tree = suite_of(alloc, SHOP)?.tree;
-    begin(out, "")?;
-    let tree = discover(alloc, tree, &request);
-    end(out)?;
-    tell(out, found(alloc, &tree))
+    let tree = tree(alloc)?;
+    note(alloc, out, &request, Finds { tree });
+    Ok(())
 }

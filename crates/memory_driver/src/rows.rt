@@ -2,21 +2,39 @@
 
 use crate::inputs::{PAIR, SHOP};
 use crate::lists::{of_two, prepares};
-use crate::plans::{copy, drives, finds_steps, hoists, mode, takes_steps};
-use crate::printing::{Print, prints};
+use crate::plans::{copy, drives, hoists, mode, takes_steps};
+use crate::printer::Printer;
+use crate::printing::{Print, Schedules, looks_back};
 use crate::reading::{find, options, parse};
 use crate::runs::run_twice;
 use crate::tables::table;
 use listeners::{Recorder, Summary};
-use std::alloc::Global;
-use std::io::{Result as IoResult, Write};
+use std::alloc::{AllocError, Global};
+use std::io::Write;
 use std::sync::Wait;
 use std::thread::Threads;
 
-/// A call that leaves what it is given as it was.
-fn once<W: Write>(alloc: Global, out: &mut W, name: &str) -> IoResult<()> {
+/// A call that leaves what it is given as it was, and reads what happened.
+fn once_back<W: Write>(alloc: Global, out: &mut Printer<W>, name: &str) -> Result<(), AllocError> {
     match name {
-        "Suite::parse" => parse(alloc, out),
+        "schedule_of" => looks_back(alloc, out, Schedules),
+        "feed_text" => looks_back(alloc, out, Print::Feed),
+        "tree_text" => looks_back(alloc, out, Print::Tree),
+        "summary_text" => looks_back(alloc, out, Print::Summary),
+        _ => {
+            out.print("no such call\n");
+            Ok(())
+        }
+    }
+}
+
+/// A call that leaves what it is given as it was.
+fn once<W: Write>(alloc: Global, out: &mut Printer<W>, name: &str) -> Result<(), AllocError> {
+    match name {
+        "Suite::parse" => {
+            parse(alloc, out);
+            Ok(())
+        }
         "read_options" => options(alloc, out),
         "discover" => find(alloc, out),
         "modes" => mode(alloc, out),
@@ -24,12 +42,8 @@ fn once<W: Write>(alloc: Global, out: &mut W, name: &str) -> IoResult<()> {
         "Plan::copy" => copy(alloc, out),
         "drive" => drives(alloc, out),
         "run_steps" => takes_steps(alloc, out),
-        "schedule_of" => finds_steps(alloc, out),
-        "feed_text" => prints(alloc, out, Print::Feed),
-        "tree_text" => prints(alloc, out, Print::Tree),
-        "summary_text" => prints(alloc, out, Print::Summary),
         "Audience::new" => of_two(alloc, out, false),
-        _ => out.write_all(b"no such call\n"),
+        _ => once_back(alloc, out, name),
     }
 }
 
@@ -37,9 +51,9 @@ fn once<W: Write>(alloc: Global, out: &mut W, name: &str) -> IoResult<()> {
 pub(crate) fn answer<T: Threads + Wait + Sync, W: Write>(
     rt: &T,
     alloc: Global,
-    out: &mut W,
+    out: &mut Printer<W>,
     name: &str,
-) -> IoResult<()> {
+) -> Result<(), AllocError> {
     match name {
         "Recorder::prepare" => prepares(alloc, out, Recorder::new(alloc)),
         "Summary::prepare" => prepares(alloc, out, Summary::new(alloc)),

@@ -5,46 +5,45 @@ use descriptor::NodeId;
 use launcher::Options;
 use resource_locks::Plan;
 use sched_core::Trace;
-use std::alloc::{AllocError, Global};
+use std::alloc::AllocError;
 use suite_text::Suite;
 
-/// What the keys of the configuration begin with.
-const PREFIX: &str = "junit.jupiter.execution.parallel.";
-
-/// What stands behind that in the keys that a run reads.
+/// The keys that a run reads.
 const KEYS: [&str; 5] = [
-    "enabled",
-    "mode.default",
-    "mode.classes.default",
-    "config.strategy",
-    "config.fixed.parallelism",
+    "junit.jupiter.execution.parallel.enabled",
+    "junit.jupiter.execution.parallel.mode.default",
+    "junit.jupiter.execution.parallel.mode.classes.default",
+    "junit.jupiter.execution.parallel.config.strategy",
+    "junit.jupiter.execution.parallel.config.fixed.parallelism",
 ];
 
 /// Adds the value of each key that a run reads.
-fn push_params(alloc: Global, text: &mut String, params: &Params) -> Result<(), AllocError> {
+fn push_params(text: &mut String, params: &Params) -> Result<(), AllocError> {
     for key in KEYS {
-        let key = format!(in alloc; "{PREFIX}{key}")?;
-        writeln!(text, "{key} {:?}", params.get(key.as_str()))?;
+        writeln!(text, "{key} {:?}", params.get(key))?;
     }
     Ok(())
 }
 
-/// What a suite has.
-pub(crate) fn suite_said(alloc: Global, suite: &Suite) -> Result<String, AllocError> {
-    let mut text = format!(in alloc; "{:?}\n{:?}\n", suite.tree, suite.scripts)?;
-    push_params(alloc, &mut text, &suite.properties)?;
-    Ok(text)
+/// Adds what a suite has.
+pub(crate) fn push_suite(text: &mut String, suite: &Suite) -> Result<(), AllocError> {
+    writeln!(text, "{:?}\n{:?}", suite.tree, suite.scripts)?;
+    push_params(text, &suite.properties)
 }
 
-/// What options have.
-pub(crate) fn options_said(alloc: Global, options: &Options) -> Result<String, AllocError> {
-    let mut text = format!(in alloc; "{:?}\n{:?}\n", options.request, options.replay)?;
-    push_params(alloc, &mut text, &options.params)?;
+/// Adds the options that are neither what is to run nor the configuration.
+fn push_settings(text: &mut String, options: &Options) -> Result<(), AllocError> {
     writeln!(text, "{:?} {:?}", options.details, options.theme)?;
     writeln!(text, "{} {}", options.processors, options.ring)?;
     writeln!(text, "{} {}", options.fail_if_no_tests, options.fail_fast)?;
-    writeln!(text, "{}", options.schedule)?;
-    Ok(text)
+    writeln!(text, "{}", options.schedule)
+}
+
+/// Adds what options have.
+pub(crate) fn push_options(text: &mut String, options: &Options) -> Result<(), AllocError> {
+    writeln!(text, "{:?}\n{:?}", options.request, options.replay)?;
+    push_params(text, &options.params)?;
+    push_settings(text, options)
 }
 
 /// Adds how a plan executes a node.
@@ -56,25 +55,24 @@ fn push_node(text: &mut String, plan: &Plan, number: usize) -> Result<(), AllocE
     writeln!(text, "{number} {:?} {:?}", plan.mode(node), plan.held(node))
 }
 
-/// What a plan has.
-pub(crate) fn plan_said(alloc: Global, plan: &Plan) -> Result<String, AllocError> {
-    let mut text = format!(in alloc; "{:?}\n", plan.tree())?;
+/// Adds how a plan executes its nodes.
+fn push_nodes(text: &mut String, plan: &Plan) -> Result<(), AllocError> {
     for number in 0..plan.tree().len() {
-        push_node(&mut text, plan, number)?;
+        push_node(text, plan, number)?;
     }
-    writeln!(
-        text,
-        "{} {} {}",
-        plan.key_count(),
-        plan.most_events(),
-        plan.fail_fast()
-    )?;
-    Ok(text)
+    Ok(())
 }
 
-/// What a run by steps left.
-pub(crate) fn trace_said(alloc: Global, trace: &Trace) -> Result<String, AllocError> {
-    let mut text = format!(in alloc; "{:?}\n{:?}\n", trace.published, trace.given)?;
-    writeln!(text, "{:?}\n{}", trace.mine, trace.passed_over)?;
-    Ok(text)
+/// Adds what a plan has.
+pub(crate) fn push_plan(text: &mut String, plan: &Plan) -> Result<(), AllocError> {
+    writeln!(text, "{:?}", plan.tree())?;
+    push_nodes(text, plan)?;
+    let (keys, events) = (plan.key_count(), plan.most_events());
+    writeln!(text, "{keys} {events} {}", plan.fail_fast())
+}
+
+/// Adds what a run by steps left.
+pub(crate) fn push_trace(text: &mut String, trace: &Trace) -> Result<(), AllocError> {
+    writeln!(text, "{:?}\n{:?}", trace.published, trace.given)?;
+    writeln!(text, "{:?}\n{}", trace.mine, trace.passed_over)
 }
