@@ -18,7 +18,7 @@ use listeners::Audience;
 use plan_events::{Event, EventKind, Job, Texts};
 use resource_locks::Plan;
 use run_table::{DispatcherSeat, Jobs, RunTable, WorkerSeat};
-use std::alloc::Global;
+use std::alloc::{AllocError, Global};
 use std::sync::{Arc, Wait};
 use suite_text::Script;
 use test_jobs::{Act, Actor, Board, cast};
@@ -192,26 +192,30 @@ fn is_told_of<R: Wait>(
     alloc: Global,
     plan: Plan,
     jobs: Jobs<Actor>,
-    audience: &mut Audience,
+    mut audience: Audience,
     course: Course,
     ring: u32,
-) -> Option<bool>
+) -> Result<bool, AllocError>
     requires { JobsMayAnswer replies_left (run_of plan 1 ring jobs.items) }
 {
     if !audience.fresh() {
-        return None;
+        return Ok(false);
     }
-    audience.prepare(&plan).ok()?;
-    let mut texts = Texts::new(alloc, plan.tree()).ok()?;
-    let (table, mut desk) = RunTable::prepare(alloc, plan, jobs, 1, ring).ok()?;
-    let mut worker = desk.split(&table)?;
-    Some(is_told_at(
+    audience.prepare(&plan)?;
+    let mut texts = Texts::new(alloc, plan.tree())?;
+    let Ok((table, mut desk)) = RunTable::prepare(alloc, plan, jobs, 1, ring) else {
+        return Ok(false);
+    };
+    let Some(mut worker) = desk.split(&table) else {
+        return Ok(false);
+    };
+    Ok(is_told_at(
         rt,
         alloc,
         &table,
         &mut worker,
         &mut desk,
-        audience,
+        &mut audience,
         &mut texts,
         course,
     ))
@@ -231,9 +235,9 @@ fn is_told_by<R: Wait>(
     board: &Arc<Board>,
     course: Course,
 ) -> Option<bool> {
-    let mut audience = one_audience(alloc, board)?;
+    let audience = one_audience(alloc, board)?;
     let jobs = cast(alloc, &plan, scripts, Act::Ends, board).ok()?;
-    is_told_of(rt, alloc, plan, jobs, &mut audience, course, course.ring())
+    is_told_of(rt, alloc, plan, jobs, audience, course, course.ring()).ok()
 }
 
 /// Whether it is so of the suite with one test.
