@@ -26,14 +26,11 @@ def newest_source():
 
 def built(crate):
     """The path of a crate's program, which is proved and built first where it is not there or a source is newer."""
-    folder = os.path.join(TOP, "crates", crate)
-    program = os.path.join(folder, "out", crate)
+    program = os.path.join(TOP, "crates", crate, "out", crate)
     if not os.path.exists(program) or os.path.getmtime(program) < newest_source():
         print(f"{crate} is proved and built first", flush=True)
-        told = {"stdin": subprocess.DEVNULL, "stdout": subprocess.DEVNULL}
-        if subprocess.run(["rt", "run"], cwd=folder, **told).returncode:
+        if subprocess.run([os.path.join(TOP, "build"), crate], stdin=subprocess.DEVNULL).returncode:
             sys.exit(f"{crate} cannot be built")
-        os.utime(program)
     return program
 
 
