@@ -13,8 +13,8 @@ use unique_id::Text;
 /// How often a job looks for what it waits for.
 const MOST_TURNS: u64 = 200_000_000;
 
-/// How often a listener looks for what must not come: some 50 milliseconds long.
-const SOME_TURNS: u64 = 5_000_000;
+/// How often a listener looks for what must not come: some 10 milliseconds long, on a busy machine seconds.
+const SOME_TURNS: u64 = 1_000_000;
 
 /// So often one looks before it gives the processor up, which those who are waited for may want.
 const SPINS: u64 = 1024;

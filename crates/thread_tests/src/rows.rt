@@ -162,7 +162,7 @@ fn runs_go_alike_whatever_the_number_of_workers(rt: HostRuntime) {
 
 #[test]
 fn runs_go_alike_in_a_ring_of_one_word(rt: HostRuntime) {
-    assert!(rt; all_go_alike(&rt, rt.alloc(), 1, 5));
-    // more events than 12 bits count
-    assert!(rt; large_ends_well(&rt, rt.alloc(), 2100, 1));
+    assert!(rt; all_go_alike(&rt, rt.alloc(), 1, 3));
+    // more events than 12 bits count; in one word each waits for the dispatcher, on a busy machine long
+    assert!(rt; large_ends_well(&rt, rt.alloc(), 2100, 4));
 }

@@ -1,6 +1,6 @@
 //! Two values, where there was memory for both.
 
-ghost use Rattle.std.specs.Prelude.{◌≡◌, IfOk, Ok};
+ghost use Rattle.std.specs.Prelude.{◌≡◌, ◌⊎◌, ◌↔◌, IfOk, IsErr, Ok};
 
 use std::alloc::AllocError;
 
@@ -11,6 +11,7 @@ pub fn both<A: Drop, B: Drop>(
 ) -> Result<(A, B), AllocError>
     ensures first { IfOk result (λ pair. first ≡ Ok pair.0) }
     ensures second { IfOk result (λ pair. second ≡ Ok pair.1) }
+    ensures refused { IsErr result ↔ (IsErr first ⊎ IsErr second) }
 {
     match (first, second) {
         (Ok(first), Ok(second)) => Ok((first, second)),
