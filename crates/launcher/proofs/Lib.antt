@@ -1,5 +1,8 @@
+pub mod Answered
+pub mod JobsRan
 pub mod Launching
 pub mod Planning
+pub mod ProgramRuns
 pub mod Reading
 pub mod Replaying
 pub mod Reporting

@@ -12,7 +12,6 @@ use Rattle.resource_locks.specs.Hoisted.{IsGuarded}
 use Rattle.resource_locks.specs.Plans.{PlanParts}
 use Rattle.event_history.specs.History.{IsLegal}
 use Rattle.event_history.proofs.Apart.{apart}
-use Rattle.listeners.specs.declared.theme.Theme.{Theme}
 use Rattle.listeners.specs.Results.{tests_found, has_failed}
 use Rattle.listeners.specs.SummaryTexts.{summary_of}
 use Rattle.expected_output.specs.Expectations.{IsPrintedAsExpected}
@@ -94,7 +93,7 @@ not_right ring right (inl none) = omega (arith, right.0, none)
 not_right ring right (inr many) = omega (arith, right.1, many)
 
 -- with as many workers and as long a ring as there may be, and all its jobs, a run is refused for want of memory or of threads alone
-pub unrun : (p : PlanParts) (workers ring : ℕ) (jobs : List (ℕ × ScriptedJob)) (cause : RunCause) → IsRefusedRun p workers ring jobs cause → 1 ≤ workers → workers ≤ 64 → IsRightRing ring → HasAllJobs p jobs → (cause ≡ Table NoMemory) ⊎ (cause ≡ NoWorker)
+pub unrun : {B : Type 0} (p : PlanParts) (workers ring : ℕ) (jobs : List (ℕ × B)) (cause : RunCause) → IsRefusedRun p workers ring jobs cause → 1 ≤ workers → workers ≤ 64 → IsRightRing ring → HasAllJobs p jobs → (cause ≡ Table NoMemory) ⊎ (cause ≡ NoWorker)
 unrun p workers ring jobs (Table NoMemory) is some few right all = inl refl
 unrun p workers ring jobs (Table NoWorkers) is some few right all = absurd (omega (arith, is, some))
 unrun p workers ring jobs (Table TooManyWorkers) is some few right all = absurd (omega (arith, is, few))
@@ -103,27 +102,26 @@ unrun p workers ring jobs (Table (JobsMissing number)) is some few right all = a
 unrun p workers ring jobs NoWorker is some few right all = inr refl
 
 -- what is printed of a history by which all is as it is expected to be
-module _ (theme : Theme) (p : PlanParts) (answers : List (ℕ × Reply)) (history : List Event) (texts : TextParts) (is : IsPrintedAsExpected p (reply_of answers) history texts) where
-  expected_text : (kind : Details) (text : List ℕ) → expected_details kind theme p.tree (reply_of answers) ≡ Some text → details_of kind theme p texts history ≡ text
+module _ (asked : Asked) (settings : Settings) (p : PlanParts) (reply : ℕ → Reply) (history : List Event) (texts : TextParts) (is : IsPrintedAsExpected p reply history texts) where
+  expected_text : (kind : Details) (text : List ℕ) → expected_details kind asked.theme p.tree reply ≡ Some text → details_of kind asked.theme p texts history ≡ text
   expected_text details.None text so = same_Some _ _ so
   expected_text details.Summary text so = ap summary_of is.counts ∙ same_Some _ _ so
-  expected_text details.Tree text so = ap₂ (λ a b. a ++ b) (is.tree theme) (ap summary_of is.counts) ∙ same_Some _ _ so
+  expected_text details.Tree text so = ap₂ (λ a b. a ++ b) (is.tree asked.theme) (ap summary_of is.counts) ∙ same_Some _ _ so
   expected_text details.Testfeed text so = absurd (none-some text so)
   expected_text details.Json text so = absurd (none-some text so)
   expected_text details.Xml text so = absurd (none-some text so)
   expected_text details.List text so = absurd (none-some text so)
 
--- it is, where the plan does not fail fast
-module _ (asked : Asked) (settings : Settings) (p : PlanParts) (answers : List (ℕ × Reply)) (history : List Event) (texts : TextParts) (told : IsTold settings.workers p answers history texts) (calm : p.fail_fast ≡ false) where
-  printed_so : IsPrintedAsExpected p (reply_of answers) history texts
-  printed_so = printed_as_expected p told.tree (reply_of answers) (replies_by answers) (λ job. refl) calm settings.workers history told.published.legal told.published.complete texts told.are
-
-  expected_output : (schedule text : List ℕ) (status : ExitStatus) → text ≡ warning_lines settings.warnings ++ (details_of asked.details asked.theme p texts history ++ schedule)
-      → status ≡ status_of_run asked.fail_if_no_tests (tests_found p history) (has_failed p history) → IsExpectedOutput asked settings p.tree (reply_of answers) schedule text status
-  expected_output schedule text status printed exits = record {
-    printed = λ shown so. printed ∙ ap (λ (xs : List ℕ). warning_lines settings.warnings ++ (xs ++ schedule)) (expected_text asked.theme p answers history texts printed_so asked.details shown so);
-    exits = exits ∙ ap₂ (λ (tests : ℕ) (failed : Bool). status_of_run asked.fail_if_no_tests tests failed) printed_so.tests printed_so.failure;
+  pub expected_output : (behind text : List ℕ) (status : ExitStatus) → text ≡ warning_lines settings.warnings ++ (details_of asked.details asked.theme p texts history ++ behind)
+      → status ≡ status_of_run asked.fail_if_no_tests (tests_found p history) (has_failed p history) → IsExpectedOutput asked settings p.tree reply behind text status
+  expected_output behind text status printed exits = record {
+    printed = λ shown so. printed ∙ ap (λ (xs : List ℕ). warning_lines settings.warnings ++ (xs ++ behind)) (expected_text asked.details shown so);
+    exits = exits ∙ ap₂ (λ (tests : ℕ) (failed : Bool). status_of_run asked.fail_if_no_tests tests failed) is.tests is.failure;
   }
+
+-- it is, where the plan does not fail fast
+printed_so : (workers : ℕ) (p : PlanParts) (answers : List (ℕ × Reply)) (history : List Event) (texts : TextParts) → IsTold workers p answers history texts → p.fail_fast ≡ false → IsPrintedAsExpected p (reply_of answers) history texts
+printed_so workers p answers history texts told calm = printed_as_expected p told.tree (reply_of answers) (replies_by answers) (λ job. refl) calm workers history told.published.legal told.published.complete texts told.are
 
 -- what is printed of a history is what is printed of the run
 pub ran : (schedule text : List ℕ) (status : ExitStatus) (asked : Asked) (settings : Settings) (p : PlanParts) (answers : List (ℕ × Reply)) (history : List Event) (texts : TextParts) → IsTold settings.workers p answers history texts
@@ -139,7 +137,7 @@ ran schedule text status asked settings p answers history texts told behind prin
   behind_details = behind;
   behind_warnings = printed;
   exits = exits;
-  as_expected = λ calm. expected_output asked settings p answers history texts told calm schedule text status printed exits;
+  as_expected = λ calm. expected_output asked settings p (reply_of answers) history texts (printed_so settings.workers p answers history texts told calm) schedule text status printed exits;
 }
 
 -- where there is no memory for a schedule, the line that says so would have been printed
@@ -149,7 +147,7 @@ schedule_behind true workers p answers history = (schedule_line None, record { f
 
 -- whoever watches has seen a run of which no report was made
 pub in_vain : {L : Type 0} (saw : PlanParts → L → L → List Telling → Type 0) (asked : Asked) (settings : Settings) (p : PlanParts) (answers : List (ℕ × Reply)) (history : List Event) (texts : TextParts) → IsTold settings.workers p answers history texts
-    → (first now : L) → HasSeenMore saw p (tellings_of texts history) first now → HasWatchedInVain saw asked settings p answers first now
+    → (first now : L) → HasSeenMore saw p (tellings_of texts history) first now → HasWatchedInVain saw (IsRunOutput asked settings p answers) asked settings p first now
 in_vain saw asked settings p answers history texts told first now seen =
     let behind = schedule_behind asked.schedule settings.workers p answers history in
     let text = warning_lines settings.warnings ++ (details_of asked.details asked.theme p texts history ++ behind.0) in
@@ -161,7 +159,7 @@ in_vain saw asked settings p answers history texts told first now seen =
       watched = record { history = history; texts = texts; behind = behind.0; ends = told.published.ends; printed = refl; seen = seen };
     }
 
-pub watches_in_vain : {L : Type 0} (saw : PlanParts → L → L → List Telling → Type 0) (asked : Asked) (settings : Settings) (p : PlanParts) (answers : List (ℕ × Reply)) (first now : L) (fault : LaunchFault) (result : Result Output LaunchFault)
-    → IsErrAnd result (λ e. e ≡ fault) → HasWatchedInVain saw asked settings p answers first now → Watches saw asked settings p answers first now result
-watches_in_vain saw asked settings p answers first now fault (Ok report) same vain = absurd same
-watches_in_vain saw asked settings p answers first now fault (Err e) same vain = inr vain
+pub watches_in_vain : {L : Type 0} (saw : PlanParts → L → L → List Telling → Type 0) (RunOutput : List ℕ → ExitStatus → Type 0) (asked : Asked) (settings : Settings) (p : PlanParts) (first now : L) (fault : LaunchFault) (result : Result Output LaunchFault)
+    → IsErrAnd result (λ e. e ≡ fault) → HasWatchedInVain saw RunOutput asked settings p first now → Watches saw RunOutput asked settings p first now result
+watches_in_vain saw RunOutput asked settings p first now fault (Ok report) same vain = absurd same
+watches_in_vain saw RunOutput asked settings p first now fault (Err e) same vain = inr vain

@@ -1,12 +1,18 @@
 -- What a request selects of a tree in which no spare declares a lock, and no engine is a factory, is such a tree.
-use Rattle.std.proofs.Common.{◌≡◌, ℕ, zero, suc, ◌<◌, Bool, true, false, List, [], refl, sym, ap, ◌∙◌, subst, arith, inl, inr}
+use Rattle.std.proofs.Common.{◌≡◌, ℕ, zero, suc, ◌-◌, ◌<◌, cond, Bool, true, false, List, [], Some, refl, sym, ap, ◌∙◌, subst, arith, inl, inr}
 use Rattle.std.proofs.lemmas.Bool.{cases_lt, false≢true}
 use Rattle.std.proofs.lemmas.Option.{slice_get_past}
-use Rattle.descriptor.specs.Nodes.{Nodes, IsTree, IsChild, size, parent_of, node_at, role_or, locks_or, is_spare_at, is_factory_at, locks_of}
+use Rattle.std.specs.Option.{is_some}
+use Rattle.descriptor.specs.Nodes.{Nodes, IsTree, IsChild, size, parent_of, node_at, role_or, locks_or, body_or, after_or, is_spare_at, is_factory_at, locks_of, body_of, after_of}
 use Rattle.descriptor.specs.Pruned.{IsClosed, KeepsNodes, pruned, is_kept, new_number}
 use Rattle.descriptor.specs.Roles.{is_spare, is_factory}
 use Rattle.descriptor.proofs.Pruning.{kept_at_end}
+use Rattle.resource_locks.specs.Plans.{PlanParts}
 use Rattle.resource_locks.specs.Spares.{HasBareSpares}
+use Rattle.run_table.specs.Prepared.{HasAllJobs}
+use Rattle.table_rule.specs.Slots.{is_body_slot, job_with}
+use Rattle.worker_pool.proofs.Handed.{body_inside, after_inside}
+use Rattle.launcher.specs.Programs.{HasJobs}
 use Rattle.selectors.specs.declared.request.Request.{Request}
 use Rattle.selectors.specs.Covered.{truths}
 use Rattle.selectors.specs.Keeping.{stays, is_taken, is_above}
@@ -58,3 +64,24 @@ selected_bare t tree request found bare =
     let kept : KeepsNodes t keep (pruned t keep) = kept_at_end t (pruned t keep) keep (size t) tree close refl refl in
     let inside = spare_inside (answer t request) found in
     record { locks = kept_locks t (pruned t keep) keep close tree kept inside bare; engines = kept_engines t (pruned t keep) keep close tree kept inside bare }
+
+-- and each body of what is selected has a job, where each of the tree has one
+pub selected_jobs : {B : Type 0} (t : Nodes) → IsTree t → (request : Request) → IsTree (answer t request) → (jobs : List (ℕ × B)) → HasJobs t jobs → HasJobs (answer t request) jobs
+selected_jobs t tree request found jobs has n number is =
+    let q = is_selected t request in
+    let above = truths (is_above t (is_taken t q)) (size t) in
+    let keep = truths (stays t q) (size t) in
+    let close : IsClosed t keep = subst (IsClosed t) (kept_of t tree q above refl) (closed t tree (is_taken t q) above refl) in
+    let kept : KeepsNodes t keep (pruned t keep) = kept_at_end t (pruned t keep) keep (size t) tree close refl refl in
+    let low : n < size (answer t request) = elim is [ inl body ↦ body_inside (answer t request) found n number body | inr after ↦ after_inside (answer t request) found n number after ] in
+    let from = kept.each n low in
+    let told : node_at (answer t request) n ≡ node_at t from.0 = ap (node_at (answer t request)) (sym from.1.2) ∙ kept.told from.0 from.1.0 from.1.1 in
+    has from.0 number (elim is [ inl body ↦ inl (sym (ap body_or told) ∙ body) | inr after ↦ inr (sym (ap after_or told) ∙ after) ])
+
+-- so no job of a plan of it is missing
+pub all_jobs : {B : Type 0} (p : PlanParts) (jobs : List (ℕ × B)) → HasJobs p.tree jobs → HasAllJobs p jobs
+all_jobs p jobs has number missing = false≢true (sym (ap is_some missing.none) ∙ there (is_body_slot p missing.slot) missing.is)
+  where
+    there : (b : Bool) → cond b (body_of p.tree missing.slot) (after_of p.tree (missing.slot - size p.tree)) ≡ Some number → is_some (job_with jobs number) ≡ true
+    there true is = has missing.slot number (inl is)
+    there false is = has (missing.slot - size p.tree) number (inr is)

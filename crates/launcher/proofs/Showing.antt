@@ -74,7 +74,8 @@ at_first Open is sent none output = elim is [ inl q ↦ cc | inr q ↦ cc ]
 at_first Closed is sent none output = inl none
 at_first Failed is sent none output = elim is [ inl q ↦ cc | inr q ↦ cc ]
 
-module _ {W V : Type 0} (contents : W → Option (List ℕ)) (saw : PlanParts → V → V → List Telling → Type 0) (asked : Asked) (settings : Settings) (p : PlanParts) (answers : List (ℕ × Reply)) (at_first_both both : WatchedFeed W V)
+module _ {W V : Type 0} (contents : W → Option (List ℕ)) (saw : PlanParts → V → V → List Telling → Type 0) (asked : Asked) (settings : Settings) (p : PlanParts) (RunOutput Printed : List ℕ → ExitStatus → Type 0)
+    (as_printed : asked.details ≡ details.Testfeed → asked.replay ≡ None → (text : List ℕ) (status : ExitStatus) → RunOutput text status → Printed text status) (at_first_both both : WatchedFeed W V)
     (head : at_first_both.feed.head.now ≡ warning_lines settings.warnings) (outlet : at_first_both.feed.outlet ≡ outlet_by asked.details asked.replay) (none : at_first_both.feed.sent ≡ 0) where
   abbrev first : LiveFeed W
   first = at_first_both.feed
@@ -123,7 +124,7 @@ module _ {W V : Type 0} (contents : W → Option (List ℕ)) (saw : PlanParts �
     printed = subst (λ (n : ℕ). Appends was is_now (take n text)) (sym un.sent) un.kept;
   }
 
-  unsent_broken : IsUnsent contents first now → IsBrokenOff (IsOutput asked settings p answers) was is_now now.sent
+  unsent_broken : IsUnsent contents first now → IsBrokenOff Printed was is_now now.sent
   unsent_broken un = inl (un.sent, un.kept)
 
   module _ (text : List ℕ) (watched : HasWatched (SeesBeside contents saw) asked settings p at_first_both both text) where
@@ -148,19 +149,19 @@ module _ {W V : Type 0} (contents : W → Option (List ℕ)) (saw : PlanParts �
       | inr shut ↦ unsent_front text (shut_unsent (outlet ∙ shut) _ seen)
     ]
 
-    part_of : (status : ExitStatus) → IsRunOutput asked settings p answers text status → asked.details ≡ details.Testfeed → asked.replay ≡ None → IsShort now.sent text → IsBrokenOff (IsOutput asked settings p answers) was is_now now.sent
+    part_of : (status : ExitStatus) → RunOutput text status → asked.details ≡ details.Testfeed → asked.replay ≡ None → IsShort now.sent text → IsBrokenOff Printed was is_now now.sent
     part_of status output kind replay so = elim so [
       | inl zero_sent ↦ inl (zero_sent, subst (λ (n : ℕ). Appends was is_now (take n text)) zero_sent watched_front.printed)
       | inr few ↦ inr (record {
         text = text;
         status = status;
-        output = subst (λ r. IsOutputWith r asked settings p answers text status) (sym replay) (subst (λ k. IsPlanOutput k asked settings p answers text status) (sym kind) output);
+        output = as_printed kind replay text status output;
         short = few;
         written = watched_front.printed;
       })
     ]
 
-    watched_broken : (status : ExitStatus) → IsRunOutput asked settings p answers text status → IsBrokenOff (IsOutput asked settings p answers) was is_now now.sent
+    watched_broken : (status : ExitStatus) → RunOutput text status → IsBrokenOff Printed was is_now now.sent
     watched_broken status output = elim (open_or_closed asked.details asked.replay) [
       | inl opens ↦
           (let kind = feed_asked asked.details asked.replay opens in
@@ -168,29 +169,35 @@ module _ {W V : Type 0} (contents : W → Option (List ℕ)) (saw : PlanParts �
       | inr shut ↦ unsent_broken (shut_unsent (outlet ∙ shut) _ seen)
     ]
 
-  pub still_same : (result : Result Output LaunchFault) → Watches (SeesBeside contents saw) asked settings p answers at_first_both both result → now.writer.ghost_name ≡ first.writer.ghost_name
+  pub still_same : (result : Result Output LaunchFault) → Watches (SeesBeside contents saw) RunOutput asked settings p at_first_both both result → now.writer.ghost_name ≡ first.writer.ghost_name
   still_same (Ok report) is = elim is [ inl same ↦ (untouched (ap (λ (w : WatchedFeed W V). w.feed) same)).same | inr watched ↦ (seen (string_bytes report.text) watched).same ]
   still_same (Err fault) is = elim is [ inl same ↦ (untouched (ap (λ (w : WatchedFeed W V). w.feed) same)).same | inr vain ↦ (seen vain.text vain.watched).same ]
 
-  pub same_watcher : (result : Result Output LaunchFault) → Watches (SeesBeside contents saw) asked settings p answers at_first_both both result → both.watcher.ghost_name ≡ at_first_both.watcher.ghost_name
+  pub same_watcher : (result : Result Output LaunchFault) → Watches (SeesBeside contents saw) RunOutput asked settings p at_first_both both result → both.watcher.ghost_name ≡ at_first_both.watcher.ghost_name
   same_watcher (Ok report) is = elim is [ inl same ↦ ap (λ (w : WatchedFeed W V). w.watcher.ghost_name) same | inr watched ↦ (seen_both (string_bytes report.text) watched).same ]
   same_watcher (Err fault) is = elim is [ inl same ↦ ap (λ (w : WatchedFeed W V). w.watcher.ghost_name) same | inr vain ↦ (seen_both vain.text vain.watched).same ]
 
   -- who watches has seen the run, or nothing
-  pub sees_run : (result : Result Output LaunchFault) → Watches (SeesBeside contents saw) asked settings p answers at_first_both both result → SeesRun saw at_first_both.watcher.now both.watcher.now
+  pub sees_run : (result : Result Output LaunchFault) → Watches (SeesBeside contents saw) RunOutput asked settings p at_first_both both result → SeesRun saw at_first_both.watcher.now both.watcher.now
   sees_run (Ok report) is = elim is [ inl same ↦ inl (ap (λ (w : WatchedFeed W V). w.watcher.now) same) | inr watched ↦ inr (seen_run (string_bytes report.text) watched) ]
   sees_run (Err fault) is = elim is [ inl same ↦ inl (ap (λ (w : WatchedFeed W V). w.watcher.now) same) | inr vain ↦ inr (seen_run vain.text vain.watched) ]
 
-  pub shown_front : (result : Result Output LaunchFault) → Watches (SeesBeside contents saw) asked settings p answers at_first_both both result → IfOk result (λ report. IsFront was is_now now.outlet now.sent (string_bytes report.text))
+  pub shown_front : (result : Result Output LaunchFault) → Watches (SeesBeside contents saw) RunOutput asked settings p at_first_both both result → IfOk result (λ report. IsFront was is_now now.outlet now.sent (string_bytes report.text))
   shown_front (Ok report) is = elim is [ inl same ↦ unsent_front (string_bytes report.text) (untouched (ap (λ (w : WatchedFeed W V). w.feed) same)) | inr watched ↦ watched_front (string_bytes report.text) watched ]
   shown_front (Err fault) is = tt
 
-  pub shown_broken : (result : Result Output LaunchFault) → Watches (SeesBeside contents saw) asked settings p answers at_first_both both result → IfErr result (λ fault. IsBrokenOff (IsOutput asked settings p answers) was is_now now.sent)
+  pub shown_broken : (result : Result Output LaunchFault) → Watches (SeesBeside contents saw) RunOutput asked settings p at_first_both both result → IfErr result (λ fault. IsBrokenOff Printed was is_now now.sent)
   shown_broken (Ok report) is = tt
   shown_broken (Err fault) is = elim is [ inl same ↦ unsent_broken (untouched (ap (λ (w : WatchedFeed W V). w.feed) same)) | inr vain ↦ watched_broken vain.text vain.watched vain.status vain.output ]
 
 pub carried : {A : Type 0} {a b : A} → b ≡ a → (P : A → Type 0) → P a → P b
 carried same P p = subst P (sym same) p
+
+-- the feed of a suite's run is what is printed of it
+pub suite_feed : (asked : Asked) (settings : Settings) (p : PlanParts) (answers : List (ℕ × Reply)) → asked.details ≡ details.Testfeed → asked.replay ≡ None
+    → (text : List ℕ) (status : ExitStatus) → IsRunOutput asked settings p answers text status → IsOutput asked settings p answers text status
+suite_feed asked settings p answers kind replay text status output =
+    subst (λ r. IsOutputWith r asked settings p answers text status) (sym replay) (subst (λ k. IsPlanOutput k asked settings p answers text status) (sym kind) output)
 
 -- what is answered of a suite that is ready to be run
 module _ (asked : Asked) (suite : SuiteParts) (settings : Settings) (p : PlanParts) (answers : List (ℕ × Reply)) (ready : IsReady asked suite settings p answers) (old new : Option (List ℕ)) where

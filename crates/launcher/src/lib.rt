@@ -1,10 +1,12 @@
-//! A launch: the run of a suite or the replay of steps, what is printed, and the exit status. What is asked for, and
-//! each refusal, stand in `launch_options`.
+//! A launch: the run of a suite or of a program's jobs, or the replay of steps, what is printed, and the exit status.
+//! What is asked for, and each refusal, stand in `launch_options`.
 #![tactic(auto)]
 
 mod bytes;
 mod closing;
 mod exit_status;
+mod program;
+mod program_report;
 mod replay;
 mod report;
 mod run;
@@ -20,4 +22,5 @@ pub use launch_options::{
     Details, Given, LaunchFault, Options, key_judged, option_names, processors_named, ring_named,
     strategy_names, theme_names, theme_of,
 };
+pub use program::{Program, run_jobs, run_jobs_watched};
 pub use run::{read_suite, run_options, run_options_watched, run_suite, run_suite_watched};

@@ -123,7 +123,7 @@ fn run_text(
 }
 
 /// The report of this history.
-fn history_report(
+pub(crate) fn history_report(
     alloc: Global,
     options: &Options,
     warnings: Warnings,
@@ -153,7 +153,7 @@ fn history_report(
 }
 
 /// The refusal of a run that was not begun.
-fn unrun(cause: RunCause) -> LaunchFault
+pub(crate) fn unrun(cause: RunCause) -> LaunchFault
     requires { (cause ≡ RunCause.Table TableFault.NoMemory) ⊎ (cause ≡ RunCause.NoWorker) }
     ensures exact { result ≡ unrun_fault cause }
     ensures either { (result ≡ LaunchFault.NoMemory) ⊎ (result ≡ LaunchFault.NoWorker) }
@@ -238,8 +238,8 @@ fn jobs_report<T: Threads + Wait + Sync, V: Watcher>(
     requires jobs { AreScripted plan answers.now (slot_count plan) jobs.items }
     ensures output { IfOk result (λ report. IsRunOutput (asked_by options.now) settings.now plan answers.now
         (string_bytes report.text) report.status) }
-    ensures watched { Watches V.saw (asked_by options.now) settings.now plan answers.now watcher.old watcher.new
-        result }
+    ensures watched { Watches V.saw (IsRunOutput (asked_by options.now) settings.now plan answers.now)
+        (asked_by options.now) settings.now plan watcher.old watcher.new result }
     ensures refused { IfErr result (λ fault. (fault ≡ LaunchFault.NoMemory) ⊎ (fault ≡ LaunchFault.NoWorker)) }
 {
     let Ok(mut nobody) = Audience::new(Vec::new(alloc)) else {
@@ -276,8 +276,8 @@ fn run_report<T: Threads + Wait + Sync, V: Watcher>(
     requires guarded { IsGuarded (declared_of plan.tree) plan }
     ensures output { IfOk result (λ report. IsRunOutput (asked_by options.now) settings.now plan answers.now
         (string_bytes report.text) report.status) }
-    ensures watched { Watches V.saw (asked_by options.now) settings.now plan answers.now watcher.old watcher.new
-        result }
+    ensures watched { Watches V.saw (IsRunOutput (asked_by options.now) settings.now plan answers.now)
+        (asked_by options.now) settings.now plan watcher.old watcher.new result }
     ensures refused { IfErr result (λ fault. (fault ≡ LaunchFault.NoMemory) ⊎ (fault ≡ LaunchFault.NoWorker)) }
 {
     let jobs = scripted_jobs(alloc, &plan, answers, spins)?;
@@ -316,7 +316,7 @@ fn replay_report(
 }
 
 /// The list of what would be run.
-fn listing(alloc: Global, plan: &Plan) -> Result<Output, AllocError>
+pub(crate) fn listing(alloc: Global, plan: &Plan) -> Result<Output, AllocError>
     ensures { IfOk result (λ report. IsListing plan.now (string_bytes report.text) report.status) }
 {
     Ok(Output {
@@ -341,8 +341,8 @@ fn plan_report<T: Threads + Wait + Sync, V: Watcher>(
     requires guarded { IsGuarded (declared_of plan.tree) plan }
     ensures output { IfOk result (λ report. IsPlanOutput options.now.details (asked_by options.now) settings.now plan
         answers.now (string_bytes report.text) report.status) }
-    ensures watched { Watches V.saw (asked_by options.now) settings.now plan answers.now watcher.old watcher.new
-        result }
+    ensures watched { Watches V.saw (IsRunOutput (asked_by options.now) settings.now plan answers.now)
+        (asked_by options.now) settings.now plan watcher.old watcher.new result }
     ensures refused { IfErr result (λ fault. (fault ≡ LaunchFault.NoMemory) ⊎ (fault ≡ LaunchFault.NoWorker)) }
 {
     match options.details {
@@ -374,8 +374,8 @@ pub(crate) fn report_of<T: Threads + Wait + Sync, V: Watcher>(
     requires guarded { IsGuarded (declared_of plan.tree) plan }
     ensures output { IfOk result (λ report. IsOutput (asked_by options.now) settings.now plan answers.now
         (string_bytes report.text) report.status) }
-    ensures watched { Watches V.saw (asked_by options.now) settings.now plan answers.now watcher.old watcher.new
-        result }
+    ensures watched { Watches V.saw (IsRunOutput (asked_by options.now) settings.now plan answers.now)
+        (asked_by options.now) settings.now plan watcher.old watcher.new result }
     ensures refused { IfErr result (IsUnrun (asked_by options.now)) }
 {
     match &options.replay {

@@ -128,7 +128,10 @@ struct ReadyRun {
 }
 
 /// The settings of a run whose suite has these properties.
-fn settings_over(options: &Options, properties: Params) -> Result<Settings, SettingsFault>
+pub(crate) fn settings_over(
+    options: &Options,
+    properties: Params,
+) -> Result<Settings, SettingsFault>
     ensures exact { result ≡ settings_of (answer_over options.now.params properties) options.now.processors }
     ensures some { IfOk result (λ settings. 1 ≤ settings.workers) }
 {
@@ -136,7 +139,7 @@ fn settings_over(options: &Options, properties: Params) -> Result<Settings, Sett
 }
 
 /// The plan that `plan_of` makes, for so many workers as may run it.
-fn crewed_plan(
+pub(crate) fn crewed_plan(
     alloc: Global,
     options: &Options,
     settings: &Settings,
@@ -198,7 +201,7 @@ fn ready_run(alloc: Global, options: &Options, suite: Suite) -> Result<ReadyRun,
 }
 
 /// Whether lines are printed while the run goes on: those of the feed are.
-fn outlet_for(options: &Options) -> Outlet
+pub(crate) fn outlet_for(options: &Options) -> Outlet
     ensures { result ≡ outlet_by options.now.details (asked_by options.now).replay }
 {
     match (options.details, &options.replay) {
@@ -252,7 +255,7 @@ fn shown_report<T: Threads + Wait + Sync, W: Write, V: Watcher>(
 }
 
 /// What is answered for this fault where so many bytes were written before.
-fn broken_off(fault: LaunchFault, sent: usize) -> LaunchFault
+pub(crate) fn broken_off(fault: LaunchFault, sent: usize) -> LaunchFault
     ensures none { sent ≡ 0 → result ≡ fault }
     ensures some { 0 < sent → result ≡ LaunchFault.Writing (record { sent = sent }) }
 {

@@ -52,7 +52,7 @@ returns-in_err-output_of-in-Ok-run_watched-clause-watched g c =
     let over = c.in-Ok-run_watched.ran in
     let q = c.in-Ok-run_watched.ensures in
     let told = told_of c.args.plan c.requires.tree c.requires.guarded answers c.args.jobs.items c.requires.jobs settings.workers asked.ring over.events.items over.texts q.report q.texts (map (λ l. l.items) over.mine.items) q.mine in
-    watches_in_vain g.V.Watcher.saw asked settings c.args.plan answers c.args.watcher.now c.run_watched.new.watcher _ _ c.from_residual.ensures.1
+    watches_in_vain g.V.Watcher.saw (IsRunOutput asked settings c.args.plan answers) asked settings c.args.plan c.args.watcher.now c.run_watched.new.watcher _ _ c.from_residual.ensures.1
     (in_vain g.V.Watcher.saw asked settings c.args.plan answers over.events.items over.texts told c.args.watcher.now c.run_watched.new.watcher q.seen)
 
 pub unrun-requires : goal.unrun-requires

@@ -1,0 +1,88 @@
+-- What is printed of a run of a program's jobs.
+use Rattle.std.proofs.Common.{◌≡◌, ◌∙◌, ℕ, Bool, false, List, [], ◌++◌, refl, ap, subst, append-nil}
+use Rattle.config_params.specs.declared.settings.Settings.{Settings}
+use Rattle.descriptor.specs.Nodes.{IsTree}
+use Rattle.plan_events.specs.declared.event.Event.{Event}
+use Rattle.plan_events.specs.declared.outcome.Reply.{Reply}
+use Rattle.plan_events.specs.Texts.{TextParts}
+use Rattle.resource_locks.specs.Declarations.{declared_of}
+use Rattle.resource_locks.specs.Hoisted.{IsGuarded}
+use Rattle.resource_locks.specs.Plans.{PlanParts}
+use Rattle.event_history.specs.History.{IsLegal}
+use Rattle.event_history.proofs.Apart.{apart}
+use Rattle.listeners.specs.Listeners.{Telling, tellings_of}
+use Rattle.listeners.specs.Results.{tests_found, has_failed}
+use Rattle.expected_output.specs.Expectations.{IsPrintedAsExpected}
+use Rattle.expected_output.proofs.PrintedAsExpected.{printed_as_expected}
+use Rattle.scheduling.proofs.OnlyHistory.{only_history, as_expected}
+use Rattle.run_table.specs.Balance.{IsBalanced}
+use Rattle.table_rule.specs.Picture.{replies_of}
+use Rattle.worker_pool.specs.Reports.{run_of, AreParts, AreTexts, IsReport}
+use Rattle.worker_pool.specs.Watching.{HasSeenMore}
+use Rattle.launch_options.specs.Asked.{Asked}
+use Rattle.launcher.specs.declared.exit_status.ExitStatus.{ExitStatus}
+use Rattle.launcher.specs.ExitStatuses.{status_of_run}
+use Rattle.launcher.specs.Programs.{one_each, IsHistoryBy, IsJobsOutput}
+use Rattle.launcher.specs.Reports.{details_of}
+use Rattle.launcher.specs.WarningTexts.{warning_lines}
+use Rattle.launcher.specs.Watched.{HasWatchedInVain}
+use Rattle.launcher.proofs.Answered.{said, legal_said, texts_said}
+use Rattle.launcher.proofs.Reporting.{expected_output}
+
+module _ {B : Type 0} (answers : B → List Reply) (asked : Asked) (settings : Settings) (p : PlanParts) (tree : IsTree p.tree) (safe : IsGuarded (declared_of p.tree) p) (jobs : List (ℕ × B)) (history : List Event) (texts : TextParts)
+    (report : IsReport (run_of p settings.workers asked.ring jobs) (replies_of answers (run_of p settings.workers asked.ring jobs)) history) (told : AreTexts p (replies_of answers (run_of p settings.workers asked.ring jobs)) history texts) where
+  abbrev may : ℕ → List Reply
+  may = replies_of answers (run_of p settings.workers asked.ring jobs)
+
+  abbrev answered : ℕ → Reply
+  answered = said p tree may settings.workers history texts report.legal told
+
+  published : IsHistoryBy settings.workers p answered history
+  published =
+      let legal = legal_said p tree may settings.workers history texts report.legal told in
+      record {
+        legal = legal;
+        order = report.order;
+        exclusive = report.exclusive;
+        apart = apart p tree (one_each answered) settings.workers history safe legal report.order report.exclusive;
+        complete = report.complete;
+        ends = report.ends;
+        only = λ one same h other order complete.
+            only_history p tree answered (one_each answered) (λ job. refl) same h history other order complete (subst (λ (w : ℕ). IsLegal p (one_each answered) w history) one legal) report.order report.complete;
+        as_expected = λ calm. as_expected p tree answered (one_each answered) (λ job. refl) calm settings.workers history legal report.complete;
+      }
+
+  printed_so : p.fail_fast ≡ false → IsPrintedAsExpected p answered history texts
+  printed_so calm = printed_as_expected p tree answered (one_each answered) (λ job. refl) calm settings.workers history published.legal published.complete texts (texts_said p tree may settings.workers history texts report.legal told)
+
+  pub jobs_output : (lists : List (List Event)) → AreParts settings.workers history lists → (left : List (ℕ × B)) → IsBalanced p jobs history left → (text : List ℕ) (status : ExitStatus)
+      → text ≡ warning_lines settings.warnings ++ (details_of asked.details asked.theme p texts history ++ []) → status ≡ status_of_run asked.fail_if_no_tests (tests_found p history) (has_failed p history) → IsJobsOutput answers asked settings p jobs text status
+  jobs_output lists mine left balanced text status printed exits = record {
+    history = history;
+    texts = texts;
+    may_be = report.legal;
+    may_say = told;
+    reply = answered;
+    published = published;
+    are = texts_said p tree may settings.workers history texts report.legal told;
+    lists = lists;
+    mine = mine;
+    left = left;
+    balanced = balanced;
+    printed = printed ∙ ap (λ (xs : List ℕ). warning_lines settings.warnings ++ xs) (append-nil (details_of asked.details asked.theme p texts history));
+    exits = exits;
+    as_expected = λ calm. expected_output asked settings p answered history texts (printed_so calm) [] text status printed exits;
+  }
+
+  -- whoever watches has seen a run of which no report was made
+  pub jobs_in_vain : {L : Type 0} (saw : PlanParts → L → L → List Telling → Type 0) (first now : L) → HasSeenMore saw p (tellings_of texts history) first now → (lists : List (List Event)) → AreParts settings.workers history lists → (left : List (ℕ × B))
+      → IsBalanced p jobs history left → HasWatchedInVain saw (IsJobsOutput answers asked settings p jobs) asked settings p first now
+  jobs_in_vain saw first now seen lists mine left balanced =
+      let text = warning_lines settings.warnings ++ (details_of asked.details asked.theme p texts history ++ []) in
+      let status = status_of_run asked.fail_if_no_tests (tests_found p history) (has_failed p history) in
+      record {
+        text = text;
+        status = status;
+        output = jobs_output lists mine left balanced text status refl refl;
+        watched = record { history = history; texts = texts; behind = []; ends = report.ends; printed = refl; seen = seen };
+      }

@@ -1,0 +1,34 @@
+-- Steps, settings, plan and workers are judged in this order, and memory runs out only behind the first three.
+use Rattle.std.proofs.Common.{sym, subst}
+use Rattle.launch_options.specs.Asked.{asked_by}
+use Rattle.launcher.specs.Programs.{program_parts}
+use Rattle.launcher.proofs.Planning.{made_ready, memory_fails, plan_fails}
+use Rattle.launcher.proofs.ProgramRuns.{fails_so, settings_fail, steps_fail}
+use Rattle.launcher.proofs.program.planned_program.Goals as goal
+
+pub returns-in_err-refuse_steps-clause-refused : goal.returns-in_err-refuse_steps-clause-refused
+returns-in_err-refuse_steps-clause-refused c =
+    steps_fail (asked_by c.args.options.now) (program_parts c.args.tree c.args.properties) c.in_err-refuse_steps.field-0.0 c.from_residual.result c.from_residual.ensures.1 c.in_err-refuse_steps.ensures.refused.0 c.in_err-refuse_steps.ensures.refused.1
+
+pub returns-in_err-settings-clause-refused : goal.returns-in_err-settings-clause-refused
+returns-in_err-settings-clause-refused c =
+    settings_fail (asked_by c.args.options.now) (program_parts c.args.tree c.args.properties) c.in_ok-refuse_steps.ensures.accepted c.in_err-settings.field-0.0 c.from_residual-in_err-settings.result c.from_residual-in_err-settings.ensures.1 c.in_err-settings.ensures.exact
+
+pub returns-in_err-plan-clause-refused : goal.returns-in_err-plan-clause-refused
+returns-in_err-plan-clause-refused c =
+    let asked = asked_by c.args.options.now in
+    let parts = program_parts c.args.tree c.args.properties in
+    fails_so asked parts c.in_ok-refuse_steps.ensures.accepted c.from_residual-in_err-plan.result
+    (plan_fails asked parts c.in_ok-settings.settings c.in_ok-settings.ensures.exact c.in_err-plan.field-0.0 c.from_residual-in_err-plan.result c.from_residual-in_err-plan.ensures.1 c.in_err-plan.ensures.refused c.in_err-plan.ensures.no_memory)
+
+pub returns-in_err-head-clause-refused : goal.returns-in_err-head-clause-refused
+returns-in_err-head-clause-refused c =
+    let asked = asked_by c.args.options.now in
+    let parts = program_parts c.args.tree c.args.properties in
+    fails_so asked parts c.in_ok-refuse_steps.ensures.accepted c.from_residual-in_err-head.result
+    (memory_fails asked parts c.in_ok-settings.settings c.in_ok-settings.ensures.exact c.in_ok-plan.ensures.accepted c.from_residual-in_err-head.result c.from_residual-in_err-head.ensures.1)
+
+pub returns-clause-ready : goal.returns-clause-ready
+returns-clause-ready c =
+    made_ready (asked_by c.args.options.now) (program_parts c.args.tree c.args.properties) c.in_ok-settings.settings c.in_ok-settings.ensures.exact c.in_ok-plan.ensures.accepted c.in_ok-plan.plan c.in_ok-plan.ensures.count c.in_ok-plan.ensures.plan
+    c.in_ok-settings.ensures.some c.in_ok-plan.ensures.few c.in_ok-plan.ensures.guarded c.in_ok-plan.ensures.never_stuck

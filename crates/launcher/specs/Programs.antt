@@ -1,0 +1,138 @@
+-- What is run and printed of a program's jobs, of which nobody knows beforehand what they answer.
+use Rattle.std.specs.Prelude.{◌≡◌, ℕ, ◌<◌, ◌⊎◌, Bool, true, false, List, [], ◌∷◌, ◌++◌, Option, Some, None, Result, Ok, Err}
+use Rattle.std.specs.Option.{is_some, option_or}
+use Rattle.config_params.specs.Parameters.{Parameters}
+use Rattle.config_params.specs.declared.settings.Settings.{Settings}
+use Rattle.descriptor.specs.Nodes.{Nodes, size, body_of, after_of}
+use Rattle.plan_events.specs.declared.event.Event.{Event}
+use Rattle.plan_events.specs.declared.outcome.Reply.{Reply}
+use Rattle.plan_events.specs.Texts.{TextParts}
+use Rattle.resource_locks.specs.Plans.{PlanParts}
+use Rattle.resource_locks.specs.Spares.{HasBareSpares}
+use Rattle.event_history.specs.Apart.{IsApart}
+use Rattle.event_history.specs.Exclusion.{IsExclusive}
+use Rattle.event_history.specs.Expected.{expected, IsAsExpected}
+use Rattle.event_history.specs.History.{IsLegal, IsComplete}
+use Rattle.event_history.specs.Order.{IsInOrder}
+use Rattle.event_history.specs.Parts.{EndsInPlan}
+use Rattle.event_history.specs.Plans.{is_same}
+use Rattle.never_stuck.specs.Reaching.{NeverStuck}
+use Rattle.scheduling.specs.declared.step.Step.{Step}
+use Rattle.selectors.specs.Selections.{answer}
+use Rattle.suite_text.specs.Reading.Parts.{SuiteParts}
+use Rattle.table_rule.specs.Picture.{replies_of}
+use Rattle.table_rule.specs.Slots.{job_with}
+use Rattle.run_table.specs.Balance.{IsBalanced}
+use Rattle.worker_pool.specs.Reports.{run_of, AreParts, AreTexts}
+use Rattle.listeners.specs.Results.{tests_found, has_failed}
+use Rattle.launch_options.specs.Asked.{Asked}
+use Rattle.launch_options.specs.declared.details.Details.{Details}
+use Rattle.launch_options.specs.declared.details.Details.TheVariants as details
+use Rattle.launch_options.specs.declared.fault.LaunchFault.{LaunchFault}
+use Rattle.launch_options.specs.declared.fault.LaunchFault.TheVariants.{BadSettings, BadWords, NoMemory, NothingMatches, NoWorker, TooManyKeys, TooManyWorkers, Writing}
+use Rattle.launcher.specs.declared.exit_status.ExitStatus.{ExitStatus}
+use Rattle.launcher.specs.ExitStatuses.{status_of_run}
+use Rattle.launcher.specs.Reports.{details_of, IsExpectedOutput, IsListing}
+use Rattle.launcher.specs.Runs.{TakesMemory, plan_of, run_refusal, settings_in}
+use Rattle.launcher.specs.WarningTexts.{warning_lines}
+use Rattle.launcher.specs.Watched.{IsAllOf, IsPartOf}
+
+-- each body and each after-body of the tree has a job
+abbrev pub HasJobs : {B : Type 0} → Nodes → List (ℕ × B) → Type 0
+HasJobs t jobs = (n number : ℕ) → (body_of t n ≡ Some number) ⊎ (after_of t n ≡ Some number) → is_some (job_with jobs number) ≡ true
+
+-- one reply of each job
+abbrev pub one_each : (ℕ → Reply) → ℕ → List Reply
+one_each reply job = reply job ∷ []
+
+-- A history of a run of the plan by so many workers, whatever these do first, in which each job gave this reply: it is legal by
+-- these replies, in same-thread order, nodes that hold conflicting locks stand apart in it, and so do those that declare them or are
+-- isolated, it is complete, and the plan's finish stands last.
+pub record IsHistoryBy (workers : ℕ) (p : PlanParts) (reply : ℕ → Reply) (history : List Event) : Type 0 where
+  pub legal : IsLegal p (one_each reply) workers history
+  pub order : IsInOrder p history
+  pub exclusive : IsExclusive p history
+  pub apart : IsApart p history
+  pub complete : IsComplete p history
+  pub ends : EndsInPlan history
+  -- one worker has no other by these replies where every node runs in the thread of its parent
+  pub only : workers ≡ 1 → ((n : ℕ) → n < size p.tree → is_same p n ≡ true) → (h : List Event) → IsLegal p (one_each reply) 1 h → IsInOrder p h → IsComplete p h → h ≡ history
+  -- and unless the plan fails fast each node ends as it is expected to by these replies, whatever the number of workers
+  pub as_expected : p.fail_fast ≡ false → (n : ℕ) → n < size p.tree → IsAsExpected p (one_each reply) history n (expected p reply n)
+
+module _ {B : Type 0} (answers : B → List Reply) where
+  -- The settings' workers run these jobs on the plan. There is one reply of each job, such that what is printed is a line for each
+  -- warning, and then a history of a run in which the jobs gave these replies, as the options say; its failures make the status.
+  pub record IsJobsOutput (asked : Asked) (settings : Settings) (p : PlanParts) (jobs : List (ℕ × B)) (text : List ℕ) (status : ExitStatus) : Type 0 where
+    pub history : List Event
+    pub texts : TextParts
+    -- the history is legal by what the jobs may answer, and the texts of its nodes are by that too;
+    pub may_be : IsLegal p (replies_of answers (run_of p settings.workers asked.ring jobs)) settings.workers history
+    pub may_say : AreTexts p (replies_of answers (run_of p settings.workers asked.ring jobs)) history texts
+    -- and both are by one reply of each job
+    pub reply : ℕ → Reply
+    pub published : IsHistoryBy settings.workers p reply history
+    pub are : AreTexts p (one_each reply) history texts
+    -- the run has reported a list for each of the workers, its own events
+    pub lists : List (List Event)
+    pub mine : AreParts settings.workers history lists
+    -- the jobs that were used are just those of the nodes that have finished, each once; all others are left
+    pub left : List (ℕ × B)
+    pub balanced : IsBalanced p jobs history left
+    pub printed : text ≡ warning_lines settings.warnings ++ details_of asked.details asked.theme p texts history
+    pub exits : status ≡ status_of_run asked.fail_if_no_tests (tests_found p history) (has_failed p history)
+    -- and unless the plan fails fast all this but a feed is what is expected by these replies, whatever the workers did
+    pub as_expected : p.fail_fast ≡ false → IsExpectedOutput asked settings p.tree reply [] text status
+
+  -- what is printed of a plan with these jobs: they are run, unless the list is asked for
+  abbrev pub IsProgramOutput : Details → Asked → Settings → PlanParts → List (ℕ × B) → List ℕ → ExitStatus → Type 0
+  IsProgramOutput details.None asked settings p jobs text status = IsJobsOutput asked settings p jobs text status
+  IsProgramOutput details.Summary asked settings p jobs text status = IsJobsOutput asked settings p jobs text status
+  IsProgramOutput details.Tree asked settings p jobs text status = IsJobsOutput asked settings p jobs text status
+  IsProgramOutput details.Testfeed asked settings p jobs text status = IsJobsOutput asked settings p jobs text status
+  IsProgramOutput details.Json asked settings p jobs text status = IsJobsOutput asked settings p jobs text status
+  IsProgramOutput details.Xml asked settings p jobs text status = IsJobsOutput asked settings p jobs text status
+  IsProgramOutput details.List asked settings p jobs text status = IsListing p text status
+
+-- a program's tree and what it says of the configuration, as those of a suite without scripts
+abbrev pub program_parts : Nodes → Parameters → SuiteParts
+program_parts tree properties = record { tree = tree; scripts = []; properties = properties }
+
+-- why steps are refused that are to be printed or replayed: nobody knows beforehand what the jobs answer
+abbrev pub steps_refusal : (schedule : Bool) (replay : Option (List Step)) → Option LaunchFault
+steps_refusal true replay = Some BadWords
+steps_refusal false (Some steps) = Some BadWords
+steps_refusal false None = None
+
+-- why a program is not run: that steps are asked for, and then what a suite is refused for
+abbrev pub program_refusal : Asked → SuiteParts → Option LaunchFault
+program_refusal asked parts = option_or (steps_refusal asked.schedule asked.replay) (run_refusal asked parts)
+
+-- a program is refused by its first refusal, and want of memory stands in place of none that is judged before; where nothing refuses
+-- it there may be no thread to run it
+abbrev pub FailsProgram : Asked → SuiteParts → LaunchFault → Type 0
+FailsProgram asked parts NoMemory = (steps_refusal asked.schedule asked.replay ≡ None) × TakesMemory asked parts
+FailsProgram asked parts BadWords = program_refusal asked parts ≡ Some BadWords
+FailsProgram asked parts (BadSettings fault) = program_refusal asked parts ≡ Some (BadSettings fault)
+FailsProgram asked parts (NothingMatches number) = program_refusal asked parts ≡ Some (NothingMatches number)
+FailsProgram asked parts TooManyKeys = program_refusal asked parts ≡ Some TooManyKeys
+FailsProgram asked parts TooManyWorkers = program_refusal asked parts ≡ Some TooManyWorkers
+FailsProgram asked parts NoWorker = program_refusal asked parts ≡ None
+FailsProgram asked parts _ = ⊥
+
+module _ {B : Type 0} (answers : B → List Reply) where
+  -- what the request selects of the tree is run with these jobs and the settings: the text is what is printed of that, and the
+  -- status is its
+  pub record IsSelectedOutput (asked : Asked) (parts : SuiteParts) (jobs : List (ℕ × B)) (text : List ℕ) (status : ExitStatus) : Type 0 where
+    pub accepted : program_refusal asked parts ≡ None
+    pub settings : Settings
+    pub are : settings_in asked parts ≡ Ok settings
+    pub output : IsProgramOutput answers asked.details asked settings (plan_of asked.fail_fast settings (answer parts.tree asked.request)) jobs text status
+    -- whatever the workers of this plan do first, it can still be brought to its end
+    pub never_stuck : HasBareSpares parts.tree → NeverStuck (plan_of asked.fail_fast settings (answer parts.tree asked.request))
+
+  -- the answer of a run of a program's jobs, and what the writer held before and holds after
+  abbrev pub IsProgramRun : Asked → SuiteParts → List (ℕ × B) → Option (List ℕ) → Option (List ℕ) → Result ExitStatus LaunchFault → Type 0
+  IsProgramRun asked parts jobs old new (Ok status) = IsAllOf (IsSelectedOutput asked parts jobs) old new status
+  IsProgramRun asked parts jobs old new (Err (Writing fault)) = IsPartOf (IsSelectedOutput asked parts jobs) old new fault.sent
+  IsProgramRun asked parts jobs old new (Err fault) = FailsProgram asked parts fault

@@ -1,0 +1,236 @@
+//! A run of a program's jobs: from its tree and its jobs to the bytes of a writer.
+
+ghost use Rattle.std.specs.Prelude.{◌≡◌, ◌≤◌, ◌⊎◌, ℕ, [], None, Some, IfOk, IfErr, false, string_bytes};
+ghost use Rattle.std.specs.Io.KnownBytes.{Keeps};
+ghost use Rattle.launch_options.specs.Asked.{asked_by};
+ghost use Rattle.launcher.specs.Beside.{SeesRun};
+ghost use Rattle.launcher.specs.Programs.{FailsProgram, HasJobs, IsProgramOutput, IsProgramRun};
+ghost use Rattle.launcher.specs.Programs.{program_parts, steps_refusal};
+ghost use Rattle.launcher.specs.Runs.{IsReady, TakesMemory, is_writing};
+ghost use Rattle.launcher.specs.Watched.{IsBrokenOff, IsShownRun, outlet_by};
+ghost use Rattle.launcher.specs.WarningTexts.{warning_lines};
+ghost use Rattle.live_feed.specs.LiveFeeds.{IsFront};
+ghost use Rattle.resource_locks.specs.Declarations.{declared_of};
+ghost use Rattle.resource_locks.specs.Hoisted.{IsGuarded};
+ghost use Rattle.resource_locks.specs.Plans.{PlanParts};
+ghost use Rattle.run_table.specs.Prepared.{HasAllJobs};
+ghost use Rattle.worker_pool.specs.Premises.{JobsMayAnswer};
+ghost use Rattle.worker_pool.specs.Reports.{run_of};
+
+use crate::exit_status::ExitStatus;
+use crate::program_report::program_report;
+use crate::report::Output;
+use crate::run::{broken_off, crewed_plan, outlet_for, settings_over};
+use crate::warning_lines::warnings_text;
+use crate::watched_feed::WatchedFeed;
+use config_params::{Params, Settings};
+use descriptor::Tree;
+use launch_options::{LaunchFault, Options};
+use live_feed::LiveFeed;
+use plan_events::Job;
+use resource_locks::Plan;
+use run_table::Jobs;
+use std::alloc::Global;
+use std::io::Write;
+use std::sync::Wait;
+use std::thread::Threads;
+use worker_pool::{Nobody, Watcher};
+
+/// What a program has to be run: a tree, what it says of the configuration below the options, and a
+/// job for each body and each after-body of the tree.
+#[derive(Drop)]
+pub struct Program<B> {
+    pub tree: Tree,
+    pub properties: Params,
+    pub jobs: Jobs<B>,
+}
+
+/// The settings and the plan of a program, and the lines of the settings' warnings.
+#[derive(Drop)]
+struct PlannedProgram {
+    settings: Settings,
+    plan: Plan,
+    head: String,
+}
+
+/// Refused is that steps are to be printed or replayed (105).
+fn refuse_steps(options: &Options) -> Result<(), LaunchFault>
+    ensures accepted { IfOk result (λ _. steps_refusal options.now.schedule (asked_by options.now).replay ≡ None) }
+    ensures refused { IfErr result (λ fault. (fault ≡ LaunchFault.BadWords)
+        × (steps_refusal options.now.schedule (asked_by options.now).replay ≡ Some fault)) }
+{
+    if options.schedule {
+        return Err(LaunchFault::BadWords);
+    }
+    match &options.replay {
+        Some(_) => Err(LaunchFault::BadWords),
+        None => Ok(()),
+    }
+}
+
+/// Makes the settings and the plan of what the request selects of a program's tree.
+fn planned_program(
+    alloc: Global,
+    options: &Options,
+    properties: Params,
+    tree: Tree,
+) -> Result<PlannedProgram, LaunchFault>
+    ensures steps { IfOk result (λ _. steps_refusal options.now.schedule (asked_by options.now).replay ≡ None) }
+    ensures ready { IfOk result (λ planned. IsReady (asked_by options.now) (program_parts tree properties)
+        planned.settings planned.plan []) }
+    ensures head { IfOk result (λ planned. string_bytes planned.head ≡ warning_lines planned.settings.warnings) }
+    ensures refused { IfErr result (FailsProgram (asked_by options.now) (program_parts tree properties)) }
+{
+    refuse_steps(options)?;
+    let settings = settings_over(options, properties)?;
+    let plan = crewed_plan(alloc, options, &settings, tree)?;
+    let head = warnings_text(alloc, settings.warnings)?;
+    Ok(PlannedProgram {
+        settings,
+        plan,
+        head,
+    })
+}
+
+/// What the options print of these jobs on a plan, and the program's status, of which a feed may have printed a part.
+fn shown_program<B: Job + Send, T: Threads + Wait + Sync, W: Write, V: Watcher>(
+    rt: &T,
+    alloc: Global,
+    options: &Options,
+    settings: &Settings,
+    plan: Plan,
+    jobs: Jobs<B>,
+    live: &mut WatchedFeed<'_, '_, W, V>,
+) -> Result<Output, LaunchFault>
+    requires some { 1 ≤ settings.now.workers }
+    requires few { settings.now.workers ≤ 64 }
+    requires guarded { IsGuarded (declared_of plan.tree) plan }
+    requires jobs { JobsMayAnswer B.answers (run_of plan settings.now.workers options.now.ring jobs.items) }
+    requires all { HasAllJobs plan jobs.items }
+    requires head { live.old.feed.head.now ≡ warning_lines settings.now.warnings }
+    requires outlet { live.old.feed.outlet ≡ outlet_by options.now.details (asked_by options.now).replay }
+    requires none { live.old.feed.sent ≡ 0 }
+    ensures same { live.new.feed.writer.ghost_name ≡ live.old.feed.writer.ghost_name }
+    ensures same_watcher { live.new.watcher.ghost_name ≡ live.old.watcher.ghost_name }
+    ensures output { IfOk result (λ report. IsProgramOutput B.answers options.now.details (asked_by options.now)
+        settings.now plan jobs.items (string_bytes report.text) report.status) }
+    ensures front { IfOk result (λ report. IsFront (W.contents live.old.feed.writer.now) (W.contents live.new.feed.writer.now)
+        live.new.feed.outlet live.new.feed.sent (string_bytes report.text)) }
+    ensures watched { SeesRun V.saw live.old.watcher.now live.new.watcher.now }
+    ensures refused { IfErr result (λ fault. (fault ≡ LaunchFault.NoMemory) ⊎ (fault ≡ LaunchFault.NoWorker)) }
+    ensures broken_off { IfErr result
+        (λ _. IsBrokenOff (IsProgramOutput B.answers options.now.details (asked_by options.now) settings.now plan
+        jobs.items) (W.contents live.old.feed.writer.now) (W.contents live.new.feed.writer.now) live.new.feed.sent) }
+{
+    program_report(rt, alloc, options, settings, plan, jobs, live)
+}
+
+/// Runs these jobs on a plan, and writes what the options print of that, behind this text.
+fn run_planned<B: Job + Send, T: Threads + Wait + Sync, W: Write, V: Watcher>(
+    rt: &T,
+    alloc: Global,
+    options: &Options,
+    settings: &Settings,
+    plan: Plan,
+    jobs: Jobs<B>,
+    head: &str,
+    writer: &mut W,
+    watcher: &mut V,
+) -> Result<ExitStatus, LaunchFault>
+    requires some { 1 ≤ settings.now.workers }
+    requires few { settings.now.workers ≤ 64 }
+    requires guarded { IsGuarded (declared_of plan.tree) plan }
+    requires jobs { JobsMayAnswer B.answers (run_of plan settings.now.workers options.now.ring jobs.items) }
+    requires all { HasAllJobs plan jobs.items }
+    requires head { head.now ≡ warning_lines settings.now.warnings }
+    ensures exact { IsShownRun (IsProgramOutput B.answers options.now.details (asked_by options.now) settings.now plan
+        jobs.items) (W.contents writer.old) (W.contents writer.new) result }
+    ensures quiet { IfErr result (λ fault. is_writing fault ≡ false →
+        Keeps (W.contents writer.old) (W.contents writer.new)) }
+    ensures watched { SeesRun V.saw watcher.old watcher.new }
+{
+    let feed = LiveFeed::new(alloc, writer, head, outlet_for(options));
+    let mut live = WatchedFeed { feed, watcher };
+    match shown_program(rt, alloc, options, settings, plan, jobs, &mut live) {
+        Ok(report) => {
+            live.finish(report.text.as_bytes())?;
+            Ok(report.status)
+        }
+        Err(fault) => Err(broken_off(fault, live.sent())),
+    }
+}
+
+/// Runs what the request selects of a program's jobs, as `run_suite_watched` does those of a suite, and writes
+/// the same of it. First of all it is refused that steps are to be printed or replayed (105): nobody
+/// knows beforehand what the jobs answer. Then what a suite is refused for: what gives no settings
+/// (34, 32, 33) and a selector that covers nothing (41), which are judged before any memory is
+/// taken; more than 256 keys (50), more than 64 workers (61), that no thread could be started (90),
+/// and an output of which the writer has only the first bytes (81). On any refusal but 81 nothing
+/// is written.
+pub fn run_jobs_watched<B: Job + Send, T: Threads + Wait + Sync, W: Write, V: Watcher>(
+    rt: &T,
+    alloc: Global,
+    options: &Options,
+    program: Program<B>,
+    writer: &mut W,
+    watcher: &mut V,
+) -> Result<ExitStatus, LaunchFault>
+    requires jobs { (plan : PlanParts) (workers ring : ℕ) → JobsMayAnswer B.answers
+        (run_of plan workers ring program.jobs.items) }
+    requires all { HasJobs program.tree program.jobs.items }
+    ensures exact { IsProgramRun B.answers (asked_by options.now) (program_parts program.tree program.properties)
+        program.jobs.items (W.contents writer.old) (W.contents writer.new) result }
+    ensures no_memory { IfErr result (λ fault. fault ≡ LaunchFault.NoMemory →
+        TakesMemory (asked_by options.now) (program_parts program.tree program.properties)) }
+    ensures quiet { IfErr result (λ fault. is_writing fault ≡ false →
+        Keeps (W.contents writer.old) (W.contents writer.new)) }
+    ensures watched { SeesRun V.saw watcher.old watcher.new }
+{
+    let Program {
+        tree,
+        properties,
+        jobs,
+    } = program;
+    // the contract of `len` tells that it is a tree
+    let _ = tree.len();
+    let PlannedProgram {
+        settings,
+        plan,
+        head,
+    } = planned_program(alloc, options, properties, tree)?;
+    // and that of `tree`, that what is selected is one
+    let _ = plan.tree();
+    run_planned(
+        rt,
+        alloc,
+        options,
+        &settings,
+        plan,
+        jobs,
+        head.as_str(),
+        writer,
+        watcher,
+    )
+}
+
+/// Runs a program's jobs as `run_jobs_watched` does, where nobody watches.
+pub fn run_jobs<B: Job + Send, T: Threads + Wait + Sync, W: Write>(
+    rt: &T,
+    alloc: Global,
+    options: &Options,
+    program: Program<B>,
+    writer: &mut W,
+) -> Result<ExitStatus, LaunchFault>
+    requires jobs { (plan : PlanParts) (workers ring : ℕ) → JobsMayAnswer B.answers
+        (run_of plan workers ring program.jobs.items) }
+    requires all { HasJobs program.tree program.jobs.items }
+    ensures exact { IsProgramRun B.answers (asked_by options.now) (program_parts program.tree program.properties)
+        program.jobs.items (W.contents writer.old) (W.contents writer.new) result }
+    ensures no_memory { IfErr result (λ fault. fault ≡ LaunchFault.NoMemory →
+        TakesMemory (asked_by options.now) (program_parts program.tree program.properties)) }
+    ensures quiet { IfErr result (λ fault. is_writing fault ≡ false →
+        Keeps (W.contents writer.old) (W.contents writer.new)) }
+{
+    let mut nobody = Nobody;
+    run_jobs_watched(rt, alloc, options, program, writer, &mut nobody)
+}
