@@ -1,5 +1,5 @@
 -- What is printed of a run of a program's jobs.
-use Rattle.std.proofs.Common.{◌≡◌, ◌∙◌, ℕ, Bool, false, List, [], ◌++◌, refl, ap, subst, append-nil}
+use Rattle.std.proofs.Common.{◌≡◌, ℕ, false, List, ◌++◌, refl, subst}
 use Rattle.config_params.specs.declared.settings.Settings.{Settings}
 use Rattle.descriptor.specs.Nodes.{IsTree}
 use Rattle.plan_events.specs.declared.event.Event.{Event}
@@ -55,9 +55,9 @@ module _ {B : Type 0} (answers : B → List Reply) (asked : Asked) (settings : S
   printed_so : p.fail_fast ≡ false → IsPrintedAsExpected p answered history texts
   printed_so calm = printed_as_expected p tree answered (one_each answered) (λ job. refl) calm settings.workers history published.legal published.complete texts (texts_said p tree may settings.workers history texts report.legal told)
 
-  pub jobs_output : (lists : List (List Event)) → AreParts settings.workers history lists → (left : List (ℕ × B)) → IsBalanced p jobs history left → (text : List ℕ) (status : ExitStatus)
-      → text ≡ warning_lines settings.warnings ++ (details_of asked.details asked.theme p texts history ++ []) → status ≡ status_of_run asked.fail_if_no_tests (tests_found p history) (has_failed p history) → IsJobsOutput answers asked settings p jobs text status
-  jobs_output lists mine left balanced text status printed exits = record {
+  pub jobs_output : (Behind : List Event → List ℕ → Type 0) (lists : List (List Event)) → AreParts settings.workers history lists → (left : List (ℕ × B)) → IsBalanced p jobs history left → (behind text : List ℕ) (status : ExitStatus) → Behind history behind
+      → text ≡ warning_lines settings.warnings ++ (details_of asked.details asked.theme p texts history ++ behind) → status ≡ status_of_run asked.fail_if_no_tests (tests_found p history) (has_failed p history) → IsJobsOutput answers Behind asked settings p jobs text status
+  jobs_output Behind lists mine left balanced behind text status is_behind printed exits = record {
     history = history;
     texts = texts;
     may_be = report.legal;
@@ -69,20 +69,22 @@ module _ {B : Type 0} (answers : B → List Reply) (asked : Asked) (settings : S
     mine = mine;
     left = left;
     balanced = balanced;
-    printed = printed ∙ ap (λ (xs : List ℕ). warning_lines settings.warnings ++ xs) (append-nil (details_of asked.details asked.theme p texts history));
+    behind = behind;
+    is_behind = is_behind;
+    printed = printed;
     exits = exits;
-    as_expected = λ calm. expected_output asked settings p answered history texts (printed_so calm) [] text status printed exits;
+    as_expected = λ calm. expected_output asked settings p answered history texts (printed_so calm) behind text status printed exits;
   }
 
   -- whoever watches has seen a run of which no report was made
   pub jobs_in_vain : {L : Type 0} (saw : PlanParts → L → L → List Telling → Type 0) (first now : L) → HasSeenMore saw p (tellings_of texts history) first now → (lists : List (List Event)) → AreParts settings.workers history lists → (left : List (ℕ × B))
-      → IsBalanced p jobs history left → HasWatchedInVain saw (IsJobsOutput answers asked settings p jobs) asked settings p first now
-  jobs_in_vain saw first now seen lists mine left balanced =
-      let text = warning_lines settings.warnings ++ (details_of asked.details asked.theme p texts history ++ []) in
+      → IsBalanced p jobs history left → (Behind : List Event → List ℕ → Type 0) → (behind : List ℕ) × Behind history behind → HasWatchedInVain saw (IsJobsOutput answers Behind asked settings p jobs) asked settings p first now
+  jobs_in_vain saw first now seen lists mine left balanced Behind some_behind =
+      let text = warning_lines settings.warnings ++ (details_of asked.details asked.theme p texts history ++ some_behind.0) in
       let status = status_of_run asked.fail_if_no_tests (tests_found p history) (has_failed p history) in
       record {
         text = text;
         status = status;
-        output = jobs_output lists mine left balanced text status refl refl;
-        watched = record { history = history; texts = texts; behind = []; ends = report.ends; printed = refl; seen = seen };
+        output = jobs_output Behind lists mine left balanced some_behind.0 text status some_behind.1 refl refl;
+        watched = record { history = history; texts = texts; behind = some_behind.0; ends = report.ends; printed = refl; seen = seen };
       }

@@ -10,3 +10,4 @@ pub mod Scripting
 pub mod SeenBeside
 pub mod Selected
 pub mod Showing
+pub mod SuiteRan

@@ -1,15 +1,18 @@
 -- What is answered of a program's jobs.
-use Rattle.std.proofs.Common.{◌≡◌, ◌∙◌, ℕ, suc, zero, ◌<◌, List, [], length, take, Option, Some, None, Result, Ok, Err, IfErr, refl, sym, ap, subst, inl, inr, arith}
+use Rattle.std.proofs.Common.{◌≡◌, ◌∙◌, ℕ, suc, zero, ◌<◌, Bool, true, false, List, [], length, take, Option, Some, None, Result, Ok, Err, IfErr, refl, sym, ap, subst, inl, inr, arith}
 use Rattle.std.specs.Prelude.{◌⊎◌}
 use Rattle.std.specs.Io.KnownBytes.{Appends}
 use Rattle.std.specs.Option.{option_or}
 use Rattle.std.specs.Result.{IsErrAnd}
+use Rattle.std.proofs.lemmas.Option.{none-some}
 use Rattle.config_params.specs.declared.settings.Settings.{Settings}
 use Rattle.config_params.specs.declared.settings_fault.SettingsFault.{SettingsFault}
 use Rattle.descriptor.specs.Nodes.{Nodes, IsTree}
+use Rattle.plan_events.specs.declared.event.Event.{Event}
 use Rattle.plan_events.specs.declared.outcome.Reply.{Reply}
 use Rattle.resource_locks.specs.Plans.{PlanParts}
 use Rattle.never_stuck.specs.Reaching.{NeverStuck}
+use Rattle.scheduling.specs.declared.step.Step.{Step}
 use Rattle.run_table.specs.Prepared.{HasAllJobs}
 use Rattle.selectors.specs.Selections.{answer}
 use Rattle.suite_text.specs.Reading.Parts.{SuiteParts}
@@ -20,7 +23,8 @@ use Rattle.launch_options.specs.declared.details.Details.TheVariants as details
 use Rattle.launch_options.specs.declared.fault.LaunchFault.{LaunchFault}
 use Rattle.launch_options.specs.declared.fault.LaunchFault.TheVariants.{NoMemory, Suite as OfSuite, BadWords, BadStep, BadSelector, BadTags, BadPair, BadSettings, NothingMatches, TooManyKeys, TooManyWorkers, NoWorker, Reading, Writing}
 use Rattle.launcher.specs.declared.exit_status.ExitStatus.{ExitStatus}
-use Rattle.launcher.specs.Programs.{FailsProgram, HasJobs, IsJobsOutput, IsProgramOutput, IsProgramRun, IsSelectedOutput, program_refusal, steps_refusal}
+use Rattle.launcher.specs.Programs.{FailsProgram, HasJobs, IsJobsOutput, IsProgramOutput, IsProgramRun, IsSelectedOutput, NothingBehind, program_refusal, steps_refusal}
+use Rattle.launcher.specs.Reports.{IsBehindDetails}
 use Rattle.launcher.specs.Runs.{FailsSuite, IsReady, TakesMemory, crowd_refusal, plan_refusal, run_refusal, settings_in, settings_refusal}
 use Rattle.launcher.specs.Watched.{IsAllOf, IsBrokenOff, IsShownRun}
 use Rattle.launcher.proofs.Planning.{ready_takes}
@@ -33,9 +37,9 @@ no_job_missing asked parts settings p jobs tree ready found has =
     all_jobs p jobs (subst (λ (t : Nodes). HasJobs t jobs) (sym same) (selected_jobs parts.tree tree asked.request (subst IsTree same found) jobs has))
 
 -- the feed of a run of jobs is what is printed of it
-pub jobs_feed : {B : Type 0} (answers : B → List Reply) (asked : Asked) (settings : Settings) (p : PlanParts) (jobs : List (ℕ × B)) → asked.details ≡ details.Testfeed → asked.replay ≡ None
-    → (text : List ℕ) (status : ExitStatus) → IsJobsOutput answers asked settings p jobs text status → IsProgramOutput answers asked.details asked settings p jobs text status
-jobs_feed answers asked settings p jobs kind replay text status output = subst (λ k. IsProgramOutput answers k asked settings p jobs text status) (sym kind) output
+pub jobs_feed : {B : Type 0} (answers : B → List Reply) (Behind : List Event → List ℕ → Type 0) (asked : Asked) (settings : Settings) (p : PlanParts) (jobs : List (ℕ × B)) → asked.details ≡ details.Testfeed → asked.replay ≡ None
+    → (text : List ℕ) (status : ExitStatus) → IsJobsOutput answers Behind asked settings p jobs text status → IsProgramOutput answers Behind asked.details asked settings p jobs text status
+jobs_feed answers Behind asked settings p jobs kind replay text status output = subst (λ k. IsProgramOutput answers Behind k asked settings p jobs text status) (sym kind) output
 
 -- what is shown of a plan
 module _ (Output : List ℕ → ExitStatus → Type 0) (old new : Option (List ℕ)) where
@@ -122,13 +126,21 @@ module _ (asked : Asked) (parts : SuiteParts) where
       go Reading x = absurd x
       go (Writing f) x = absurd x
 
+no_schedule : (schedule : Bool) (replay : Option (List Step)) → steps_refusal schedule replay ≡ None → schedule ≡ false
+no_schedule true replay none = absurd (none-some BadWords (sym none))
+no_schedule false replay none = refl
+
 module _ {B : Type 0} (answers : B → List Reply) (asked : Asked) (parts : SuiteParts) (jobs : List (ℕ × B)) (settings : Settings) (p : PlanParts) (ready : IsReady asked parts settings p []) (no_steps : steps_refusal asked.schedule asked.replay ≡ None) where
   pub planned_memory : (result : Result ExitStatus LaunchFault) → IfErr result (λ fault. fault ≡ NoMemory → TakesMemory asked parts)
   planned_memory (Ok status) = tt
   planned_memory (Err fault) = λ same. ready_takes asked parts settings p [] ready
 
   abbrev Shows : List ℕ → ExitStatus → Type 0
-  Shows text status = IsProgramOutput answers asked.details asked settings p jobs text status
+  Shows text status = IsProgramOutput answers (IsBehindDetails asked.schedule settings.workers p []) asked.details asked settings p jobs text status
+
+  -- nothing stands behind, since no schedule is asked for
+  bare : (text : List ℕ) (status : ExitStatus) → Shows text status → IsProgramOutput answers NothingBehind asked.details asked settings p jobs text status
+  bare text status = subst (λ (b : Bool). IsProgramOutput answers (IsBehindDetails b settings.workers p []) asked.details asked settings p jobs text status) (no_schedule asked.schedule asked.replay no_steps)
 
   accepted : program_refusal asked parts ≡ None
   accepted = same_refusal asked parts no_steps ∙ ready.accepted
@@ -138,7 +150,7 @@ module _ {B : Type 0} (answers : B → List Reply) (asked : Asked) (parts : Suit
     accepted = accepted;
     settings = settings;
     are = ready.are;
-    output = subst (λ (q : PlanParts). IsProgramOutput answers asked.details asked settings q jobs text status) ready.plan_is output;
+    output = subst (λ (q : PlanParts). IsProgramOutput answers NothingBehind asked.details asked settings q jobs text status) ready.plan_is (bare text status output);
     never_stuck = λ bare. subst NeverStuck ready.plan_is (ready.never_stuck bare);
   }
 

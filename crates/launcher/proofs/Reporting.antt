@@ -141,24 +141,11 @@ ran schedule text status asked settings p answers history texts told behind prin
 }
 
 -- where there is no memory for a schedule, the line that says so would have been printed
-schedule_behind : (asked : Bool) (workers : ℕ) (p : PlanParts) (answers : List (ℕ × Reply)) (history : List Event) → (schedule : List ℕ) × IsBehindDetails asked workers p answers history schedule
+pub schedule_behind : (asked : Bool) (workers : ℕ) (p : PlanParts) (answers : List (ℕ × Reply)) (history : List Event) → (schedule : List ℕ) × IsBehindDetails asked workers p answers history schedule
 schedule_behind false workers p answers history = ([], refl)
 schedule_behind true workers p answers history = (schedule_line None, record { found = None; schedule = tt; namable = tt; printed = refl })
 
 -- whoever watches has seen a run of which no report was made
-pub in_vain : {L : Type 0} (saw : PlanParts → L → L → List Telling → Type 0) (asked : Asked) (settings : Settings) (p : PlanParts) (answers : List (ℕ × Reply)) (history : List Event) (texts : TextParts) → IsTold settings.workers p answers history texts
-    → (first now : L) → HasSeenMore saw p (tellings_of texts history) first now → HasWatchedInVain saw (IsRunOutput asked settings p answers) asked settings p first now
-in_vain saw asked settings p answers history texts told first now seen =
-    let behind = schedule_behind asked.schedule settings.workers p answers history in
-    let text = warning_lines settings.warnings ++ (details_of asked.details asked.theme p texts history ++ behind.0) in
-    let status = status_of_run asked.fail_if_no_tests (tests_found p history) (has_failed p history) in
-    record {
-      text = text;
-      status = status;
-      output = ran behind.0 text status asked settings p answers history texts told behind.1 refl refl;
-      watched = record { history = history; texts = texts; behind = behind.0; ends = told.published.ends; printed = refl; seen = seen };
-    }
-
 pub watches_in_vain : {L : Type 0} (saw : PlanParts → L → L → List Telling → Type 0) (RunOutput : List ℕ → ExitStatus → Type 0) (asked : Asked) (settings : Settings) (p : PlanParts) (first now : L) (fault : LaunchFault) (result : Result Output LaunchFault)
     → IsErrAnd result (λ e. e ≡ fault) → HasWatchedInVain saw RunOutput asked settings p first now → Watches saw RunOutput asked settings p first now result
 watches_in_vain saw RunOutput asked settings p first now fault (Ok report) same vain = absurd same

@@ -60,9 +60,14 @@ pub record IsHistoryBy (workers : ℕ) (p : PlanParts) (reply : ℕ → Reply) (
   -- and unless the plan fails fast each node ends as it is expected to by these replies, whatever the number of workers
   pub as_expected : p.fail_fast ≡ false → (n : ℕ) → n < size p.tree → IsAsExpected p (one_each reply) history n (expected p reply n)
 
-module _ {B : Type 0} (answers : B → List Reply) where
+-- nothing is printed behind the details of a run
+abbrev pub NothingBehind : List Event → List ℕ → Type 0
+NothingBehind history behind = behind ≡ []
+
+module _ {B : Type 0} (answers : B → List Reply) (Behind : List Event → List ℕ → Type 0) where
   -- The settings' workers run these jobs on the plan. There is one reply of each job, such that what is printed is a line for each
-  -- warning, and then a history of a run in which the jobs gave these replies, as the options say; its failures make the status.
+  -- warning, then a history of a run in which the jobs gave these replies, as the options say, and then what is to stand behind it;
+  -- its failures make the status.
   pub record IsJobsOutput (asked : Asked) (settings : Settings) (p : PlanParts) (jobs : List (ℕ × B)) (text : List ℕ) (status : ExitStatus) : Type 0 where
     pub history : List Event
     pub texts : TextParts
@@ -79,10 +84,13 @@ module _ {B : Type 0} (answers : B → List Reply) where
     -- the jobs that were used are just those of the nodes that have finished, each once; all others are left
     pub left : List (ℕ × B)
     pub balanced : IsBalanced p jobs history left
-    pub printed : text ≡ warning_lines settings.warnings ++ details_of asked.details asked.theme p texts history
+    pub behind : List ℕ
+    pub is_behind : Behind history behind
+    pub printed : text ≡ warning_lines settings.warnings ++ (details_of asked.details asked.theme p texts history ++ behind)
     pub exits : status ≡ status_of_run asked.fail_if_no_tests (tests_found p history) (has_failed p history)
-    -- and unless the plan fails fast all this but a feed is what is expected by these replies, whatever the workers did
-    pub as_expected : p.fail_fast ≡ false → IsExpectedOutput asked settings p.tree reply [] text status
+    -- and unless the plan fails fast all this but a feed and what stands behind is what is expected by these replies, whatever the
+    -- workers did
+    pub as_expected : p.fail_fast ≡ false → IsExpectedOutput asked settings p.tree reply behind text status
 
   -- what is printed of a plan with these jobs: they are run, unless the list is asked for
   abbrev pub IsProgramOutput : Details → Asked → Settings → PlanParts → List (ℕ × B) → List ℕ → ExitStatus → Type 0
@@ -127,7 +135,7 @@ module _ {B : Type 0} (answers : B → List Reply) where
     pub accepted : program_refusal asked parts ≡ None
     pub settings : Settings
     pub are : settings_in asked parts ≡ Ok settings
-    pub output : IsProgramOutput answers asked.details asked settings (plan_of asked.fail_fast settings (answer parts.tree asked.request)) jobs text status
+    pub output : IsProgramOutput answers NothingBehind asked.details asked settings (plan_of asked.fail_fast settings (answer parts.tree asked.request)) jobs text status
     -- whatever the workers of this plan do first, it can still be brought to its end
     pub never_stuck : HasBareSpares parts.tree → NeverStuck (plan_of asked.fail_fast settings (answer parts.tree asked.request))
 

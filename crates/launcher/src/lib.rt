@@ -6,7 +6,6 @@ mod bytes;
 mod closing;
 mod exit_status;
 mod program;
-mod program_report;
 mod replay;
 mod report;
 mod run;

@@ -2,10 +2,12 @@
 
 ghost use Rattle.std.specs.Prelude.{◌≡◌, ◌≤◌, ◌⊎◌, ℕ, [], None, Some, IfOk, IfErr, false, string_bytes};
 ghost use Rattle.std.specs.Io.KnownBytes.{Keeps};
+ghost use Rattle.descriptor.specs.Nodes.{IsTree};
 ghost use Rattle.launch_options.specs.Asked.{asked_by};
 ghost use Rattle.launcher.specs.Beside.{SeesRun};
 ghost use Rattle.launcher.specs.Programs.{FailsProgram, HasJobs, IsProgramOutput, IsProgramRun};
 ghost use Rattle.launcher.specs.Programs.{program_parts, steps_refusal};
+ghost use Rattle.launcher.specs.Reports.{IsBehindDetails};
 ghost use Rattle.launcher.specs.Runs.{IsReady, TakesMemory, is_writing};
 ghost use Rattle.launcher.specs.Watched.{IsBrokenOff, IsShownRun, outlet_by};
 ghost use Rattle.launcher.specs.WarningTexts.{warning_lines};
@@ -18,8 +20,7 @@ ghost use Rattle.worker_pool.specs.Premises.{JobsMayAnswer};
 ghost use Rattle.worker_pool.specs.Reports.{run_of};
 
 use crate::exit_status::ExitStatus;
-use crate::program_report::program_report;
-use crate::report::Output;
+use crate::report::{Output, program_report};
 use crate::run::{broken_off, crewed_plan, outlet_for, settings_over};
 use crate::warning_lines::warnings_text;
 use crate::watched_feed::WatchedFeed;
@@ -105,6 +106,7 @@ fn shown_program<B: Job + Send, T: Threads + Wait + Sync, W: Write, V: Watcher>(
     requires some { 1 ≤ settings.now.workers }
     requires few { settings.now.workers ≤ 64 }
     requires guarded { IsGuarded (declared_of plan.tree) plan }
+    requires tree { IsTree plan.tree }
     requires jobs { JobsMayAnswer B.answers (run_of plan settings.now.workers options.now.ring jobs.items) }
     requires all { HasAllJobs plan jobs.items }
     requires head { live.old.feed.head.now ≡ warning_lines settings.now.warnings }
@@ -112,15 +114,16 @@ fn shown_program<B: Job + Send, T: Threads + Wait + Sync, W: Write, V: Watcher>(
     requires none { live.old.feed.sent ≡ 0 }
     ensures same { live.new.feed.writer.ghost_name ≡ live.old.feed.writer.ghost_name }
     ensures same_watcher { live.new.watcher.ghost_name ≡ live.old.watcher.ghost_name }
-    ensures output { IfOk result (λ report. IsProgramOutput B.answers options.now.details (asked_by options.now)
-        settings.now plan jobs.items (string_bytes report.text) report.status) }
+    ensures output { IfOk result (λ report. IsProgramOutput B.answers (IsBehindDetails options.now.schedule
+        settings.now.workers plan []) options.now.details (asked_by options.now) settings.now plan jobs.items
+        (string_bytes report.text) report.status) }
     ensures front { IfOk result (λ report. IsFront (W.contents live.old.feed.writer.now) (W.contents live.new.feed.writer.now)
         live.new.feed.outlet live.new.feed.sent (string_bytes report.text)) }
     ensures watched { SeesRun V.saw live.old.watcher.now live.new.watcher.now }
     ensures refused { IfErr result (λ fault. (fault ≡ LaunchFault.NoMemory) ⊎ (fault ≡ LaunchFault.NoWorker)) }
     ensures broken_off { IfErr result
-        (λ _. IsBrokenOff (IsProgramOutput B.answers options.now.details (asked_by options.now) settings.now plan
-        jobs.items) (W.contents live.old.feed.writer.now) (W.contents live.new.feed.writer.now) live.new.feed.sent) }
+        (λ _. IsBrokenOff (IsProgramOutput B.answers (IsBehindDetails options.now.schedule settings.now.workers plan [])
+        options.now.details (asked_by options.now) settings.now plan jobs.items) (W.contents live.old.feed.writer.now) (W.contents live.new.feed.writer.now) live.new.feed.sent) }
 {
     program_report(rt, alloc, options, settings, plan, jobs, live)
 }
@@ -140,11 +143,12 @@ fn run_planned<B: Job + Send, T: Threads + Wait + Sync, W: Write, V: Watcher>(
     requires some { 1 ≤ settings.now.workers }
     requires few { settings.now.workers ≤ 64 }
     requires guarded { IsGuarded (declared_of plan.tree) plan }
+    requires tree { IsTree plan.tree }
     requires jobs { JobsMayAnswer B.answers (run_of plan settings.now.workers options.now.ring jobs.items) }
     requires all { HasAllJobs plan jobs.items }
     requires head { head.now ≡ warning_lines settings.now.warnings }
-    ensures exact { IsShownRun (IsProgramOutput B.answers options.now.details (asked_by options.now) settings.now plan
-        jobs.items) (W.contents writer.old) (W.contents writer.new) result }
+    ensures exact { IsShownRun (IsProgramOutput B.answers (IsBehindDetails options.now.schedule settings.now.workers
+        plan []) options.now.details (asked_by options.now) settings.now plan jobs.items) (W.contents writer.old) (W.contents writer.new) result }
     ensures quiet { IfErr result (λ fault. is_writing fault ≡ false →
         Keeps (W.contents writer.old) (W.contents writer.new)) }
     ensures watched { SeesRun V.saw watcher.old watcher.new }

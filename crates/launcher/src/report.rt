@@ -1,6 +1,6 @@
 //! What is printed of a run or of a replay, and its status.
 
-ghost use Rattle.std.specs.Prelude.{◌≡◌, ℕ, ◌≤◌, List, ◌++◌, ◌⊎◌, IfOk, IfErr, string_bytes};
+ghost use Rattle.std.specs.Prelude.{◌≡◌, ℕ, ◌≤◌, List, [], ◌++◌, ◌⊎◌, IfOk, IfErr, string_bytes};
 ghost use Rattle.descriptor.specs.Nodes.{IsTree};
 ghost use Rattle.listeners.specs.Counts.{counts_of};
 ghost use Rattle.listeners.specs.Results.{tests_found, has_failed};
@@ -10,24 +10,26 @@ ghost use Rattle.launch_options.specs.Asked.{asked_by};
 ghost use Rattle.launcher.specs.ExitStatuses.{status_of_run};
 ghost use Rattle.launcher.specs.Faults.{unrun_fault};
 ghost use Rattle.launcher.specs.Reports.{details_of, ArePrinted, IsBehindDetails, IsRunOutput, IsReplayOutput};
-ghost use Rattle.table_rule.specs.Slots.{slot_count};
-ghost use Rattle.launcher.specs.Scripted.{AreScripted};
+ghost use Rattle.launcher.specs.Programs.{IsJobsOutput, IsProgramOutput};
 ghost use Rattle.launcher.specs.Reports.{IsListing, IsPlanOutput, IsOutput};
 ghost use Rattle.launcher.specs.Runs.{IsUnrun};
 ghost use Rattle.launcher.specs.Watched.{Watches};
 ghost use Rattle.launcher.specs.WarningTexts.{warning_lines};
 ghost use Rattle.resource_locks.specs.Declarations.{declared_of};
 ghost use Rattle.resource_locks.specs.Hoisted.{IsGuarded};
+ghost use Rattle.run_table.specs.Prepared.{HasAllJobs};
+ghost use Rattle.worker_pool.specs.Premises.{JobsMayAnswer};
+ghost use Rattle.worker_pool.specs.Reports.{run_of};
 
 use crate::exit_status::ExitStatus;
 use crate::replay::{ReplayCounts, push_replay_line};
 use crate::schedule_line::behind_details;
-use crate::scripted::{ScriptedJob, scripted_jobs};
+use crate::scripted::scripted_jobs;
 use crate::warning_lines::warnings_text;
 use config_params::{Settings, Warnings};
 use launch_options::{Details, LaunchFault, Options};
 use listeners::{Audience, Results, Theme, feed_text};
-use plan_events::{Event, Texts};
+use plan_events::{Event, Job, Texts};
 use reports::{json_text, junit_text, list_text};
 use resource_locks::Plan;
 use run_table::{Jobs, TableFault};
@@ -123,7 +125,7 @@ fn run_text(
 }
 
 /// The report of this history.
-pub(crate) fn history_report(
+fn history_report(
     alloc: Global,
     options: &Options,
     warnings: Warnings,
@@ -153,7 +155,7 @@ pub(crate) fn history_report(
 }
 
 /// The refusal of a run that was not begun.
-pub(crate) fn unrun(cause: RunCause) -> LaunchFault
+fn unrun(cause: RunCause) -> LaunchFault
     requires { (cause ≡ RunCause.Table TableFault.NoMemory) ⊎ (cause ≡ RunCause.NoWorker) }
     ensures exact { result ≡ unrun_fault cause }
     ensures either { (result ≡ LaunchFault.NoMemory) ⊎ (result ≡ LaunchFault.NoWorker) }
@@ -165,12 +167,12 @@ pub(crate) fn unrun(cause: RunCause) -> LaunchFault
 }
 
 /// The report of a run that is over.
-fn ended_report(
+fn ended_report<B: Job>(
     alloc: Global,
     options: &Options,
     settings: &Settings,
     answers: &Answers,
-    ran: &Report<ScriptedJob>,
+    ran: &Report<B>,
 ) -> Result<Output, AllocError>
     ensures text { IfOk result (λ report. (schedule : List ℕ) × IsBehindDetails options.now.schedule
         settings.now.workers ran.now.plan answers.now ran.now.events.items schedule
@@ -201,12 +203,12 @@ fn ended_report(
 }
 
 /// The same of a report that is not looked at again.
-fn output_of(
+fn output_of<B: Job>(
     alloc: Global,
     options: &Options,
     settings: &Settings,
     answers: &Answers,
-    ran: Report<ScriptedJob>,
+    ran: Report<B>,
 ) -> Result<Output, AllocError>
     ensures text { IfOk result (λ report. (schedule : List ℕ) × IsBehindDetails options.now.schedule
         settings.now.workers ran.plan answers.now ran.events.items schedule
@@ -220,14 +222,14 @@ fn output_of(
 }
 
 /// The report of a run of these jobs by the settings' workers, on threads of their own, which is shown to
-/// whoever watches.
-fn jobs_report<T: Threads + Wait + Sync, V: Watcher>(
+/// whoever watches. What the jobs answer is asked for a schedule alone.
+fn ran_report<B: Job + Send, T: Threads + Wait + Sync, V: Watcher>(
     rt: &T,
     alloc: Global,
     options: &Options,
     settings: &Settings,
     plan: Plan,
-    jobs: Jobs<ScriptedJob>,
+    jobs: Jobs<B>,
     answers: &Answers,
     watcher: &mut V,
 ) -> Result<Output, LaunchFault>
@@ -235,11 +237,14 @@ fn jobs_report<T: Threads + Wait + Sync, V: Watcher>(
     requires few { settings.now.workers ≤ 64 }
     requires guarded { IsGuarded (declared_of plan.tree) plan }
     requires tree { IsTree plan.tree }
-    requires jobs { AreScripted plan answers.now (slot_count plan) jobs.items }
-    ensures output { IfOk result (λ report. IsRunOutput (asked_by options.now) settings.now plan answers.now
+    requires jobs { JobsMayAnswer B.answers (run_of plan settings.now.workers options.now.ring jobs.items) }
+    requires all { HasAllJobs plan jobs.items }
+    ensures output { IfOk result (λ report. IsJobsOutput B.answers (IsBehindDetails options.now.schedule
+        settings.now.workers plan answers.now) (asked_by options.now) settings.now plan jobs.items
         (string_bytes report.text) report.status) }
-    ensures watched { Watches V.saw (IsRunOutput (asked_by options.now) settings.now plan answers.now)
-        (asked_by options.now) settings.now plan watcher.old watcher.new result }
+    ensures watched { Watches V.saw (IsJobsOutput B.answers (IsBehindDetails options.now.schedule settings.now.workers
+        plan answers.now) (asked_by options.now) settings.now plan jobs.items) (asked_by options.now) settings.now plan
+        watcher.old watcher.new result }
     ensures refused { IfErr result (λ fault. (fault ≡ LaunchFault.NoMemory) ⊎ (fault ≡ LaunchFault.NoWorker)) }
 {
     let Ok(mut nobody) = Audience::new(Vec::new(alloc)) else {
@@ -281,7 +286,7 @@ fn run_report<T: Threads + Wait + Sync, V: Watcher>(
     ensures refused { IfErr result (λ fault. (fault ≡ LaunchFault.NoMemory) ⊎ (fault ≡ LaunchFault.NoWorker)) }
 {
     let jobs = scripted_jobs(alloc, &plan, answers, spins)?;
-    jobs_report(rt, alloc, options, settings, plan, jobs, answers, watcher)
+    ran_report(rt, alloc, options, settings, plan, jobs, answers, watcher)
 }
 
 /// The report of these steps, taken by so many workers.
@@ -316,7 +321,7 @@ fn replay_report(
 }
 
 /// The list of what would be run.
-pub(crate) fn listing(alloc: Global, plan: &Plan) -> Result<Output, AllocError>
+fn listing(alloc: Global, plan: &Plan) -> Result<Output, AllocError>
     ensures { IfOk result (λ report. IsListing plan.now (string_bytes report.text) report.status) }
 {
     Ok(Output {
@@ -384,5 +389,51 @@ pub(crate) fn report_of<T: Threads + Wait + Sync, V: Watcher>(
             Ok(report)
         }
         None => plan_report(rt, alloc, options, settings, plan, answers, spins, watcher),
+    }
+}
+
+/// What the options print of a plan with these jobs, of which nobody knows what they answer: they are run, unless
+/// the list is asked for.
+pub(crate) fn program_report<B: Job + Send, T: Threads + Wait + Sync, V: Watcher>(
+    rt: &T,
+    alloc: Global,
+    options: &Options,
+    settings: &Settings,
+    plan: Plan,
+    jobs: Jobs<B>,
+    watcher: &mut V,
+) -> Result<Output, LaunchFault>
+    requires some { 1 ≤ settings.now.workers }
+    requires few { settings.now.workers ≤ 64 }
+    requires guarded { IsGuarded (declared_of plan.tree) plan }
+    requires tree { IsTree plan.tree }
+    requires jobs { JobsMayAnswer B.answers (run_of plan settings.now.workers options.now.ring jobs.items) }
+    requires all { HasAllJobs plan jobs.items }
+    ensures output { IfOk result (λ report. IsProgramOutput B.answers (IsBehindDetails options.now.schedule
+        settings.now.workers plan []) options.now.details (asked_by options.now) settings.now plan jobs.items
+        (string_bytes report.text) report.status) }
+    ensures watched { Watches V.saw (IsJobsOutput B.answers (IsBehindDetails options.now.schedule settings.now.workers
+        plan []) (asked_by options.now) settings.now plan jobs.items) (asked_by options.now) settings.now plan
+        watcher.old watcher.new result }
+    ensures refused { IfErr result (λ fault. (fault ≡ LaunchFault.NoMemory) ⊎ (fault ≡ LaunchFault.NoWorker)) }
+{
+    let nothing_known = Answers::of(Vec::new(alloc));
+    match options.details {
+        Details::List => Ok(listing(alloc, &plan)?),
+        Details::None
+        | Details::Summary
+        | Details::Tree
+        | Details::Testfeed
+        | Details::Json
+        | Details::Xml => ran_report(
+            rt,
+            alloc,
+            options,
+            settings,
+            plan,
+            jobs,
+            &nothing_known,
+            watcher,
+        ),
     }
 }
