@@ -1,7 +1,7 @@
 -- A history that is legal by what its jobs may answer is legal by one reply of each: what the job has answered.
 use Rattle.std.proofs.Common.{◌≡◌, ◌∙◌, ℕ, ◌+◌, ◌-◌, ◌<◌, cond, nat_lt, Bool, true, false, List, [], ◌∷◌, Option, Some, None, slice_get, refl, sym, ap, subst, arith, inl, inr}
 use Rattle.std.specs.Prelude.{◌⊎◌}
-use Rattle.std.proofs.lemmas.Bool.{false≢true, lt-ltb}
+use Rattle.std.proofs.lemmas.Bool.{false≢true, true≢false, lt-ltb}
 use Rattle.std.proofs.lemmas.Option.{none-some, same_Some}
 use Rattle.descriptor.specs.Nodes.{IsTree, size, body_of, after_of}
 use Rattle.plan_events.specs.declared.event.Event.{Event}
@@ -12,14 +12,15 @@ use Rattle.plan_events.specs.declared.status.Status.{Status}
 use Rattle.plan_events.specs.declared.status.Status.TheVariants.{Successful}
 use Rattle.plan_events.specs.Texts.{TextParts, text_at}
 use Rattle.resource_locks.specs.Plans.{PlanParts}
-use Rattle.event_history.specs.History.{HasResult, IsLegal, IsTextOf}
+use Rattle.event_history.specs.History.{HasResult, IsLegal, IsStopped, IsTextOf, StoppedIs}
 use Rattle.event_history.specs.Places.{StandsAt, has}
 use Rattle.event_history.specs.Plans.{Sort, Leaf, Holder, Maker, sort_of, spare_count}
 use Rattle.event_history.specs.Results.{Jobs, NoJob, Alone, Pulled, Around, jobs_by, jobs_of, after_run, HasReply, HasAnswer, EndsAfter, Ends}
-use Rattle.event_history.proofs.Places.{has_stands, stands_has}
+use Rattle.event_history.proofs.Places.{has_at, has_stands, stands_has}
 use Rattle.scheduling.specs.Choices.{after_job}
 use Rattle.table_rule.specs.Slots.{slot_count, is_body_slot, after_slot, job_at}
 use Rattle.table_rule.proofs.Jobs.{body_job, after_job_at, after_is, far}
+use Rattle.run_table.specs.Balance.{IsUsed}
 use Rattle.run_table.specs.Prepared.{slot_of}
 use Rattle.run_table.proofs.Filled.{slot_found}
 use Rattle.worker_pool.proofs.Handed.{body_inside, after_inside}
@@ -70,6 +71,34 @@ module _ (replies : ℕ → List Reply) where
   used_after (Around body (Some after)) false registered status text x = Some x.1.reply
   used_after _ _ registered status text x = None
 
+  -- such a reply is one that the job may give
+  abbrev MayGive : ℕ → Option Reply → Type 0
+  MayGive job None = ⊥
+  MayGive job (Some reply) = (place : ℕ) × (slice_get (replies job) place ≡ Some reply)
+
+  body_given : (jobs : Jobs) (stopped : Bool) (registered : ℕ) (status : Status) (text : Option (List ℕ)) (x : Ends replies jobs stopped registered status text) (body : ℕ) → body_in jobs ≡ Some body → MayGive body (used_body jobs stopped registered status text x)
+  body_given (Around (Some b) after) true registered status text x body is = subst (λ (j : ℕ). MayGive j (Some x.answer.reply)) (same_Some b body is) (x.answer.place, x.answer.stands)
+  body_given (Around None after) true registered status text x body is = absurd x
+  body_given NoJob true registered status text x body is = absurd x
+  body_given (Alone b) true registered status text x body is = absurd x
+  body_given (Pulled b spares) true registered status text x body is = absurd x
+  body_given NoJob false registered status text x body is = absurd (none-some body is)
+  body_given (Alone b) false registered status text x body is = subst (λ (j : ℕ). MayGive j (Some x.reply)) (same_Some b body is) (x.place, x.stands)
+  body_given (Pulled b spares) false registered status text (inl a) body is = subst (λ (j : ℕ). MayGive j (Some a.reply)) (same_Some b body is) (a.place, a.stands)
+  body_given (Pulled b spares) false registered status text (inr c) body is = subst (λ (j : ℕ). MayGive j (Some c.reply)) (same_Some b body is) (c.place, c.stands)
+  body_given (Around None after) false registered status text x body is = absurd (none-some body is)
+  body_given (Around (Some b) None) false registered status text x body is = subst (λ (j : ℕ). MayGive j (Some x.1.reply)) (same_Some b body is) (x.1.place, x.1.stands)
+  body_given (Around (Some b) (Some after)) false registered status text x body is = subst (λ (j : ℕ). MayGive j (Some x.0.1.reply)) (same_Some b body is) (x.0.1.place, x.0.1.stands)
+
+  after_given : (body : Option ℕ) (after : ℕ) (jobs : Jobs) → jobs ≡ Around body (Some after) → (stopped : Bool) → stopped ≡ false → (registered : ℕ) (status : Status) (text : Option (List ℕ)) (x : Ends replies jobs stopped registered status text)
+      → MayGive after (used_after jobs stopped registered status text x)
+  after_given body after (Around b (Some a)) is false went registered status text x = subst (λ (j : ℕ). MayGive j (Some x.1.reply)) (same_Some a after (ap after_job is)) (x.1.place, x.1.stands)
+  after_given body after (Around b None) is false went registered status text x = absurd (none-some after (ap after_job is))
+  after_given body after NoJob is false went registered status text x = absurd (none-some after (ap after_job is))
+  after_given body after (Alone b) is false went registered status text x = absurd (none-some after (ap after_job is))
+  after_given body after (Pulled b spares) is false went registered status text x = absurd (none-some after (ap after_job is))
+  after_given body after jobs is true went registered status text x = absurd (true≢false went)
+
   module _ (one : ℕ → Reply) where
     by_reply : (job : ℕ) (status : Status) (text : Option (List ℕ)) (x : HasReply replies job status text) → one job ≡ x.reply → HasReply (one_each one) job status text
     by_reply job status text x same = record { place = 0; reply = one job; stands = refl; status_is = x.status_is ∙ ap (λ (r : Reply). r.outcome.status) (sym same); text_is = x.text_is ∙ ap (λ (r : Reply). Some r.outcome.text) (sym same) }
@@ -105,6 +134,26 @@ body_is p n body = by (sort_of p.tree n) (body_of p.tree n) (after_run p n) (spa
     by Maker None after spares q = absurd (none-some body q)
     by Maker (Some x) after spares q = q
     by Holder b after spares q = q
+
+-- and the body of a node is that of its jobs
+body_back : (p : PlanParts) (n body : ℕ) → body_of p.tree n ≡ Some body → body_in (jobs_of p n) ≡ Some body
+body_back p n body = by (sort_of p.tree n) (body_of p.tree n) (after_run p n) (spare_count p n)
+  where
+    by : (sort : Sort) (b after : Option ℕ) (spares : ℕ) → b ≡ Some body → body_in (jobs_by sort b after spares) ≡ Some body
+    by Leaf None after spares q = absurd (none-some body q)
+    by Leaf (Some x) after spares q = q
+    by Maker None after spares q = absurd (none-some body q)
+    by Maker (Some x) after spares q = q
+    by Holder b after spares q = q
+
+given_or : (replies : ℕ → List Reply) (job : ℕ) (used : Option Reply) (reply : Reply) → reply ≡ or_quiet used → MayGive replies job used → (place : ℕ) × (slice_get (replies job) place ≡ Some reply)
+unfolding or_quiet
+given_or replies job None reply is gives = absurd gives
+given_or replies job (Some r) reply is gives = (gives.0, gives.1 ∙ ap Some (sym is))
+
+not_stopped : (p : PlanParts) (h : List Event) (n : ℕ) (b : Bool) → StoppedIs p h n b → (IsStopped p h n → ⊥) → b ≡ false
+not_stopped p h n true is went = absurd (went is)
+not_stopped p h n false is went = refl
 
 module _ (p : PlanParts) (tree : IsTree p.tree) (replies : ℕ → List Reply) (workers : ℕ) (h : List Event) (texts : TextParts) (legal : IsLegal p replies workers h) (told : AreTexts p replies h texts) where
   -- how the node of this finish ended
@@ -204,3 +253,27 @@ module _ (p : PlanParts) (tree : IsTree p.tree) (replies : ℕ → List Reply) (
     of_finish = λ i e q kind node. subst (λ (m : ℕ). HasResult p (one_each said) h i e (text_at texts m)) node (by_said i e q kind);
     of_none = was.of_none;
   })
+
+  body_may : (n number : ℕ) (b : Bool) (q : has Finished n h ≡ b) → b ≡ true → body_of p.tree n ≡ Some number → MayGive replies number (used_by n b q).0
+  unfolding used_by
+  body_may n number false q t is = absurd (false≢true t)
+  body_may n number true q t is =
+      let s = has_stands Finished n h q in
+      let r = ended s.0 s.1.event s.1.here s.1.kind in
+      body_given replies (jobs_of p s.1.event.node) r.stopped _ r.status (text_at texts s.1.event.node) r.lawful number (body_back p s.1.event.node number (ap (body_of p.tree) s.1.node ∙ is))
+
+  after_may : (n number : ℕ) (body : Option ℕ) (b : Bool) (q : has Finished n h ≡ b) → b ≡ true → jobs_of p n ≡ Around body (Some number) → (IsStopped p h n → ⊥) → MayGive replies number (used_by n b q).1
+  unfolding used_by
+  after_may n number body false q t is went = absurd (false≢true t)
+  after_may n number body true q t is went =
+      let s = has_stands Finished n h q in
+      let r = ended s.0 s.1.event s.1.here s.1.kind in
+      after_given replies body number (jobs_of p s.1.event.node) (ap (jobs_of p) s.1.node ∙ is) r.stopped (not_stopped p h s.1.event.node r.stopped r.stops (λ stopped. went (subst (IsStopped p h) s.1.node stopped))) _ r.status (text_at texts s.1.event.node) r.lawful
+
+  -- the reply of a job that was used is one that it may give
+  pub said_given : (number : ℕ) → IsUsed p h number → (place : ℕ) × (slice_get (replies number) place ≡ Some (said number))
+  unfolding used
+  said_given number is = elim is.1 [
+    | inl ran ↦ given_or replies number (used is.0).0 (said number) (said_body is.0 number ran.body) (body_may is.0 number (has Finished is.0 h) refl (has_at ran.finish) ran.body)
+    | inr ran ↦ given_or replies number (used is.0).1 (said number) (said_after is.0 number (after_is p is.0 number (ap after_job ran.after))) (after_may is.0 number ran.body (has Finished is.0 h) refl (has_at ran.finish) ran.after ran.went_on)
+  ]

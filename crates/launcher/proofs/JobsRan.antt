@@ -26,7 +26,7 @@ use Rattle.launcher.specs.Programs.{one_each, IsHistoryBy, IsJobsOutput}
 use Rattle.launcher.specs.Reports.{details_of}
 use Rattle.launcher.specs.WarningTexts.{warning_lines}
 use Rattle.launcher.specs.Watched.{HasWatchedInVain}
-use Rattle.launcher.proofs.Answered.{said, legal_said, texts_said}
+use Rattle.launcher.proofs.Answered.{said, legal_said, said_given, texts_said}
 use Rattle.launcher.proofs.Reporting.{expected_output}
 
 module _ {B : Type 0} (answers : B → List Reply) (asked : Asked) (settings : Settings) (p : PlanParts) (tree : IsTree p.tree) (safe : IsGuarded (declared_of p.tree) p) (jobs : List (ℕ × B)) (history : List Event) (texts : TextParts)
@@ -63,6 +63,7 @@ module _ {B : Type 0} (answers : B → List Reply) (asked : Asked) (settings : S
     may_be = report.legal;
     may_say = told;
     reply = answered;
+    given = said_given p tree may settings.workers history texts report.legal told;
     published = published;
     are = texts_said p tree may settings.workers history texts report.legal told;
     lists = lists;

@@ -1,5 +1,5 @@
 -- What is run and printed of a program's jobs, of which nobody knows beforehand what they answer.
-use Rattle.std.specs.Prelude.{◌≡◌, ℕ, ◌<◌, ◌⊎◌, Bool, true, false, List, [], ◌∷◌, ◌++◌, Option, Some, None, Result, Ok, Err}
+use Rattle.std.specs.Prelude.{◌≡◌, ℕ, ◌<◌, ◌⊎◌, Bool, true, false, List, [], ◌∷◌, ◌++◌, Option, Some, None, slice_get, Result, Ok, Err}
 use Rattle.std.specs.Option.{is_some, option_or}
 use Rattle.config_params.specs.Parameters.{Parameters}
 use Rattle.config_params.specs.declared.settings.Settings.{Settings}
@@ -22,7 +22,7 @@ use Rattle.selectors.specs.Selections.{answer}
 use Rattle.suite_text.specs.Reading.Parts.{SuiteParts}
 use Rattle.table_rule.specs.Picture.{replies_of}
 use Rattle.table_rule.specs.Slots.{job_with}
-use Rattle.run_table.specs.Balance.{IsBalanced}
+use Rattle.run_table.specs.Balance.{IsBalanced, IsUsed}
 use Rattle.worker_pool.specs.Reports.{run_of, AreParts, AreTexts}
 use Rattle.listeners.specs.Results.{tests_found, has_failed}
 use Rattle.launch_options.specs.Asked.{Asked}
@@ -74,8 +74,9 @@ module _ {B : Type 0} (answers : B → List Reply) (Behind : List Event → List
     -- the history is legal by what the jobs may answer, and the texts of its nodes are by that too;
     pub may_be : IsLegal p (replies_of answers (run_of p settings.workers asked.ring jobs)) settings.workers history
     pub may_say : AreTexts p (replies_of answers (run_of p settings.workers asked.ring jobs)) history texts
-    -- and both are by one reply of each job
+    -- and both are by one reply of each job, which of a job that was used is one that it may give
     pub reply : ℕ → Reply
+    pub given : (number : ℕ) → IsUsed p history number → (place : ℕ) × (slice_get (replies_of answers (run_of p settings.workers asked.ring jobs) number) place ≡ Some (reply number))
     pub published : IsHistoryBy settings.workers p reply history
     pub are : AreTexts p (one_each reply) history texts
     -- the run has reported a list for each of the workers, its own events
