@@ -85,6 +85,7 @@ module _ {B : Type 0} (answers : B → List Reply) (Behind : List Event → List
     -- the jobs that were used are just those of the nodes that have finished, each once; all others are left
     pub left : List (ℕ × B)
     pub balanced : IsBalanced p jobs history left
+    -- what is printed, to the end
     pub behind : List ℕ
     pub is_behind : Behind history behind
     pub printed : text ≡ warning_lines settings.warnings ++ (details_of asked.details asked.theme p texts history ++ behind)

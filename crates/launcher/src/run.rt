@@ -127,7 +127,7 @@ struct ReadyRun {
     spins: Vec<u32>,
 }
 
-/// The settings of a run whose suite has these properties.
+/// The settings of a run whose suite, or whose program, has these properties.
 pub(crate) fn settings_over(
     options: &Options,
     properties: Params,
