@@ -8,6 +8,8 @@ use Rattle.descriptor.specs.declared.fault.TreeFault.{TreeFault}
 use Rattle.descriptor.specs.declared.fault.TreeFault.TheVariants as trees
 use Rattle.launch_options.specs.declared.fault.LaunchFault.{LaunchFault}
 use Rattle.launch_options.specs.declared.fault.LaunchFault.TheVariants as launches
+use Rattle.messages.specs.declared.subject.Subject.{Subject}
+use Rattle.messages.specs.declared.subject.Subject.TheVariants.{Suite, Tests}
 use Rattle.suite_text.specs.declared.suite.fault.SuiteFault.{SuiteFault}
 use Rattle.suite_text.specs.declared.suite.fault.SuiteFault.TheVariants as suites
 use Rattle.tag_expr.specs.declared.fault.TagFault.{TagFault}
@@ -59,7 +61,7 @@ of_settings settings.BadStrategy = codes "the strategy of parallel execution is 
 of_settings settings.BadParallelism = codes "the number of workers is missing, or is none"
 of_settings settings.BadFactor = codes "the factor of workers for a processor is none"
 
--- of each refusal
+-- of each refusal where a suite is run
 abbrev pub sentence_of : LaunchFault → List ℕ
 sentence_of launches.NoMemory = codes "there was not enough memory"
 sentence_of (launches.Suite fault) = of_suite fault
@@ -75,3 +77,17 @@ sentence_of launches.TooManyWorkers = codes "the configuration asks for too many
 sentence_of launches.NoWorker = codes "no thread could be started"
 sentence_of launches.Reading = codes "standard input could not be read"
 sentence_of (launches.Writing place) = codes "standard output did not take all that was written"
+
+-- and where tests of a program's own are
+abbrev pub tests_sentence_of : LaunchFault → List ℕ
+tests_sentence_of (launches.NothingMatches place) = codes "a selector matches none of the tests"
+tests_sentence_of fault = sentence_of fault
+
+-- the sentence of each refusal
+abbrev pub Sentences : Type 0
+Sentences = LaunchFault → List ℕ
+
+-- the sentences of what is run
+abbrev pub sentence_by : Subject → Sentences
+sentence_by (Suite bytes) = sentence_of
+sentence_by (Tests said) = tests_sentence_of

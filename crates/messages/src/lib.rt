@@ -1,6 +1,6 @@
 //! What a refusal says on standard error: what is wrong, where, and what would be right. Each
 //! message is a function of the refusal and of what was given: the values of the options and the
-//! bytes of the suite.
+//! bytes of the suite, or what there is to say of a program's own tests.
 #![tactic(auto)]
 
 mod attributes;
@@ -13,7 +13,10 @@ mod nearest;
 mod options;
 mod sentence;
 mod settings;
+mod subject;
 mod suite;
 mod values;
 
 pub use message::{Message, message_of};
+pub use settings::said_of_settings;
+pub use subject::Subject;

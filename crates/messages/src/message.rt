@@ -2,15 +2,20 @@
 
 ghost use Rattle.std.specs.Prelude.{◌≡◌};
 ghost use Rattle.messages.specs.Messages.{message_text};
-ghost use Rattle.messages.specs.Sentences.{sentence_of};
+ghost use Rattle.messages.specs.Sentences.{sentence_by};
 
-use crate::sentence::sentence_of;
+use crate::sentence::sentence_by;
 use crate::settings::push_settings;
+use crate::subject::Subject;
 use crate::suite::push_suite;
-use crate::values::{push_covering, push_pair, push_selector, push_step, push_tags, push_words};
+use crate::values::{
+    push_covering, push_pair, push_selector, push_step, push_step_option, push_tags, push_words,
+};
+use config_params::SettingsFault;
 use launch_options::{Given, LaunchFault};
 use std::alloc::{AllocError, Global};
 use std::fmt;
+use suite_text::SuiteFault;
 
 /// The message of a refusal. `{}` writes its sentence, and on the lines below what is known
 /// besides: where it is, and what would be right.
@@ -33,40 +38,84 @@ impl fmt::Display for Message {
 }
 
 impl Message {
-    /// The message of this refusal, of which these details are known.
-    pub fn with_details(fault: LaunchFault, details: String) -> Message
-        ensures sentence { result.sentence.now ≡ sentence_of fault }
+    /// The message of this refusal of what was to be run, of which these details are known.
+    pub fn with_details(fault: LaunchFault, subject: Subject<'_>, details: String) -> Message
+        ensures sentence { result.sentence.now ≡ sentence_by subject.entry fault }
         ensures details { result.details ≡ details }
     {
         Message {
-            sentence: sentence_of(fault),
+            sentence: sentence_by(fault, subject),
             details,
         }
     }
 }
 
-/// Appends what a refusal of these values, or of the suite of these bytes, says besides its sentence.
+/// Appends why words that clap took give no options, or none that tests of a program's own can follow.
+fn push_refused_words(
+    alloc: Global,
+    text: &mut String,
+    given: &Given<'_>,
+    subject: Subject<'_>,
+) -> Result<(), AllocError> {
+    push_words(alloc, text, given)?;
+    match subject {
+        Subject::Tests(_) if text.is_empty() => push_step_option(text, given),
+        _ => Ok(()),
+    }
+}
+
+/// Appends what is wrong with the settings: the value that a fault is about, and without one the
+/// number of workers.
+fn push_refused_settings(
+    alloc: Global,
+    text: &mut String,
+    fault: Option<SettingsFault>,
+    given: &Given<'_>,
+    subject: Subject<'_>,
+) -> Result<(), AllocError> {
+    match subject {
+        Subject::Suite(bytes) => push_settings(alloc, text, fault, given, bytes),
+        Subject::Tests(said) => text.push_str(said),
+    }
+}
+
+/// Appends what is wrong with a suite, where that is what is run.
+fn push_refused_suite(
+    alloc: Global,
+    text: &mut String,
+    fault: SuiteFault,
+    subject: Subject<'_>,
+) -> Result<(), AllocError> {
+    match subject {
+        Subject::Suite(bytes) => push_suite(alloc, text, fault, bytes),
+        Subject::Tests(_) => Ok(()),
+    }
+}
+
+/// Appends what a refusal of these values, or of what was to be run, says besides its sentence.
 fn push_details(
     alloc: Global,
     text: &mut String,
     fault: LaunchFault,
     given: &Given<'_>,
-    suite: &[u8],
+    subject: Subject<'_>,
 ) -> Result<(), AllocError> {
     match fault {
         LaunchFault::NoMemory => Ok(()),
-        LaunchFault::Suite(fault) => push_suite(alloc, text, fault, suite),
-        LaunchFault::BadWords => push_words(alloc, text, given),
+        LaunchFault::Suite(fault) => push_refused_suite(alloc, text, fault, subject),
+        LaunchFault::BadWords => push_refused_words(alloc, text, given, subject),
         LaunchFault::BadStep(number) => push_step(alloc, text, number, given),
         LaunchFault::BadSelector(number) => push_selector(alloc, text, number, given),
         LaunchFault::BadTags(fault) => push_tags(alloc, text, fault, given),
         LaunchFault::BadPair(fault) => push_pair(alloc, text, fault, given),
-        LaunchFault::BadSettings(fault) => push_settings(alloc, text, Some(fault), given, suite),
-        LaunchFault::NothingMatches(number) => push_covering(alloc, text, number, given, suite),
+        LaunchFault::BadSettings(fault) => {
+            push_refused_settings(alloc, text, Some(fault), given, subject)
+        }
+        LaunchFault::NothingMatches(number) => push_covering(alloc, text, number, given, subject),
         LaunchFault::TooManyKeys => text.push_str(
             "A run has 256 keys at most, of which one is its own: let the nodes that run declare 255 different ones at most.\n",
         ),
-        LaunchFault::TooManyWorkers => push_settings(alloc, text, None, given, suite),
+        LaunchFault::TooManyWorkers => push_refused_settings(alloc, text, None, given, subject),
         LaunchFault::NoWorker => text.push_str(
             "A run needs one thread besides the program's own: let other programs end, or raise the limits of processes and of memory.\n",
         ),
@@ -80,17 +129,27 @@ fn push_details(
     }
 }
 
-/// What a refusal of these values, or of the suite of these bytes, says besides its sentence; as
-/// much of it as there was memory for.
-fn details_of(alloc: Global, fault: LaunchFault, given: &Given<'_>, suite: &[u8]) -> String {
+/// What a refusal of these values, or of what was to be run, says besides its sentence; as much of it
+/// as there was memory for.
+fn details_of(
+    alloc: Global,
+    fault: LaunchFault,
+    given: &Given<'_>,
+    subject: Subject<'_>,
+) -> String {
     let mut details = String::new(alloc);
-    let _ = push_details(alloc, &mut details, fault, given, suite);
+    let _ = push_details(alloc, &mut details, fault, given, subject);
     details
 }
 
-/// The message of a refusal of these values, or of the suite of these bytes.
-pub fn message_of(alloc: Global, fault: LaunchFault, given: &Given<'_>, suite: &[u8]) -> Message
-    ensures { result.sentence.now ≡ sentence_of fault }
+/// The message of a refusal of these values, or of what was to be run by them.
+pub fn message_of(
+    alloc: Global,
+    fault: LaunchFault,
+    given: &Given<'_>,
+    subject: Subject<'_>,
+) -> Message
+    ensures { result.sentence.now ≡ sentence_by subject.entry fault }
 {
-    Message::with_details(fault, details_of(alloc, fault, given, suite))
+    Message::with_details(fault, subject, details_of(alloc, fault, given, subject))
 }

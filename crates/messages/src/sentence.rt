@@ -1,8 +1,10 @@
 //! The sentence that a refusal's message begins with.
 
 ghost use Rattle.std.specs.Prelude.{◌≡◌};
-ghost use Rattle.messages.specs.Sentences.{of_params, of_settings, of_suite, of_tags, of_tree, sentence_of};
+ghost use Rattle.messages.specs.Sentences.{of_params, of_settings, of_suite, of_tags, of_tree, sentence_by, sentence_of};
+ghost use Rattle.messages.specs.Sentences.{tests_sentence_of};
 
+use crate::subject::Subject;
 use config_params::{ParamsFault, SettingsFault};
 use descriptor::TreeFault;
 use launch_options::LaunchFault;
@@ -76,8 +78,8 @@ fn of_settings(fault: SettingsFault) -> &'static str
     }
 }
 
-/// The sentence that says which refusal this is.
-pub(crate) fn sentence_of(fault: LaunchFault) -> &'static str
+/// The sentence that says which refusal of a suite this is.
+fn sentence_of(fault: LaunchFault) -> &'static str
     ensures { result.now ≡ sentence_of fault }
 {
     match fault {
@@ -95,5 +97,25 @@ pub(crate) fn sentence_of(fault: LaunchFault) -> &'static str
         LaunchFault::NoWorker => "no thread could be started",
         LaunchFault::Reading => "standard input could not be read",
         LaunchFault::Writing(_) => "standard output did not take all that was written",
+    }
+}
+
+/// The sentence that says which refusal of a program's own tests this is.
+fn tests_sentence_of(fault: LaunchFault) -> &'static str
+    ensures { result.now ≡ tests_sentence_of fault }
+{
+    match fault {
+        LaunchFault::NothingMatches(_) => "a selector matches none of the tests",
+        _ => sentence_of(fault),
+    }
+}
+
+/// The sentence that says which refusal of what was to be run this is.
+pub(crate) fn sentence_by(fault: LaunchFault, subject: Subject<'_>) -> &'static str
+    ensures { result.now ≡ sentence_by subject.entry fault }
+{
+    match subject {
+        Subject::Suite(_) => sentence_of(fault),
+        Subject::Tests(_) => tests_sentence_of(fault),
     }
 }

@@ -3,6 +3,7 @@
 use crate::nearest::push_nearest;
 use config_params::{Params, Settings, SettingsFault};
 use launch_options::{Given, Options, key_judged, strategy_names};
+use plan_events::MOST_WORKERS;
 use std::alloc::{AllocError, Global};
 use suite_text::Suite;
 
@@ -75,8 +76,25 @@ fn properties_in(alloc: Global, suite: &[u8]) -> Option<Params> {
     }
 }
 
-/// Appends what the options and the suite of these bytes ask for that is none: the value that a
-/// fault is about, and without one the number of workers.
+/// Appends what the options and these properties ask for that is none: the value that a fault is
+/// about, and without one the number of workers.
+fn push_asked(
+    alloc: Global,
+    text: &mut String,
+    fault: Option<SettingsFault>,
+    options: &Options,
+    properties: &Params,
+) -> Result<(), AllocError> {
+    match fault {
+        Some(fault) => {
+            let value = value_of(options, properties, key_judged(fault));
+            push_value(alloc, text, fault, value)
+        }
+        None => push_workers(text, options, properties),
+    }
+}
+
+/// The same of the options and of the suite of these bytes.
 fn push_over(
     alloc: Global,
     text: &mut String,
@@ -84,15 +102,9 @@ fn push_over(
     options: &Options,
     suite: &[u8],
 ) -> Result<(), AllocError> {
-    let Some(properties) = properties_in(alloc, suite) else {
-        return Ok(());
-    };
-    match fault {
-        Some(fault) => {
-            let value = value_of(options, &properties, key_judged(fault));
-            push_value(alloc, text, fault, value)
-        }
-        None => push_workers(text, options, &properties),
+    match properties_in(alloc, suite) {
+        Some(properties) => push_asked(alloc, text, fault, options, &properties),
+        None => Ok(()),
     }
 }
 
@@ -108,4 +120,27 @@ pub(crate) fn push_settings(
         Ok(options) => push_over(alloc, text, fault, &options, suite),
         Err(_) => Ok(()),
     }
+}
+
+/// Appends what a run by these options and properties would be refused for, of its settings.
+fn push_refused(
+    alloc: Global,
+    text: &mut String,
+    options: &Options,
+    properties: &Params,
+) -> Result<(), AllocError> {
+    match Settings::read_over(&options.params, properties, options.processors) {
+        Ok(settings) if settings.workers <= u32::from(MOST_WORKERS) => Ok(()),
+        Ok(_) => push_asked(alloc, text, None, options, properties),
+        Err(fault) => push_asked(alloc, text, Some(fault), options, properties),
+    }
+}
+
+/// What is said of the settings of a program's own tests, whose configuration has these properties,
+/// where a run by these options is refused for them (32 to 34, 61): which value is wrong, and what
+/// it may be. Nothing where they are right; as much as there was memory for.
+pub fn said_of_settings(alloc: Global, options: &Options, properties: &Params) -> String {
+    let mut said = String::new(alloc);
+    let _ = push_refused(alloc, &mut said, options, properties);
+    said
 }

@@ -5,9 +5,11 @@ use crate::lines::class_names;
 use crate::marked::push_marked;
 use crate::nearest::push_nearest;
 use crate::options::{form_of, option_of, pair_option};
+use crate::subject::Subject;
 use config_params::ParamsFault;
 use launch_options::option_names::{
-    DETAILS, DETAILS_THEME, EXCLUDE_TAG, INCLUDE_TAG, PROCESSORS, REPLAY, RING, SELECT_UNIQUE_ID,
+    DETAILS, DETAILS_THEME, EXCLUDE_TAG, INCLUDE_TAG, PROCESSORS, REPLAY, RING, SCHEDULE,
+    SELECT_UNIQUE_ID,
 };
 use launch_options::{Details, Given, processors_named, ring_named, theme_names, theme_of};
 use selectors::SelectorKind;
@@ -87,6 +89,15 @@ pub(crate) fn push_words(
         }
     }
     Ok(())
+}
+
+/// Appends which option asks for the steps of a run whose bodies nobody has scripted.
+pub(crate) fn push_step_option(text: &mut String, given: &Given<'_>) -> Result<(), AllocError> {
+    let option = if given.schedule { SCHEDULE } else { REPLAY };
+    write!(
+        text,
+        "--{option} is for suites alone: what real tests answer nobody knows before they have run\n"
+    )
 }
 
 /// Appends which word of the replay names no step.
@@ -188,25 +199,40 @@ fn push_nearest_class(
     push_nearest(alloc, text, names.as_slice(), name)
 }
 
+/// Appends that no node has this name, and of a suite the class whose name is nearest.
+fn push_no_node(
+    alloc: Global,
+    text: &mut String,
+    kind: SelectorKind,
+    value: &str,
+    subject: Subject<'_>,
+) -> Result<(), AllocError> {
+    match subject {
+        Subject::Suite(bytes) => {
+            text.push_str("no node of the suite has that name")?;
+            match kind {
+                SelectorKind::Class => push_nearest_class(alloc, text, value, bytes),
+                _ => Ok(()),
+            }
+        }
+        Subject::Tests(_) => text.push_str("no node of these tests has that name"),
+    }
+}
+
 /// Appends which selector covers nothing.
 pub(crate) fn push_covering(
     alloc: Global,
     text: &mut String,
     number: usize,
     given: &Given<'_>,
-    suite: &[u8],
+    subject: Subject<'_>,
 ) -> Result<(), AllocError> {
     let Some((kind, value)) = selector_at(given, number) else {
         return Ok(());
     };
     let option = option_of(kind);
-    write!(
-        text,
-        "Selector {number} is --{option} {value:?}, and no node of the suite has that name"
-    )?;
-    if let SelectorKind::Class = kind {
-        push_nearest_class(alloc, text, value, suite)?;
-    }
+    write!(text, "Selector {number} is --{option} {value:?}, and ")?;
+    push_no_node(alloc, text, kind, value, subject)?;
     text.push_str(
         "\nWithout selectors the tree shows the names, and --details testfeed the unique ids.\n",
     )

@@ -9,7 +9,7 @@ ghost use Rattle.suite_text.specs.Reading.Bytes.{suite_read};
 
 use crate::suite_output::run_text;
 use launcher::{ExitStatus, Given, Options};
-use messages::{Message, message_of};
+use messages::{Message, Subject, message_of};
 use std::alloc::Global;
 use std::sync::Wait;
 use std::thread::Threads;
@@ -30,6 +30,6 @@ pub fn run_or_say<T: Threads + Wait + Sync>(
 {
     match run_text(rt, alloc, options, suite, output) {
         Ok(status) => Ok(status),
-        Err(fault) => Err(message_of(alloc, fault, given, suite)),
+        Err(fault) => Err(message_of(alloc, fault, given, Subject::Suite(suite))),
     }
 }
