@@ -4,6 +4,7 @@ use Rattle.clap.specs.Words.{Text}
 use Rattle.launch_options.specs.declared.fault.LaunchFault.{LaunchFault}
 use Rattle.launch_options.specs.declared.fault.LaunchFault.TheVariants.{NoMemory}
 use Rattle.command_line.specs.Runs.{Closes, IsProgramRun, IsTerminalRun}
+use Rattle.messages.specs.Sentences.{sentence_of}
 use Rattle.command_line.specs.declared.closing.Ending.{Ending}
 use Rattle.command_line.proofs.Running.{nothing_run}
 
@@ -15,7 +16,7 @@ module _ {R W E G X F : Type 0} (remaining : R → Option (List ℕ)) (contents 
   told_words (Err error) all listed before after old new quiet told ending same value is = tt
 
   -- there was no memory to list them
-  pub told_no_words : (words : Result G F) (fault : LaunchFault) (before : R) (old new : W) (quiet told : E) (ending : Ending) → IfOk words (λ some. fault ≡ NoMemory) → Closes contents said (Err fault) old new quiet told ending
+  pub told_no_words : (words : Result G F) (fault : LaunchFault) (before : R) (old new : W) (quiet told : E) (ending : Ending) → IfOk words (λ some. fault ≡ NoMemory) → Closes sentence_of contents said (Err fault) old new quiet told ending
       → IfOk words (λ some. IsProgramRun remaining contents said (map text (given some)) before before old new quiet told ending)
   told_no_words (Ok some) fault before old new quiet told ending memory closed = record { answer = Err fault; left = remaining before; between = old; run = nothing_run remaining contents (map text (given some)) fault before (remaining before) old memory; closed = closed }
   told_no_words (Err error) fault before old new quiet told ending memory closed = tt
@@ -26,7 +27,7 @@ module _ {R W E G X F : Type 0} (remaining : R → Option (List ℕ)) (contents 
   told_terminal_words (Ok some) all listed before after old new ending same value is = subst (λ (words : List X). IsTerminalRun remaining contents said (map text words) before after old new ending) (value ∙ same) is
   told_terminal_words (Err error) all listed before after old new ending same value is = tt
 
-  pub told_no_terminal_words : (words : Result G F) (fault : LaunchFault) (before : R) (old new : W) (quiet told : E) (ending : Ending) → IfOk words (λ some. fault ≡ NoMemory) → Closes contents said (Err fault) old new quiet told ending
+  pub told_no_terminal_words : (words : Result G F) (fault : LaunchFault) (before : R) (old new : W) (quiet told : E) (ending : Ending) → IfOk words (λ some. fault ≡ NoMemory) → Closes sentence_of contents said (Err fault) old new quiet told ending
       → IfOk words (λ some. IsTerminalRun remaining contents said (map text (given some)) before before old new ending)
   told_no_terminal_words (Ok some) fault before old new quiet told ending memory closed = (quiet, told, told_no_words (Ok some) fault before old new quiet told ending memory closed)
   told_no_terminal_words (Err error) fault before old new quiet told ending memory closed = tt

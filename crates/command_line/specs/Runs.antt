@@ -11,7 +11,7 @@ use Rattle.launch_options.specs.declared.asked.Options.{Options}
 use Rattle.launcher.specs.declared.exit_status.ExitStatus.{ExitStatus}
 use Rattle.launch_options.specs.declared.fault.LaunchFault.{LaunchFault}
 use Rattle.messages.specs.Messages.{message_text}
-use Rattle.messages.specs.Sentences.{sentence_of}
+use Rattle.messages.specs.Sentences.{Sentences, sentence_of}
 use Rattle.messages.specs.declared.message.Message.{Message}
 use Rattle.suite_text.specs.Reading.Bytes.{suite_read}
 use Rattle.command_line.specs.Words.{ReadsWords}
@@ -38,9 +38,10 @@ module _ {R W : Type 0} (remaining : R → Option (List ℕ)) (contents : W → 
     pub runs : RunsOptions options before after left old new result
 
 -- the message that stands there after this answer: none where nothing was refused, and else one that begins with the refusal's sentence
-abbrev pub HasMessage : Result ExitStatus LaunchFault → Option Message → Type 0
-HasMessage (Ok status) message = message ≡ None
-HasMessage (Err fault) message = IsSomeAnd message (λ said. said.sentence.now ≡ sentence_of fault)
+-- among these
+abbrev pub HasMessage : Sentences → Result ExitStatus LaunchFault → Option Message → Type 0
+HasMessage sentence (Ok status) message = message ≡ None
+HasMessage sentence (Err fault) message = IsSomeAnd message (λ said. said.sentence.now ≡ sentence fault)
 
 -- the line of a refusal
 abbrev pub refusal_line : LaunchFault → List ℕ
@@ -61,17 +62,17 @@ module _ {W : Type 0} (contents : W → Option (List ℕ)) where
   PrintsMessage None old new all = new ≡ old
   PrintsMessage (Some said) old new all = WentOut all (contents old) (contents new) (message_text said.sentence.now (string_bytes said.details))
 
-  -- what is said of this answer: nothing where nothing was refused, and else the refusal's sentence, and details below it
-  abbrev pub SaysWhy : Result ExitStatus LaunchFault → (old new : W) → Bool → Type 0
-  SaysWhy (Ok status) old new all = new ≡ old
-  SaysWhy (Err fault) old new all = (details : List ℕ) × WentOut all (contents old) (contents new) (message_text (sentence_of fault) details)
+  -- what is said of this answer: nothing where nothing was refused, and else the refusal's sentence among these, and details below it
+  abbrev pub SaysWhy : Sentences → Result ExitStatus LaunchFault → (old new : W) → Bool → Type 0
+  SaysWhy sentence (Ok status) old new all = new ≡ old
+  SaysWhy sentence (Err fault) old new all = (details : List ℕ) × WentOut all (contents old) (contents new) (message_text (sentence fault) details)
 
-module _ {W E : Type 0} (contents : W → Option (List ℕ)) (said : E → Option (List ℕ)) where
+module _ {W E : Type 0} (sentence : Sentences) (contents : W → Option (List ℕ)) (said : E → Option (List ℕ)) where
   -- what is done after this answer: a refusal's line is printed unless the writer failed, its message goes to the other writer, and
   -- the program ends with the number of the answer's status
   pub record Closes (answer : Result ExitStatus LaunchFault) (old new : W) (quiet told : E) (ending : Ending) : Type 0 where
     pub line : PrintsLine contents (line_after answer) old new ending.is_printed
-    pub message : SaysWhy said answer quiet told ending.is_told
+    pub message : SaysWhy said sentence answer quiet told ending.is_told
     pub status : ending.status ≡ number_of (status_after answer)
 
 module _ {R W E : Type 0} (remaining : R → Option (List ℕ)) (contents : W → Option (List ℕ)) (said : E → Option (List ℕ)) where
@@ -81,7 +82,7 @@ module _ {R W E : Type 0} (remaining : R → Option (List ℕ)) (contents : W �
     pub left : Option (List ℕ)
     pub between : W
     pub run : IsConsoleRun remaining contents words before after left old between answer
-    pub closed : Closes contents said answer between new quiet told ending
+    pub closed : Closes sentence_of contents said answer between new quiet told ending
 
   -- the same on a terminal, on which more is said: how far the run has come, and behind it what failed
   abbrev pub IsTerminalRun : (words : List Text) (before after : R) (old new : W) (ending : Ending) → Type 0

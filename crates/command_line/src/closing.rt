@@ -1,10 +1,15 @@
 //! What is said once a run is over.
 
-ghost use Rattle.std.specs.Prelude.{None};
-ghost use Rattle.command_line.specs.Runs.{Closes, HasMessage, PrintsLine, PrintsMessage};
+ghost use Rattle.std.specs.Prelude.{◌≡◌, None, Err};
+ghost use Rattle.launcher.specs.Closings.{line_after};
+ghost use Rattle.launcher.specs.ExitStatuses.{number_of, status_after};
+ghost use Rattle.messages.specs.Sentences.{sentence_by};
+ghost use Rattle.command_line.specs.Runs.{Closes, PrintsLine, PrintsMessage};
 
+use crate::said::message_after;
 use launcher::{Closing, ExitStatus, LaunchFault};
-use messages::Message;
+use messages::{Message, Subject};
+use std::alloc::Global;
 use std::io::Write;
 
 /// How the program ended.
@@ -38,16 +43,16 @@ fn print_message<W: Write>(writer: &mut W, message: Option<Message>) -> bool
     }
 }
 
-/// Says what there is to say after this answer: the line of a refusal on the one writer, unless
-/// that failed, and the message on the other.
-pub(crate) fn close<W: Write, E: Write>(
+/// Prints the line of a refusal on the one writer, unless that failed, and the message on the other.
+fn close<W: Write, E: Write>(
     answer: Result<ExitStatus, LaunchFault>,
     message: Option<Message>,
     writer: &mut W,
     errors: &mut E,
 ) -> Ending
-    requires { HasMessage answer message }
-    ensures { Closes W.contents E.contents answer writer.old writer.new errors.old errors.new result }
+    ensures line { PrintsLine W.contents (line_after answer) writer.old writer.new result.is_printed }
+    ensures message { PrintsMessage E.contents message errors.old errors.new result.is_told }
+    ensures status { result.status ≡ number_of (status_after answer) }
 {
     let closing = Closing::after(answer);
     let is_printed = print_line(writer, closing.line);
@@ -57,4 +62,35 @@ pub(crate) fn close<W: Write, E: Write>(
         is_printed,
         is_told,
     }
+}
+
+/// Says what there is to say after this answer of a run that these words asked for.
+pub(crate) fn close_run<W: Write, E: Write>(
+    alloc: Global,
+    answer: Result<ExitStatus, LaunchFault>,
+    words: &[String],
+    subject: Subject<'_>,
+    writer: &mut W,
+    errors: &mut E,
+) -> Ending
+    ensures { Closes (sentence_by subject.entry) W.contents E.contents answer writer.old writer.new errors.old errors.new
+        result }
+{
+    let message = message_after(alloc, answer, words, subject);
+    close(answer, message, writer, errors)
+}
+
+/// Says what there is to say where the system gave no words, for this reason.
+pub(crate) fn refuse<W: Write, E: Write>(
+    alloc: Global,
+    fault: LaunchFault,
+    subject: Subject<'_>,
+    writer: &mut W,
+    errors: &mut E,
+) -> Ending
+    ensures { Closes (sentence_by subject.entry) W.contents E.contents (Err fault) writer.old writer.new errors.old
+        errors.new result }
+{
+    let message = Message::with_details(fault, subject, String::new(alloc));
+    close(Err(fault), Some(message), writer, errors)
 }

@@ -11,6 +11,7 @@ use launcher::option_names::{
     PROCESSORS, REPLAY, RING, SCHEDULE, SELECT_CLASS, SELECT_METHOD, SELECT_PACKAGE,
     SELECT_UNIQUE_ID, SYSTEM,
 };
+use messages::Subject;
 use std::alloc::{AllocError, Global};
 
 fn single<'a>(alloc: Global, name: &'a str, help: &'a str) -> Arg<'a>
@@ -110,8 +111,16 @@ fn filtering<'a>(alloc: Global) -> Result<Command<'a>, AllocError>
     )
 }
 
+/// The help of an option where a suite is run, and where a program's own tests are.
+fn help_by<'a>(subject: Subject<'_>, suite: &'a str, tests: &'a str) -> &'a str {
+    match subject {
+        Subject::Suite(_) => suite,
+        Subject::Tests(_) => tests,
+    }
+}
+
 /// The same, and the options that say with which settings.
-fn configuring<'a>(alloc: Global) -> Result<Command<'a>, AllocError>
+fn configuring<'a>(alloc: Global, subject: Subject<'_>) -> Result<Command<'a>, AllocError>
     ensures { IfOk result (λ command. app_of command ≡ configuring) }
 {
     let command = filtering(alloc)?;
@@ -120,7 +129,11 @@ fn configuring<'a>(alloc: Global) -> Result<Command<'a>, AllocError>
         repeated(
             alloc,
             CONFIG,
-            "Sets a parameter, as KEY=VALUE, over the system and the suite",
+            help_by(
+                subject,
+                "Sets a parameter, as KEY=VALUE, over the system and the suite",
+                "Sets a parameter, as KEY=VALUE, over the system and the tests",
+            ),
         ),
     )?;
     let command = with(
@@ -128,7 +141,11 @@ fn configuring<'a>(alloc: Global) -> Result<Command<'a>, AllocError>
         repeated(
             alloc,
             SYSTEM,
-            "Sets a parameter, as KEY=VALUE, over the suite",
+            help_by(
+                subject,
+                "Sets a parameter, as KEY=VALUE, over the suite",
+                "Sets a parameter, as KEY=VALUE, over the tests",
+            ),
         ),
     )?;
     let command = with(
@@ -150,10 +167,10 @@ fn configuring<'a>(alloc: Global) -> Result<Command<'a>, AllocError>
 }
 
 /// The same, and the options that say what is printed of what happened.
-fn printing<'a>(alloc: Global) -> Result<Command<'a>, AllocError>
+fn printing<'a>(alloc: Global, subject: Subject<'_>) -> Result<Command<'a>, AllocError>
     ensures { IfOk result (λ command. app_of command ≡ printing) }
 {
-    let command = configuring(alloc)?;
+    let command = configuring(alloc, subject)?;
     let command = with(
         command,
         single(
@@ -172,11 +189,11 @@ fn printing<'a>(alloc: Global) -> Result<Command<'a>, AllocError>
     )
 }
 
-/// The program and its options.
-pub(crate) fn command<'a>(alloc: Global) -> Result<Command<'a>, AllocError>
+/// The program and its options, with the helps that they have where this is run.
+pub(crate) fn command<'a>(alloc: Global, subject: Subject<'_>) -> Result<Command<'a>, AllocError>
     ensures { IfOk result (λ command. app_of command ≡ program) }
 {
-    let command = printing(alloc)?;
+    let command = printing(alloc, subject)?;
     let command = with(
         command,
         flag(
@@ -198,7 +215,11 @@ pub(crate) fn command<'a>(alloc: Global) -> Result<Command<'a>, AllocError>
         flag(
             alloc,
             SCHEDULE,
-            "Prints, behind a run, steps that --replay takes to just what happened",
+            help_by(
+                subject,
+                "Prints, behind a run, steps that --replay takes to just what happened",
+                "Is refused: what real tests answer nobody knows before they have run",
+            ),
         ),
     )?;
     with(
@@ -206,7 +227,11 @@ pub(crate) fn command<'a>(alloc: Global) -> Result<Command<'a>, AllocError>
         single(
             alloc,
             REPLAY,
-            "Runs these steps in place of the schedule, as in \"w1:claim:0 w1:draw\"",
+            help_by(
+                subject,
+                "Runs these steps in place of the schedule, as in \"w1:claim:0 w1:draw\"",
+                "Is refused: what real tests answer nobody knows before they have run",
+            ),
         ),
     )
 }

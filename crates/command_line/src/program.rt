@@ -4,16 +4,16 @@ ghost use Rattle.std.specs.Prelude.{◌≡◌, IfOk, IfErr, Ok, Err, map, string
 ghost use Rattle.std.specs.IoError.{error_kind};
 ghost use Rattle.std.specs.Vec.Iter.{into_iter_items};
 ghost use Rattle.command_line.specs.GivenWords.{IsGivenFault};
-ghost use Rattle.command_line.specs.Runs.{Closes, HasMessage, IsConsoleRun, IsProgramRun};
+ghost use Rattle.messages.specs.Sentences.{sentence_of};
+ghost use Rattle.command_line.specs.Runs.{Closes, IsConsoleRun, IsProgramRun};
 ghost use Rattle.command_line.specs.Words.{ReadsWords};
 
-use crate::closing::{Ending, close};
+use crate::closing::{Ending, close_run, refuse};
 use crate::kept::{Kept, nothing_kept};
-use crate::said::message_of;
 use crate::system_words::given_words;
 use crate::words::read_options;
 use launcher::{ExitStatus, LaunchFault, Options, run_options};
-use messages::Message;
+use messages::Subject;
 use std::alloc::Global;
 use std::env::Args;
 use std::io::{self, Read, Write};
@@ -37,21 +37,6 @@ pub fn run_console<T: Threads + Wait + Sync, R: Read, W: Write>(
     run_options(rt, alloc, &options, reader, writer)
 }
 
-/// The message of an answer, if it is a refusal.
-pub(crate) fn message_after(
-    alloc: Global,
-    answer: Result<ExitStatus, LaunchFault>,
-    words: &[String],
-    bytes: &[u8],
-) -> Option<Message>
-    ensures { HasMessage answer result }
-{
-    match answer {
-        Ok(_) => None,
-        Err(fault) => Some(message_of(alloc, fault, words, bytes)),
-    }
-}
-
 /// Runs what these words asked for, and says what there is to say of the answer.
 fn run_read<T: Threads + Wait + Sync, R: Read, W: Write, E: Write>(
     rt: &T,
@@ -71,8 +56,8 @@ fn run_read<T: Threads + Wait + Sync, R: Read, W: Write, E: Write>(
         bytes: nothing_kept(alloc),
     };
     let answer = run_options(rt, alloc, options, &mut kept, writer);
-    let message = message_after(alloc, answer, words, kept.bytes.as_slice());
-    close(answer, message, writer, errors)
+    let suite = Subject::Suite(kept.bytes.as_slice());
+    close_run(alloc, answer, words, suite, writer, errors)
 }
 
 /// Runs what `run_console` runs, and then prints the line of a refusal, unless the writer failed,
@@ -90,24 +75,15 @@ pub fn run_words<T: Threads + Wait + Sync, R: Read, W: Write, E: Write>(
 {
     match read_options(alloc, words) {
         Ok(options) => run_read(rt, alloc, &options, words, reader, writer, errors),
-        Err(fault) => {
-            let message = message_of(alloc, fault, words, &[]);
-            close(Err(fault), Some(message), writer, errors)
-        }
+        Err(fault) => close_run(
+            alloc,
+            Err(fault),
+            words,
+            Subject::Suite(&[]),
+            writer,
+            errors,
+        ),
     }
-}
-
-/// Says what there is to say where the system gave no words for this reason.
-pub(crate) fn refuse<W: Write, E: Write>(
-    alloc: Global,
-    fault: LaunchFault,
-    writer: &mut W,
-    errors: &mut E,
-) -> Ending
-    ensures { Closes W.contents E.contents (Err fault) writer.old writer.new errors.old errors.new result }
-{
-    let message = Message::with_details(fault, String::new(alloc));
-    close(Err(fault), Some(message), writer, errors)
 }
 
 /// The program: what `run_words` does with the words that the system gave. Where it gave none, that
@@ -124,11 +100,11 @@ pub fn run_program<T: Threads + Wait + Sync, R: Read, W: Write, E: Write>(
         (map string_bytes (into_iter_items given)) reader.old reader.new writer.old writer.new errors.old errors.new
         result) }
     ensures refused { IfErr words (λ error. (fault : LaunchFault) × IsGivenFault (error_kind error) fault
-        × (reader.new ≡ reader.old) × Closes W.contents E.contents (Err fault) writer.old writer.new errors.old
+        × (reader.new ≡ reader.old) × Closes sentence_of W.contents E.contents (Err fault) writer.old writer.new errors.old
         errors.new result) }
 {
     match given_words(alloc, words) {
         Ok(words) => run_words(rt, alloc, words.as_slice(), reader, writer, errors),
-        Err(fault) => refuse(alloc, fault, writer, errors),
+        Err(fault) => refuse(alloc, fault, Subject::Suite(&[]), writer, errors),
     }
 }

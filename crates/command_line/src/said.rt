@@ -1,12 +1,13 @@
-//! What is said of a refusal, by the words that were given and the bytes that were read.
+//! What is said of a refusal, by the words that were given and what was to be run.
 
 ghost use Rattle.std.specs.Prelude.{◌≡◌};
-ghost use Rattle.messages.specs.Sentences.{sentence_of};
+ghost use Rattle.messages.specs.Sentences.{sentence_by};
+ghost use Rattle.command_line.specs.Runs.{HasMessage};
 
 use crate::option_names::command;
 use crate::words::given_by;
-use launcher::LaunchFault;
-use messages::Message;
+use launcher::{ExitStatus, LaunchFault};
+use messages::{Message, Subject};
 use std::alloc::{AllocError, Global};
 
 /// What clap says before a word that it does not expect.
@@ -20,32 +21,64 @@ fn is_of_no_option(said: &str) -> bool {
     }
 }
 
+/// What there is to say of a word that is no option: where that comes from which is run.
+fn said_of_no_option(subject: Subject<'_>) -> &'static str {
+    match subject {
+        Subject::Suite(_) => {
+            "\nThe suite is read from standard input, as in `./console < FILE`.\n"
+        }
+        Subject::Tests(_) => "\nThe tests are the program's own, and it reads no file.\n",
+    }
+}
+
 /// What clap says of words that it refuses: what is wrong with them, or the options where help is asked for.
-fn said_by_clap(alloc: Global, words: &[String]) -> Result<String, AllocError> {
-    match command(alloc)?.try_get_matches_from(words) {
+fn said_by_clap(
+    alloc: Global,
+    words: &[String],
+    subject: Subject<'_>,
+) -> Result<String, AllocError> {
+    match command(alloc, subject)?.try_get_matches_from(words) {
         Ok(_) => Ok(String::new(alloc)),
         Err(error) => {
             let mut said = format!(in alloc; "{error}")?;
             if is_of_no_option(said.as_str()) {
-                said.push_str(
-                    "\nThe suite is read from standard input, as in `./console < FILE`.\n",
-                )?;
+                said.push_str(said_of_no_option(subject))?;
             }
             Ok(said)
         }
     }
 }
 
-/// The message of a refusal of these words, or of the suite of these bytes that they were to run.
-/// It begins with the refusal's sentence; below it is as much as there was memory for.
-pub fn message_of(alloc: Global, fault: LaunchFault, words: &[String], suite: &[u8]) -> Message
-    ensures { result.sentence.now ≡ sentence_of fault }
+/// The message of a refusal of these words, or of what they were to run. It begins with the
+/// refusal's sentence; below it is as much as there was memory for.
+pub fn message_of(
+    alloc: Global,
+    fault: LaunchFault,
+    words: &[String],
+    subject: Subject<'_>,
+) -> Message
+    ensures { result.sentence.now ≡ sentence_by subject.entry fault }
 {
     match given_by(alloc, words) {
-        Ok(given) => messages::message_of(alloc, fault, &given, suite),
-        Err(_) => match said_by_clap(alloc, words) {
-            Ok(said) => Message::with_details(fault, said),
-            Err(_) => Message::with_details(fault, String::new(alloc)),
+        Ok(given) => messages::message_of(alloc, fault, &given, subject),
+        Err(_) => match said_by_clap(alloc, words, subject) {
+            Ok(said) => Message::with_details(fault, subject, said),
+            Err(_) => Message::with_details(fault, subject, String::new(alloc)),
         },
+    }
+}
+
+/// The message of an answer, if it is a refusal.
+pub(crate) fn message_after(
+    alloc: Global,
+    answer: Result<ExitStatus, LaunchFault>,
+    words: &[String],
+    subject: Subject<'_>,
+) -> Option<Message>
+    ensures { HasMessage (sentence_by subject.entry) answer result }
+{
+    match answer {
+        Ok(_) => None,
+        Err(fault) => Some(message_of(alloc, fault, words, subject)),
     }
 }

@@ -3,18 +3,18 @@
 ghost use Rattle.std.specs.Prelude.{◌≡◌, IfOk, IfErr, Ok, Err, map, string_bytes};
 ghost use Rattle.std.specs.IoError.{error_kind};
 ghost use Rattle.std.specs.Vec.Iter.{into_iter_items};
+ghost use Rattle.messages.specs.Sentences.{sentence_by, sentence_of};
 ghost use Rattle.command_line.specs.GivenWords.{IsGivenFault};
 ghost use Rattle.command_line.specs.Runs.{Closes, IsTerminalRun};
 ghost use Rattle.command_line.specs.Words.{ReadsWords};
 
-use crate::closing::{Ending, close};
+use crate::closing::{Ending, close_run, refuse};
 use crate::kept::{Kept, nothing_kept};
-use crate::program::{message_after, refuse};
-use crate::said::message_of;
 use crate::system_words::given_words;
 use crate::words::read_options;
 use launcher::option_names::SELECT_UNIQUE_ID;
-use launcher::{Details, LaunchFault, Options, run_options_watched};
+use launcher::{Details, ExitStatus, LaunchFault, Options, run_options_watched};
+use messages::Subject;
 use progress::{Failures, Progress, failed_text};
 use std::alloc::Global;
 use std::env::Args;
@@ -24,24 +24,51 @@ use std::thread::Threads;
 use std::time::Clock;
 
 /// Whether lines are printed while the run goes on.
-fn prints_lines(options: &Options) -> bool {
+pub(crate) fn prints_lines(options: &Options) -> bool {
     options.replay.is_none() && matches!(options.details, Details::Testfeed)
 }
 
 /// Whether what failed is said once more: it is behind a tree and behind a summary.
-fn says_failures(options: &Options) -> bool {
-    options.replay.is_none() && matches!(options.details, Details::Tree | Details::Summary)
+fn says_failures(answer: Result<ExitStatus, LaunchFault>, options: &Options) -> bool {
+    answer.is_ok()
+        && options.replay.is_none()
+        && matches!(options.details, Details::Tree | Details::Summary)
 }
 
-/// Says what failed, if something did and there is memory to say it.
-fn print_failures<E: Write>(alloc: Global, failures: &Failures, errors: &mut E) {
-    if failures.are_all && failures.ids.is_empty() {
+/// Says what failed, where that is said, if something did and there is memory to say it.
+fn print_failures<E: Write>(
+    alloc: Global,
+    answer: Result<ExitStatus, LaunchFault>,
+    options: &Options,
+    failures: &Failures,
+    errors: &mut E,
+) {
+    if !says_failures(answer, options) || (failures.are_all && failures.ids.is_empty()) {
         return;
     }
     let ids = failures.ids.as_slice();
     if let Ok(text) = failed_text(alloc, SELECT_UNIQUE_ID, ids, failures.are_all) {
         let _ = errors.write_all(text.as_bytes());
     }
+}
+
+/// Says what there is to say after this answer of a run that these words asked for, and of what failed.
+pub(crate) fn close_drawn<W: Write, E: Write>(
+    alloc: Global,
+    answer: Result<ExitStatus, LaunchFault>,
+    options: &Options,
+    words: &[String],
+    subject: Subject<'_>,
+    failures: &Failures,
+    writer: &mut W,
+    errors: &mut E,
+) -> Ending
+    ensures { (told : E) × Closes (sentence_by subject.entry) W.contents E.contents answer writer.old writer.new
+        errors.old told result }
+{
+    let ending = close_run(alloc, answer, words, subject, writer, errors);
+    print_failures(alloc, answer, options, failures, errors);
+    ending
 }
 
 /// Runs what these words asked for, draws how far it has come, and says what there is to say of the
@@ -66,12 +93,10 @@ fn run_drawn<T: Threads + Wait + Sync, C: Clock + Drop, R: Read, W: Write, E: Wr
     let mut progress = Progress::new(alloc, &mut *errors, clock, prints_lines(options));
     let answer = run_options_watched(rt, alloc, options, &mut kept, writer, &mut progress);
     let failures = progress.into_failures();
-    let message = message_after(alloc, answer, words, kept.bytes.as_slice());
-    let ending = close(answer, message, writer, errors);
-    if answer.is_ok() && says_failures(options) {
-        print_failures(alloc, &failures, errors);
-    }
-    ending
+    let suite = Subject::Suite(kept.bytes.as_slice());
+    close_drawn(
+        alloc, answer, options, words, suite, &failures, writer, errors,
+    )
 }
 
 /// Does what `run_words` does, where the other writer is a terminal. On it stands how far the run
@@ -97,10 +122,14 @@ pub fn run_words_on_terminal<
 {
     match read_options(alloc, words) {
         Ok(options) => run_drawn(rt, clock, alloc, &options, words, reader, writer, errors),
-        Err(fault) => {
-            let message = message_of(alloc, fault, words, &[]);
-            close(Err(fault), Some(message), writer, errors)
-        }
+        Err(fault) => close_run(
+            alloc,
+            Err(fault),
+            words,
+            Subject::Suite(&[]),
+            writer,
+            errors,
+        ),
     }
 }
 
@@ -118,7 +147,7 @@ pub fn run_on_terminal<T: Threads + Wait + Sync, C: Clock + Drop, R: Read, W: Wr
     ensures run { IfOk words (λ given. IsTerminalRun R.remaining W.contents E.contents
         (map string_bytes (into_iter_items given)) reader.old reader.new writer.old writer.new result) }
     ensures refused { IfErr words (λ error. (fault : LaunchFault) × IsGivenFault (error_kind error) fault
-        × (reader.new ≡ reader.old) × Closes W.contents E.contents (Err fault) writer.old writer.new errors.old
+        × (reader.new ≡ reader.old) × Closes sentence_of W.contents E.contents (Err fault) writer.old writer.new errors.old
         errors.new result) }
 {
     match given_words(alloc, words) {
@@ -131,6 +160,6 @@ pub fn run_on_terminal<T: Threads + Wait + Sync, C: Clock + Drop, R: Read, W: Wr
             writer,
             errors,
         ),
-        Err(fault) => refuse(alloc, fault, writer, errors),
+        Err(fault) => refuse(alloc, fault, Subject::Suite(&[]), writer, errors),
     }
 }

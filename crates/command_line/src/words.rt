@@ -14,6 +14,7 @@ use crate::option_names::command;
 use clap::ArgMatches;
 use clap::error::ErrorKind;
 use launcher::{Given, LaunchFault, Options};
+use messages::Subject;
 use std::alloc::Global;
 
 /// What a refusal of clap means: 105, but for want of memory.
@@ -34,7 +35,8 @@ fn matches_of<'a>(alloc: Global, words: &'a [String]) -> Result<ArgMatches<'a>, 
     ensures refused { IfErr result (λ fault. fault ≢ NoMemory → (fault ≡ LaunchFault.BadWords)
         × (fault_of program (map string_bytes words.entry.now) ≢ [])) }
 {
-    match command(alloc)?.try_get_matches_from(words) {
+    // what is found does not depend on the helps
+    match command(alloc, Subject::Suite(&[]))?.try_get_matches_from(words) {
         Ok(matches) => Ok(matches),
         Err(error) => Err(words_fault(&error)),
     }

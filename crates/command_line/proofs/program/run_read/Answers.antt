@@ -10,5 +10,5 @@ returns g c reads = record {
   between = _;
   run =
       words_run (g.R.Read.remaining) (g.W.Write.contents) (map string_bytes c.args.words.now) c.args.options.now c.run_options-answer.result _ _ _ _ _ reads c.run_options-answer.ensures.exact c.run_options-answer.ensures.reads c.run_options-answer.ensures.quiet;
-  closed = c.close.ensures;
+  closed = c.close_run.ensures;
 }
