@@ -3,4 +3,5 @@ pub mod Ended
 pub mod Growing
 pub mod Listing
 pub mod Running
+pub mod TestsTold
 pub mod Told

@@ -2,4 +2,5 @@ pub mod Commands
 pub mod Found
 pub mod GivenWords
 pub mod Runs
+pub mod TestRuns
 pub mod Words

@@ -1,4 +1,5 @@
-//! The command line: what its words give the options, and the program over any reader and writer.
+//! The command line: what its words give the options, the program over any reader and writer, and that of tests of
+//! one's own.
 #![tactic(auto)]
 
 mod closing;
@@ -9,6 +10,8 @@ mod program;
 mod said;
 mod system_words;
 mod terminal;
+mod test_program;
+mod tests_on_terminal;
 mod words;
 
 pub use closing::Ending;
@@ -16,4 +19,6 @@ pub use program::{run_console, run_program, run_words};
 pub use said::message_of;
 pub use system_words::given_words;
 pub use terminal::{run_on_terminal, run_words_on_terminal};
+pub use test_program::{run_test_program, run_test_words};
+pub use tests_on_terminal::{run_test_program_on_terminal, run_test_words_on_terminal};
 pub use words::read_options;

@@ -1,0 +1,13 @@
+-- What was asked for is run, and then what is said of the answer.
+use Rattle.std.proofs.Common.{Ok}
+use Rattle.command_line.proofs.test_program.run_test_options.Goals as goal
+
+pub returns : goal.returns
+returns g c reads = record {
+  options = Ok c.args.options.now;
+  reads = reads;
+  answer = c.run_jobs-answer.result;
+  between = _;
+  runs = record { exact = c.run_jobs-answer.ensures.exact; quiet = c.run_jobs-answer.ensures.quiet };
+  closed = c.close_run.ensures;
+}

@@ -1,0 +1,17 @@
+-- What was asked for is run, and then what is said of the answer.
+use Rattle.std.proofs.Common.{Ok}
+use Rattle.command_line.proofs.tests_on_terminal.run_tests_drawn.Goals as goal
+
+pub returns : goal.returns
+returns g c reads = (
+  _,
+  c.close_drawn.ensures.0,
+  record {
+    options = Ok c.args.options.now;
+    reads = reads;
+    answer = c.run_jobs_watched-answer.result;
+    between = _;
+    runs = record { exact = c.run_jobs_watched-answer.ensures.exact; quiet = c.run_jobs_watched-answer.ensures.quiet };
+    closed = c.close_drawn.ensures.1;
+  },
+)

@@ -1,0 +1,41 @@
+-- What a program with tests of its own does by the words of its command line.
+use Rattle.std.specs.Prelude.{◌≡◌, ℕ, false, List, Option, IfErr, Result, Ok, Err}
+use Rattle.std.specs.Io.KnownBytes.{Keeps}
+use Rattle.clap.specs.Words.{Text}
+use Rattle.plan_events.specs.declared.outcome.Reply.{Reply}
+use Rattle.suite_text.specs.Reading.Parts.{SuiteParts}
+use Rattle.launch_options.specs.Asked.{Asked, asked_by}
+use Rattle.launch_options.specs.declared.asked.Options.{Options}
+use Rattle.launch_options.specs.declared.fault.LaunchFault.{LaunchFault}
+use Rattle.launcher.specs.Programs.{IsProgramRun}
+use Rattle.launcher.specs.Runs.{is_writing}
+use Rattle.launcher.specs.declared.exit_status.ExitStatus.{ExitStatus}
+use Rattle.messages.specs.Sentences.{tests_sentence_of}
+use Rattle.command_line.specs.Runs.{Closes}
+use Rattle.command_line.specs.Words.{ReadsWords}
+use Rattle.command_line.specs.declared.closing.Ending.{Ending}
+
+module _ {B W E : Type 0} (answers : B → List Reply) (contents : W → Option (List ℕ)) (said : E → Option (List ℕ)) (parts : SuiteParts) (jobs : List (ℕ × B)) where
+  -- what is asked for is run with these jobs; and nothing is written on a refusal but that the writer failed
+  pub record RunsJobs (asked : Asked) (old new : Option (List ℕ)) (result : Result ExitStatus LaunchFault) : Type 0 where
+    pub exact : IsProgramRun answers asked parts jobs old new result
+    pub quiet : IfErr result (λ fault. is_writing fault ≡ false → Keeps old new)
+
+  -- what is done with what the words gave: the jobs are run by the options; a refusal is answered, and the writer is not touched
+  abbrev pub RunsTests : Result Options LaunchFault → (old new : W) → Result ExitStatus LaunchFault → Type 0
+  RunsTests (Ok options) old new result = RunsJobs (asked_by options) (contents old) (contents new) result
+  RunsTests (Err fault) old new result = (result ≡ Err fault) × (new ≡ old)
+
+  -- the program: the words are read, what that gave is run, which leaves the writer like this, and then that is said of the answer
+  -- which is said of the answer of a suite
+  pub record IsTestRun (words : List Text) (old new : W) (quiet told : E) (ending : Ending) : Type 0 where
+    pub options : Result Options LaunchFault
+    pub reads : ReadsWords words options
+    pub answer : Result ExitStatus LaunchFault
+    pub between : W
+    pub runs : RunsTests options old between answer
+    pub closed : Closes tests_sentence_of contents said answer between new quiet told ending
+
+  -- the same on a terminal, on which more is said: how far the run has come, and behind it what failed
+  abbrev pub IsTestRunOnTerminal : (words : List Text) (old new : W) (ending : Ending) → Type 0
+  IsTestRunOnTerminal words old new ending = (quiet : E) × (told : E) × IsTestRun words old new quiet told ending

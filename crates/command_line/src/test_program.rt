@@ -1,0 +1,101 @@
+//! The program of one who has tests of its own: their bodies are jobs that it hands in.
+
+ghost use Rattle.std.specs.Prelude.{◌≡◌, ℕ, IfOk, IfErr, Ok, Err, map, string_bytes};
+ghost use Rattle.std.specs.IoError.{error_kind};
+ghost use Rattle.std.specs.Vec.Iter.{into_iter_items};
+ghost use Rattle.resource_locks.specs.Plans.{PlanParts};
+ghost use Rattle.worker_pool.specs.Premises.{JobsMayAnswer};
+ghost use Rattle.worker_pool.specs.Reports.{run_of};
+ghost use Rattle.launcher.specs.Programs.{HasJobs, program_parts};
+ghost use Rattle.messages.specs.Sentences.{tests_sentence_of};
+ghost use Rattle.command_line.specs.GivenWords.{IsGivenFault};
+ghost use Rattle.command_line.specs.Runs.{Closes};
+ghost use Rattle.command_line.specs.TestRuns.{IsTestRun};
+ghost use Rattle.command_line.specs.Words.{ReadsWords};
+
+use crate::closing::{Ending, close_run, refuse};
+use crate::system_words::given_words;
+use crate::words::read_options;
+use launcher::{LaunchFault, Options, Program, run_jobs};
+use messages::{Subject, said_of_settings};
+use plan_events::Job;
+use std::alloc::Global;
+use std::env::Args;
+use std::io::{self, Write};
+use std::sync::Wait;
+use std::thread::Threads;
+
+/// Runs these jobs as the options say, and says what there is to say of the answer.
+fn run_test_options<B: Job + Send, T: Threads + Wait + Sync, W: Write, E: Write>(
+    rt: &T,
+    alloc: Global,
+    options: &Options,
+    words: &[String],
+    program: Program<B>,
+    writer: &mut W,
+    errors: &mut E,
+) -> Ending
+    requires jobs { (plan : PlanParts) (workers ring : ℕ) → JobsMayAnswer B.answers
+        (run_of plan workers ring program.jobs.items) }
+    requires all { HasJobs program.tree program.jobs.items }
+    ensures { ReadsWords (map string_bytes words.now) (Ok options.now) → IsTestRun B.answers W.contents E.contents
+        (program_parts program.tree program.properties) program.jobs.items (map string_bytes words.now) writer.old
+        writer.new errors.old errors.new result }
+{
+    let said = said_of_settings(alloc, options, &program.properties);
+    let answer = run_jobs(rt, alloc, options, program, writer);
+    let tests = Subject::Tests(said.as_str());
+    close_run(alloc, answer, words, tests, writer, errors)
+}
+
+/// Runs of a program's own tests what the words ask for; the first word is the program's name. What
+/// they ask for is printed, as of a suite. Then the line of a refusal is printed, unless the writer
+/// failed, and its message on the other writer. Words that give no options are refused as
+/// `read_options` says, and then nothing is run; so is `--schedule` or `--replay`, by 105, since
+/// nobody knows beforehand what the tests answer. Each body of the tree has a job, and whatever plan
+/// is made of the tree, the jobs may answer.
+pub fn run_test_words<B: Job + Send, T: Threads + Wait + Sync, W: Write, E: Write>(
+    rt: &T,
+    alloc: Global,
+    words: &[String],
+    program: Program<B>,
+    writer: &mut W,
+    errors: &mut E,
+) -> Ending
+    requires jobs { (plan : PlanParts) (workers ring : ℕ) → JobsMayAnswer B.answers
+        (run_of plan workers ring program.jobs.items) }
+    requires all { HasJobs program.tree program.jobs.items }
+    ensures { IsTestRun B.answers W.contents E.contents (program_parts program.tree program.properties)
+        program.jobs.items (map string_bytes words.now) writer.old writer.new errors.old errors.new result }
+{
+    match read_options(alloc, words) {
+        Ok(options) => run_test_options(rt, alloc, &options, words, program, writer, errors),
+        Err(fault) => close_run(alloc, Err(fault), words, Subject::Tests(""), writer, errors),
+    }
+}
+
+/// The program: what `run_test_words` does with the words that the system gave. Where it gave none,
+/// that is what is refused. All that is left to do is to end with the status.
+pub fn run_test_program<B: Job + Send, T: Threads + Wait + Sync, W: Write, E: Write>(
+    rt: &T,
+    alloc: Global,
+    words: io::Result<Args>,
+    program: Program<B>,
+    writer: &mut W,
+    errors: &mut E,
+) -> Ending
+    requires jobs { (plan : PlanParts) (workers ring : ℕ) → JobsMayAnswer B.answers
+        (run_of plan workers ring program.jobs.items) }
+    requires all { HasJobs program.tree program.jobs.items }
+    ensures run { IfOk words (λ given. IsTestRun B.answers W.contents E.contents (program_parts program.tree
+        program.properties) program.jobs.items (map string_bytes (into_iter_items given)) writer.old writer.new
+        errors.old errors.new result) }
+    ensures refused { IfErr words (λ error. (fault : LaunchFault) × IsGivenFault (error_kind error) fault
+        × Closes tests_sentence_of W.contents E.contents (Err fault) writer.old writer.new errors.old errors.new
+        result) }
+{
+    match given_words(alloc, words) {
+        Ok(words) => run_test_words(rt, alloc, words.as_slice(), program, writer, errors),
+        Err(fault) => refuse(alloc, fault, Subject::Tests(""), writer, errors),
+    }
+}
