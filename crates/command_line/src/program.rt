@@ -34,20 +34,22 @@ pub fn run_console<T: Threads + Wait + Sync, R: Read, W: Write>(
         (R.remaining reader.new) writer.old writer.new result }
 {
     let options = read_options(alloc, words)?;
-    run_options(rt, alloc, &options, reader, writer)
+    let answer = run_options(rt, alloc, &options, reader, writer);
+    drop(options);
+    answer
 }
 
 /// Runs what these words asked for, and says what there is to say of the answer.
 fn run_read<T: Threads + Wait + Sync, R: Read, W: Write, E: Write>(
     rt: &T,
     alloc: Global,
-    options: &Options,
+    options: Options,
     words: &[String],
     reader: &mut R,
     writer: &mut W,
     errors: &mut E,
 ) -> Ending
-    ensures { ReadsWords (map string_bytes words.now) (Ok options.now) → IsProgramRun R.remaining W.contents
+    ensures { ReadsWords (map string_bytes words.now) (Ok options) → IsProgramRun R.remaining W.contents
         E.contents (map string_bytes words.now) reader.old reader.new writer.old writer.new errors.old errors.new
         result }
 {
@@ -55,7 +57,8 @@ fn run_read<T: Threads + Wait + Sync, R: Read, W: Write, E: Write>(
         reader,
         bytes: nothing_kept(alloc),
     };
-    let answer = run_options(rt, alloc, options, &mut kept, writer);
+    let answer = run_options(rt, alloc, &options, &mut kept, writer);
+    drop(options);
     let suite = Subject::Suite(kept.bytes.as_slice());
     close_run(alloc, answer, words, suite, writer, errors)
 }
@@ -74,7 +77,7 @@ pub fn run_words<T: Threads + Wait + Sync, R: Read, W: Write, E: Write>(
         writer.old writer.new errors.old errors.new result }
 {
     match read_options(alloc, words) {
-        Ok(options) => run_read(rt, alloc, &options, words, reader, writer, errors),
+        Ok(options) => run_read(rt, alloc, options, words, reader, writer, errors),
         Err(fault) => close_run(
             alloc,
             Err(fault),

@@ -77,26 +77,28 @@ fn run_drawn<T: Threads + Wait + Sync, C: Clock + Drop, R: Read, W: Write, E: Wr
     rt: &T,
     clock: C,
     alloc: Global,
-    options: &Options,
+    options: Options,
     words: &[String],
     reader: &mut R,
     writer: &mut W,
     errors: &mut E,
 ) -> Ending
-    ensures { ReadsWords (map string_bytes words.now) (Ok options.now) → IsTerminalRun R.remaining W.contents
+    ensures { ReadsWords (map string_bytes words.now) (Ok options) → IsTerminalRun R.remaining W.contents
         E.contents (map string_bytes words.now) reader.old reader.new writer.old writer.new result }
 {
     let mut kept = Kept {
         reader,
         bytes: nothing_kept(alloc),
     };
-    let mut progress = Progress::new(alloc, &mut *errors, clock, prints_lines(options));
-    let answer = run_options_watched(rt, alloc, options, &mut kept, writer, &mut progress);
+    let mut progress = Progress::new(alloc, &mut *errors, clock, prints_lines(&options));
+    let answer = run_options_watched(rt, alloc, &options, &mut kept, writer, &mut progress);
     let failures = progress.into_failures();
     let suite = Subject::Suite(kept.bytes.as_slice());
-    close_drawn(
-        alloc, answer, options, words, suite, &failures, writer, errors,
-    )
+    let ending = close_drawn(
+        alloc, answer, &options, words, suite, &failures, writer, errors,
+    );
+    drop(options);
+    ending
 }
 
 /// Does what `run_words` does, where the other writer is a terminal. On it stands how far the run
@@ -121,7 +123,7 @@ pub fn run_words_on_terminal<
         writer.old writer.new result }
 {
     match read_options(alloc, words) {
-        Ok(options) => run_drawn(rt, clock, alloc, &options, words, reader, writer, errors),
+        Ok(options) => run_drawn(rt, clock, alloc, options, words, reader, writer, errors),
         Err(fault) => close_run(
             alloc,
             Err(fault),

@@ -29,7 +29,7 @@ use std::thread::Threads;
 fn run_test_options<B: Job + Send, T: Threads + Wait + Sync, W: Write, E: Write>(
     rt: &T,
     alloc: Global,
-    options: &Options,
+    options: Options,
     words: &[String],
     program: Program<B>,
     writer: &mut W,
@@ -38,12 +38,13 @@ fn run_test_options<B: Job + Send, T: Threads + Wait + Sync, W: Write, E: Write>
     requires jobs { (plan : PlanParts) (workers ring : ℕ) → JobsMayAnswer B.answers
         (run_of plan workers ring program.jobs.items) }
     requires all { HasJobs program.tree program.jobs.items }
-    ensures { ReadsWords (map string_bytes words.now) (Ok options.now) → IsTestRun B.answers W.contents E.contents
+    ensures { ReadsWords (map string_bytes words.now) (Ok options) → IsTestRun B.answers W.contents E.contents
         (program_parts program.tree program.properties) program.jobs.items (map string_bytes words.now) writer.old
         writer.new errors.old errors.new result }
 {
-    let said = said_of_settings(alloc, options, &program.properties);
-    let answer = run_jobs(rt, alloc, options, program, writer);
+    let said = said_of_settings(alloc, &options, &program.properties);
+    let answer = run_jobs(rt, alloc, &options, program, writer);
+    drop(options);
     let tests = Subject::Tests(said.as_str());
     close_run(alloc, answer, words, tests, writer, errors)
 }
@@ -69,8 +70,11 @@ pub fn run_test_words<B: Job + Send, T: Threads + Wait + Sync, W: Write, E: Writ
         program.jobs.items (map string_bytes words.now) writer.old writer.new errors.old errors.new result }
 {
     match read_options(alloc, words) {
-        Ok(options) => run_test_options(rt, alloc, &options, words, program, writer, errors),
-        Err(fault) => close_run(alloc, Err(fault), words, Subject::Tests(""), writer, errors),
+        Ok(options) => run_test_options(rt, alloc, options, words, program, writer, errors),
+        Err(fault) => {
+            drop(program);
+            close_run(alloc, Err(fault), words, Subject::Tests(""), writer, errors)
+        }
     }
 }
 
@@ -96,6 +100,9 @@ pub fn run_test_program<B: Job + Send, T: Threads + Wait + Sync, W: Write, E: Wr
 {
     match given_words(alloc, words) {
         Ok(words) => run_test_words(rt, alloc, words.as_slice(), program, writer, errors),
-        Err(fault) => refuse(alloc, fault, Subject::Tests(""), writer, errors),
+        Err(fault) => {
+            drop(program);
+            refuse(alloc, fault, Subject::Tests(""), writer, errors)
+        }
     }
 }

@@ -34,7 +34,7 @@ fn run_tests_drawn<B: Job + Send, T: Threads + Wait + Sync, C: Clock + Drop, W: 
     rt: &T,
     clock: C,
     alloc: Global,
-    options: &Options,
+    options: Options,
     words: &[String],
     program: Program<B>,
     writer: &mut W,
@@ -43,18 +43,20 @@ fn run_tests_drawn<B: Job + Send, T: Threads + Wait + Sync, C: Clock + Drop, W: 
     requires jobs { (plan : PlanParts) (workers ring : ℕ) → JobsMayAnswer B.answers
         (run_of plan workers ring program.jobs.items) }
     requires all { HasJobs program.tree program.jobs.items }
-    ensures { ReadsWords (map string_bytes words.now) (Ok options.now) → IsTestRunOnTerminal B.answers W.contents
+    ensures { ReadsWords (map string_bytes words.now) (Ok options) → IsTestRunOnTerminal B.answers W.contents
         E.contents (program_parts program.tree program.properties) program.jobs.items (map string_bytes words.now)
         writer.old writer.new result }
 {
-    let said = said_of_settings(alloc, options, &program.properties);
-    let mut progress = Progress::new(alloc, &mut *errors, clock, prints_lines(options));
-    let answer = run_jobs_watched(rt, alloc, options, program, writer, &mut progress);
+    let said = said_of_settings(alloc, &options, &program.properties);
+    let mut progress = Progress::new(alloc, &mut *errors, clock, prints_lines(&options));
+    let answer = run_jobs_watched(rt, alloc, &options, program, writer, &mut progress);
     let failures = progress.into_failures();
     let tests = Subject::Tests(said.as_str());
-    close_drawn(
-        alloc, answer, options, words, tests, &failures, writer, errors,
-    )
+    let ending = close_drawn(
+        alloc, answer, &options, words, tests, &failures, writer, errors,
+    );
+    drop(options);
+    ending
 }
 
 /// Does what `run_test_words` does, where the other writer is a terminal. On it stands meanwhile what
@@ -81,10 +83,11 @@ pub fn run_test_words_on_terminal<
         program.jobs.items (map string_bytes words.now) writer.old writer.new result }
 {
     match read_options(alloc, words) {
-        Ok(options) => {
-            run_tests_drawn(rt, clock, alloc, &options, words, program, writer, errors)
+        Ok(options) => run_tests_drawn(rt, clock, alloc, options, words, program, writer, errors),
+        Err(fault) => {
+            drop(program);
+            close_run(alloc, Err(fault), words, Subject::Tests(""), writer, errors)
         }
-        Err(fault) => close_run(alloc, Err(fault), words, Subject::Tests(""), writer, errors),
     }
 }
 
@@ -125,6 +128,9 @@ pub fn run_test_program_on_terminal<
             writer,
             errors,
         ),
-        Err(fault) => refuse(alloc, fault, Subject::Tests(""), writer, errors),
+        Err(fault) => {
+            drop(program);
+            refuse(alloc, fault, Subject::Tests(""), writer, errors)
+        }
     }
 }

@@ -9,4 +9,4 @@ returns-in_err-options g c =
 
 pub returns : goal.returns
 returns g c =
-    words_run (g.R.Read.remaining) (g.W.Write.contents) (map string_bytes c.args.words.now) c.in_ok-options.options c.run_options.result _ _ _ _ _ c.in_ok-options.ensures.read c.run_options.ensures.exact c.run_options.ensures.reads c.run_options.ensures.quiet
+    words_run (g.R.Read.remaining) (g.W.Write.contents) (map string_bytes c.args.words.now) c.in_ok-options.options c.run_options-answer.result _ _ _ _ _ c.in_ok-options.ensures.read c.run_options-answer.ensures.exact c.run_options-answer.ensures.reads c.run_options-answer.ensures.quiet

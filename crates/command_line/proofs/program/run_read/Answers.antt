@@ -9,6 +9,6 @@ returns g c reads = record {
   left = g.R.Read.remaining c.run_options-answer.new.reader.reader.now;
   between = _;
   run =
-      words_run (g.R.Read.remaining) (g.W.Write.contents) (map string_bytes c.args.words.now) c.args.options.now c.run_options-answer.result _ _ _ _ _ reads c.run_options-answer.ensures.exact c.run_options-answer.ensures.reads c.run_options-answer.ensures.quiet;
+      words_run (g.R.Read.remaining) (g.W.Write.contents) (map string_bytes c.args.words.now) c.args.options c.run_options-answer.result _ _ _ _ _ reads c.run_options-answer.ensures.exact c.run_options-answer.ensures.reads c.run_options-answer.ensures.quiet;
   closed = c.close_run.ensures;
 }

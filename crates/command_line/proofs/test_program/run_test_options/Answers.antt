@@ -4,7 +4,7 @@ use Rattle.command_line.proofs.test_program.run_test_options.Goals as goal
 
 pub returns : goal.returns
 returns g c reads = record {
-  options = Ok c.args.options.now;
+  options = Ok c.args.options;
   reads = reads;
   answer = c.run_jobs-answer.result;
   between = _;

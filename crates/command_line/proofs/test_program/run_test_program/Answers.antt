@@ -1,5 +1,5 @@
 -- The words that were listed are those that were given.
-use Rattle.std.proofs.Common.{refl, string_bytes}
+use Rattle.std.proofs.Common.{string_bytes}
 use Rattle.std.specs.Vec.Iter.{into_iter_items}
 use Rattle.command_line.proofs.Told.{if_err}
 use Rattle.command_line.proofs.TestsTold.{told_no_test_words, told_test_words}

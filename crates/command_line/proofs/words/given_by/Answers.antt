@@ -1,5 +1,5 @@
 -- The program's name alone gives no option, and is refused for nothing.
-use Rattle.std.proofs.Common.{◌≡◌, ◌≤◌, length, map, string_bytes, arith, ◌∙◌}
+use Rattle.std.proofs.Common.{map, string_bytes, arith, ◌∙◌}
 use Rattle.std.proofs.lemmas.List.{length-map}
 use Rattle.command_line.proofs.ByClap.{no_option, no_fault}
 use Rattle.command_line.proofs.words.given_by.Goals as goal
