@@ -1,0 +1,3 @@
+-- Lemmas on bodies.
+pub mod Standing
+pub mod Replying

@@ -1,0 +1,11 @@
+-- It asks for one dynamic test more as long as some are left to it.
+use Rattle.std.proofs.Common.{arith}
+use Rattle.test_bodies.specs.Bodies.{is_spent, tests_left}
+use Rattle.test_bodies.proofs.Replying.{pulls_end, pulls_more}
+use Rattle.test_bodies.proofs.body.BodyJob.next.Goals as goal
+
+pub returns-then-self-eq0 : goal.returns-then-self-eq0
+returns-then-self-eq0 g c = pulls_end (is_spent c.args.self.now) (tests_left c.args.self.now) c.if-self-eq0.true
+
+pub returns : goal.returns
+returns g c = pulls_more (is_spent c.args.self.now) (tests_left c.args.self.now) (omega (arith, c.if-self-eq0.false))

@@ -1,0 +1,4 @@
+-- The definitions that contracts cite.
+pub mod Bodies
+pub mod Replies
+pub mod Stops

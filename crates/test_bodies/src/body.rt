@@ -1,0 +1,121 @@
+//! A test's body, which is a job.
+
+ghost use Rattle.std.specs.Prelude.{◌≡◌, ◌+◌, ◌≤◌, ◌⊎◌, ◌↔◌, [], false, true, length, min, Result};
+ghost use Rattle.std.specs.Str.{IsUtf8};
+ghost use Rattle.plan_events.specs.declared.outcome.Outcome.{Outcome as Told};
+ghost use Rattle.test_bodies.specs.Bodies.{is_spent, may_answer, tests_left};
+ghost use Rattle.test_bodies.specs.Replies.{IsSayable};
+ghost use Rattle.test_bodies.specs.Stops.{IsTold};
+
+use crate::code::{Boxed, Code, Plain, TestBox, TestFn};
+use crate::stop::Checked;
+use plan_events::{Job, Outcome, Pull, Status};
+use std::alloc::Global;
+use unique_id::Text;
+
+/// A body, which runs its code once; that of a factory registers its dynamic tests before. How it ends nobody knows
+/// beforehand, so it may give every reply that a body can give.
+#[derive(Drop)]
+pub struct Body {
+    alloc: Global,
+    code: Code,
+    // how many dynamic tests are still to be registered
+    tests: u16,
+}
+
+/// A text of the same bytes. Where there is no memory for it, it is empty.
+fn text_of(alloc: Global, said: &str) -> Text
+    ensures { (result ≡ said.now) ⊎ (result ≡ []) }
+{
+    match Text::new(alloc, said) {
+        Ok(text) => text,
+        Err(_) => Text::empty(),
+    }
+}
+
+/// What is told of a test that answered so.
+fn told_of(alloc: Global, answer: Checked) -> Outcome
+    ensures told { IsTold answer result }
+    ensures sayable { IsSayable result }
+{
+    match answer {
+        Ok(()) => Outcome {
+            status: Status::Successful,
+            text: Text::empty(),
+        },
+        Err(stop) => Outcome {
+            status: stop.status(),
+            text: text_of(alloc, stop.text()),
+        },
+    }
+}
+
+impl Body {
+    /// The body that this function is.
+    pub fn of_function(alloc: Global, run: TestFn) -> Body
+        requires { TestFn.IsAlwaysCallable run }
+        ensures answers { (answer : Result (Unit {0}) Told) → may_answer result answer ↔ TestFn.post run alloc answer }
+        ensures fresh { is_spent result ≡ false }
+        ensures tests { tests_left result ≡ 0 }
+    {
+        Body {
+            alloc,
+            code: Code::Plain(Plain::new(run)),
+            tests: 0,
+        }
+    }
+
+    /// The body that this closure is.
+    pub fn of_closure(alloc: Global, run: TestBox) -> Body
+        requires { TestBox.IsAlwaysCallable run }
+        ensures answers { (answer : Result (Unit {0}) Told) → may_answer result answer ↔ TestBox.post run alloc answer }
+        ensures fresh { is_spent result ≡ false }
+        ensures tests { tests_left result ≡ 0 }
+    {
+        Body {
+            alloc,
+            code: Code::Boxed(Boxed::new(run)),
+            tests: 0,
+        }
+    }
+
+    /// It registers one dynamic test more, or as many as before if these are 65,535.
+    pub fn add_test(&mut self)
+        ensures tests { tests_left self.new ≡ min (tests_left self.old + 1) 65535 }
+        ensures answers { (answer : Result (Unit {0}) Told) → may_answer self.new answer ↔ may_answer self.old answer }
+        ensures spent { is_spent self.new ≡ is_spent self.old }
+    {
+        self.tests = self.tests.saturating_add(1);
+    }
+}
+
+impl Job for Body {
+    ghost use Rattle.plan_events.specs.Jobs.{IsRun};
+    ghost use Rattle.test_bodies.specs.Replies.{replies_by};
+
+    ghost answers = { λ b. replies_by (is_spent b) (tests_left b) };
+
+    fn next(&mut self) -> Pull {
+        if self.tests == 0 {
+            return Pull::End;
+        }
+        self.tests -= 1;
+        Pull::More
+    }
+
+    #[tactic(auto, using(crate::proofs::Replying::runs))]
+    fn run(&mut self) -> Outcome
+        ensures outcome { IsRun (replies_by (is_spent self.old) (tests_left self.old)) result }
+        ensures over { replies_by (is_spent self.new) (tests_left self.new) ≡ [] }
+        // What is told is what its code answered, which is gone from it.
+        ensures said { (answer : Result (Unit {0}) Told) × may_answer self.old answer × IsTold answer result }
+        ensures spent { is_spent self.new ≡ true }
+    {
+        let answer = match std::mem::replace(&mut self.code, Code::Spent) {
+            Code::Spent => Ok(()),
+            Code::Plain(plain) => plain.call(self.alloc),
+            Code::Boxed(boxed) => boxed.call(self.alloc),
+        };
+        told_of(self.alloc, answer)
+    }
+}
