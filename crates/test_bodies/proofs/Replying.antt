@@ -123,7 +123,8 @@ quiet_sayable : IsSayable quiet
 unfolding quiet
 quiet_sayable = (IsUtf8-nil, omega arith)
 
-some_left : (left : ℕ) → 0 < length (replies_up_to left)
+-- a body that was not run may give some reply, and one without pulls
+pub some_left : (left : ℕ) → 0 < length (replies_up_to left)
 some_left left = some_there (replies_up_to left) (without_pulls quiet) (reply_there left quiet quiet_sayable)
 
 pub pulls_more : (is_spent : Bool) (left : ℕ) → 0 < left → IsPull (replies_by is_spent left) More (replies_by is_spent (left - 1))
@@ -146,3 +147,6 @@ pulls_end false left none =
 pub runs : (is_spent : Bool) (left : ℕ) (o : Outcome) → IsSayable o → IsRun (replies_by is_spent left) o
 runs true left o is = λ none. absurd (omega (arith, none))
 runs false left o is = (let there = reply_there left o is in λ given. record { place = there.0; reply = without_pulls o; stands = there.1; no_pulls = refl; is = refl })
+
+pub some_unpulled : (left : ℕ) → 0 < length (unpulled (replies_up_to left))
+some_unpulled left = subst (λ (rs : List Reply). 0 < length rs) (sym (unpulled_left left)) (some_there ends (without_pulls quiet) (end_there quiet quiet_sayable))

@@ -1,5 +1,5 @@
 -- What contracts see of a body.
-use Rattle.std.specs.Prelude.{◌≡◌, ℕ, Bool, true, false, Result, Ok}
+use Rattle.std.specs.Prelude.{◌≡◌, ℕ, ◌+◌, min, Bool, true, false, Result, Ok}
 use Rattle.plan_events.specs.declared.outcome.Outcome.{Outcome}
 use Rattle.test_bodies.specs.declared.body.Body.{Body}
 use Rattle.test_bodies.specs.declared.code.Code.{Code}
@@ -19,6 +19,10 @@ module _ {X Y : Type 0} {Z : Y → Type 0} {f : _} {g : _} where
   -- how many dynamic tests it still registers
   abbrev pub tests_left : Body X Y Z f g → ℕ
   tests_left body = body.tests
+
+  -- the same body, which registers one dynamic test more, or as many as before if these are 65,535
+  abbrev pub with_test : Body X Y Z f g → Body X Y Z f g
+  with_test body = record { alloc = body.alloc; code = body.code; tests = min (body.tests + 1) 65535 }
 
   -- what its code may answer
   abbrev pub may_answer : Body X Y Z f g → Result (Unit {0}) Outcome → Type 0

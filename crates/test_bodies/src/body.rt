@@ -3,7 +3,7 @@
 ghost use Rattle.std.specs.Prelude.{◌≡◌, ◌+◌, ◌≤◌, ◌⊎◌, ◌↔◌, [], false, true, length, min, Result};
 ghost use Rattle.std.specs.Str.{IsUtf8};
 ghost use Rattle.plan_events.specs.declared.outcome.Outcome.{Outcome as Told};
-ghost use Rattle.test_bodies.specs.Bodies.{is_spent, may_answer, tests_left};
+ghost use Rattle.test_bodies.specs.Bodies.{is_spent, may_answer, tests_left, with_test};
 ghost use Rattle.test_bodies.specs.Replies.{IsSayable};
 ghost use Rattle.test_bodies.specs.Stops.{IsTold};
 
@@ -81,9 +81,8 @@ impl Body {
 
     /// It registers one dynamic test more, or as many as before if these are 65,535.
     pub fn add_test(&mut self)
-        ensures tests { tests_left self.new ≡ min (tests_left self.old + 1) 65535 }
-        ensures answers { (answer : Result (Unit {0}) Told) → may_answer self.new answer ↔ may_answer self.old answer }
-        ensures spent { is_spent self.new ≡ is_spent self.old }
+        requires { is_spent self.old ≡ false }
+        ensures { self.new ≡ with_test self.old }
     {
         self.tests = self.tests.saturating_add(1);
     }
