@@ -1,0 +1,4 @@
+-- Lemmas on tests that are built.
+pub mod Answering
+pub mod Grown
+pub mod Having

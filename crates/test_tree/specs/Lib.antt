@@ -1,0 +1,8 @@
+-- The definitions that contracts cite.
+pub mod Building
+pub mod Causes
+pub mod Growing
+pub mod Handles
+pub mod Jobs
+pub mod Marks
+pub mod Sorts

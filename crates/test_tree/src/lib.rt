@@ -1,0 +1,19 @@
+//! A tree of tests that a program builds, with the functions and closures that they run.
+#![tactic(auto)]
+
+mod adding;
+mod cause;
+mod declaring;
+mod fault;
+mod growing;
+mod handles;
+mod marks;
+mod nodes;
+mod parts;
+mod sort;
+mod tests;
+
+pub use cause::BuildCause;
+pub use fault::BuildFault;
+pub use handles::{ClassId, EngineId, FactoryId};
+pub use tests::Tests;
