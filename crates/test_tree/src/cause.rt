@@ -4,7 +4,7 @@ ghost use Rattle.std.specs.Prelude.{◌≡◌};
 ghost use Rattle.test_tree.specs.Causes.{number_of};
 
 use descriptor::TreeFault;
-use std::alloc::{AllocError, AllocFailed};
+use std::alloc::AllocError;
 use std::fmt;
 use tag_expr::TagFault;
 use unique_id::UidFault;
@@ -30,19 +30,27 @@ pub enum BuildCause {
     NoClass,
 }
 
+/// What a tree refuses.
+fn sentence_of(fault: TreeFault) -> &'static str {
+    match fault {
+        TreeFault::NoMemory => "there was not enough memory",
+        TreeFault::TooMany => "more than 4095 nodes besides the plan",
+        TreeFault::TooDeep => "a node that stands too deep",
+        TreeFault::DoubleId => "a unique id that is there already",
+        TreeFault::ParentIsTest => "a node below a test",
+        TreeFault::EngineLock => "an engine with a mode, a lock or isolation",
+        TreeFault::BodyTwice => "a second body of one node",
+        TreeFault::SpareOutsideFactory =>
+            "a dynamic test outside a factory, or another node in one",
+        TreeFault::OverLimit =>
+            "a name, a reason or a key of more than 1024 bytes, or more than 16 locks",
+        TreeFault::AfterMisplaced => "an after-body where there may be none",
+    }
+}
+
 impl fmt::Display for BuildCause {
     fn fmt<W: fmt::Write>(&self, f: &mut fmt::Formatter<W>) -> fmt::Result {
-        match self {
-            BuildCause::NoMemory => f.write_str("there was not enough memory"),
-            BuildCause::Closed => f.write_str("a parent that takes no more nodes"),
-            BuildCause::Name(UidFault::EmptyPart(_)) => f.write_str("an empty name"),
-            BuildCause::Name(fault) => write!(f, "{fault}"),
-            BuildCause::Node(fault) => write!(f, "{fault}"),
-            BuildCause::Tag(fault) => write!(f, "{fault}"),
-            BuildCause::NoKey => f.write_str("a lock without a key"),
-            BuildCause::Marked => f.write_str("a tag, a mode or a lock of no node that takes it"),
-            BuildCause::NoClass => f.write_str("a body before a class that does not come"),
-        }
+        f.write_str(self.sentence())
     }
 }
 
@@ -60,22 +68,29 @@ impl BuildCause {
             BuildCause::NoKey | BuildCause::Marked | BuildCause::NoClass => 100,
         }
     }
-}
 
-ghost use Rattle.test_tree.specs.declared.cause.BuildCause.TheVariants.{NoMemory};
-
-impl From<AllocError> for BuildCause {
-    ghost from_gives = { λ _ cause. cause ≡ NoMemory };
-
-    fn from(_error: AllocError) -> BuildCause {
-        BuildCause::NoMemory
+    /// What is wrong, in words.
+    fn sentence(self) -> &'static str {
+        match self {
+            BuildCause::NoMemory => "there was not enough memory",
+            BuildCause::Closed => "a parent that takes no more nodes",
+            BuildCause::Name(UidFault::EmptyPart(_)) => "an empty name",
+            BuildCause::Name(_) => "a unique id of more than 64 segments or 1024 bytes",
+            BuildCause::Node(fault) => sentence_of(fault),
+            BuildCause::Tag(_) => "a text that is no tag",
+            BuildCause::NoKey => "a lock without a key",
+            BuildCause::Marked => "a tag, a mode or a lock of no node that takes it",
+            BuildCause::NoClass => "a body before a class that does not come",
+        }
     }
 }
 
-impl<T: Drop> From<AllocFailed<T>> for BuildCause {
+impl From<AllocError> for BuildCause {
+    ghost use Rattle.test_tree.specs.declared.cause.BuildCause.TheVariants.{NoMemory};
+
     ghost from_gives = { λ _ cause. cause ≡ NoMemory };
 
-    fn from(_error: AllocFailed<T>) -> BuildCause {
+    fn from(_error: AllocError) -> BuildCause {
         BuildCause::NoMemory
     }
 }
