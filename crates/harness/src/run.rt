@@ -1,0 +1,120 @@
+//! The program of one who has tests of its own.
+
+ghost use Rattle.std.specs.Prelude.{◌≡◌, IfOk, IfErr, Err, map, string_bytes};
+ghost use Rattle.std.specs.IoError.{error_kind};
+ghost use Rattle.std.specs.Vec.Iter.{into_iter_items};
+ghost use Rattle.resource_locks.specs.Spares.{HasBareSpares};
+ghost use Rattle.launch_options.specs.declared.fault.LaunchFault.{LaunchFault};
+ghost use Rattle.launcher.specs.Programs.{program_parts};
+ghost use Rattle.messages.specs.Sentences.{tests_sentence_of};
+ghost use Rattle.command_line.specs.GivenWords.{IsGivenFault};
+ghost use Rattle.command_line.specs.Runs.{Closes};
+ghost use Rattle.command_line.specs.TestRuns.{IsTestRun, IsTestRunOnTerminal};
+ghost use Rattle.test_bodies.specs.Bodies.{is_spent, tests_left};
+ghost use Rattle.test_bodies.specs.Replies.{replies_by};
+ghost use Rattle.test_tree.specs.Building.{held, properties_of};
+ghost use Rattle.test_tree.specs.Growing.{IsPending};
+
+use command_line::{Ending, run_test_program, run_test_program_on_terminal, run_test_words};
+use launcher::Program;
+use std::alloc::Global;
+use std::env::Args;
+use std::io::{self, Write};
+use std::sync::Wait;
+use std::thread::Threads;
+use std::time::Clock;
+use test_tree::{BuildFault, Tests};
+
+/// Runs of these tests what the words ask for; the first word is the program's name. All else is as
+/// `run_tests` says.
+pub fn run_tests_by_words<T: Threads + Wait + Sync, W: Write, E: Write>(
+    rt: &T,
+    alloc: Global,
+    words: &[String],
+    tests: Tests,
+    writer: &mut W,
+    errors: &mut E,
+) -> Result<Ending, BuildFault>
+    ensures run { IfOk result (λ ending. IsTestRun (λ b. replies_by (is_spent b) (tests_left b)) W.contents E.contents
+        (program_parts (held tests).tree (properties_of tests)) (held tests).jobs (map string_bytes words.now) writer.old
+        writer.new errors.old errors.new ending) }
+    // No dynamic test holds a key, so a run never gets stuck.
+    ensures bare { IfOk result (λ _. HasBareSpares (held tests).tree) }
+    ensures unbuilt { IfErr result (λ fault. IsPending (held tests) fault.cause × (writer.new ≡ writer.old)
+        × (errors.new ≡ errors.old)) }
+{
+    let (tree, properties, jobs) = tests.into_parts()?;
+    let program = Program {
+        tree,
+        properties,
+        jobs,
+    };
+    Ok(run_test_words(rt, alloc, words, program, writer, errors))
+}
+
+/// Runs of these tests what the words that the system gave ask for, and says how the program ends:
+/// all that is left to do is to end with the status. The words are those of `console`, but for
+/// `--schedule` and `--replay`, which are refused with 105. What they ask for goes to the writer;
+/// what a refusal is for goes to the other. A refusal, also that of words which are no text, is
+/// status 255. Tests of which something was declared that never came are handed back as a fault, and
+/// nothing is run or written.
+pub fn run_tests<T: Threads + Wait + Sync, W: Write, E: Write>(
+    rt: &T,
+    alloc: Global,
+    words: io::Result<Args>,
+    tests: Tests,
+    writer: &mut W,
+    errors: &mut E,
+) -> Result<Ending, BuildFault>
+    ensures run { IfOk result (λ ending. IfOk words (λ given. IsTestRun
+        (λ b. replies_by (is_spent b) (tests_left b)) W.contents E.contents
+        (program_parts (held tests).tree (properties_of tests)) (held tests).jobs
+        (map string_bytes (into_iter_items given)) writer.old writer.new errors.old errors.new ending)) }
+    ensures refused { IfOk result (λ ending. IfErr words (λ error. (fault : LaunchFault)
+        × IsGivenFault (error_kind error) fault × Closes tests_sentence_of W.contents E.contents (Err fault) writer.old
+        writer.new errors.old errors.new ending)) }
+    // No dynamic test holds a key, so a run never gets stuck.
+    ensures bare { IfOk result (λ _. HasBareSpares (held tests).tree) }
+    ensures unbuilt { IfErr result (λ fault. IsPending (held tests) fault.cause × (writer.new ≡ writer.old)
+        × (errors.new ≡ errors.old)) }
+{
+    let (tree, properties, jobs) = tests.into_parts()?;
+    let program = Program {
+        tree,
+        properties,
+        jobs,
+    };
+    Ok(run_test_program(rt, alloc, words, program, writer, errors))
+}
+
+/// Does what `run_tests` does, where the other writer is a terminal. On it stands how far the run has
+/// come, on a line that is drawn anew at most ten times a second by this clock, and is erased at the
+/// end; and behind a tree or a summary what failed, with the words that select just that.
+pub fn run_tests_on_terminal<T: Threads + Wait + Sync, C: Clock + Drop, W: Write, E: Write>(
+    rt: &T,
+    clock: C,
+    alloc: Global,
+    words: io::Result<Args>,
+    tests: Tests,
+    writer: &mut W,
+    errors: &mut E,
+) -> Result<Ending, BuildFault>
+    ensures run { IfOk result (λ ending. IfOk words (λ given. IsTestRunOnTerminal
+        (λ b. replies_by (is_spent b) (tests_left b)) W.contents E.contents
+        (program_parts (held tests).tree (properties_of tests)) (held tests).jobs
+        (map string_bytes (into_iter_items given)) writer.old writer.new ending)) }
+    ensures refused { IfOk result (λ ending. IfErr words (λ error. (fault : LaunchFault)
+        × IsGivenFault (error_kind error) fault × Closes tests_sentence_of W.contents E.contents (Err fault) writer.old
+        writer.new errors.old errors.new ending)) }
+    ensures bare { IfOk result (λ _. HasBareSpares (held tests).tree) }
+    ensures unbuilt { IfErr result (λ fault. IsPending (held tests) fault.cause × (writer.new ≡ writer.old)
+        × (errors.new ≡ errors.old)) }
+{
+    let (tree, properties, jobs) = tests.into_parts()?;
+    let program = Program {
+        tree,
+        properties,
+        jobs,
+    };
+    Ok(run_test_program_on_terminal(rt, clock, alloc, words, program, writer, errors))
+}
