@@ -1,0 +1,98 @@
+//! Tests of the kit's crate `semver`, as a program that runs them.
+#![tactic(auto)]
+
+use harness::{
+    BuildFault, Checked, Ending, LockMode, TestBox, Tests, assume, check, check_same, exit_code,
+    run_tests,
+};
+use semver::{Version, VersionReq};
+use std::alloc::Global;
+use std::env::Args;
+use std::io::{self, Write};
+use std::process::ExitCode;
+use std::sync::Wait;
+use std::thread::Threads;
+
+fn reads(alloc: Global) -> Checked {
+    let version = Version::parse(alloc, "1.2.3")?;
+    check_same(&(version.major, version.minor, version.patch), &(1, 2, 3))
+}
+
+fn refuses(alloc: Global) -> Checked {
+    check(
+        Version::parse(alloc, "1.2").is_err(),
+        "two numbers are no version",
+    )
+}
+
+fn reads_wrongly(alloc: Global) -> Checked {
+    let version = Version::parse(alloc, "1.x.3")?;
+    check_same(&version.minor, &0)
+}
+
+fn compares_wrongly(alloc: Global) -> Checked {
+    let version = Version::parse(alloc, "1.20.3")?;
+    check_same(&version.minor, &2)
+}
+
+fn needs_a_network(_alloc: Global) -> Checked {
+    assume(false, "there is no network")
+}
+
+fn orders(alloc: Global) -> Checked {
+    let less = Version::parse(alloc, "1.2.3-rc.1")?;
+    let more = Version::parse(alloc, "1.2.3")?;
+    check(less < more, "a release comes after its candidates")
+}
+
+fn closes(_alloc: Global) -> Checked {
+    Ok(())
+}
+
+fn matches(alloc: Global, minor: u64, wanted: bool) -> Checked {
+    let requirement = VersionReq::parse(alloc, "^1.2")?;
+    check_same(&requirement.matches(&Version::new(1, minor, 0)), &wanted)
+}
+
+/// Builds the tests, and runs them as the words ask for. What is built here is not handed out, so nothing is hidden.
+fn run<T: Threads + Wait + Sync, W: Write, E: Write>(
+    rt: &T,
+    alloc: Global,
+    words: io::Result<Args>,
+    writer: &mut W,
+    errors: &mut E,
+) -> Result<Ending, BuildFault> {
+    let mut tests = Tests::new(alloc)?;
+    tests.property("junit.jupiter.execution.parallel.enabled", "true")?;
+    tests.property(
+        "junit.jupiter.execution.parallel.mode.default",
+        "concurrent",
+    )?;
+    let engine = tests.engine("semver")?;
+    let versions = tests.class(engine, "semver.Versions")?;
+    tests.test(versions, "reads()", reads)?;
+    tests.test(versions, "refuses()", refuses)?;
+    tests.tag("wrong")?;
+    tests.test(versions, "reads_wrongly()", reads_wrongly)?;
+    tests.tag("wrong")?;
+    tests.test(versions, "compares_wrongly()", compares_wrongly)?;
+    tests.test(versions, "needs_a_network()", needs_a_network)?;
+    tests.after(versions, closes)?;
+    tests.lock("table", LockMode::Read)?;
+    let requirements = tests.class(engine, "semver.Requirements")?;
+    tests.test(requirements, "orders()", orders)?;
+    tests.disabled("until there is a lexer")?;
+    tests.test(requirements, "lexes()", closes)?;
+    let caret = tests.factory(requirements, "caret()", closes)?;
+    let two: TestBox = Box::new(alloc, move |alloc: Global| matches(alloc, 2, true))?;
+    tests.dynamic(caret, "1.2.0", two)?;
+    let one: TestBox = Box::new(alloc, move |alloc: Global| matches(alloc, 1, false))?;
+    tests.dynamic(caret, "1.1.0", one)?;
+    run_tests(rt, alloc, words, tests, writer, errors)
+}
+
+fn main(rt: HostRuntime) -> ExitCode {
+    let (words, errors) = (std::env::args(&rt), &mut rt.stderr());
+    let run = run(&rt, rt.alloc(), words, &mut io::writer(&rt), errors);
+    exit_code(run, errors)
+}
