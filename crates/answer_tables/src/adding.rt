@@ -4,8 +4,8 @@
 //! else in READ_WRITE.
 
 use crate::tags::add_tag;
-use crate::words::{cut, key_and_value, node_of, push_fault, say, text_of};
-use descriptor::{BodyId, Kind, Lock, LockMode, Mode, Node, NodeId, Role, TreeBuilder};
+use crate::words::{cut, key_and_value, node_of, push_fault, say, show, text_of};
+use descriptor::{BodyId, Kind, Lock, LockMode, Mode, Node, NodeId, Role, TreeBuilder, TreeFault};
 use std::alloc::Global;
 use unique_id::{Text, UniqueId};
 
@@ -39,7 +39,11 @@ fn body_of(digits: &str) -> Option<BodyId> {
 /// A text so many times.
 fn repeated(alloc: Global, item: &str, times: &str) -> Text {
     match item.repeat(alloc, times.parse().unwrap_or(0)) {
-        Ok(text) => text_of(alloc, text.as_str()),
+        Ok(text) => {
+            let meant = text_of(alloc, text.as_str());
+            drop(text);
+            meant
+        }
         Err(_) => Text::empty(),
     }
 }
@@ -52,18 +56,13 @@ pub(crate) fn meant(alloc: Global, text: &str) -> Text {
     }
 }
 
-/// The key of a lock, and its mode.
-fn lock_of(word: &str) -> (&str, LockMode) {
-    match word.split_once(':') {
-        Some((key, "r")) => (key, LockMode::Read),
-        Some((key, _)) => (key, LockMode::ReadWrite),
-        None => (word, LockMode::ReadWrite),
-    }
-}
-
 /// Adds a lock.
 fn add_lock(alloc: Global, node: &mut Node, word: &str) {
-    let (key, mode) = lock_of(word);
+    let (key, end) = word.split_once(':').unwrap_or((word, ""));
+    let mode = match end {
+        "r" => LockMode::Read,
+        _ => LockMode::ReadWrite,
+    };
     let key = meant(alloc, key);
     let _ = node.locks.push(Lock { key, mode });
 }
@@ -93,52 +92,40 @@ fn attribute(alloc: Global, node: &mut Node, word: &str) {
     }
 }
 
-/// Gives a node what the words say.
-fn attributes(alloc: Global, node: &mut Node, words: &str) {
-    for word in words.split(' ') {
-        attribute(alloc, node, word);
-    }
-}
-
-/// A node of this kind, named by its id.
-fn plain(alloc: Global, kind: &str, id: UniqueId) -> Node {
+/// A node of this kind, named by its id, of which the words say more.
+fn made(alloc: Global, kind: &str, id: UniqueId, words: &str) -> Node {
     let name = text_of(alloc, id.text());
-    Node::plain(alloc, id, name, kind_of(kind))
+    let mut node = Node::plain(alloc, id, name, kind_of(kind));
+    for word in words.split(' ') {
+        attribute(alloc, &mut node, word);
+    }
+    node
 }
 
-/// Adds a node, and its number, or the refusal, to the answer.
-fn push_number(
-    alloc: Global,
-    answer: &mut String,
-    builder: &mut TreeBuilder,
-    parent: NodeId,
-    node: Node,
-) {
-    if !builder.may_take(parent) {
-        say(answer, " => closed");
-        return;
-    }
-    match builder.add(alloc, parent, node) {
-        Ok(number) => {
-            let _ = write!(answer, " => {}", number.number());
-        }
+/// Adds the number of a node, or the refusal, to the answer.
+fn push_number(answer: &mut String, number: Result<NodeId, TreeFault>) {
+    match number {
+        Ok(number) => show(answer, " => ", number.number()),
         Err(fault) => push_fault(answer, fault.number(), &fault),
     }
 }
 
-/// Adds a node with this id.
+/// Adds a node with this id, and its number, or the refusal, to the answer.
 fn push_identified(
     alloc: Global,
     answer: &mut String,
     builder: &mut TreeBuilder,
     parent: NodeId,
-    kind: &str,
-    id: UniqueId,
+    (kind, id): (&str, UniqueId),
     words: &str,
 ) {
-    let mut node = plain(alloc, kind, id);
-    attributes(alloc, &mut node, words);
-    push_number(alloc, answer, builder, parent, node)
+    if builder.may_take(parent) {
+        let node = made(alloc, kind, id, words);
+        push_number(answer, builder.add(alloc, parent, node))
+    } else {
+        say(answer, " => closed");
+        drop(id)
+    }
 }
 
 /// Adds the number of the node that a line adds, or the refusal.
@@ -152,7 +139,7 @@ pub(crate) fn push_added(
     let (kind, line) = cut(line);
     let (id, words) = cut(line);
     match UniqueId::parse(alloc, id) {
-        Ok(id) => push_identified(alloc, answer, builder, node_of(parent), kind, id, words),
+        Ok(id) => push_identified(alloc, answer, builder, node_of(parent), (kind, id), words),
         Err(_) => say(answer, " => no id"),
     }
 }

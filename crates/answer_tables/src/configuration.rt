@@ -1,7 +1,7 @@
 //! The parameters that a row puts in, and what was refused on the way.
 
-use crate::words::{PREFIX, key_and_value};
-use config_params::{Params, ParamsFault, Source, pair_of};
+use crate::words::{PREFIX, key_and_value, say, show};
+use config_params::{Params, ParamsFault, Settings, SettingsFault, Source, pair_of};
 use std::alloc::Global;
 
 /// Puts one word into a source; the number is the item's.
@@ -37,8 +37,9 @@ fn put_or_tell(alloc: Global, params: &mut Params, number: usize, item: &str, an
     match put_item(alloc, params, number, item) {
         Ok(()) => {},
         Err(fault) => {
-            let place = fault.place().unwrap_or(0);
-            let _ = write!(answer, "error {} at {place}, ", fault.number());
+            show(answer, "error ", fault.number());
+            show(answer, " at ", fault.place().unwrap_or(0));
+            say(answer, ", ")
         }
     }
 }
@@ -56,15 +57,18 @@ pub(crate) fn put_items(alloc: Global, params: &mut Params, items: &str, answer:
 fn request_word(alloc: Global, params: &mut Params, word: &str) {
     let (key, value) = key_and_value(word);
     let mut whole = String::new(alloc);
-    let _ = write!(whole, "{PREFIX}{key}");
+    show(&mut whole, PREFIX, key);
     let _ = params.add(alloc, Source::Request, whole.as_str(), value);
+    drop(whole)
 }
 
-/// The parameters that a request's words give.
-pub(crate) fn requested(alloc: Global, words: &str) -> Params {
+/// The settings that a request's words give, on a machine of four processors.
+pub(crate) fn requested(alloc: Global, words: &str) -> Result<Settings, SettingsFault> {
     let mut params = Params::new(alloc);
     for word in words.split(' ') {
         request_word(alloc, &mut params, word);
     }
-    params
+    let settings = Settings::read(&params, 4);
+    drop(params);
+    settings
 }

@@ -1,16 +1,17 @@
 //! Events as words: the worker, `+` for a start, `-` for a finish, `~` for a skip and `*` for a
 //! registration, the node, and behind a finish `!` where it FAILED and `?` where it ABORTED.
 
+use crate::words::{say, show};
 use descriptor::NodeId;
 use plan_events::{Event, EventKind, Status};
 
 /// The sign of a kind.
-fn sign_of(kind: EventKind) -> char {
+fn sign_of(kind: EventKind) -> &'static str {
     match kind {
-        EventKind::Started => '+',
-        EventKind::Finished => '-',
-        EventKind::Skipped => '~',
-        EventKind::Registered => '*',
+        EventKind::Started => "+",
+        EventKind::Finished => "-",
+        EventKind::Skipped => "~",
+        EventKind::Registered => "*",
     }
 }
 
@@ -27,7 +28,9 @@ fn end_of(status: Option<Status>) -> &'static str {
 pub(crate) fn push_words(text: &mut String, events: &[Event]) {
     for event in events {
         let (sign, end) = (sign_of(event.kind), end_of(event.status));
-        let _ = write!(text, " {}{sign}{}{end}", event.worker, event.node.number());
+        show(text, " ", event.worker);
+        show(text, sign, event.node.number());
+        say(text, end)
     }
 }
 
@@ -46,27 +49,23 @@ fn cut(word: &str) -> Option<(&str, EventKind, &str)> {
     None
 }
 
-/// The digits of a finished node, and how it ended.
-fn ended(node: &str) -> (&str, Status) {
-    if let Some(digits) = node.strip_suffix('!') {
-        (digits, Status::Failed)
+/// The number of a node, and how it ended, if this is a finish.
+fn ended(kind: EventKind, node: &str) -> (&str, Option<Status>) {
+    if !matches!(kind, EventKind::Finished) {
+        (node, None)
+    } else if let Some(digits) = node.strip_suffix('!') {
+        (digits, Some(Status::Failed))
     } else if let Some(digits) = node.strip_suffix('?') {
-        (digits, Status::Aborted)
+        (digits, Some(Status::Aborted))
     } else {
-        (node, Status::Successful)
+        (node, Some(Status::Successful))
     }
 }
 
 /// The event that a word stands for.
 fn event_of(word: &str) -> Option<Event> {
     let (worker, kind, node) = cut(word)?;
-    let (digits, status) = match kind {
-        EventKind::Finished => {
-            let (digits, status) = ended(node);
-            (digits, Some(status))
-        }
-        _ => (node, None),
-    };
+    let (digits, status) = ended(kind, node);
     Some(Event {
         kind,
         node: NodeId::new(digits.parse().ok()?),
@@ -75,16 +74,11 @@ fn event_of(word: &str) -> Option<Event> {
     })
 }
 
-/// Adds the event that a word stands for, if it is one.
-fn push_event(events: &mut Vec<Event>, word: &str) {
-    if let Some(event) = event_of(word) {
-        let _ = events.push(event);
-    }
-}
-
 /// Adds the events of words between blanks.
 pub(crate) fn push_events(events: &mut Vec<Event>, words: &str) {
     for word in words.split(' ') {
-        push_event(events, word);
+        if let Some(event) = event_of(word) {
+            let _ = events.push(event);
+        }
     }
 }

@@ -1,6 +1,6 @@
 //! Questions about the words of events.
 
-use crate::words::say;
+use crate::words::{say, show};
 use plan_events::{Event, EventKind, Status};
 
 pub(crate) fn kind_word(kind: EventKind) -> &'static str {
@@ -24,12 +24,10 @@ fn sign(event: &Event) -> &'static str {
 
 /// Adds an event and its word.
 fn push_read(answer: &mut String, event: &Event, word: u64) {
-    let (worker, node) = (event.worker, event.node.number());
-    let sign = sign(event);
-    let _ = write!(
-        answer,
-        " => node {node} {sign} by worker {worker}, {word:016x}"
-    );
+    show(answer, " => node ", event.node.number());
+    show(answer, " ", sign(event));
+    show(answer, " by worker ", event.worker);
+    let _ = write!(answer, ", {word:016x}");
 }
 
 /// Adds the event of a word of hexadecimal digits, and the word of that event.

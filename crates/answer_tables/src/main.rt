@@ -30,6 +30,7 @@ mod words;
 
 use crate::repeats::push_answer;
 use crate::table::Table;
+use crate::words::{say, show};
 use std::alloc::Global;
 use std::io;
 
@@ -37,7 +38,9 @@ use std::io;
 fn push_line(alloc: Global, answers: &mut String, table: &mut Table, line: &str) {
     let mut answer = String::new(alloc);
     push_answer(alloc, &mut answer, table, line);
-    let _ = writeln!(answers, "{line}{answer}");
+    show(answers, line, answer.as_str());
+    say(answers, "\n");
+    drop(answer)
 }
 
 /// Adds each line with its answer.

@@ -2,54 +2,44 @@
 //! before it for `{<}`, and so many levels of indentation for `{>}`. Their answer is the last one's.
 
 use crate::table::Table;
-use crate::words::say;
+use crate::words::{say, show};
 use std::alloc::Global;
 
 /// Adds what a mark stands for, of which the brace is cut off, and what follows it.
-fn push_mark(alloc: Global, filled: &mut String, piece: &str, number: usize) {
-    match piece.split_once('}') {
-        Some(("<", rest)) => {
-            let _ = write!(filled, "{}{rest}", number.saturating_sub(1));
-        }
-        Some((">", rest)) => {
-            if let Ok(blanks) = "  ".repeat(alloc, number) {
-                let _ = write!(filled, "{blanks}{rest}");
-            }
-        }
-        Some((_, rest)) => {
-            let _ = write!(filled, "{number}{rest}");
-        }
-        None => say(filled, piece),
+fn push_mark(filled: &mut String, piece: &str, number: usize) {
+    let Some((mark, rest)) = piece.split_once('}') else {
+        return say(filled, piece);
+    };
+    match mark {
+        "<" => show(filled, "", number.saturating_sub(1)),
+        ">" => push_levels(filled, number),
+        _ => show(filled, "", number),
+    }
+    say(filled, rest)
+}
+
+/// Adds so many levels of indentation.
+fn push_levels(filled: &mut String, levels: usize) {
+    for _level in 0..levels {
+        say(filled, "  ");
     }
 }
 
-/// Adds what stands at each brace and behind it.
-fn push_marks(alloc: Global, filled: &mut String, pieces: &str, number: usize) {
-    for piece in pieces.split('{') {
-        push_mark(alloc, filled, piece, number);
+/// Adds a line as it stands for the time of this number.
+fn push_filled(filled: &mut String, line: &str, number: usize) {
+    let mut pieces = line.split('{');
+    say(filled, pieces.next().unwrap_or(""));
+    for piece in pieces {
+        push_mark(filled, piece, number);
     }
-}
-
-/// Adds the answer to a line as it stands for the time of this number: a front, and pieces between braces.
-fn push_filled(
-    alloc: Global,
-    answer: &mut String,
-    table: &mut Table,
-    (front, pieces): (&str, &str),
-    number: usize,
-) {
-    let mut line = String::new(alloc);
-    say(&mut line, front);
-    push_marks(alloc, &mut line, pieces, number);
-    table.push_answer(alloc, answer, line.as_str())
 }
 
 /// Adds the answer to a line for the time of this number.
 fn push_time(alloc: Global, answer: &mut String, table: &mut Table, line: &str, number: usize) {
-    match line.split_once('{') {
-        Some(cut) => push_filled(alloc, answer, table, cut, number),
-        None => table.push_answer(alloc, answer, line),
-    }
+    let mut filled = String::new(alloc);
+    push_filled(&mut filled, line, number);
+    table.push_answer(alloc, answer, filled.as_str());
+    drop(filled)
 }
 
 /// Reads a line so many times, and leaves the answer to the last.

@@ -1,58 +1,63 @@
 //! Questions about the runs of a suite.
 
 use crate::event_words::push_events;
+use crate::histories::{push_driven, push_stepped};
 use crate::run::Run;
 use crate::told::push_told;
-use crate::traces::{push_core_steps, push_steps, push_trace, push_workers};
-use crate::words::{cut, say};
-use sched_core::drive;
+use crate::traces::{WORKERS, push_core, push_workers};
+use crate::words::{say, show};
 use std::alloc::Global;
 
-/// Adds what the fixed schedule leaves.
-fn push_driven(alloc: Global, answer: &mut String, run: &Run) {
-    let Ok(trace) = drive(alloc, &run.plan, &run.answers) else {
-        return;
-    };
-    push_trace(answer, &trace)
+/// Adds the answer to what is asked of what is told of a run: of the events of these words, or of the fixed schedule.
+fn push_asked(alloc: Global, answer: &mut String, run: &Run, asked: &str, words: &str) {
+    let parts = (&run.plan, &run.answers);
+    match words.strip_prefix("of") {
+        Some(words) => {
+            let mut events = Vec::new(alloc);
+            push_events(&mut events, words);
+            push_told(alloc, answer, parts, events.as_slice(), asked)
+        }
+        None => push_driven(alloc, answer, parts, asked),
+    }
 }
 
-/// Adds what is told in this way of the events of the fixed schedule.
-fn push_told_driven(alloc: Global, answer: &mut String, run: &Run, way: &str) {
-    let Ok(trace) = drive(alloc, &run.plan, &run.answers) else {
-        return;
-    };
-    push_told(alloc, answer, run, &trace.published, way)
-}
-
-/// Adds what is told in this way of the events of these words.
-fn push_told_of(alloc: Global, answer: &mut String, run: &Run, way: &str, words: &str) {
-    let mut events = Vec::new(alloc);
-    push_events(&mut events, words);
-    push_told(alloc, answer, run, events.as_slice(), way)
+/// Adds the answer to what is asked of a run that is left as it is.
+fn push_kept(alloc: Global, answer: &mut String, run: &Run, asked: &str, words: &str) {
+    match asked {
+        "most" => {
+            show(answer, " => ", run.plan.most_events());
+            say(answer, " events")
+        }
+        "steps" => {
+            let parts = (&run.plan, &run.answers);
+            push_stepped(alloc, answer, parts, WORKERS, words, "trace")
+        }
+        _ => push_asked(alloc, answer, run, asked, words),
+    }
 }
 
 /// Adds the answer to what is asked of a run.
-fn push_asked(alloc: Global, answer: &mut String, run: Run, asked: &str) {
-    let (kind, words) = cut(asked);
-    match kind {
-        "core" => push_core_steps(alloc, answer, run, words),
+fn push_run_answer(alloc: Global, answer: &mut String, run: Run, asked: &str, words: &str) {
+    match asked {
+        "core" => push_core(alloc, answer, run, words),
         "workers" => push_workers(alloc, answer, run, words),
-        "most" => {
-            let _ = write!(answer, " => {} events", run.plan.most_events());
+        _ => {
+            push_kept(alloc, answer, &run, asked, words);
+            drop(run)
         }
-        "drive" => push_driven(alloc, answer, &run),
-        "steps" => push_steps(alloc, answer, &run, words),
-        _ => match words.strip_prefix("of") {
-            Some(events) => push_told_of(alloc, answer, &run, kind, events),
-            None => push_told_driven(alloc, answer, &run, kind),
-        },
     }
 }
 
 /// Adds the answer to what is asked of the runs of the suite of a text.
-pub(crate) fn push_answer(alloc: Global, answer: &mut String, suite: &str, asked: &str) {
+pub(crate) fn push_answer(
+    alloc: Global,
+    answer: &mut String,
+    suite: &str,
+    asked: &str,
+    words: &str,
+) {
     match Run::of(alloc, suite) {
-        Some(run) => push_asked(alloc, answer, run, asked),
+        Some(run) => push_run_answer(alloc, answer, run, asked, words),
         None => say(answer, " => no suite"),
     }
 }

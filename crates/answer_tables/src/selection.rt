@@ -1,23 +1,15 @@
 //! What a request finds in a tree.
 
-use crate::words::{key_and_value, push_refusal, say, selector_kind};
+use crate::words::{key_and_value, push_refusal, say, selector_kind, show};
 use descriptor::{NodeId, Tree};
 use selectors::{Request, Selector, discover};
 use std::alloc::Global;
 use tag_expr::TagExpr;
 
-/// Adds a selector, and tells whether it could be read.
-fn add_selector(alloc: Global, selectors: &mut Vec<Selector>, kind: &str, text: &str) -> bool {
-    match Selector::parse(alloc, selector_kind(kind), text) {
-        Ok(selector) => selectors.push(selector).is_ok(),
-        Err(_) => false,
-    }
-}
-
-/// Adds an expression, and tells whether it could be read.
-fn add_expression(alloc: Global, expressions: &mut Vec<TagExpr>, text: &str) -> bool {
-    match TagExpr::parse(alloc, text) {
-        Ok(expression) => expressions.push(expression).is_ok(),
+/// Adds what was read, and tells whether it could be read.
+fn keep<T: Drop, F: Drop>(list: &mut Vec<T>, read: Result<T, F>) -> bool {
+    match read {
+        Ok(item) => list.push(item).is_ok(),
         Err(_) => false,
     }
 }
@@ -26,9 +18,12 @@ fn add_expression(alloc: Global, expressions: &mut Vec<TagExpr>, text: &str) -> 
 fn add(alloc: Global, request: &mut Request, word: &str) -> bool {
     match key_and_value(word) {
         ("", "") => true,
-        ("include", text) => add_expression(alloc, &mut request.include, text),
-        ("exclude", text) => add_expression(alloc, &mut request.exclude, text),
-        (kind, text) => add_selector(alloc, &mut request.selectors, kind, text),
+        ("include", text) => keep(&mut request.include, TagExpr::parse(alloc, text)),
+        ("exclude", text) => keep(&mut request.exclude, TagExpr::parse(alloc, text)),
+        (kind, text) => {
+            let selector = Selector::parse(alloc, selector_kind(kind), text);
+            keep(&mut request.selectors, selector)
+        }
     }
 }
 
@@ -47,7 +42,7 @@ fn push_names(answer: &mut String, tree: &Tree) {
     say(answer, " =>");
     for number in 1..tree.len() {
         let node = tree.node(NodeId::new(number as u16));
-        let _ = write!(answer, " {}", node.name.as_str());
+        show(answer, " ", node.name.as_str())
     }
 }
 
@@ -57,23 +52,21 @@ fn push_answered(alloc: Global, answer: &mut String, tree: &Tree, request: &Requ
         return;
     };
     match discover(alloc, tree, request) {
-        Ok(found) => push_names(answer, &found),
+        Ok(found) => {
+            push_names(answer, &found);
+            drop(found)
+        }
         Err(fault) => push_refusal(answer, fault.number(), fault.place(), &fault),
-    }
-}
-
-/// A request that asks for nothing yet.
-fn empty(alloc: Global) -> Request {
-    Request {
-        selectors: Vec::new(alloc),
-        include: Vec::new(alloc),
-        exclude: Vec::new(alloc),
     }
 }
 
 /// Adds the names of what words between semicolons ask for, or the refusal.
 pub(crate) fn push_found(alloc: Global, answer: &mut String, tree: &Tree, words: &str) {
-    let mut request = empty(alloc);
+    let mut request = Request {
+        selectors: Vec::new(alloc),
+        include: Vec::new(alloc),
+        exclude: Vec::new(alloc),
+    };
     if add_all(alloc, &mut request, words) {
         push_answered(alloc, answer, tree, &request);
     } else {

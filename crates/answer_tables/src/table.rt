@@ -1,6 +1,7 @@
 //! What was read of a section so far.
 
 use crate::adding::push_added;
+use crate::words::{cut, show};
 use crate::{runs, texts, trees};
 use descriptor::TreeBuilder;
 use std::alloc::{AllocError, Global};
@@ -52,20 +53,19 @@ impl Table {
 
     /// Takes a line of a suite.
     fn take(&mut self, line: &str) {
-        let _ = writeln!(self.suite, "{line}");
+        show(&mut self.suite, line, "\n")
     }
 
     /// Adds the answer to a question.
     fn push_asked(&self, alloc: Global, answer: &mut String, asked: &str) {
+        let (asked, words) = cut(asked);
+        let suite = self.suite.as_str();
         match self.section {
-            Section::Runs => runs::push_answer(alloc, answer, self.suite.as_str(), asked),
-            _ if self.suite.is_empty() => trees::push_answer(
-                alloc,
-                answer,
-                self.builder.tree(),
-                asked,
-            ),
-            _ => trees::push_suite_answer(alloc, answer, self.suite.as_str(), asked),
+            Section::Runs => runs::push_answer(alloc, answer, suite, asked, words),
+            _ if suite.is_empty() => {
+                trees::push_answer(alloc, answer, self.builder.tree(), asked, words)
+            }
+            _ => trees::push_suite_answer(alloc, answer, suite, asked, words),
         }
     }
 

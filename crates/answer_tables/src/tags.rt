@@ -1,6 +1,6 @@
 //! Questions about tags and tag expressions.
 
-use crate::words::push_refusal;
+use crate::words::{push_refusal, quote, show};
 use std::alloc::Global;
 use tag_expr::{TagExpr, TagSet, tag_of};
 
@@ -8,7 +8,8 @@ use tag_expr::{TagExpr, TagSet, tag_of};
 pub(crate) fn push_tag(alloc: Global, answer: &mut String, text: &str) {
     match tag_of(alloc, text) {
         Ok(tag) => {
-            let _ = write!(answer, " => {:?}", tag.as_str());
+            quote(answer, " => ", tag.as_str());
+            drop(tag)
         }
         Err(fault) => push_refusal(answer, fault.number(), fault.place(), &fault),
     }
@@ -45,7 +46,8 @@ pub(crate) fn push_truth(alloc: Global, answer: &mut String, text: &str) {
     let (text, tags) = text.split_once('~').unwrap_or((text, ""));
     match TagExpr::parse(alloc, text) {
         Ok(expression) => {
-            let _ = write!(answer, " => {}", holds(alloc, &expression, tags));
+            show(answer, " => ", holds(alloc, &expression, tags));
+            drop(expression)
         }
         Err(fault) => push_refusal(answer, fault.number(), fault.place(), &fault),
     }

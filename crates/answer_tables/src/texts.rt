@@ -1,27 +1,39 @@
 //! Questions about texts: what is asked, a blank and the text.
 
 use crate::escapes::push_plain;
-use crate::words::{cut, say};
+use crate::trees::push_suite_answer;
+use crate::words::{cut, say, subject_and_text};
 use crate::{events, ids, settings, suites, tags};
 use std::alloc::Global;
+use unique_id::UniqueId;
 
-/// Adds the answer to what is asked of a text.
-fn push_asked(alloc: Global, answer: &mut String, asked: &str, text: &str) {
+/// Adds the answer to what is asked of the text of an id, a tag or a selector.
+fn push_named(alloc: Global, answer: &mut String, asked: &str, text: &str) {
     match asked {
-        "id" => ids::push_id(alloc, answer, text),
+        "id" => ids::push_id(answer, UniqueId::parse(alloc, text)),
+        "make" => ids::push_id(answer, ids::made(alloc, text)),
         "segments" => ids::push_segments(alloc, answer, text),
-        "make" => ids::push_made(alloc, answer, text),
         "pair" => ids::push_pair(alloc, answer, text),
         "tag" => tags::push_tag(alloc, answer, text),
         "expr" => tags::push_truth(alloc, answer, text),
         "selector" => suites::push_selector(alloc, answer, text),
-        "suite" => suites::push_size(alloc, answer, text),
-        "said" => suites::push_said(alloc, answer, text),
+        _ => say(answer, " => ?"),
+    }
+}
+
+/// Adds the answer to what is asked of a text.
+fn push_asked(alloc: Global, answer: &mut String, asked: &str, text: &str) {
+    match asked {
+        "suite" => push_suite_answer(alloc, answer, text, "size", ""),
+        "said" => {
+            let (key, text) = subject_and_text(text);
+            push_suite_answer(alloc, answer, text, "said", key)
+        }
         "test" => suites::push_test_line(alloc, answer, text),
         "steps" => suites::push_steps(alloc, answer, text),
         "word" => events::push_event(answer, text),
         "get" | "settings" => settings::push_settings_row(alloc, answer, asked, text),
-        _ => say(answer, " => ?"),
+        _ => push_named(alloc, answer, asked, text),
     }
 }
 
@@ -33,5 +45,6 @@ pub(crate) fn push_answer(alloc: Global, answer: &mut String, line: &str) {
     let (asked, text) = cut(line);
     let mut plain = String::new(alloc);
     push_plain(alloc, &mut plain, text);
-    push_asked(alloc, answer, asked, plain.as_str())
+    push_asked(alloc, answer, asked, plain.as_str());
+    drop(plain)
 }

@@ -1,11 +1,12 @@
 //! What is told of the events of a run.
 
-use crate::run::Run;
+use crate::events::kind_word;
+use crate::words::{quote, say, show};
 use descriptor::NodeId;
 use listeners::{Listener, Summary, Theme, feed_text, summary_text, tree_text};
-use plan_events::{Event, Texts};
+use plan_events::{Event, EventKind, Texts};
 use resource_locks::Plan;
-use sched_core::texts_of;
+use sched_core::{Answers, texts_of};
 use std::alloc::{AllocError, Global};
 
 /// Tells a summary these events, as far as it has room.
@@ -17,45 +18,62 @@ fn tell_all(summary: &mut Summary, events: &[Event]) {
     }
 }
 
-/// The twelve counts of a summary that is told the events.
-fn counts(alloc: Global, plan: &Plan, events: &[Event]) -> Result<String, AllocError> {
+/// Adds the twelve counts of a summary that is told the events.
+fn push_counts(alloc: Global, answer: &mut String, plan: &Plan, events: &[Event]) {
     let mut summary = Summary::new(alloc);
-    summary.prepare(plan)?;
-    tell_all(&mut summary, events);
-    format!(in alloc; "{:?}\n", summary.counts())
-}
-
-/// Adds a line with a node's text, if it has one.
-fn push_text(list: &mut String, number: u16, text: Option<&str>) {
-    match text {
-        Some(text) => {
-            let _ = writeln!(list, "{number} {text:?}");
-        }
-        None => {},
+    if summary.prepare(plan).is_ok() {
+        tell_all(&mut summary, events);
+        quote(answer, "\n", summary.counts())
     }
 }
 
-/// Adds the text of each node that has one.
-fn push_texts(list: &mut String, plan: &Plan, texts: &Texts) {
+/// Adds a line for each node that has a text, or that none has one.
+fn push_texts(answer: &mut String, plan: &Plan, texts: &Texts) {
     for number in 0..plan.tree().len() {
-        let number = number as u16;
-        push_text(list, number, texts.of(NodeId::new(number)));
+        if let Some(text) = texts.of(NodeId::new(number as u16)) {
+            show(answer, "\n", number);
+            quote(answer, " ", text)
+        }
+    }
+    if answer.is_empty() {
+        say(answer, " => \"\"")
     }
 }
 
-/// The text of each node that has one.
-fn node_texts(alloc: Global, plan: &Plan, texts: &Texts) -> Result<String, AllocError> {
-    let mut list = String::new(alloc);
-    push_texts(&mut list, plan, texts);
-    Ok(list)
+/// Adds how a node ended: its status, and its text where it is not empty.
+fn push_end(answer: &mut String, event: &Event, texts: &Texts) {
+    if let Some(status) = event.status {
+        show(answer, " ", status)
+    }
+    match texts.of(event.node) {
+        Some(said) if !said.is_empty() => show(answer, " ", said),
+        _ => {},
+    }
 }
 
-/// What is told of these events and texts in the way that is asked for, a line each.
-fn lines(
+/// Adds an event.
+fn push_event(answer: &mut String, event: &Event, texts: &Texts) {
+    show(answer, "\nw", event.worker);
+    show(answer, " ", kind_word(event.kind));
+    show(answer, " ", event.node.number());
+    match event.kind {
+        EventKind::Finished | EventKind::Skipped => push_end(answer, event, texts),
+        EventKind::Started | EventKind::Registered => {},
+    }
+}
+
+/// Adds the events with their texts, a line each.
+fn push_history(answer: &mut String, events: &[Event], texts: &Texts) {
+    for event in events {
+        push_event(answer, event, texts);
+    }
+}
+
+/// What is printed of these events and texts in the way that is asked for.
+fn printed(
     alloc: Global,
     plan: &Plan,
-    events: &[Event],
-    texts: &Texts,
+    (events, texts): (&[Event], &Texts),
     way: &str,
 ) -> Result<String, AllocError> {
     match way {
@@ -63,46 +81,46 @@ fn lines(
         "tree" => tree_text(alloc, plan, events, texts, Theme::Unicode),
         "ascii" => tree_text(alloc, plan, events, texts, Theme::Ascii),
         "summary" => summary_text(alloc, plan, events),
-        "counts" => counts(alloc, plan, events),
-        "texts" => node_texts(alloc, plan, texts),
         _ => String::from_str(alloc, "?"),
     }
 }
 
-/// Adds lines below the question, or a text that is no line behind it.
-fn push_shown(answer: &mut String, text: &str) {
-    match text.strip_suffix('\n') {
-        Some(lines) => {
-            let _ = write!(answer, "\n{lines}");
+/// Adds lines that are printed below the question, or a text that is no line behind it.
+fn push_printed(answer: &mut String, printed: Result<String, AllocError>) {
+    if let Ok(text) = printed {
+        match text.strip_suffix('\n') {
+            Some(lines) => show(answer, "\n", lines),
+            None => quote(answer, " => ", text.as_str()),
         }
-        None => {
-            let _ = write!(answer, " => {text:?}");
-        }
+        drop(text)
     }
 }
 
 /// Adds what is told of these events and texts.
-fn push_lines(
+fn push_way(
     alloc: Global,
     answer: &mut String,
     plan: &Plan,
     (events, texts): (&[Event], &Texts),
     way: &str,
 ) {
-    if let Ok(text) = lines(alloc, plan, events, texts, way) {
-        push_shown(answer, text.as_str());
+    match way {
+        "history" => push_history(answer, events, texts),
+        "counts" => push_counts(alloc, answer, plan, events),
+        "texts" => push_texts(answer, plan, texts),
+        _ => push_printed(answer, printed(alloc, plan, (events, texts), way)),
     }
 }
 
-/// Adds what is told of these events.
+/// Adds what is told of these events of a run.
 pub(crate) fn push_told(
     alloc: Global,
     answer: &mut String,
-    run: &Run,
+    (plan, answers): (&Plan, &Answers),
     events: &[Event],
     way: &str,
 ) {
-    if let Ok(texts) = texts_of(alloc, &run.plan, &run.answers, events) {
-        push_lines(alloc, answer, &run.plan, (events, &texts), way);
+    if let Ok(texts) = texts_of(alloc, plan, answers, events) {
+        push_way(alloc, answer, plan, (events, &texts), way);
     }
 }

@@ -3,7 +3,7 @@
 use descriptor::NodeId;
 use selectors::SelectorKind;
 use std::alloc::Global;
-use std::fmt::Display;
+use std::fmt::{Debug, Display};
 use unique_id::Text;
 
 /// What the keys of a configuration begin with.
@@ -48,6 +48,16 @@ pub(crate) fn text_of(alloc: Global, said: &str) -> Text {
     Text::new(alloc, said).unwrap_or(Text::empty())
 }
 
+/// Adds a text, and a value behind it.
+pub(crate) fn show<T: Display + Copy>(answer: &mut String, text: &str, value: T) {
+    let _ = write!(answer, "{text}{value}");
+}
+
+/// Adds a text, and behind it a value as it would be written in a program.
+pub(crate) fn quote<T: Debug + Copy>(answer: &mut String, text: &str, value: T) {
+    let _ = write!(answer, "{text}{value:?}");
+}
+
 /// Adds a refusal: its number, where it is about a place that place, and what it says.
 pub(crate) fn push_refusal<F: Display, P: Display + Copy>(
     answer: &mut String,
@@ -55,13 +65,14 @@ pub(crate) fn push_refusal<F: Display, P: Display + Copy>(
     place: Option<P>,
     fault: &F,
 ) {
-    let _ = match place {
-        Some(place) => write!(answer, " => error {number} at {place}: {fault}"),
-        None => write!(answer, " => error {number}: {fault}"),
-    };
+    show(answer, " => error ", number);
+    if let Some(place) = place {
+        show(answer, " at ", place);
+    }
+    let _ = write!(answer, ": {fault}");
 }
 
 /// Adds a refusal that is about no place.
 pub(crate) fn push_fault<F: Display>(answer: &mut String, number: u8, fault: &F) {
-    let _ = write!(answer, " => error {number}: {fault}");
+    push_refusal(answer, number, None::<u8>, fault)
 }
