@@ -7,6 +7,7 @@ use descriptor::NodeId;
 use ready_deques::{Lane, Thief};
 use std::alloc::Global;
 use std::thread::{Threads, join};
+use unique_id::both;
 
 /// How many numbers the owner puts while thieves steal.
 const NUMBERS: u16 = 3000;
@@ -93,8 +94,7 @@ fn left_in(lane: &mut Lane) -> u64 {
 /// The sum of what three threads got of a lane, and of what they left, or none where a number was refused.
 fn got_by_three<R: Threads>(rt: &R, alloc: Global) -> Option<u64> {
     let mut lane = Lane::new(alloc).ok()?;
-    let mut first = lane.thief().ok()?;
-    let mut second = lane.thief().ok()?;
+    let (mut first, mut second) = both(lane.thief(), lane.thief()).ok()?;
     let (own, (a, b)) = join(
         rt,
         || puts_and_takes(&mut lane),

@@ -1,10 +1,17 @@
 //! Bodies that run side by side, and bodies that must not.
 
-use crate::running::{Setup, WIDE, how, run_of_suite};
-use std::alloc::{AllocError, Global};
+use crate::running::{Setup, WIDE, how, run_of_suite, say, show};
+use std::alloc::Global;
 use std::sync::Wait;
 use std::thread::Threads;
 use test_jobs::Act;
+
+/// A class whose tests may run side by side, without its tests.
+const SIDE_BY_SIDE: &str = "property junit.jupiter.execution.parallel.enabled=true
+property junit.jupiter.execution.parallel.mode.default=concurrent
+engine e
+  class a.B
+";
 
 /// Two tests that write one key.
 const WRITERS: &str = "property junit.jupiter.execution.parallel.enabled=true
@@ -42,14 +49,12 @@ engine e
 ";
 
 /// Adds a class of so many tests, from node 3 on, that may run side by side.
-fn push_class(text: &mut String, tests: u32) -> Result<(), AllocError> {
-    text.push_str("property junit.jupiter.execution.parallel.enabled=true\n")?;
-    text.push_str("property junit.jupiter.execution.parallel.mode.default=concurrent\n")?;
-    text.push_str("engine e\n  class a.B\n")?;
+fn push_class(text: &mut String, tests: u32) {
+    say(text, SIDE_BY_SIDE);
     for number in 0..tests {
-        write!(text, "    test t{number}() pass\n")?;
+        show(text, "    test t", number);
+        say(text, "() pass\n");
     }
-    Ok(())
 }
 
 /// Whether what is said of a run is that it ended well: so many events, and no job unused.
@@ -82,7 +87,8 @@ pub(crate) fn tests_end_well<R: Threads + Wait + Sync>(
     events: usize,
 ) -> bool {
     let mut suite = String::new(alloc);
-    push_class(&mut suite, tests).is_ok() && ends_well(rt, alloc, suite.as_str(), how, events)
+    push_class(&mut suite, tests);
+    ends_well(rt, alloc, suite.as_str(), how, events)
 }
 
 /// Whether one part of what is said stands before another.

@@ -1,67 +1,25 @@
 //! One worker and the dispatcher, both on the calling thread, at a ring of one word; a body that
 //! waits for it; and rings that are refused.
 
-ghost use Rattle.std.specs.Prelude.{[]};
 ghost use Rattle.run_table.specs.Seats.{IsSeatOf};
 
-use crate::running::{how, is_said, run_of_suite};
+use crate::running::{how, is_said, run_of_suite, staged};
 use crate::stepping::{ONE, comes_to_the_engine, is_start};
-use descriptor::{Kind, Mode, Node, NodeId, Tree, TreeBuilder};
-use plan_events::{Job, Outcome, Pull, Status};
-use resource_locks::Plan;
+use descriptor::NodeId;
 use run_table::{DispatcherSeat, RunTable, WorkerSeat};
 use std::alloc::Global;
 use std::sync::Wait;
 use std::thread::Threads;
-use test_jobs::Act;
-use unique_id::{Text, UniqueId};
+use test_jobs::{Act, Actor};
 
-/// A job. No plan here has one.
-#[derive(Drop)]
-struct AnyJob;
-
-impl Job for AnyJob {
-    ghost answers = { λ _. [] };
-
-    fn next(&mut self) -> Pull {
-        Pull::End
-    }
-
-    fn run(&mut self) -> Outcome {
-        Outcome {
-            status: Status::Successful,
-            text: Text::empty(),
-        }
-    }
-}
-
-/// The node of an engine.
-fn engine(alloc: Global) -> Option<Node> {
-    let id = UniqueId::of(alloc, "engine", "e").ok()?;
-    let name = Text::new(alloc, "e").ok()?;
-    Some(Node::plain(alloc, id, name, Kind::Container))
-}
-
-/// A tree of one engine, with nothing below it.
-fn engine_tree(alloc: Global) -> Option<Tree> {
-    let engine = engine(alloc)?;
-    let mut builder = TreeBuilder::new(alloc).ok()?;
-    builder.add(alloc, NodeId::ROOT, engine).ok()?;
-    Some(builder.finish())
-}
-
-/// Its plan.
-fn engine_plan(alloc: Global) -> Option<Plan> {
-    let tree = engine_tree(alloc)?;
-    let modes = vec![in alloc; Mode::SameThread; tree.len()].ok()?;
-    Plan::of(alloc, tree, modes).ok()
-}
+/// A suite of one engine, with nothing below it.
+const ENGINE: &str = "engine e\n";
 
 /// Whether the engine's start has room once the plan's start is read and that is told, and not before.
 fn room_is_made(
-    table: &RunTable<AnyJob>,
-    worker: &mut WorkerSeat<AnyJob>,
-    desk: &mut DispatcherSeat<AnyJob>,
+    table: &RunTable<Actor>,
+    worker: &mut WorkerSeat<Actor>,
+    desk: &mut DispatcherSeat<Actor>,
 ) -> bool
     requires worker { IsSeatOf table.now.table worker.old.seat }
     requires desk { IsSeatOf table.now.table desk.old.seat }
@@ -84,7 +42,7 @@ fn room_is_made(
 }
 
 /// Whether it is so at this table, which nobody has used.
-fn room_is_made_at(table: &RunTable<AnyJob>, desk: &mut DispatcherSeat<AnyJob>) -> bool
+fn room_is_made_at(table: &RunTable<Actor>, desk: &mut DispatcherSeat<Actor>) -> bool
     requires { IsSeatOf table.now.table desk.old.seat }
 {
     match desk.split(table) {
@@ -95,8 +53,9 @@ fn room_is_made_at(table: &RunTable<AnyJob>, desk: &mut DispatcherSeat<AnyJob>) 
 
 /// Whether it is so at a table with a ring of one word.
 fn room_is_made_in_one_word(alloc: Global) -> Option<bool> {
-    let plan = engine_plan(alloc)?;
-    match RunTable::<AnyJob>::prepare(alloc, plan, Vec::new(alloc), 1, 1) {
+    let (plan, scripts) = staged(alloc, ENGINE)?;
+    drop(scripts);
+    match RunTable::<Actor>::prepare(alloc, plan, Vec::new(alloc), 1, 1) {
         Ok((table, mut desk)) => Some(room_is_made_at(&table, &mut desk)),
         Err(_) => None,
     }
@@ -110,7 +69,7 @@ fn is_refused<R: Threads + Wait + Sync>(
     ring: u32,
     wanted: &str,
 ) -> bool {
-    let said = run_of_suite(rt, alloc, "engine e\n", how(Act::Ends, workers, ring));
+    let said = run_of_suite(rt, alloc, ENGINE, how(Act::Ends, workers, ring));
     is_said(said, wanted)
 }
 

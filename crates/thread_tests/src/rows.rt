@@ -1,7 +1,7 @@
 //! Runs whose events stand in one order, whoever takes the nodes.
 
 use crate::meeting::tests_end_well;
-use crate::running::{WIDE, how, is_said, run_of_suite, run_without_jobs};
+use crate::running::{WIDE, how, is_said, run_of_suite};
 use std::alloc::Global;
 use std::sync::Wait;
 use std::thread::Threads;
@@ -107,17 +107,15 @@ fn goes_as_wanted<R: Threads + Wait + Sync>(
     ring: u32,
 ) -> bool {
     let mut how = how(Act::Ends, workers, ring);
-    let (wanted, suite) = row.split_once('\n').unwrap_or((row, ""));
-    if let Some(wanted) = wanted.strip_prefix("without jobs ") {
-        return is_said(run_without_jobs(rt, alloc, suite, how), wanted);
+    let (mut wanted, suite) = row.split_once('\n').unwrap_or((row, ""));
+    if let Some(refusal) = wanted.strip_prefix("without jobs ") {
+        how.has_jobs = false;
+        wanted = refusal;
+    } else if let Some(events) = wanted.strip_prefix("fail-fast ") {
+        how.fail_fast = true;
+        wanted = events;
     }
-    match wanted.strip_prefix("fail-fast ") {
-        Some(wanted) => {
-            how.fail_fast = true;
-            is_said(run_of_suite(rt, alloc, suite, how), wanted)
-        }
-        None => is_said(run_of_suite(rt, alloc, suite, how), wanted),
-    }
+    is_said(run_of_suite(rt, alloc, suite, how), wanted)
 }
 
 /// Whether all rows do so.

@@ -6,7 +6,7 @@ ghost use Rattle.test_jobs.specs.Acting.{replies_left};
 ghost use Rattle.worker_pool.specs.Premises.{JobsMayAnswer};
 ghost use Rattle.worker_pool.specs.Reports.{run_of};
 
-use crate::watching::{Watcher, are_told_alike, audience_of_two, board_of, one_watcher};
+use crate::watching::{are_told_alike, audience_of_two, board_of, one_watcher};
 use config_params::{Params, Settings};
 use descriptor::{Mode, Tree};
 use exec_mode::modes;
@@ -14,7 +14,8 @@ use listeners::{Audience, Listener};
 use plan_events::{Event, EventKind, Status};
 use resource_locks::Plan;
 use run_table::{Jobs, TableFault};
-use std::alloc::{AllocError, Global};
+use std::alloc::Global;
+use std::fmt::Display;
 use std::sync::{Arc, Wait};
 use std::thread::Threads;
 use suite_text::{Script, Suite};
@@ -32,12 +33,6 @@ fn modes_of(alloc: Global, tree: &Tree, properties: &Params) -> Option<Vec<Mode>
     modes(alloc, tree, &settings).ok()
 }
 
-/// The plan of a tree.
-fn plan_of(alloc: Global, tree: Tree, properties: &Params) -> Option<Plan> {
-    let modes = modes_of(alloc, &tree, properties)?;
-    Plan::of(alloc, tree, modes).ok()
-}
-
 /// Has each factory that asks for as many dynamic tests as a suite can say ask for as many as there
 /// are numbers.
 fn ask_for_more(scripts: &mut Vec<Script>) {
@@ -48,6 +43,13 @@ fn ask_for_more(scripts: &mut Vec<Script>) {
     }
 }
 
+/// The plan of a suite, whose property lines are handed over with its tree.
+fn planned(alloc: Global, tree: Tree, properties: Params) -> Option<Plan> {
+    let modes = modes_of(alloc, &tree, &properties);
+    drop(properties);
+    Plan::of(alloc, tree, modes?).ok()
+}
+
 /// A suite's plan, and the scripts of its bodies. A factory that asks for as many dynamic tests as
 /// a suite can say asks for as many as there are numbers.
 pub(crate) fn staged(alloc: Global, text: &str) -> Option<(Plan, Vec<Script>)> {
@@ -56,18 +58,18 @@ pub(crate) fn staged(alloc: Global, text: &str) -> Option<(Plan, Vec<Script>)> {
         mut scripts,
         properties,
     } = Suite::parse(alloc, text).ok()?;
-    let plan = plan_of(alloc, tree, &properties)?;
     ask_for_more(&mut scripts);
+    let plan = planned(alloc, tree, properties)?;
     Some((plan, scripts))
 }
 
 /// The sign of an event.
-fn sign(event: &Event) -> char {
+fn sign(event: &Event) -> &'static str {
     match event.kind {
-        EventKind::Started => '+',
-        EventKind::Finished => '-',
-        EventKind::Skipped => '~',
-        EventKind::Registered => '*',
+        EventKind::Started => "+",
+        EventKind::Finished => "-",
+        EventKind::Skipped => "~",
+        EventKind::Registered => "*",
     }
 }
 
@@ -80,38 +82,42 @@ fn mark(event: &Event) -> &'static str {
     }
 }
 
+/// Adds a text.
+pub(crate) fn say(text: &mut String, more: &str) {
+    let _ = text.push_str(more);
+}
+
+/// Adds a text, and a value behind it.
+pub(crate) fn show<T: Display + Copy>(text: &mut String, more: &str, value: T) {
+    let _ = write!(text, "{more}{value}");
+}
+
 /// The events, whoever published them: each by its sign and its node, with a mark where that did
 /// not end well.
-pub(crate) fn push_events(text: &mut String, events: &[Event]) -> Result<(), AllocError> {
+pub(crate) fn push_events(text: &mut String, events: &[Event]) {
     for event in events {
-        let node = event.node.index();
-        write!(text, "{}{node}{} ", sign(event), mark(event))?;
+        show(text, sign(event), event.node.index());
+        show(text, mark(event), " ");
     }
-    Ok(())
 }
 
 /// The numbers of these jobs, from the least.
-fn numbers_of(alloc: Global, jobs: &Jobs<Actor>) -> Result<Vec<usize>, AllocError> {
+fn numbers_of(alloc: Global, jobs: &Jobs<Actor>) -> Vec<usize> {
     let mut numbers = Vec::new(alloc);
     for (number, _) in jobs.iter() {
-        numbers.push(number.index())?;
+        let _ = numbers.push(number.index());
     }
-    numbers.sort()?;
-    Ok(numbers)
-}
-
-/// Adds these numbers.
-fn push_numbers(text: &mut String, numbers: &[usize]) -> Result<(), AllocError> {
-    for number in numbers {
-        write!(text, "{number} ")?;
-    }
-    Ok(())
+    let _ = numbers.sort();
+    numbers
 }
 
 /// Adds the numbers of these jobs, from the least.
-fn push_jobs(alloc: Global, text: &mut String, jobs: &Jobs<Actor>) -> Result<(), AllocError> {
-    let numbers = numbers_of(alloc, jobs)?;
-    push_numbers(text, numbers.as_slice())
+fn push_jobs(alloc: Global, text: &mut String, jobs: &Jobs<Actor>) {
+    let numbers = numbers_of(alloc, jobs);
+    for number in numbers.as_slice() {
+        show(text, "", *number);
+        say(text, " ");
+    }
 }
 
 /// The number of the body that has no job, if a run is refused for that.
@@ -126,41 +132,35 @@ fn without_job(cause: RunCause) -> Option<usize> {
 }
 
 /// That a run was refused with this number, and the body that has no job, if it was for that.
-fn push_refusal(text: &mut String, number: u8, missing: Option<usize>) -> Result<(), AllocError> {
-    write!(text, "refused {number}")?;
-    match missing {
-        Some(body) => write!(text, " at {body}"),
-        None => Ok(()),
+fn push_refusal(text: &mut String, number: u8, missing: Option<usize>) {
+    show(text, "refused ", number);
+    if let Some(body) = missing {
+        show(text, " at ", body);
     }
 }
 
 /// Adds what was reported, how often jobs were asked for a dynamic test, and how many bytes of
 /// texts the first listener was told.
-fn push_report(
-    alloc: Global,
-    text: &mut String,
-    report: &Report<Actor>,
-    board: &Board,
-) -> Result<(), AllocError> {
-    push_events(text, report.events.as_slice())?;
-    text.push_str("unused ")?;
-    push_jobs(alloc, text, &report.unused_jobs)?;
-    write!(text, "asked {} told {}", board.asked(), board.heard())
+fn push_report(alloc: Global, text: &mut String, report: &Report<Actor>, board: &Board) {
+    push_events(text, report.events.as_slice());
+    say(text, "unused ");
+    push_jobs(alloc, text, &report.unused_jobs);
+    show(text, "asked ", board.asked());
+    show(text, " told ", board.heard());
 }
 
 /// A run, or why it was refused.
 type Ran = Result<Report<Actor>, RunFault<Actor>>;
 
 /// Adds what was reported; and whether a body began too early.
-fn push_ran(alloc: Global, text: &mut String, ran: &Ran, board: &Board) -> Result<(), AllocError> {
+fn push_ran(alloc: Global, text: &mut String, ran: &Ran, board: &Board) {
     match ran {
-        Ok(report) => push_report(alloc, text, report, board)?,
-        Err(fault) => push_refusal(text, fault.cause.number(), without_job(fault.cause))?,
+        Ok(report) => push_report(alloc, text, report, board),
+        Err(fault) => push_refusal(text, fault.cause.number(), without_job(fault.cause)),
     }
     if board.is_early() {
-        text.push_str(" early")?;
+        say(text, " early");
     }
-    Ok(())
 }
 
 /// The events of a run.
@@ -179,82 +179,25 @@ fn push_told(
     listeners: &[Box<dyn Listener>],
     board: &Board,
     other: &Board,
-) -> Result<(), AllocError> {
-    push_ran(alloc, text, ran, board)?;
+) {
+    push_ran(alloc, text, ran, board);
     if !are_told_alike(listeners, events_of(ran), board, other) {
-        text.push_str(" otherwise")?;
+        say(text, " otherwise");
     }
-    Ok(())
 }
 
-/// What is said of a run.
+/// What is said of a run, if there was one.
 fn said(
     alloc: Global,
-    ran: &Ran,
+    ran: Option<Ran>,
     listeners: &[Box<dyn Listener>],
     board: &Board,
     other: &Board,
 ) -> Option<String> {
+    let ran = ran?;
     let mut text = String::new(alloc);
-    push_told(alloc, &mut text, ran, listeners, board, other).ok()?;
+    push_told(alloc, &mut text, &ran, listeners, board, other);
     Some(text)
-}
-
-/// Runs a plan before this audience, if it was told nothing.
-fn run<R: Threads + Wait + Sync>(
-    rt: &R,
-    alloc: Global,
-    plan: Plan,
-    jobs: Jobs<Actor>,
-    workers: u32,
-    ring: u32,
-    audience: &mut Audience,
-) -> Option<Ran>
-    requires { JobsMayAnswer replies_left (run_of plan workers ring jobs.items) }
-{
-    if !audience.fresh() {
-        return None;
-    }
-    Some(run_plan(rt, alloc, plan, jobs, workers, ring, audience))
-}
-
-/// Runs a plan before this audience, and says what happened.
-fn run_before<R: Threads + Wait + Sync>(
-    rt: &R,
-    alloc: Global,
-    plan: Plan,
-    jobs: Jobs<Actor>,
-    workers: u32,
-    ring: u32,
-    mut audience: Audience,
-    board: &Board,
-    other: &Board,
-) -> Option<String>
-    requires { JobsMayAnswer replies_left (run_of plan workers ring jobs.items) }
-{
-    let ran = run(rt, alloc, plan, jobs, workers, ring, &mut audience)?;
-    let listeners = audience.into_listeners();
-    said(alloc, &ran, listeners.as_slice(), board, other)
-}
-
-/// Runs a plan before this watcher, and before another, with more room.
-fn run_watched<R: Threads + Wait + Sync>(
-    rt: &R,
-    alloc: Global,
-    plan: Plan,
-    jobs: Jobs<Actor>,
-    workers: u32,
-    ring: u32,
-    watcher: Watcher,
-    board: &Board,
-) -> Option<String>
-    requires { JobsMayAnswer replies_left (run_of plan workers ring jobs.items) }
-{
-    let other = board_of(alloc)?;
-    let audience = audience_of_two(alloc, watcher, &other)?;
-    run_before(
-        rt, alloc, plan, jobs, workers, ring, audience, board, &other,
-    )
 }
 
 /// How a suite is run.
@@ -267,6 +210,8 @@ pub(crate) struct Setup {
     pub(crate) ring: u32,
     /// Whether the run ends at the first failure.
     pub(crate) fail_fast: bool,
+    /// Whether the plan is handed in with its jobs, and not without one.
+    pub(crate) has_jobs: bool,
     /// Whose body the listener looks for while it is told the start before.
     pub(crate) looks_for: Option<usize>,
 }
@@ -278,22 +223,83 @@ pub(crate) fn how(act: Act, workers: u32, ring: u32) -> Setup {
         workers,
         ring,
         fail_fast: false,
+        has_jobs: true,
         looks_for: None,
     }
 }
 
-/// Runs a plan with its jobs.
-fn run_with_jobs<R: Threads + Wait + Sync>(
-    rt: &R,
+/// The jobs that are handed in with a plan.
+fn jobs_of(
     alloc: Global,
-    plan: Plan,
+    plan: &Plan,
     scripts: &[Script],
     how: Setup,
     board: &Arc<Board>,
+) -> Option<Jobs<Actor>>
+    ensures { IfSome result (λ jobs. (workers ring : ℕ) →
+        JobsMayAnswer replies_left (run_of plan.now workers ring jobs.items)) }
+{
+    if !how.has_jobs {
+        return Some(no_jobs(alloc));
+    }
+    cast(alloc, plan, scripts, how.act, board).ok()
+}
+
+/// Runs a plan before this audience, which was told nothing.
+fn run<R: Threads + Wait + Sync>(
+    rt: &R,
+    alloc: Global,
+    plan: Plan,
+    jobs: Jobs<Actor>,
+    workers: u32,
+    ring: u32,
+    audience: &mut Audience,
+) -> Option<Ran>
+    requires { JobsMayAnswer replies_left (run_of plan workers ring jobs.items) }
+{
+    if !audience.fresh() {
+        drop(plan);
+        drop(jobs);
+        return None;
+    }
+    Some(run_plan(rt, alloc, plan, jobs, workers, ring, audience))
+}
+
+/// Runs the plan of a suite before this audience.
+fn run_before<R: Threads + Wait + Sync>(
+    rt: &R,
+    alloc: Global,
+    text: &str,
+    how: Setup,
+    board: &Arc<Board>,
+    audience: &mut Audience,
+) -> Option<Ran> {
+    let (plan, scripts) = staged(alloc, text)?;
+    let plan = plan.with_fail_fast(how.fail_fast);
+    let jobs = jobs_of(alloc, &plan, scripts.as_slice(), how, board);
+    drop(scripts);
+    let Some(jobs) = jobs else {
+        drop(plan);
+        return None;
+    };
+    run(rt, alloc, plan, jobs, how.workers, how.ring, audience)
+}
+
+/// Runs a suite before a watcher of this board, and before another of the other board with more room, and says what
+/// happened.
+fn run_watched<R: Threads + Wait + Sync>(
+    rt: &R,
+    alloc: Global,
+    text: &str,
+    how: Setup,
+    board: &Arc<Board>,
+    other: &Arc<Board>,
 ) -> Option<String> {
-    let jobs = cast(alloc, &plan, scripts, how.act, board).ok()?;
     let watcher = one_watcher(alloc, how.act, board, how.looks_for)?;
-    run_watched(rt, alloc, plan, jobs, how.workers, how.ring, watcher, board)
+    let mut audience = audience_of_two(alloc, watcher, other)?;
+    let ran = run_before(rt, alloc, text, how, board, &mut audience);
+    let listeners = audience.into_listeners();
+    said(alloc, ran, listeners.as_slice(), board, other)
 }
 
 /// What happens in a run of this suite: the events, the numbers of the jobs that were not used, and
@@ -305,32 +311,8 @@ pub(crate) fn run_of_suite<R: Threads + Wait + Sync>(
     how: Setup,
 ) -> Option<String> {
     let board = board_of(alloc)?;
-    let (plan, scripts) = staged(alloc, text)?;
-    let plan = plan.with_fail_fast(how.fail_fast);
-    run_with_jobs(rt, alloc, plan, scripts.as_slice(), how, &board)
-}
-
-/// What happens if the plan of this suite is handed in without its jobs.
-pub(crate) fn run_without_jobs<R: Threads + Wait + Sync>(
-    rt: &R,
-    alloc: Global,
-    text: &str,
-    how: Setup,
-) -> Option<String> {
-    let board = board_of(alloc)?;
-    let watcher = one_watcher(alloc, how.act, &board, None)?;
-    let (plan, _scripts) = staged(alloc, text)?;
-    let jobs = no_jobs(alloc);
-    run_watched(
-        rt,
-        alloc,
-        plan,
-        jobs,
-        how.workers,
-        how.ring,
-        watcher,
-        &board,
-    )
+    let other = board_of(alloc)?;
+    run_watched(rt, alloc, text, how, &board, &other)
 }
 
 /// Whether just this is said of a run.

@@ -15,7 +15,7 @@ use crate::running::{WIDE, push_events, staged};
 use crate::watching::{audience_of_one, board_of, one_watcher};
 use descriptor::NodeId;
 use listeners::Audience;
-use plan_events::{Event, EventKind, Job, Texts};
+use plan_events::{Event, EventKind, Texts};
 use resource_locks::Plan;
 use run_table::{DispatcherSeat, Jobs, RunTable, WorkerSeat};
 use std::alloc::{AllocError, Global};
@@ -64,7 +64,7 @@ pub(crate) fn is_start(event: Option<Event>, node: u16) -> bool {
 }
 
 /// Whether the worker, which has shown the plan's start, comes to the engine's.
-pub(crate) fn comes_to_the_engine<B: Job>(table: &RunTable<B>, worker: &mut WorkerSeat<B>) -> bool
+pub(crate) fn comes_to_the_engine(table: &RunTable<Actor>, worker: &mut WorkerSeat<Actor>) -> bool
     requires { IsSeatOf table.now.table worker.old.seat }
     ensures { IsSeatOf table.now.table worker.new.seat }
 {
@@ -132,9 +132,9 @@ fn tells_at_last(
 /// Whether the listener was told just the first events, one a call, and no more than there are.
 fn has_first(alloc: Global, audience: &Audience, calls: usize, is_told: bool) -> bool {
     let mut told = String::new(alloc);
-    let is_said = push_events(&mut told, audience.got(0).unwrap_or(&[])).is_ok();
+    push_events(&mut told, audience.got(0).unwrap_or(&[]));
     let wanted = EVENTS.get(..3 * calls.min(8)).unwrap_or("");
-    is_said && told.as_str() == wanted && is_told == (calls > 0 && calls <= 8)
+    told.as_str() == wanted && is_told == (calls > 0 && calls <= 8)
 }
 
 /// Whether the only worker did all its work at the table.
@@ -192,7 +192,7 @@ fn is_told_of<R: Wait>(
     alloc: Global,
     plan: Plan,
     jobs: Jobs<Actor>,
-    mut audience: Audience,
+    audience: &mut Audience,
     course: Course,
     ring: u32,
 ) -> Result<bool, AllocError>
@@ -215,7 +215,7 @@ fn is_told_of<R: Wait>(
         &table,
         &mut worker,
         &mut desk,
-        &mut audience,
+        audience,
         &mut texts,
         course,
     ))
@@ -235,9 +235,12 @@ fn is_told_by<R: Wait>(
     board: &Arc<Board>,
     course: Course,
 ) -> Option<bool> {
-    let audience = one_audience(alloc, board)?;
-    let jobs = cast(alloc, &plan, scripts, Act::Ends, board).ok()?;
-    is_told_of(rt, alloc, plan, jobs, audience, course, course.ring()).ok()
+    let mut audience = one_audience(alloc, board)?;
+    let Ok(jobs) = cast(alloc, &plan, scripts, Act::Ends, board) else {
+        drop(plan);
+        return None;
+    };
+    is_told_of(rt, alloc, plan, jobs, &mut audience, course, course.ring()).ok()
 }
 
 /// Whether it is so of the suite with one test.
