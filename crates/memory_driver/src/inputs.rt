@@ -3,14 +3,15 @@
 ghost use Rattle.std.specs.Prelude.{◌≡◌, IfOk, length};
 ghost use Rattle.descriptor.specs.Nodes.{size};
 
-use config_params::Settings;
-use descriptor::{BodyId, Mode};
+use config_params::{Params, Settings};
+use descriptor::{BodyId, Mode, Tree};
 use exec_mode::modes;
 use plan_events::Reply;
 use resource_locks::Plan;
 use sched_core::Answers;
 use std::alloc::{AllocError, Global};
 use suite_text::{Script, Suite};
+use unique_id::both;
 
 /// A suite with all that a line may declare.
 pub(crate) const SHOP: &str = "# Two workers; the database is locked, and mail is sent alone.
@@ -57,29 +58,57 @@ pub(crate) fn suite_of(alloc: Global, text: &str) -> Result<Suite, AllocError> {
     Suite::parse(alloc, text).map_err(|_| AllocError)
 }
 
-/// The settings that a suite has.
-pub(crate) fn settings_of(suite: &Suite) -> Result<Settings, AllocError> {
-    Settings::read(&suite.properties, 4).map_err(|_| AllocError)
-}
-
-/// The modes of a suite's nodes.
-pub(crate) fn modes_of(alloc: Global, suite: &Suite) -> Result<Vec<Mode>, AllocError>
-    ensures { IfOk result (λ modes. length modes.items ≡ size suite.now.tree) }
-{
-    let settings = settings_of(suite)?;
-    modes(alloc, &suite.tree, &settings)
-}
-
-/// The plan of a suite.
-pub(crate) fn plan_of(alloc: Global, text: &str) -> Result<Plan, AllocError> {
-    let suite = suite_of(alloc, text)?;
-    let modes = modes_of(alloc, &suite)?;
-    Plan::of(alloc, suite.tree, modes).map_err(|_| AllocError)
+/// The tree of a suite, and what its property lines say.
+pub(crate) fn tree_of(alloc: Global, text: &str) -> Result<(Tree, Params), AllocError> {
+    let Suite {
+        tree,
+        scripts,
+        properties,
+    } = suite_of(alloc, text)?;
+    drop(scripts);
+    Ok((tree, properties))
 }
 
 /// The scripts of a suite.
 pub(crate) fn scripts_of(alloc: Global, text: &str) -> Result<Vec<Script>, AllocError> {
-    Ok(suite_of(alloc, text)?.scripts)
+    let Suite {
+        tree,
+        scripts,
+        properties,
+    } = suite_of(alloc, text)?;
+    drop(tree);
+    drop(properties);
+    Ok(scripts)
+}
+
+/// The settings that property lines give.
+pub(crate) fn settings_of(properties: &Params) -> Result<Settings, AllocError> {
+    Settings::read(properties, 4).map_err(|_| AllocError)
+}
+
+/// The modes of a tree's nodes.
+pub(crate) fn modes_of(
+    alloc: Global,
+    tree: &Tree,
+    properties: &Params,
+) -> Result<Vec<Mode>, AllocError>
+    ensures { IfOk result (λ modes. length modes.items ≡ size tree.now) }
+{
+    let settings = settings_of(properties)?;
+    modes(alloc, tree, &settings)
+}
+
+/// The plan of a tree.
+fn planned(alloc: Global, tree: Tree, properties: Params) -> Result<Plan, AllocError> {
+    let modes = modes_of(alloc, &tree, &properties);
+    drop(properties);
+    Plan::of(alloc, tree, modes?).map_err(|_| AllocError)
+}
+
+/// The plan of a suite.
+pub(crate) fn plan_of(alloc: Global, text: &str) -> Result<Plan, AllocError> {
+    let (tree, properties) = tree_of(alloc, text)?;
+    planned(alloc, tree, properties)
 }
 
 /// What these bodies answer.
@@ -91,11 +120,6 @@ fn answers_by(alloc: Global, scripts: Vec<Script>) -> Result<Answers, AllocError
     Ok(Answers::of(replies))
 }
 
-/// What the bodies of a suite answer.
-fn answers_of(alloc: Global, text: &str) -> Result<Answers, AllocError> {
-    answers_by(alloc, scripts_of(alloc, text)?)
-}
-
 /// A plan, and what its bodies answer.
 #[derive(Drop)]
 pub(crate) struct Run {
@@ -105,7 +129,12 @@ pub(crate) struct Run {
 
 /// The run of a suite.
 pub(crate) fn run_of(alloc: Global, text: &str) -> Result<Run, AllocError> {
-    let answers = answers_of(alloc, text)?;
-    let plan = plan_of(alloc, text)?;
+    let Suite {
+        tree,
+        scripts,
+        properties,
+    } = suite_of(alloc, text)?;
+    let answers = answers_by(alloc, scripts);
+    let (plan, answers) = both(planned(alloc, tree, properties), answers)?;
     Ok(Run { plan, answers })
 }

@@ -1,10 +1,10 @@
 //! Calls that make room for what listeners are told.
 
-use crate::calls::push_refusal;
 use crate::inputs::{PAIR, SHOP, plan_of};
 use crate::printer::Printer;
+use crate::said::Said;
 use descriptor::NodeId;
-use listeners::{Audience, Listener, Recorder, Summary, TooManyListeners};
+use listeners::{Audience, Listener, Recorder, Summary};
 use plan_events::{Event, EventKind};
 use resource_locks::Plan;
 use std::alloc::{AllocError, Global};
@@ -20,38 +20,27 @@ fn start() -> Event {
     }
 }
 
-/// What a listener was told, and its room.
-fn kept<L: Listener>(alloc: Global, listener: &L) -> Result<String, AllocError> {
-    format!(in alloc; "{:?} {}\n", listener.got(), listener.room())
+/// Adds what a listener was told, and its room.
+fn push_kept<L: Listener>(said: &mut Said, listener: &L) {
+    said.quote("", &listener.got());
+    said.show(" ", listener.room());
+    said.add("\n")
 }
 
-/// What each of two listeners was told.
-fn heard(alloc: Global, audience: &Audience) -> Result<String, AllocError> {
-    format!(in alloc; "{:?} {:?}\n", audience.got(0), audience.got(1))
+/// Adds what each of two listeners was told.
+fn push_heard(said: &mut Said, audience: &Audience) {
+    said.quote("", &audience.got(0));
+    said.quote(" ", &audience.got(1));
+    said.add("\n")
 }
 
-/// Adds that the call was refused, if it was, and what it left.
-fn push_left(
-    text: &mut String,
-    answer: Result<(), AllocError>,
-    left: &str,
-) -> Result<(), AllocError> {
+/// What is said of a call that answers nothing: that it was refused, if it was.
+fn left(alloc: Global, answer: Result<(), AllocError>) -> Said {
+    let mut said = Said::new(alloc);
     if answer.is_err() {
-        text.push_str("refused 0\n")?;
+        said.add("refused 0\n");
     }
-    text.push_str(left)
-}
-
-/// Tells of a call that answers nothing.
-fn tell_left<W: Write>(
-    alloc: Global,
-    out: &mut Printer<W>,
-    answer: Result<(), AllocError>,
-    left: &str,
-) {
-    let mut text = String::new(alloc);
-    let said = push_left(&mut text, answer, left);
-    out.tell(said, text.as_str());
+    said
 }
 
 /// `prepare` of a listener for this plan.
@@ -60,18 +49,25 @@ fn prepare<L: Listener, W: Write>(
     out: &mut Printer<W>,
     listener: &mut L,
     plan: &Plan,
-) -> Result<(), AllocError> {
-    out.given(kept(alloc, listener)?.as_str());
+) {
+    let mut given = Said::new(alloc);
+    push_kept(&mut given, listener);
+    out.given();
+    out.say(given);
     out.call();
     let answer = listener.prepare(plan);
     out.answered();
-    tell_left(alloc, out, answer, kept(alloc, listener)?.as_str());
-    Ok(())
+    let mut said = left(alloc, answer);
+    push_kept(&mut said, listener);
+    out.tell(said);
 }
 
 /// Prepares a listener for a small plan, and tells it the plan's start.
 fn tell_start<L: Listener>(alloc: Global, listener: &mut L) -> Result<(), AllocError> {
-    listener.prepare(&plan_of(alloc, PAIR)?)?;
+    let plan = plan_of(alloc, PAIR)?;
+    let prepared = listener.prepare(&plan);
+    drop(plan);
+    prepared?;
     if listener.room() > 0 {
         listener.told(start(), None);
     }
@@ -86,24 +82,49 @@ pub(crate) fn prepares<L: Listener, W: Write>(
 ) -> Result<(), AllocError> {
     tell_start(alloc, &mut listener)?;
     let plan = plan_of(alloc, SHOP)?;
-    prepare(alloc, out, &mut listener, &plan)?;
-    prepare(alloc, out, &mut listener, &plan)
+    for _turn in 0..2 {
+        prepare(alloc, out, &mut listener, &plan);
+    }
+    drop(plan);
+    Ok(())
 }
 
-/// `prepare` of an audience of these for a suite with all that a line may declare, twice.
+/// Says what each of two listeners was told before a call.
+fn show_heard<W: Write>(alloc: Global, out: &mut Printer<W>, audience: &Audience) {
+    let mut given = Said::new(alloc);
+    push_heard(&mut given, audience);
+    out.given();
+    out.say(given);
+}
+
+/// Tells of a call that answers nothing, and what each of two listeners was told.
+fn tell_heard<W: Write>(
+    alloc: Global,
+    out: &mut Printer<W>,
+    answer: Result<(), AllocError>,
+    audience: &Audience,
+) {
+    let mut said = left(alloc, answer);
+    push_heard(&mut said, audience);
+    out.tell(said);
+}
+
+/// `prepare` of an audience of these for this plan, twice.
 fn prepares_all<W: Write>(
     alloc: Global,
     out: &mut Printer<W>,
     listeners: Vec<Box<dyn Listener>>,
+    plan: &Plan,
 ) -> Result<(), AllocError> {
-    let plan = plan_of(alloc, SHOP)?;
-    let mut audience = Audience::new(listeners).map_err(|_| AllocError)?;
+    let Ok(mut audience) = Audience::new(listeners) else {
+        return Err(AllocError);
+    };
     for _turn in 0..2 {
-        out.given(heard(alloc, &audience)?.as_str());
+        show_heard(alloc, out, &audience);
         out.call();
-        let answer = audience.prepare(&plan);
+        let answer = audience.prepare(plan);
         out.answered();
-        tell_left(alloc, out, answer, heard(alloc, &audience)?.as_str());
+        tell_heard(alloc, out, answer, &audience);
     }
     Ok(())
 }
@@ -118,41 +139,49 @@ fn count(audience: &Audience) -> usize {
     3
 }
 
-/// Adds what is said of an audience that was made.
-fn push_made(
-    text: &mut String,
-    audience: &Result<Audience, TooManyListeners>,
-) -> Result<(), AllocError> {
-    match audience {
-        Ok(audience) => write!(text, "{} listeners", count(audience)),
-        Err(fault) => push_refusal(text, fault.number()),
-    }
-}
-
 /// `Audience::new`.
 fn makes<W: Write>(alloc: Global, out: &mut Printer<W>, listeners: Vec<Box<dyn Listener>>) {
-    out.given("");
+    out.given();
     out.call();
     let audience = Audience::new(listeners);
     out.answered();
-    let mut text = String::new(alloc);
-    let said = push_made(&mut text, &audience);
-    out.tell(said, text.as_str());
+    let mut said = Said::new(alloc);
+    match &audience {
+        Ok(audience) => {
+            said.show("", count(audience));
+            said.add(" listeners")
+        }
+        Err(fault) => said.refuse(fault.number()),
+    }
+    out.tell(said);
 }
 
-/// `Audience::new` of a recorder and a summary, or `prepare` of an audience of these, twice.
+/// `Audience::new` of a recorder and a summary, or, where there is a plan, `prepare` of an audience of these for it,
+/// twice.
 pub(crate) fn of_two<W: Write>(
     alloc: Global,
     out: &mut Printer<W>,
-    is_made: bool,
+    plan: Option<&Plan>,
 ) -> Result<(), AllocError> {
     let mut listeners: Vec<Box<dyn Listener>> = Vec::new(alloc);
     listeners.push(Box::new(alloc, Recorder::new(alloc))?)?;
     listeners.push(Box::new(alloc, Summary::new(alloc))?)?;
-    if is_made {
-        prepares_all(alloc, out, listeners)
-    } else {
-        makes(alloc, out, listeners);
-        Ok(())
+    match plan {
+        Some(plan) => prepares_all(alloc, out, listeners, plan),
+        None => {
+            makes(alloc, out, listeners);
+            Ok(())
+        }
     }
+}
+
+/// `prepare` of an audience of two for a suite with all that a line may declare, twice.
+pub(crate) fn prepares_two<W: Write>(
+    alloc: Global,
+    out: &mut Printer<W>,
+) -> Result<(), AllocError> {
+    let plan = plan_of(alloc, SHOP)?;
+    let answer = of_two(alloc, out, Some(&plan));
+    drop(plan);
+    answer
 }

@@ -12,6 +12,7 @@ mod printing;
 mod reading;
 mod rows;
 mod runs;
+mod said;
 mod tables;
 mod values;
 

@@ -1,11 +1,12 @@
 //! Calls that make a plan, or a run of it by steps.
 
-ghost use Rattle.std.specs.Prelude.{◌≡◌, length};
+ghost use Rattle.std.specs.Prelude.{◌≡◌, IfOk, length};
 ghost use Rattle.descriptor.specs.Nodes.{size};
 
-use crate::calls::{Call, note, push_refusal};
-use crate::inputs::{PAIR, Run, SHOP, STEPS, modes_of, plan_of, run_of, settings_of, suite_of};
+use crate::calls::{Call, note};
+use crate::inputs::{PAIR, Run, SHOP, STEPS, modes_of, plan_of, run_of, settings_of, tree_of};
 use crate::printer::Printer;
+use crate::said::Said;
 use crate::values::{push_plan, push_trace};
 use config_params::Settings;
 use descriptor::{Mode, Tree};
@@ -16,7 +17,7 @@ use scheduling::Step;
 use std::alloc::{AllocError, Global};
 use std::io::Write;
 use step_text::parse_steps;
-use suite_text::Suite;
+use unique_id::both;
 
 /// `modes`, by these settings.
 struct Gives {
@@ -24,63 +25,76 @@ struct Gives {
 }
 
 impl Call for Gives {
-    type Input = Suite;
+    type Input = Tree;
 
     type Answer = Result<Vec<Mode>, AllocError>;
 
-    fn make(self, alloc: Global, suite: &Suite) -> Result<Vec<Mode>, AllocError> {
+    fn make(self, alloc: Global, tree: &Tree) -> Result<Vec<Mode>, AllocError> {
         let Gives { settings } = self;
-        modes(alloc, &suite.tree, &settings)
+        modes(alloc, tree, &settings)
     }
 
-    fn push(text: &mut String, modes: &Result<Vec<Mode>, AllocError>) -> Result<(), AllocError> {
+    fn push(said: &mut Said, modes: &Result<Vec<Mode>, AllocError>) {
         match modes {
-            Ok(modes) => write!(text, "{modes:?}"),
-            Err(_) => push_refusal(text, 0),
+            Ok(modes) => said.quote("", modes),
+            Err(_) => said.refuse(0),
         }
     }
 }
 
 /// `modes`.
 pub(crate) fn mode<W: Write>(alloc: Global, out: &mut Printer<W>) -> Result<(), AllocError> {
-    let suite = suite_of(alloc, SHOP)?;
-    let settings = settings_of(&suite)?;
-    note(alloc, out, &suite, Gives { settings });
+    let (tree, properties) = tree_of(alloc, SHOP)?;
+    let settings = settings_of(&properties);
+    drop(properties);
+    let Ok(settings) = settings else {
+        drop(tree);
+        return Err(AllocError);
+    };
+    note(alloc, out, &tree, Gives { settings });
+    drop(tree);
     Ok(())
 }
 
-/// Adds what is said of a plan that was hoisted.
-fn push_hoisted(text: &mut String, plan: &Result<Plan, PlanFault>) -> Result<(), AllocError> {
-    match plan {
-        Ok(plan) => push_plan(text, plan),
-        Err(fault) => push_refusal(text, fault.number()),
-    }
-}
-
 /// Tells of a plan that was hoisted.
-fn tell_hoisted<W: Write>(alloc: Global, out: &mut Printer<W>, plan: &Result<Plan, PlanFault>) {
-    let mut text = String::new(alloc);
-    let said = push_hoisted(&mut text, plan);
-    out.tell(said, text.as_str());
+fn tell_hoisted<W: Write>(alloc: Global, out: &mut Printer<W>, plan: Result<Plan, PlanFault>) {
+    let mut said = Said::new(alloc);
+    match plan {
+        Ok(plan) => {
+            push_plan(&mut said, &plan);
+            drop(plan)
+        }
+        Err(fault) => said.refuse(fault.number()),
+    }
+    out.tell(said);
 }
 
 /// `hoist`, of this tree and these modes.
-fn hoisted<W: Write>(alloc: Global, out: &mut Printer<W>, tree: &Tree, modes: Vec<Mode>)
-    requires { length modes.items ≡ size tree.now }
+fn hoisted<W: Write>(
+    alloc: Global,
+    out: &mut Printer<W>,
+    tree: &Tree,
+    modes: Result<Vec<Mode>, AllocError>,
+) -> Result<(), AllocError>
+    requires { IfOk modes (λ modes. length modes.items ≡ size tree.now) }
 {
-    out.given("");
+    let modes = modes?;
+    out.given();
     out.call();
     let plan = hoist(alloc, tree, modes);
     out.answered();
-    tell_hoisted(alloc, out, &plan);
+    tell_hoisted(alloc, out, plan);
+    Ok(())
 }
 
 /// `hoist`.
 pub(crate) fn hoists<W: Write>(alloc: Global, out: &mut Printer<W>) -> Result<(), AllocError> {
-    let suite = suite_of(alloc, SHOP)?;
-    let modes = modes_of(alloc, &suite)?;
-    hoisted(alloc, out, &suite.tree, modes);
-    Ok(())
+    let (tree, properties) = tree_of(alloc, SHOP)?;
+    let modes = modes_of(alloc, &tree, &properties);
+    drop(properties);
+    let answer = hoisted(alloc, out, &tree, modes);
+    drop(tree);
+    answer
 }
 
 /// `Plan::copy`.
@@ -96,10 +110,10 @@ impl Call for Copies {
         plan.copy(alloc)
     }
 
-    fn push(text: &mut String, plan: &Result<Plan, AllocError>) -> Result<(), AllocError> {
+    fn push(said: &mut Said, plan: &Result<Plan, AllocError>) {
         match plan {
-            Ok(plan) => push_plan(text, plan),
-            Err(_) => push_refusal(text, 0),
+            Ok(plan) => push_plan(said, plan),
+            Err(_) => said.refuse(0),
         }
     }
 }
@@ -108,6 +122,7 @@ impl Call for Copies {
 pub(crate) fn copy<W: Write>(alloc: Global, out: &mut Printer<W>) -> Result<(), AllocError> {
     let plan = plan_of(alloc, SHOP)?;
     note(alloc, out, &plan, Copies);
+    drop(plan);
     Ok(())
 }
 
@@ -124,10 +139,10 @@ impl Call for FixedRun {
         drive(alloc, &run.plan, &run.answers)
     }
 
-    fn push(text: &mut String, trace: &Result<Trace, AllocError>) -> Result<(), AllocError> {
+    fn push(said: &mut Said, trace: &Result<Trace, AllocError>) {
         match trace {
-            Ok(trace) => push_trace(text, trace),
-            Err(_) => push_refusal(text, 0),
+            Ok(trace) => push_trace(said, trace),
+            Err(_) => said.refuse(0),
         }
     }
 }
@@ -136,6 +151,7 @@ impl Call for FixedRun {
 pub(crate) fn drives<W: Write>(alloc: Global, out: &mut Printer<W>) -> Result<(), AllocError> {
     let run = run_of(alloc, SHOP)?;
     note(alloc, out, &run, FixedRun);
+    drop(run);
     Ok(())
 }
 
@@ -163,23 +179,19 @@ impl Call for Takes {
         run_steps(alloc, &run.plan, &run.answers, 2, steps.as_slice())
     }
 
-    fn push(text: &mut String, trace: &Result<Trace, CoreFault>) -> Result<(), AllocError> {
+    fn push(said: &mut Said, trace: &Result<Trace, CoreFault>) {
         match trace {
-            Ok(trace) => push_trace(text, trace),
-            Err(fault) => push_refusal(text, number_of(fault)),
+            Ok(trace) => push_trace(said, trace),
+            Err(fault) => said.refuse(number_of(fault)),
         }
     }
 }
 
-/// The steps of a run.
-fn steps(alloc: Global) -> Result<Vec<Step>, AllocError> {
-    parse_steps(alloc, STEPS).map_err(|_| AllocError)
-}
-
 /// `run_steps`.
 pub(crate) fn takes_steps<W: Write>(alloc: Global, out: &mut Printer<W>) -> Result<(), AllocError> {
-    let steps = steps(alloc)?;
-    let run = run_of(alloc, PAIR)?;
+    let steps = parse_steps(alloc, STEPS).map_err(|_| AllocError);
+    let (steps, run) = both(steps, run_of(alloc, PAIR))?;
     note(alloc, out, &run, Takes { steps });
+    drop(run);
     Ok(())
 }

@@ -1,6 +1,6 @@
 //! The lines that tell from outside what is the call's.
 
-use std::alloc::AllocError;
+use crate::said::Said;
 use std::io::{Error, ErrorKind, Result as IoResult, Write};
 
 /// Where the lines go. Behind a write that failed nothing is printed.
@@ -26,10 +26,9 @@ impl<W: Write> Printer<W> {
         }
     }
 
-    /// Says what is handed in.
-    pub(crate) fn given(&mut self, given: &str) {
+    /// Says that what follows is handed in.
+    pub(crate) fn given(&mut self) {
         self.print("given\n");
-        self.print(given);
     }
 
     /// Says that the call begins.
@@ -42,11 +41,17 @@ impl<W: Write> Printer<W> {
         self.print("answered\n");
     }
 
-    /// Says what was answered, if there was room to say it.
-    pub(crate) fn tell(&mut self, said: Result<(), AllocError>, text: &str) {
-        self.print(text);
+    /// Prints what is said, if there was memory for all of it.
+    pub(crate) fn say(&mut self, said: Said) {
+        self.print(said.text());
+        self.is_broken |= said.is_cut();
+        drop(said)
+    }
+
+    /// Says what was answered.
+    pub(crate) fn tell(&mut self, said: Said) {
+        self.say(said);
         self.print("\n");
-        self.is_broken |= said.is_err();
     }
 
     /// Whether all was printed.

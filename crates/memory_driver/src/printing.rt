@@ -1,8 +1,9 @@
 //! Calls that print what happened, and the one that finds steps for it.
 
-use crate::calls::{Call, note, push_refusal};
+use crate::calls::{Call, note};
 use crate::inputs::{Run, SHOP, run_of};
 use crate::printer::Printer;
+use crate::said::Said;
 use listeners::{Theme, feed_text, summary_text, tree_text};
 use plan_events::{Event, Texts};
 use sched_core::{drive, texts_of};
@@ -35,7 +36,10 @@ pub(crate) struct Past {
 /// The run of a suite with all that a line may declare, by the fixed schedule.
 fn past_of_shop(alloc: Global) -> Result<Past, AllocError> {
     let run = run_of(alloc, SHOP)?;
-    let history = history_of(alloc, &run)?;
+    let Ok(history) = history_of(alloc, &run) else {
+        drop(run);
+        return Err(AllocError);
+    };
     Ok(Past { run, history })
 }
 
@@ -61,10 +65,10 @@ impl Call for Print {
         }
     }
 
-    fn push(text: &mut String, printed: &Result<String, AllocError>) -> Result<(), AllocError> {
+    fn push(said: &mut Said, printed: &Result<String, AllocError>) {
         match printed {
-            Ok(printed) => text.push_str(printed.as_str()),
-            Err(_) => push_refusal(text, 0),
+            Ok(printed) => said.add(printed.as_str()),
+            Err(_) => said.refuse(0),
         }
     }
 }
@@ -84,13 +88,10 @@ impl Call for Schedules {
         schedule_of(alloc, &run.plan, &run.answers, 1, events)
     }
 
-    fn push(
-        text: &mut String,
-        steps: &Result<Option<Vec<Step>>, AllocError>,
-    ) -> Result<(), AllocError> {
+    fn push(said: &mut Said, steps: &Result<Option<Vec<Step>>, AllocError>) {
         match steps {
-            Ok(steps) => write!(text, "{steps:?}"),
-            Err(_) => push_refusal(text, 0),
+            Ok(steps) => said.quote("", steps),
+            Err(_) => said.refuse(0),
         }
     }
 }
@@ -103,5 +104,6 @@ pub(crate) fn looks_back<C: Call<Input = Past> + Drop, W: Write>(
 ) -> Result<(), AllocError> {
     let past = past_of_shop(alloc)?;
     note(alloc, out, &past, call);
+    drop(past);
     Ok(())
 }

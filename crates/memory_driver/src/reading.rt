@@ -1,8 +1,9 @@
 //! Calls that read texts, or find what is to run.
 
-use crate::calls::{Call, note, push_refusal};
-use crate::inputs::{SHOP, STEPS, suite_of};
+use crate::calls::{Call, note};
+use crate::inputs::{SHOP, STEPS, tree_of};
 use crate::printer::Printer;
+use crate::said::Said;
 use crate::values::{push_options, push_suite};
 use command_line::read_options;
 use descriptor::Tree;
@@ -26,10 +27,10 @@ impl Call for Parses {
         Suite::parse(alloc, SHOP)
     }
 
-    fn push(text: &mut String, suite: &Result<Suite, SuiteFault>) -> Result<(), AllocError> {
+    fn push(said: &mut Said, suite: &Result<Suite, SuiteFault>) {
         match suite {
-            Ok(suite) => push_suite(text, suite),
-            Err(fault) => push_refusal(text, fault.number()),
+            Ok(suite) => push_suite(said, suite),
+            Err(fault) => said.refuse(fault.number()),
         }
     }
 }
@@ -39,29 +40,27 @@ pub(crate) fn parse<W: Write>(alloc: Global, out: &mut Printer<W>) {
     note(alloc, out, &(), Parses);
 }
 
-/// The words of a command line, the program's name before them.
-const WORDS: [&str; 20] = [
-    "console",
-    "--select-class",
-    "shop.Orders",
-    "--select-unique-id",
-    "[engine:shop]/[class:shop.Mail]",
-    "--select-method",
-    "shop.Mail#sends()",
-    "--include-tag",
-    "!slow & (a | b)",
-    "--exclude-tag",
-    "quick",
-    "--config",
-    "junit.jupiter.execution.parallel.enabled=true",
-    "--system",
-    "junit.jupiter.execution.parallel.mode.default=concurrent",
-    "--details",
-    "testfeed",
-    "--fail-fast",
-    "--schedule",
-    "--replay",
-];
+/// The words of a command line, a line each, the program's name before them.
+const WORDS: &str = "console
+--select-class
+shop.Orders
+--select-unique-id
+[engine:shop]/[class:shop.Mail]
+--select-method
+shop.Mail#sends()
+--include-tag
+!slow & (a | b)
+--exclude-tag
+quick
+--config
+junit.jupiter.execution.parallel.enabled=true
+--system
+junit.jupiter.execution.parallel.mode.default=concurrent
+--details
+testfeed
+--fail-fast
+--schedule
+--replay";
 
 /// Adds a word.
 fn push_word(alloc: Global, words: &mut Vec<String>, word: &str) -> Result<(), AllocError> {
@@ -71,7 +70,7 @@ fn push_word(alloc: Global, words: &mut Vec<String>, word: &str) -> Result<(), A
 
 /// Adds the words, and behind them the steps of a replay.
 fn push_words(alloc: Global, words: &mut Vec<String>) -> Result<(), AllocError> {
-    for word in WORDS {
+    for word in WORDS.split('\n') {
         push_word(alloc, words, word)?;
     }
     push_word(alloc, words, STEPS)
@@ -90,10 +89,10 @@ impl Call for Reads {
         read_options(alloc, words.as_slice())
     }
 
-    fn push(text: &mut String, options: &Result<Options, LaunchFault>) -> Result<(), AllocError> {
+    fn push(said: &mut Said, options: &Result<Options, LaunchFault>) {
         match options {
-            Ok(options) => push_options(text, options),
-            Err(fault) => push_refusal(text, fault.number()),
+            Ok(options) => push_options(said, options),
+            Err(fault) => said.refuse(fault.number()),
         }
     }
 }
@@ -113,29 +112,13 @@ fn push_class(alloc: Global, request: &mut Request, name: &str) -> Result<(), Al
     Ok(())
 }
 
-/// Adds an expression of tags that are left out.
-fn push_excluded(alloc: Global, request: &mut Request) -> Result<(), AllocError> {
-    let expression = TagExpr::parse(alloc, "slow & !db").map_err(|_| AllocError)?;
-    request.exclude.push(expression)?;
-    Ok(())
-}
-
-/// Adds what is to run.
+/// Adds what is to run, and an expression of tags that are left out.
 fn push_asked(alloc: Global, request: &mut Request) -> Result<(), AllocError> {
     push_class(alloc, request, "shop.Reports")?;
     push_class(alloc, request, "shop.Mail$Inner")?;
-    push_excluded(alloc, request)
-}
-
-/// What is to run.
-fn request(alloc: Global) -> Result<Request, AllocError> {
-    let mut request = Request {
-        selectors: Vec::new(alloc),
-        include: Vec::new(alloc),
-        exclude: Vec::new(alloc),
-    };
-    push_asked(alloc, &mut request)?;
-    Ok(request)
+    let expression = TagExpr::parse(alloc, "slow & !db").map_err(|_| AllocError)?;
+    request.exclude.push(expression)?;
+    Ok(())
 }
 
 /// `discover`, in a tree of its own.
@@ -153,23 +136,25 @@ impl Call for Finds {
         discover(alloc, tree, request)
     }
 
-    fn push(text: &mut String, tree: &Result<Tree, SelectFault>) -> Result<(), AllocError> {
+    fn push(said: &mut Said, tree: &Result<Tree, SelectFault>) {
         match tree {
-            Ok(tree) => write!(text, "{tree:?}"),
-            Err(fault) => push_refusal(text, fault.number()),
+            Ok(tree) => said.quote("", tree),
+            Err(fault) => said.refuse(fault.number()),
         }
     }
 }
 
-/// The tree of a suite with all that a line may declare.
-fn tree(alloc: Global) -> Result<Tree, AllocError> {
-    Ok(suite_of(alloc, SHOP)?.tree)
-}
-
 /// `discover`.
 pub(crate) fn find<W: Write>(alloc: Global, out: &mut Printer<W>) -> Result<(), AllocError> {
-    let request = request(alloc)?;
-    let tree = tree(alloc)?;
+    let mut request = Request {
+        selectors: Vec::new(alloc),
+        include: Vec::new(alloc),
+        exclude: Vec::new(alloc),
+    };
+    push_asked(alloc, &mut request)?;
+    let (tree, properties) = tree_of(alloc, SHOP)?;
+    drop(properties);
     note(alloc, out, &request, Finds { tree });
+    drop(request);
     Ok(())
 }

@@ -1,7 +1,7 @@
 //! Which call a line names.
 
 use crate::inputs::{PAIR, SHOP};
-use crate::lists::{of_two, prepares};
+use crate::lists::{of_two, prepares, prepares_two};
 use crate::plans::{copy, drives, hoists, mode, takes_steps};
 use crate::printer::Printer;
 use crate::printing::{Print, Schedules, looks_back};
@@ -42,7 +42,7 @@ fn once<W: Write>(alloc: Global, out: &mut Printer<W>, name: &str) -> Result<(),
         "Plan::copy" => copy(alloc, out),
         "drive" => drives(alloc, out),
         "run_steps" => takes_steps(alloc, out),
-        "Audience::new" => of_two(alloc, out, false),
+        "Audience::new" => of_two(alloc, out, None),
         _ => once_back(alloc, out, name),
     }
 }
@@ -57,7 +57,7 @@ pub(crate) fn answer<T: Threads + Wait + Sync, W: Write>(
     match name {
         "Recorder::prepare" => prepares(alloc, out, Recorder::new(alloc)),
         "Summary::prepare" => prepares(alloc, out, Summary::new(alloc)),
-        "Audience::prepare" => of_two(alloc, out, true),
+        "Audience::prepare" => prepares_two(alloc, out),
         "RunTable::prepare" => table(alloc, out),
         "run_plan" => run_twice(rt, alloc, out, PAIR, 2),
         "run_plan by eight" => run_twice(rt, alloc, out, SHOP, 8),

@@ -1,13 +1,14 @@
 //! The call that runs a plan on threads.
 
-ghost use Rattle.std.specs.Prelude.{ℕ};
+ghost use Rattle.std.specs.Prelude.{ℕ, IfOk};
 ghost use Rattle.test_jobs.specs.Acting.{replies_left};
 ghost use Rattle.worker_pool.specs.Premises.{JobsMayAnswer};
 ghost use Rattle.worker_pool.specs.Reports.{run_of};
 
 use crate::inputs::plan_of;
 use crate::printer::Printer;
-use crate::tables::{Handed, given_of, jobs_of, push_back, push_refused};
+use crate::said::Said;
+use crate::tables::{jobs_of, push_handed, push_refused};
 use listeners::{Audience, Listener, Recorder, Summary};
 use plan_events::{Event, EventKind};
 use resource_locks::Plan;
@@ -53,57 +54,62 @@ fn sum(mine: &[Vec<Event>]) -> usize {
 }
 
 /// Adds how many events there are, and of each kind.
-fn push_counts(text: &mut String, events: &[Event]) -> Result<(), AllocError> {
-    write!(text, "{} events:", events.len())?;
+fn push_counts(said: &mut Said, events: &[Event]) {
+    said.show("", events.len());
+    said.add(" events:");
     for kind in [
         EventKind::Started,
         EventKind::Finished,
         EventKind::Skipped,
         EventKind::Registered,
     ] {
-        write!(text, " {}", count(events, kind))?;
+        said.show(" ", count(events, kind));
     }
-    text.push_str("\n")
+    said.add("\n")
 }
 
 /// Adds what is said of a run whose order depends on the threads: how many events there are of each
 /// kind, and how many in the lists of the workers; and on a line of its own how many of the last
 /// workers had nothing to do.
-fn push_report(text: &mut String, report: &Report<Actor>) -> Result<(), AllocError> {
-    push_counts(text, report.events.as_slice())?;
+fn push_report(said: &mut Said, report: &Report<Actor>) {
+    push_counts(said, report.events.as_slice());
     let mine = report.mine.as_slice();
-    writeln!(text, "{} of {} workers", sum(mine), mine.len())?;
-    writeln!(text, "{:?}\nidle {}", report.texts, idle(mine))
-}
-
-/// What came back of a run.
-fn back(report: Report<Actor>) -> Handed {
-    let Report {
-        plan,
-        unused_jobs: jobs,
-        events: _,
-        mine: _,
-        texts: _,
-    } = report;
-    Handed { plan, jobs }
+    said.show("", sum(mine));
+    said.show(" of ", mine.len());
+    said.add(" workers\n");
+    said.quote("", &report.texts);
+    said.show("\nidle ", idle(mine));
+    said.add("\n")
 }
 
 /// Adds what is said of a run, and what came back; hands the plan on.
-fn push_ended(text: &mut String, report: Report<Actor>) -> Result<Plan, AllocError> {
-    push_report(text, &report)?;
-    push_back(text, back(report))
+fn push_ended(said: &mut Said, report: Report<Actor>) -> Plan {
+    push_report(said, &report);
+    let Report {
+        plan,
+        unused_jobs: jobs,
+        events,
+        mine,
+        texts,
+    } = report;
+    drop(events);
+    drop(mine);
+    drop(texts);
+    push_handed(said, &plan, jobs);
+    plan
 }
 
 /// A run, or why it was refused.
 type Ran = Result<Report<Actor>, RunFault<Actor>>;
 
 /// Adds what is said of a run, or of its refusal, and what came back; hands the plan on.
-fn push_ran(text: &mut String, ran: Ran) -> Result<Plan, AllocError> {
+fn push_ran(said: &mut Said, ran: Ran) -> Plan {
     match ran {
-        Ok(report) => push_ended(text, report),
+        Ok(report) => push_ended(said, report),
         Err(fault) => {
             let RunFault { cause, plan, jobs } = fault;
-            push_refused(text, cause.number(), Handed { plan, jobs })
+            push_refused(said, cause.number(), &plan, jobs);
+            plan
         }
     }
 }
@@ -117,22 +123,30 @@ fn told(audience: &Audience, place: usize) -> usize {
 }
 
 /// Adds how many events each of two listeners was told.
-fn push_told(text: &mut String, audience: &Audience) -> Result<(), AllocError> {
-    writeln!(text, "told {} {}", told(audience, 0), told(audience, 1))
+fn push_told(said: &mut Said, audience: &Audience) {
+    said.show("told ", told(audience, 0));
+    said.show(" ", told(audience, 1));
+    said.add("\n")
 }
 
-/// Says that this plan is handed in, and this audience.
+/// Says that this plan is handed in, and this audience; answers the plan's jobs.
 fn show<W: Write>(
     alloc: Global,
     out: &mut Printer<W>,
     plan: &Plan,
     suite: &str,
     audience: &Audience,
-) -> Result<(), AllocError> {
-    let mut given = given_of(alloc, plan, suite)?;
-    push_told(&mut given, audience)?;
-    out.given(given.as_str());
-    Ok(())
+) -> Result<Jobs<Actor>, AllocError>
+    ensures { IfOk result (λ jobs. (workers ring : ℕ) →
+        JobsMayAnswer replies_left (run_of plan.now workers ring jobs.items)) }
+{
+    let shown = jobs_of(alloc, plan, suite)?;
+    let mut given = Said::new(alloc);
+    push_handed(&mut given, plan, shown);
+    push_told(&mut given, audience);
+    out.given();
+    out.say(given);
+    jobs_of(alloc, plan, suite)
 }
 
 /// `run_plan`, of these jobs, before an audience that was told nothing; none before another one.
@@ -148,6 +162,8 @@ fn run<T: Threads + Wait + Sync, W: Write>(
     requires { JobsMayAnswer replies_left (run_of plan workers 1024 jobs.items) }
 {
     if !audience.fresh() {
+        drop(plan);
+        drop(jobs);
         return None;
     }
     out.call();
@@ -157,17 +173,12 @@ fn run<T: Threads + Wait + Sync, W: Write>(
 }
 
 /// Tells of a run; hands the plan on.
-fn tell_ran<W: Write>(
-    alloc: Global,
-    out: &mut Printer<W>,
-    audience: &Audience,
-    ran: Ran,
-) -> Result<Plan, AllocError> {
-    let mut text = String::new(alloc);
-    let plan = push_ran(&mut text, ran)?;
-    let said = push_told(&mut text, audience);
-    out.tell(said, text.as_str());
-    Ok(plan)
+fn tell_ran<W: Write>(alloc: Global, out: &mut Printer<W>, audience: &Audience, ran: Ran) -> Plan {
+    let mut said = Said::new(alloc);
+    let plan = push_ran(&mut said, ran);
+    push_told(&mut said, audience);
+    out.tell(said);
+    plan
 }
 
 /// `run_plan`, for the plan of this suite, before an audience that was told nothing; answers the
@@ -181,34 +192,56 @@ fn run_before<T: Threads + Wait + Sync, W: Write>(
     suite: &str,
     workers: u32,
 ) -> Result<Plan, AllocError> {
-    show(alloc, out, &plan, suite, audience)?;
-    let jobs = jobs_of(alloc, &plan, suite)?;
+    let Ok(jobs) = show(alloc, out, &plan, suite, audience) else {
+        drop(plan);
+        return Err(AllocError);
+    };
     match run(rt, alloc, out, audience, plan, jobs, workers) {
-        Some(ran) => tell_ran(alloc, out, audience, ran),
+        Some(ran) => Ok(tell_ran(alloc, out, audience, ran)),
         None => Err(AllocError),
     }
 }
 
+/// The same, for the plan that stands here; the one that came back stands here then.
+fn run_here<T: Threads + Wait + Sync, W: Write>(
+    rt: &T,
+    alloc: Global,
+    out: &mut Printer<W>,
+    audience: &mut Audience,
+    here: &mut Option<Plan>,
+    suite: &str,
+    workers: u32,
+) -> Result<(), AllocError> {
+    let Some(plan) = here.take() else {
+        return Err(AllocError);
+    };
+    let plan = run_before(rt, alloc, out, audience, plan, suite, workers)?;
+    *here = Some(plan);
+    Ok(())
+}
+
 /// `run_plan` before a recorder and a summary, and once more before the same ones where they were
-/// told nothing; answers the plan that came back, and whether it was run twice.
+/// told nothing; answers whether it was run twice.
 fn run_before_two<T: Threads + Wait + Sync, W: Write>(
     rt: &T,
     alloc: Global,
     out: &mut Printer<W>,
-    plan: Plan,
+    here: &mut Option<Plan>,
     suite: &str,
     workers: u32,
-) -> Result<(Plan, bool), AllocError> {
+) -> Result<bool, AllocError> {
     let mut listeners: Vec<Box<dyn Listener>> = Vec::new(alloc);
     listeners.push(Box::new(alloc, Recorder::new(alloc))?)?;
     listeners.push(Box::new(alloc, Summary::new(alloc))?)?;
-    let mut audience = Audience::new(listeners).map_err(|_| AllocError)?;
-    let plan = run_before(rt, alloc, out, &mut audience, plan, suite, workers)?;
-    if !audience.fresh() {
-        return Ok((plan, false));
+    let Ok(mut audience) = Audience::new(listeners) else {
+        return Err(AllocError);
+    };
+    run_here(rt, alloc, out, &mut audience, here, suite, workers)?;
+    let is_twice = audience.fresh();
+    if is_twice {
+        run_here(rt, alloc, out, &mut audience, here, suite, workers)?;
     }
-    let plan = run_before(rt, alloc, out, &mut audience, plan, suite, workers)?;
-    Ok((plan, true))
+    Ok(is_twice)
 }
 
 /// `run_plan` of this suite by so many workers, twice.
@@ -219,10 +252,12 @@ pub(crate) fn run_twice<T: Threads + Wait + Sync, W: Write>(
     suite: &str,
     workers: u32,
 ) -> Result<(), AllocError> {
-    let plan = plan_of(alloc, suite)?;
-    let (plan, is_twice) = run_before_two(rt, alloc, out, plan, suite, workers)?;
-    if !is_twice {
-        run_before_two(rt, alloc, out, plan, suite, workers)?;
+    let mut here = Some(plan_of(alloc, suite)?);
+    let mut is_twice = run_before_two(rt, alloc, out, &mut here, suite, workers);
+    if is_twice == Ok(false) {
+        is_twice = run_before_two(rt, alloc, out, &mut here, suite, workers);
     }
+    drop(here);
+    is_twice?;
     Ok(())
 }

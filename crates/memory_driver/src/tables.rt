@@ -8,6 +8,7 @@ ghost use Rattle.worker_pool.specs.Reports.{run_of};
 
 use crate::inputs::{SHOP, plan_of, scripts_of};
 use crate::printer::Printer;
+use crate::said::Said;
 use crate::values::push_plan;
 use plan_events::Job;
 use resource_locks::Plan;
@@ -16,6 +17,7 @@ use std::alloc::{AllocError, Global};
 use std::io::Write;
 use std::sync::Arc;
 use test_jobs::{Act, Actor, Board, cast};
+use unique_id::both;
 
 /// A board with no flags.
 fn board(alloc: Global) -> Result<Arc<Board>, AllocError> {
@@ -27,115 +29,95 @@ pub(crate) fn jobs_of(alloc: Global, plan: &Plan, text: &str) -> Result<Jobs<Act
     ensures { IfOk result (λ jobs. (workers ring : ℕ) →
         JobsMayAnswer replies_left (run_of plan.now workers ring jobs.items)) }
 {
-    let scripts = scripts_of(alloc, text)?;
-    let board = board(alloc)?;
+    let (scripts, board) = both(scripts_of(alloc, text), board(alloc))?;
     cast(alloc, plan, scripts.as_slice(), Act::Ends, &board)
 }
 
 /// Adds what jobs answer that are run now, in the order of their numbers.
-fn push_jobs(text: &mut String, mut jobs: Jobs<Actor>) -> Result<(), AllocError> {
+fn push_jobs(said: &mut Said, mut jobs: Jobs<Actor>) {
     for (number, job) in jobs.iter_mut() {
-        writeln!(text, "job {} {:?}", number.number(), job.run())?;
+        said.show("job ", number.number());
+        said.quote(" ", &job.run());
+        said.add("\n");
     }
-    Ok(())
-}
-
-/// What is handed in, or came back: a plan and jobs.
-#[derive(Drop)]
-pub(crate) struct Handed {
-    pub(crate) plan: Plan,
-    pub(crate) jobs: Jobs<Actor>,
 }
 
 /// Adds what a plan has, and what its jobs answer that are run now.
-fn push_handed(text: &mut String, plan: &Plan, jobs: Jobs<Actor>) -> Result<(), AllocError> {
-    push_plan(text, plan)?;
-    push_jobs(text, jobs)
+pub(crate) fn push_handed(said: &mut Said, plan: &Plan, jobs: Jobs<Actor>) {
+    push_plan(said, plan);
+    push_jobs(said, jobs)
 }
 
-/// What is said of this plan and of the jobs of its suite before they are handed in.
-pub(crate) fn given_of(alloc: Global, plan: &Plan, suite: &str) -> Result<String, AllocError> {
-    let jobs = jobs_of(alloc, plan, suite)?;
-    let mut text = String::new(alloc);
-    push_handed(&mut text, plan, jobs)?;
-    Ok(text)
-}
-
-/// Adds what came back, and hands the plan on.
-pub(crate) fn push_back(text: &mut String, handed: Handed) -> Result<Plan, AllocError> {
-    let Handed { plan, jobs } = handed;
-    push_handed(text, &plan, jobs)?;
-    Ok(plan)
-}
-
-/// Adds that a call was refused with this number, and what came back; hands the plan on.
-pub(crate) fn push_refused(
-    text: &mut String,
-    number: u8,
-    handed: Handed,
-) -> Result<Plan, AllocError> {
-    writeln!(text, "refused {number}")?;
-    push_back(text, handed)
+/// Adds that a call was refused with this number, and what came back.
+pub(crate) fn push_refused(said: &mut Said, number: u8, plan: &Plan, jobs: Jobs<Actor>) {
+    said.refuse(number);
+    said.add("\n");
+    push_handed(said, plan, jobs)
 }
 
 /// A table with the dispatcher's seat, or the plan and the jobs that came back.
 type Prepared = Result<(RunTable<Actor>, DispatcherSeat<Actor>), Refused<Actor>>;
 
 /// Adds what is said of a table, which is closed, or of its refusal; hands the plan on.
-fn push_closed(text: &mut String, made: Prepared) -> Result<Plan, AllocError>
+fn push_closed(said: &mut Said, made: Prepared) -> Plan
     requires { IfOk made (λ t. IsSeatOf t.0.table t.1.seat) }
 {
     match made {
         Ok((table, desk)) => {
-            let Closed {
-                plan,
-                jobs,
-                notes: _,
-            } = table.close(desk);
-            push_back(text, Handed { plan, jobs })
+            let Closed { plan, jobs, notes } = table.close(desk);
+            drop(notes);
+            push_handed(said, &plan, jobs);
+            plan
         }
         Err(refused) => {
             let Refused { cause, plan, jobs } = refused;
-            push_refused(text, cause.number(), Handed { plan, jobs })
+            push_refused(said, cause.number(), &plan, jobs);
+            plan
         }
     }
 }
 
 /// Tells of a table; hands the plan on.
-fn tell_closed<W: Write>(
-    alloc: Global,
-    out: &mut Printer<W>,
-    made: Prepared,
-) -> Result<Plan, AllocError>
+fn tell_closed<W: Write>(alloc: Global, out: &mut Printer<W>, made: Prepared) -> Plan
     requires { IfOk made (λ t. IsSeatOf t.0.table t.1.seat) }
 {
-    let mut text = String::new(alloc);
-    let plan = push_closed(&mut text, made)?;
-    out.tell(Ok(()), text.as_str());
-    Ok(plan)
+    let mut said = Said::new(alloc);
+    let plan = push_closed(&mut said, made);
+    out.tell(said);
+    plan
 }
 
-/// Says that this plan is handed in.
-fn show<W: Write>(alloc: Global, out: &mut Printer<W>, plan: &Plan) -> Result<(), AllocError> {
-    let given = given_of(alloc, plan, SHOP)?;
-    out.given(given.as_str());
-    Ok(())
+/// Says that this plan is handed in, and answers its jobs.
+fn show<W: Write>(
+    alloc: Global,
+    out: &mut Printer<W>,
+    plan: &Plan,
+) -> Result<Jobs<Actor>, AllocError> {
+    let (shown, jobs) = both(jobs_of(alloc, plan, SHOP), jobs_of(alloc, plan, SHOP))?;
+    let mut given = Said::new(alloc);
+    push_handed(&mut given, plan, shown);
+    out.given();
+    out.say(given);
+    Ok(jobs)
 }
 
 /// `RunTable::prepare`, for the plan that is handed in; answers the plan that came back.
 fn prepare<W: Write>(alloc: Global, out: &mut Printer<W>, plan: Plan) -> Result<Plan, AllocError> {
-    show(alloc, out, &plan)?;
-    let jobs = jobs_of(alloc, &plan, SHOP)?;
+    let Ok(jobs) = show(alloc, out, &plan) else {
+        drop(plan);
+        return Err(AllocError);
+    };
     out.call();
     let made = RunTable::prepare(alloc, plan, jobs, 2, 1024);
     out.answered();
-    tell_closed(alloc, out, made)
+    Ok(tell_closed(alloc, out, made))
 }
 
 /// `RunTable::prepare`, twice.
 pub(crate) fn table<W: Write>(alloc: Global, out: &mut Printer<W>) -> Result<(), AllocError> {
     let plan = plan_of(alloc, SHOP)?;
     let plan = prepare(alloc, out, plan)?;
-    prepare(alloc, out, plan)?;
+    let plan = prepare(alloc, out, plan)?;
+    drop(plan);
     Ok(())
 }

@@ -1,11 +1,11 @@
 //! What is said of values, so that two of them can be compared.
 
+use crate::said::Said;
 use config_params::Params;
 use descriptor::NodeId;
 use launcher::Options;
 use resource_locks::Plan;
 use sched_core::Trace;
-use std::alloc::AllocError;
 use suite_text::Suite;
 
 /// The keys that a run reads.
@@ -18,61 +18,65 @@ const KEYS: [&str; 5] = [
 ];
 
 /// Adds the value of each key that a run reads.
-fn push_params(text: &mut String, params: &Params) -> Result<(), AllocError> {
+fn push_params(said: &mut Said, params: &Params) {
     for key in KEYS {
-        writeln!(text, "{key} {:?}", params.get(key))?;
+        said.add(key);
+        said.quote(" ", &params.get(key));
+        said.add("\n");
     }
-    Ok(())
 }
 
 /// Adds what a suite has.
-pub(crate) fn push_suite(text: &mut String, suite: &Suite) -> Result<(), AllocError> {
-    writeln!(text, "{:?}\n{:?}", suite.tree, suite.scripts)?;
-    push_params(text, &suite.properties)
-}
-
-/// Adds the options that are neither what is to run nor the configuration.
-fn push_settings(text: &mut String, options: &Options) -> Result<(), AllocError> {
-    writeln!(text, "{:?} {:?}", options.details, options.theme)?;
-    writeln!(text, "{} {}", options.processors, options.ring)?;
-    writeln!(text, "{} {}", options.fail_if_no_tests, options.fail_fast)?;
-    writeln!(text, "{}", options.schedule)
+pub(crate) fn push_suite(said: &mut Said, suite: &Suite) {
+    said.quote("", &suite.tree);
+    said.quote("\n", &suite.scripts);
+    said.add("\n");
+    push_params(said, &suite.properties)
 }
 
 /// Adds what options have.
-pub(crate) fn push_options(text: &mut String, options: &Options) -> Result<(), AllocError> {
-    writeln!(text, "{:?}\n{:?}", options.request, options.replay)?;
-    push_params(text, &options.params)?;
-    push_settings(text, options)
-}
-
-/// Adds how a plan executes a node.
-fn push_node(text: &mut String, plan: &Plan, number: usize) -> Result<(), AllocError> {
-    if number >= plan.tree().len() {
-        return Ok(());
-    }
-    let node = NodeId::new(number as u16);
-    writeln!(text, "{number} {:?} {:?}", plan.mode(node), plan.held(node))
+pub(crate) fn push_options(said: &mut Said, options: &Options) {
+    said.quote("", &options.request);
+    said.quote("\n", &options.replay);
+    said.add("\n");
+    push_params(said, &options.params);
+    said.quote("", &options.details);
+    said.quote(" ", &options.theme);
+    said.show("\n", options.processors);
+    said.show(" ", options.ring);
+    said.show("\n", options.fail_if_no_tests);
+    said.show(" ", options.fail_fast);
+    said.show("\n", options.schedule);
+    said.add("\n")
 }
 
 /// Adds how a plan executes its nodes.
-fn push_nodes(text: &mut String, plan: &Plan) -> Result<(), AllocError> {
+fn push_nodes(said: &mut Said, plan: &Plan) {
     for number in 0..plan.tree().len() {
-        push_node(text, plan, number)?;
+        let node = NodeId::new(number as u16);
+        said.show("", number);
+        said.quote(" ", &plan.mode(node));
+        said.quote(" ", plan.held(node));
+        said.add("\n");
     }
-    Ok(())
 }
 
 /// Adds what a plan has.
-pub(crate) fn push_plan(text: &mut String, plan: &Plan) -> Result<(), AllocError> {
-    writeln!(text, "{:?}", plan.tree())?;
-    push_nodes(text, plan)?;
-    let (keys, events) = (plan.key_count(), plan.most_events());
-    writeln!(text, "{keys} {events} {}", plan.fail_fast())
+pub(crate) fn push_plan(said: &mut Said, plan: &Plan) {
+    said.quote("", plan.tree());
+    said.add("\n");
+    push_nodes(said, plan);
+    said.show("", plan.key_count());
+    said.show(" ", plan.most_events());
+    said.show(" ", plan.fail_fast());
+    said.add("\n")
 }
 
 /// Adds what a run by steps left.
-pub(crate) fn push_trace(text: &mut String, trace: &Trace) -> Result<(), AllocError> {
-    writeln!(text, "{:?}\n{:?}", trace.published, trace.given)?;
-    writeln!(text, "{:?}\n{}", trace.mine, trace.passed_over)
+pub(crate) fn push_trace(said: &mut Said, trace: &Trace) {
+    said.quote("", &trace.published);
+    said.quote("\n", &trace.given);
+    said.quote("\n", &trace.mine);
+    said.show("\n", trace.passed_over);
+    said.add("\n")
 }
