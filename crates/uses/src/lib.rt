@@ -1,6 +1,7 @@
 //! A proved caller of each library crate: what a user writes, and what its contract then gives them.
 #![tactic(auto)]
 
+mod built_tests;
 mod child_of_id;
 mod config_word;
 mod event_word;
@@ -19,10 +20,12 @@ mod steps_named;
 mod suite_output;
 mod suite_size;
 mod tag_match;
+mod test_status;
 mod threaded_run;
 mod told_refusal;
 mod whole_history;
 
+pub use built_tests::one_test;
 pub use child_of_id::child_text;
 pub use config_word::put_word;
 pub use event_word::through_word;
@@ -41,6 +44,7 @@ pub use steps_named::step_count;
 pub use suite_output::run_text;
 pub use suite_size::node_count;
 pub use tag_match::is_true_of;
+pub use test_status::status_of;
 pub use threaded_run::run_two;
 pub use told_refusal::run_or_say;
 pub use whole_history::history;
