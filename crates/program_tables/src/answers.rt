@@ -1,6 +1,7 @@
 //! What the program does with a row.
 
 use crate::cutting::Cutting;
+use crate::own_tests::run_own_tests;
 use crate::rows::push_line;
 use crate::still_clock::StillClock;
 use command_line::{Ending, run_words, run_words_on_terminal};
@@ -20,6 +21,8 @@ enum Asks {
     Cut(usize),
     /// Whether a second worker does something, in one of a hundred runs.
     SecondWorker,
+    /// What stands on standard error, where tests of the table's own are run.
+    OwnTests,
 }
 
 /// The words of a row, and what it asks for, if the line begins one.
@@ -35,6 +38,9 @@ fn row_of(line: &str) -> Option<(&str, Asks)> {
     }
     if let Some(words) = line.strip_prefix("=2 ") {
         return Some((words, Asks::SecondWorker));
+    }
+    if let Some(words) = line.strip_prefix("=t ") {
+        return Some((words, Asks::OwnTests));
     }
     let (room, words) = line.strip_prefix("=< ")?.split_once(' ')?;
     Some((words, Asks::Cut(room.parse().unwrap_or(0))))
@@ -112,6 +118,20 @@ fn push_cut<T: Threads + Wait + Sync>(
     answers.extend_from_slice(end_line(alloc, ending)?.as_bytes())
 }
 
+/// What `push_run` does, with tests of the table's own in place of a suite.
+fn push_own_tests<T: Threads + Wait + Sync>(
+    rt: &T,
+    alloc: Global,
+    answers: &mut Vec<u8>,
+    errors: &mut Vec<u8>,
+    words: &[String],
+) -> Result<(), AllocError> {
+    match run_own_tests(rt, alloc, words, answers, errors) {
+        Ok(ending) => push_end(alloc, answers, ending),
+        Err(_) => answers.extend_from_slice(b"not built\n"),
+    }
+}
+
 /// Whether a line of the feed is of the second worker.
 fn is_of_second(feed: &[u8]) -> bool {
     match std::str::from_utf8(feed) {
@@ -170,6 +190,10 @@ fn push_asked<T: Threads + Wait + Sync>(
                 "no second worker\n"
             };
             answers.extend_from_slice(said.as_bytes())
+        }
+        Asks::OwnTests => {
+            push_own_tests(rt, alloc, answers, &mut errors, words)?;
+            answers.extend_from_slice(errors.as_slice())
         }
     }
 }

@@ -2,11 +2,14 @@
 //! command line, and below it the lines of a suite. Each line of words is printed again, with what
 //! the program writes and how it ends below it; where it begins with `=? `, what stands on standard
 //! error follows; below `=! ` too, where that is a terminal; below `=< N ` too, with an output that
-//! takes N bytes and then fails. Below `=2 ` stands instead whether a second worker does something.
+//! takes N bytes and then fails. Below `=2 ` stands instead whether a second worker does something. A
+//! row that begins with `=t ` has no suite: tests of the table's own are run, and what stands on
+//! standard error follows.
 #![tactic(auto)]
 
 mod answers;
 mod cutting;
+mod own_tests;
 mod rows;
 mod still_clock;
 mod table;
