@@ -31,19 +31,19 @@ pub fn run_tests_by_words<T: Threads + Wait + Sync, W: Write, E: Write>(
     rt: &T,
     alloc: Global,
     words: &[String],
-    tests: Tests,
+    tests: Box<Tests>,
     writer: &mut W,
     errors: &mut E,
 ) -> Result<Ending, BuildFault>
     ensures run { IfOk result (λ ending. IsTestRun (λ b. replies_by (is_spent b) (tests_left b)) W.contents E.contents
-        (program_parts (held tests).tree (properties_of tests)) (held tests).jobs (map string_bytes words.now) writer.old
+        (program_parts (held tests.value).tree (properties_of tests.value)) (held tests.value).jobs (map string_bytes words.now) writer.old
         writer.new errors.old errors.new ending) }
     // No dynamic test holds a key, so a run never gets stuck.
-    ensures bare { IfOk result (λ _. HasBareSpares (held tests).tree) }
-    ensures unbuilt { IfErr result (λ fault. IsPending (held tests) fault.cause × (writer.new ≡ writer.old)
+    ensures bare { IfOk result (λ _. HasBareSpares (held tests.value).tree) }
+    ensures unbuilt { IfErr result (λ fault. IsPending (held tests.value) fault.cause × (writer.new ≡ writer.old)
         × (errors.new ≡ errors.old)) }
 {
-    let (tree, properties, jobs) = tests.into_parts()?;
+    let (tree, properties, jobs) = Box::into_inner(tests).into_parts()?;
     let program = Program {
         tree,
         properties,
@@ -62,23 +62,23 @@ pub fn run_tests<T: Threads + Wait + Sync, W: Write, E: Write>(
     rt: &T,
     alloc: Global,
     words: io::Result<Args>,
-    tests: Tests,
+    tests: Box<Tests>,
     writer: &mut W,
     errors: &mut E,
 ) -> Result<Ending, BuildFault>
     ensures run { IfOk result (λ ending. IfOk words (λ given. IsTestRun
         (λ b. replies_by (is_spent b) (tests_left b)) W.contents E.contents
-        (program_parts (held tests).tree (properties_of tests)) (held tests).jobs
+        (program_parts (held tests.value).tree (properties_of tests.value)) (held tests.value).jobs
         (map string_bytes (into_iter_items given)) writer.old writer.new errors.old errors.new ending)) }
     ensures refused { IfOk result (λ ending. IfErr words (λ error. (fault : LaunchFault)
         × IsGivenFault (error_kind error) fault × Closes tests_sentence_of W.contents E.contents (Err fault) writer.old
         writer.new errors.old errors.new ending)) }
     // No dynamic test holds a key, so a run never gets stuck.
-    ensures bare { IfOk result (λ _. HasBareSpares (held tests).tree) }
-    ensures unbuilt { IfErr result (λ fault. IsPending (held tests) fault.cause × (writer.new ≡ writer.old)
+    ensures bare { IfOk result (λ _. HasBareSpares (held tests.value).tree) }
+    ensures unbuilt { IfErr result (λ fault. IsPending (held tests.value) fault.cause × (writer.new ≡ writer.old)
         × (errors.new ≡ errors.old)) }
 {
-    let (tree, properties, jobs) = tests.into_parts()?;
+    let (tree, properties, jobs) = Box::into_inner(tests).into_parts()?;
     let program = Program {
         tree,
         properties,
@@ -95,22 +95,22 @@ pub fn run_tests_on_terminal<T: Threads + Wait + Sync, C: Clock + Drop, W: Write
     clock: C,
     alloc: Global,
     words: io::Result<Args>,
-    tests: Tests,
+    tests: Box<Tests>,
     writer: &mut W,
     errors: &mut E,
 ) -> Result<Ending, BuildFault>
     ensures run { IfOk result (λ ending. IfOk words (λ given. IsTestRunOnTerminal
         (λ b. replies_by (is_spent b) (tests_left b)) W.contents E.contents
-        (program_parts (held tests).tree (properties_of tests)) (held tests).jobs
+        (program_parts (held tests.value).tree (properties_of tests.value)) (held tests.value).jobs
         (map string_bytes (into_iter_items given)) writer.old writer.new ending)) }
     ensures refused { IfOk result (λ ending. IfErr words (λ error. (fault : LaunchFault)
         × IsGivenFault (error_kind error) fault × Closes tests_sentence_of W.contents E.contents (Err fault) writer.old
         writer.new errors.old errors.new ending)) }
-    ensures bare { IfOk result (λ _. HasBareSpares (held tests).tree) }
-    ensures unbuilt { IfErr result (λ fault. IsPending (held tests) fault.cause × (writer.new ≡ writer.old)
+    ensures bare { IfOk result (λ _. HasBareSpares (held tests.value).tree) }
+    ensures unbuilt { IfErr result (λ fault. IsPending (held tests.value) fault.cause × (writer.new ≡ writer.old)
         × (errors.new ≡ errors.old)) }
 {
-    let (tree, properties, jobs) = tests.into_parts()?;
+    let (tree, properties, jobs) = Box::into_inner(tests).into_parts()?;
     let program = Program {
         tree,
         properties,

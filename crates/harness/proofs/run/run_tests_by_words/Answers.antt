@@ -2,4 +2,4 @@
 use Rattle.harness.proofs.run.run_tests_by_words.Goals as goal
 
 pub returns-clause-run : goal.returns-clause-run
-returns-clause-run g c = rw (← c.in_ok-tree.ensures.tree, ← c.in_ok-tree.ensures.properties, ← c.in_ok-tree.ensures.jobs) c.run_test_words.ensures
+returns-clause-run g c = rw (← c.into_inner.ensures, ← c.in_ok-tree.ensures.tree, ← c.in_ok-tree.ensures.properties, ← c.in_ok-tree.ensures.jobs) c.run_test_words.ensures
