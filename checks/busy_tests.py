@@ -12,7 +12,6 @@ Behind the runs stands how long each test took at most. The last line is 'N pass
 import argparse
 import collections
 import os
-import re
 import subprocess
 import sys
 import time
@@ -25,13 +24,10 @@ CRATES = ("thread_tests", "behaviour_tests")
 COUNTING = [sys.executable, "-c", "while True:\n    pass"]
 
 
-def tests_of(crate):
-    """The names of a crate's tests, with their modules in front, as its program takes them."""
-    folder = os.path.join(TOP, "crates", crate, "src")
-    for name in sorted(os.listdir(folder)):
-        with open(os.path.join(folder, name)) as file:
-            for test in re.findall(r"#\[test\]\s*(?:pub )?fn (\w+)", file.read()):
-                yield test
+def tests_of(program):
+    """The full names of its tests."""
+    listed = ran(program, ["--list"], b"", 60)[1].decode()
+    return [line.removesuffix(": test") for line in listed.splitlines() if line.endswith(": test")]
 
 
 def programs_of(given):
@@ -65,7 +61,7 @@ def main():
     runs = [
         (program, test)
         for program in programs_of(given)
-        for test in tests_of(os.path.basename(program).removesuffix("_tests"))
+        for test in tests_of(program)
         if given.only in test
     ]
     longest, failed = collections.Counter(), 0
