@@ -10,7 +10,6 @@ use crate::inputs::{SHOP, plan_of, scripts_of};
 use crate::printer::Printer;
 use crate::said::Said;
 use crate::values::push_plan;
-use plan_events::Job;
 use resource_locks::Plan;
 use run_table::{Closed, DispatcherSeat, Jobs, Refused, RunTable};
 use std::alloc::{AllocError, Global};
@@ -37,7 +36,7 @@ pub(crate) fn jobs_of(alloc: Global, plan: &Plan, text: &str) -> Result<Jobs<Act
 fn push_jobs(said: &mut Said, mut jobs: Jobs<Actor>) {
     for (number, job) in jobs.iter_mut() {
         said.show("job ", number.number());
-        said.quote(" ", &job.run());
+        said.quote(" ", &job.finish());
         said.add("\n");
     }
 }

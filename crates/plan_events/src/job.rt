@@ -1,6 +1,6 @@
 //! What a body has to do.
 
-ghost use Rattle.std.specs.Prelude.{◌≡◌, List, []};
+ghost use Rattle.std.specs.Prelude.{◌≡◌, ◌<◌, List, [], length};
 
 use crate::outcome::Outcome;
 
@@ -17,17 +17,20 @@ pub enum Pull {
 /// says that there are no more.
 pub trait Job: Drop {
     ghost use Rattle.plan_events.specs.declared.outcome.Reply.{Reply};
-    ghost use Rattle.plan_events.specs.Jobs.{IsPull, IsRun};
+    ghost use Rattle.plan_events.specs.Jobs.{IsPull, IsRun, unpulled};
 
     /// The replies that it may still give.
     ghost answers: { Self → List Reply };
 
-    /// Whether there is a dynamic test more.
+    /// Whether there is a dynamic test more. It is asked only while it may still give a reply.
     fn next(&mut self) -> Pull
+        requires { 0 < length (answers self.old) }
         ensures { IsPull (answers self.old) result (answers self.new) };
 
-    /// Runs it, and answers how it ended.
+    /// Runs it, and answers how it ended. It is run only while it may still give a reply without a dynamic test, so
+    /// at most once, and not if it has asked for more dynamic tests than its factory has.
     fn run(&mut self) -> Outcome
+        requires { 0 < length (unpulled (answers self.old)) }
         ensures outcome { IsRun (answers self.old) result }
         ensures over { answers self.new ≡ [] };
 }

@@ -1,6 +1,7 @@
 //! Jobs that end as they are told, or by what they see of others.
 
-ghost use Rattle.std.specs.Prelude.{◌≡◌};
+ghost use Rattle.std.specs.Prelude.{◌≡◌, []};
+ghost use Rattle.plan_events.specs.Jobs.{IsRun};
 ghost use Rattle.test_jobs.specs.Acting.{replies_left};
 
 use crate::board::Board;
@@ -99,6 +100,27 @@ impl Actor {
             }
         }
     }
+
+    /// Does what it is to do, and answers how it ended: badly, if it has ended before. So a job that came back may be
+    /// asked, whatever was done with it.
+    #[tactic(auto, using(crate::proofs::Replying::ends_well, crate::proofs::Replying::ends_badly))]
+    pub fn finish(&mut self) -> Outcome
+        ensures outcome { IsRun (replies_left self.old) result }
+        ensures over { replies_left self.new ≡ [] }
+    {
+        let is_fresh = self.fresh;
+        let fails = is_fresh && !self.does();
+        match self.ends.take() {
+            Some(ends) => {
+                let Ends { well, badly } = ends;
+                if fails { badly } else { well }
+            }
+            None => Outcome {
+                status: Status::Failed,
+                text: Text::empty(),
+            },
+        }
+    }
 }
 
 impl Job for Actor {
@@ -114,19 +136,7 @@ impl Job for Actor {
         Pull::More
     }
 
-    #[tactic(auto, using(crate::proofs::Replying::ends_well, crate::proofs::Replying::ends_badly))]
     fn run(&mut self) -> Outcome {
-        let is_fresh = self.fresh;
-        let fails = is_fresh && !self.does();
-        match self.ends.take() {
-            Some(ends) => {
-                let Ends { well, badly } = ends;
-                if fails { badly } else { well }
-            }
-            None => Outcome {
-                status: Status::Failed,
-                text: Text::empty(),
-            },
-        }
+        self.finish()
     }
 }

@@ -1,2 +1,3 @@
 -- Lemmas of the callers.
 pub mod Passing
+pub mod Ready

@@ -9,6 +9,7 @@ use std::alloc::Global;
 use test_bodies::{Body, TestFn};
 
 /// How this function ends: as what it answered.
+#[tactic(auto, using(crate::proofs::Ready::is_ready))]
 pub fn status_of(alloc: Global, run: TestFn) -> Status
     requires { TestFn.IsAlwaysCallable run }
     ensures { (answer : Result (Unit {0}) Outcome) × TestFn.post run alloc answer × (result ≡ (outcome_of answer).status) }
