@@ -1,0 +1,13 @@
+-- The lemmas.
+pub mod Sums
+pub mod StepKinds
+pub mod Acting
+pub mod Opening
+pub mod Bounded
+pub mod TakingTurns
+pub mod Apart
+pub mod Short
+pub mod Differs
+pub mod Ends
+pub mod Free
+pub mod Round

@@ -1,0 +1,7 @@
+-- The definitions that contracts cite.
+pub mod Steps
+pub mod Bounds
+pub mod Conflicts
+pub mod Endings
+pub mod Round
+pub mod Inside

@@ -1,0 +1,72 @@
+//! Which two nodes take turns, so that they never run side by side.
+
+ghost use Rattle.std.specs.Prelude.{◌≡◌, ◌<◌, ◌↔◌, ℕ, IsTrue};
+ghost use Rattle.descriptor.specs.Nodes.{size, IsTree};
+ghost use Rattle.resource_locks.specs.Conflicts.{AreInConflict};
+ghost use Rattle.resource_locks.specs.Declarations.{AtOrBelow};
+ghost use Rattle.resource_locks.specs.Plans.{held_of};
+ghost use Rattle.event_history.specs.Order.{goes_first as goes_first_of};
+ghost use Rattle.termination.specs.Conflicts.{TakeTurns, AreKeptApart};
+ghost use Rattle.termination.specs.Inside.Branches.{IsBranch};
+
+use descriptor::{NodeId, Tree};
+use resource_locks::Plan;
+use scheduling::is_same;
+
+/// Whether two nodes take turns if their locks conflict. Takes as many steps as both hold locks, and
+/// where they conflict at most 8,192 more.
+pub(crate) fn are_kept_apart(plan: &Plan, one: NodeId, other: NodeId) -> bool
+    requires one { one < size plan.now.tree }
+    requires other { other < one }
+    ensures { IsTrue result ↔ AreKeptApart plan.now one other }
+{
+    !plan.held(one).conflicts(plan.held(other)) || take_turns(plan, one, other)
+}
+
+/// Whether of two nodes whose locks conflict one is settled before the other begins.
+fn take_turns(plan: &Plan, one: NodeId, other: NodeId) -> bool
+    requires one { one < size plan.now.tree }
+    requires other { other < one }
+    requires conflict { AreInConflict (held_of plan.now one) (held_of plan.now other) }
+    ensures { IsTrue result ↔ TakeTurns plan.now one other }
+{
+    let tree = plan.tree();
+    let left = branch(tree, one, other);
+    let right = branch(tree, other, one);
+    if left.index() < right.index() {
+        goes_first(plan, left, right)
+    } else {
+        goes_first(plan, right, left)
+    }
+}
+
+/// Of the lowest node above two nodes the child that is at or above the first.
+fn branch(tree: &Tree, one: NodeId, other: NodeId) -> NodeId
+    requires tree { IsTree tree.now }
+    requires one { one < size tree.now }
+    requires other { other < size tree.now }
+    requires apart { AtOrBelow tree.now one other → ⊥ }
+    ensures { IsBranch tree.now one other result }
+{
+    let mut current = one;
+    while let Some(parent) = tree.parent(current) {
+        if parent == other || tree.below(other, parent) {
+            return current;
+        }
+        current = parent;
+    }
+    current
+}
+
+/// Whether an elder child is settled before anything of a younger one begins: both are executed in their parent's thread, or
+/// both are spares, and the elder is executed in it.
+fn goes_first(plan: &Plan, elder: NodeId, younger: NodeId) -> bool
+    requires elder { elder < size plan.now.tree }
+    requires younger { younger < size plan.now.tree }
+    ensures { result ≡ goes_first_of plan.now elder younger }
+{
+    let tree = plan.tree();
+    is_same(plan, elder)
+        && (is_same(plan, younger)
+            || (tree.role(elder).is_spare() && tree.role(younger).is_spare()))
+}
