@@ -25,6 +25,8 @@ const SPINS: u64 = 1024;
 pub enum Act {
     /// It ends as it is told.
     Ends,
+    /// It counts so far, and ends as it is told.
+    Counts(u32),
     /// It sets its own flag, and ends well; if it is of one of the nodes from the first to the
     /// last, once it sees those of all.
     Meets(usize, usize),
@@ -50,6 +52,13 @@ pub struct Actor {
     pub(crate) fresh: bool,
     // none once it was run
     pub(crate) ends: Option<Ends>,
+}
+
+/// Counts so far.
+fn count(turns: u32) {
+    for _turn in 0..turns {
+        spin_loop();
+    }
 }
 
 /// Whether the flags of the nodes from the first to the last are set.
@@ -87,6 +96,10 @@ impl Actor {
     fn does(&self) -> bool {
         match self.act {
             Act::Ends => true,
+            Act::Counts(turns) => {
+                count(turns);
+                true
+            }
             Act::Meets(first, last) => {
                 self.board.set(self.node);
                 let is_one = first <= self.node && self.node <= last;

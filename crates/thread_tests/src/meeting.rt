@@ -48,6 +48,24 @@ engine e
     test d() pass
 ";
 
+/// Two classes side by side, the tests of each one after the other; all but the first two tests write
+/// one key. Whoever finds it busy passes its next test over, and has to come back to that.
+const ONE_KEY: &str = "property junit.jupiter.execution.parallel.enabled=true
+property junit.jupiter.execution.parallel.mode.default=same_thread
+property junit.jupiter.execution.parallel.mode.classes.default=concurrent
+engine e
+  class A
+    test a() pass
+    test b() lock=k:rw pass
+    test c() lock=k:rw pass
+    test d() lock=k:rw pass
+  class B
+    test e() pass
+    test f() lock=k:rw pass
+    test g() lock=k:rw pass
+    test h() lock=k:rw pass
+";
+
 /// Adds a class of so many tests, from node 3 on, that may run side by side.
 fn push_class(text: &mut String, tests: u32) {
     say(text, SIDE_BY_SIDE);
@@ -161,6 +179,21 @@ fn all_go_well<R: Threads + Wait + Sync>(rt: &R, alloc: Global, rounds: u32) -> 
         }
     }
     true
+}
+
+/// Whether the tests of one key all end, in each of so many rounds.
+fn all_come_to_the_key<R: Threads + Wait + Sync>(rt: &R, alloc: Global, rounds: u32) -> bool {
+    for _round in 0..rounds {
+        if !ends_well(rt, alloc, ONE_KEY, how(Act::Counts(20_000), 2, WIDE), 24) {
+            return false;
+        }
+    }
+    true
+}
+
+#[test]
+fn nodes_of_a_busy_key_are_tried_again(rt: HostRuntime) {
+    assert!(rt; all_come_to_the_key(&rt, rt.alloc(), 100));
 }
 
 #[test]

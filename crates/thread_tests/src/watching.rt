@@ -82,7 +82,7 @@ pub(crate) fn board_of(alloc: Global) -> Option<Arc<Board>> {
 fn flags_for(alloc: Global, act: Act, board: &Arc<Board>) -> Option<Arc<Board>> {
     match act {
         Act::Waits => Arc::try_clone(board).ok(),
-        Act::Ends | Act::Meets(_, _) => board_of(alloc),
+        Act::Ends | Act::Counts(_) | Act::Meets(_, _) => board_of(alloc),
     }
 }
 

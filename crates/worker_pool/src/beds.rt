@@ -1,5 +1,7 @@
 //! Where those sleep who have nothing to do, until somebody wakes them.
 
+ghost use Rattle.std.specs.Prelude.{◌≡◌, ◌<◌, ◌^◌};
+
 use std::alloc::{AllocError, Global};
 use std::sync::Wait;
 use std::sync::atomic::{AtomicU64, Ordering};
@@ -7,8 +9,10 @@ use std::thread::Parker;
 use std::time::Duration;
 
 /// The bit of the worker whose bed stands here.
-fn bit_of(bed: usize) -> u64 {
-    1u64.rotate_left((bed % 64) as u32)
+fn bit_of(bed: usize) -> u64
+    ensures { bed < 64 → result ≡ 2 ^ bed }
+{
+    1 << (bed % 64)
 }
 
 /// A bed for each worker and one for the dispatcher. Who lies down says so before it looks for the

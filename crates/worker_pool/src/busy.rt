@@ -1,8 +1,11 @@
 //! The keys that a worker has found busy.
 
+ghost use Rattle.std.specs.Prelude.{◌≡◌, ◌≢◌, [], true, IfOk};
+
 use descriptor::{LockMode, NodeId};
 use resource_locks::Plan;
 use std::alloc::{AllocError, Global};
+use std::marker::Model;
 
 /// So many keys are remembered.
 const MOST: usize = 8;
@@ -20,14 +23,28 @@ pub(crate) struct BusyKeys {
     keys: Vec<BusyKey>,
 }
 
+impl Model for BusyKeys {
+    ghost use Rattle.std.specs.Prelude.{List};
+    ghost use Rattle.worker_pool.specs.declared.busy.BusyKey.{BusyKey};
+
+    ghost Value = { List BusyKey };
+
+    ghost view = { λ b. b.keys.items };
+}
+
 impl BusyKeys {
-    pub(crate) fn new(alloc: Global) -> Result<BusyKeys, AllocError> {
+    pub(crate) fn new(alloc: Global) -> Result<BusyKeys, AllocError>
+        ensures { IfOk result (λ keys. keys ≡ []) }
+    {
         Ok(BusyKeys {
             keys: Vec::with_capacity(alloc, MOST)?,
         })
     }
 
-    pub(crate) fn forget(&mut self) {
+    /// All may be tried again.
+    pub(crate) fn forget(&mut self)
+        ensures { self.new ≡ [] }
+    {
         self.keys.clear();
     }
 
@@ -53,7 +70,9 @@ impl BusyKeys {
     }
 
     /// Whether a key of this node was busy.
-    pub(crate) fn stop(&self, plan: &Plan, node: NodeId) -> bool {
+    pub(crate) fn stop(&self, plan: &Plan, node: NodeId) -> bool
+        ensures { result ≡ true → self.now ≢ [] }
+    {
         if self.keys.is_empty() || node.index() >= plan.tree().len() {
             return false;
         }

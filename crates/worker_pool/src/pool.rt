@@ -1,6 +1,7 @@
-//! The threads of a run: those that were started, and the gates of those that were not needed yet.
+//! The threads of a run: those that were started, and the gates of those that were not started yet.
 
-ghost use Rattle.std.specs.Prelude.{◌≡◌, ◌≤◌, ◌↔◌, true, IfOk, length, vec_len, vec_capacity};
+ghost use Rattle.std.specs.Prelude.{◌≡◌, ◌<◌, ◌≤◌, ◌+◌, ◌↔◌, true, false, IfOk, length, vec_len};
+ghost use Rattle.std.specs.Prelude.{vec_capacity};
 ghost use Rattle.table_rule.specs.Picture.{about_of};
 ghost use Rattle.table_rule.specs.Plays.{dispatcher};
 ghost use Rattle.run_table.specs.Seats.{IsSeatOf, IsOf};
@@ -18,7 +19,9 @@ use std::thread::{JoinHandle, Scope, Threads};
 
 /// How many threads of so many are started before there is anything to do: one for each processor,
 /// and a few at least; all, where the system does not say how many processors there are.
-fn first_of<R: Threads>(rt: &R, workers: usize) -> usize {
+fn first_of<R: Threads>(rt: &R, workers: usize) -> usize
+    ensures some { 0 < workers → 0 < result }
+{
     if workers <= FEW {
         return workers;
     }
@@ -39,6 +42,8 @@ fn deal_seat<B: Job, M: Room<B>, R: Wait>(
     requires { IsSeatOf hall.now.table.table seat.old.seat }
     ensures same { IsOf seat.old.seat seat.new.seat }
     ensures read { (dispatcher seat.new.seat.me.0).read ≡ (dispatcher seat.old.seat.me.0).read }
+    ensures deals { (dispatcher seat.old.seat.me.0).dealt < seat.old.seat.me.0.about.workers
+        → (dispatcher seat.new.seat.me.0).dealt ≡ (dispatcher seat.old.seat.me.0).dealt + 1 }
 {
     let idle = match seat.split(&hall.table) {
         Some(dealt) => Some(Idle::new(dealt)),
@@ -47,9 +52,10 @@ fn deal_seat<B: Job, M: Room<B>, R: Wait>(
     gate.open(rt, idle);
 }
 
-/// The threads of one scope that work at a table of this room, and the gates for which none was
-/// started yet. The first are started at once, and one more whenever the dispatcher has nothing to
-/// read while all of them are busy.
+/// The threads of one scope that work at a table of this room, and the gates at which they get
+/// their seats: that of each thread has its place. The first are started at once, and one more
+/// whenever the dispatcher has nothing to read while all of them are busy. A thread that could not be
+/// started is tried again when one more is wanted.
 #[derive(Drop)]
 pub struct Pool<'s, E, B: Job, M: Room<B>, R> {
     rt: &'s R,
@@ -57,12 +63,9 @@ pub struct Pool<'s, E, B: Job, M: Room<B>, R> {
     hall: &'s Hall<B, M>,
     // one for each worker
     gates: &'s [Gate<B, M>],
-    // the first gate for which no thread was started yet
-    next: usize,
     /// Those that were started, in order.
     pub started: Vec<JoinHandle<Option<Worked<B, M>>>>,
     ghost jobs: { MayAnswer B.answers (about_of hall.now.table.table.shared.key) },
-    ghost few: { vec_len started ≤ next },
     ghost enough: { length gates.now ≤ vec_capacity started },
 }
 
@@ -90,45 +93,63 @@ impl<'s, E, B: Job + Send, M: Room<B> + Send + Sync, R: Threads + Wait + Sync> P
             scope,
             hall,
             gates,
-            next: 0,
             started,
         })
     }
 
-    /// Starts the thread of the next gate, if there is one, and deals it a seat at once.
-    pub fn start_next(&mut self, hall: &Hall<B, M>, seat: &mut DispatcherSeat<B>)
+    /// Starts the thread of the next gate, if there is one, deals it a seat at once, and says whether
+    /// it did. Where the thread could not be started its gate is the next one still.
+    pub fn start_next(&mut self, hall: &Hall<B, M>, seat: &mut DispatcherSeat<B>) -> bool
         requires { IsSeatOf hall.now.table.table seat.old.seat }
         ensures same { IsOf seat.old.seat seat.new.seat }
         ensures read { (dispatcher seat.new.seat.me.0).read ≡ (dispatcher seat.old.seat.me.0).read }
         ensures more { vec_len self.old.started ≤ vec_len self.new.started }
         ensures none { vec_len self.new.started ≡ 0 → seat.new ≡ seat.old }
+        ensures one { result ≡ true → vec_len self.new.started ≡ vec_len self.old.started + 1 }
+        ensures deals { result ≡ true → (dispatcher seat.old.seat.me.0).dealt < seat.old.seat.me.0.about.workers
+            → (dispatcher seat.new.seat.me.0).dealt ≡ (dispatcher seat.old.seat.me.0).dealt + 1 }
+        ensures failed { result ≡ false → (self.new ≡ self.old) × (seat.new ≡ seat.old) }
+        ensures gates { self.new.gates ≡ self.old.gates }
     {
-        let Some(gate) = self.gates.get(self.next) else {
-            return;
+        let Some(gate) = self.gates.get(self.started.len()) else {
+            return false;
         };
-        self.next += 1;
         let rt = self.rt;
         let its = self.hall;
-        if let Ok(handle) = self.scope.spawn(
+        let Ok(handle) = self.scope.spawn(
             move || -> Option<Worked<B, M>>
                 requires { MayAnswer B.answers (about_of its.now.table.table.shared.key) }
             { serve(rt, its, gate) },
-        ) {
-            self.started.push_reserved(handle);
-            deal_seat(rt, hall, gate, seat);
-        }
+        )
+        else {
+            return false;
+        };
+        self.started.push_reserved(handle);
+        deal_seat(rt, hall, gate, seat);
+        true
     }
 
-    /// Starts the threads that are to be there from the beginning.
-    pub fn start_first(&mut self, hall: &Hall<B, M>, seat: &mut DispatcherSeat<B>)
+    /// Starts the threads that are to be there from the beginning, and says how often that failed.
+    /// It tries as often as there are gates at most; so often, where none could be started.
+    pub fn start_first(&mut self, hall: &Hall<B, M>, seat: &mut DispatcherSeat<B>) -> usize
         requires { IsSeatOf hall.now.table.table seat.old.seat }
         ensures same { IsOf seat.old.seat seat.new.seat }
         ensures read { (dispatcher seat.new.seat.me.0).read ≡ (dispatcher seat.old.seat.me.0).read }
         ensures none { vec_len self.new.started ≡ 0 → seat.new ≡ seat.old }
+        ensures all_failed { vec_len self.new.started ≡ 0 → result ≡ length self.old.gates.now }
     {
-        for _ in 0..first_of(self.rt, self.gates.len()) {
-            self.start_next(hall, seat);
+        let gates = self.gates.len();
+        let wanted = first_of(self.rt, gates);
+        let mut failed = 0;
+        for _tried in 0..gates {
+            if self.started.len() >= wanted {
+                return failed;
+            }
+            if !self.start_next(hall, seat) {
+                failed += 1;
+            }
         }
+        failed
     }
 
     /// Whether no thread could be started.
@@ -147,7 +168,6 @@ impl<'s, E, B: Job + Send, M: Room<B> + Send + Sync, R: Threads + Wait + Sync> P
             scope: _,
             hall: _,
             gates: _,
-            next: _,
             started,
         } = self;
         started

@@ -1,12 +1,16 @@
-use Rattle.std.proofs.Common.{◌≡◌, vec_len}
+-- As long as no thread was started, each try failed.
+use Rattle.std.proofs.Common.{◌≡◌, ◌≤◌, vec_len}
 use Rattle.table_rule.specs.Plays.{dispatcher}
 use Rattle.run_table.specs.Seats.{IsSeatOf, IsOf}
 use Rattle.worker_pool.proofs.pool.Pool.start_first.Given as goal
 
-abbrev pub invariant-loop : goal.invariant-loop
-invariant-loop g l = record {
+abbrev pub invariant-loop-tried : goal.invariant-loop-tried
+invariant-loop-tried g l = record {
   table : IsSeatOf l.hall.table.table l.seat.seat;
   same : IsOf l.fn.seat.seat l.seat.seat;
   read : (dispatcher l.seat.seat.me.0).read ≡ (dispatcher l.fn.seat.seat.me.0).read;
   none : vec_len l.self.started ≡ 0 → l.seat ≡ l.fn.seat;
+  gates : l.self.gates ≡ l.fn.self.gates;
+  failed : vec_len l.self.started ≡ 0 → l.failed ≡ l._tried;
+  few : l.failed ≤ l._tried;
 }
