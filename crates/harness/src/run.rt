@@ -1,8 +1,9 @@
 //! The program of one who has tests of its own.
 
-ghost use Rattle.std.specs.Prelude.{◌≡◌, IfOk, IfErr, Err, map, string_bytes};
+ghost use Rattle.std.specs.Prelude.{◌≡◌, ◌⊎◌, IfOk, IfErr, Err, map, string_bytes};
 ghost use Rattle.std.specs.IoError.{error_kind};
 ghost use Rattle.std.specs.Vec.Iter.{into_iter_items};
+ghost use Rattle.harness.specs.Jobs.{jobs_by, replies_left};
 ghost use Rattle.resource_locks.specs.Spares.{HasBareSpares};
 ghost use Rattle.launch_options.specs.declared.fault.LaunchFault.{LaunchFault};
 ghost use Rattle.launcher.specs.Programs.{program_parts};
@@ -10,11 +11,11 @@ ghost use Rattle.messages.specs.Sentences.{tests_sentence_of};
 ghost use Rattle.command_line.specs.GivenWords.{IsGivenFault};
 ghost use Rattle.command_line.specs.Runs.{Closes};
 ghost use Rattle.command_line.specs.TestRuns.{IsTestRun, IsTestRunOnTerminal};
-ghost use Rattle.test_bodies.specs.Bodies.{is_spent, tests_left};
-ghost use Rattle.test_bodies.specs.Replies.{replies_by};
 ghost use Rattle.test_tree.specs.Building.{held, properties_of};
 ghost use Rattle.test_tree.specs.Growing.{IsPending};
+ghost use Rattle.test_tree.specs.declared.cause.BuildCause.TheVariants.{NoMemory};
 
+use crate::job::jobs_of;
 use command_line::{Ending, run_test_program, run_test_program_on_terminal, run_test_words};
 use launcher::Program;
 use std::alloc::Global;
@@ -24,6 +25,7 @@ use std::sync::Wait;
 use std::thread::Threads;
 use std::time::Clock;
 use test_tree::{BuildFault, Tests};
+use worker_pool::{Nobody, Watcher};
 
 /// Runs of these tests what the words ask for; the first word is the program's name. All else is as
 /// `run_tests` says.
@@ -35,21 +37,57 @@ pub fn run_tests_by_words<T: Threads + Wait + Sync, W: Write, E: Write>(
     writer: &mut W,
     errors: &mut E,
 ) -> Result<Ending, BuildFault>
-    ensures run { IfOk result (λ ending. IsTestRun (λ b. replies_by (is_spent b) (tests_left b)) W.contents E.contents
-        (program_parts (held tests.value).tree (properties_of tests.value)) (held tests.value).jobs (map string_bytes words.now) writer.old
+    ensures run { IfOk result (λ ending. IsTestRun replies_left W.contents E.contents
+        (program_parts (held tests.value).tree (properties_of tests.value)) (jobs_by (held tests.value).jobs) (map string_bytes words.now) writer.old
         writer.new errors.old errors.new ending) }
     // No dynamic test holds a key, so a run never gets stuck.
     ensures bare { IfOk result (λ _. HasBareSpares (held tests.value).tree) }
-    ensures unbuilt { IfErr result (λ fault. IsPending (held tests.value) fault.cause × (writer.new ≡ writer.old)
+    ensures unbuilt { IfErr result (λ fault. (IsPending (held tests.value) fault.cause ⊎ (fault.cause ≡ NoMemory)) × (writer.new ≡ writer.old)
         × (errors.new ≡ errors.old)) }
 {
-    let (tree, properties, jobs) = Box::into_inner(tests).into_parts()?;
+    let (tree, properties, bodies) = Box::into_inner(tests).into_parts()?;
+    let jobs = jobs_of(alloc, bodies)?;
     let program = Program {
         tree,
         properties,
         jobs,
     };
-    Ok(run_test_words(rt, alloc, words, program, writer, errors))
+    let mut nobody = Nobody;
+    Ok(run_test_words(rt, alloc, words, program, writer, errors, &mut nobody))
+}
+
+/// Does what `run_tests` does, and shows the run to one who watches it: each event of its history in order, with its
+/// text, as it is told; or nothing, where nothing is run. So a program has a listener of its own: it may be any type
+/// with `watch`, and may borrow what it fills. No clause says what it saw.
+pub fn run_tests_watched<T: Threads + Wait + Sync, W: Write, E: Write, V: Watcher>(
+    rt: &T,
+    alloc: Global,
+    words: io::Result<Args>,
+    tests: Box<Tests>,
+    writer: &mut W,
+    errors: &mut E,
+    watcher: &mut V,
+) -> Result<Ending, BuildFault>
+    ensures run { IfOk result (λ ending. IfOk words (λ given. IsTestRun
+        replies_left W.contents E.contents
+        (program_parts (held tests.value).tree (properties_of tests.value)) (jobs_by (held tests.value).jobs)
+        (map string_bytes (into_iter_items given)) writer.old writer.new errors.old errors.new ending)) }
+    ensures refused { IfOk result (λ ending. IfErr words (λ error. (fault : LaunchFault)
+        × IsGivenFault (error_kind error) fault × Closes tests_sentence_of W.contents E.contents (Err fault) writer.old
+        writer.new errors.old errors.new ending)) }
+    // No dynamic test holds a key, so a run never gets stuck.
+    ensures bare { IfOk result (λ _. HasBareSpares (held tests.value).tree) }
+    ensures unbuilt { IfErr result (λ fault. (IsPending (held tests.value) fault.cause ⊎ (fault.cause ≡ NoMemory)) × (writer.new ≡ writer.old)
+        × (errors.new ≡ errors.old) × (watcher.new ≡ watcher.old)) }
+{
+    let (tree, properties, bodies) = Box::into_inner(tests).into_parts()?;
+    let jobs = jobs_of(alloc, bodies)?;
+    let program = Program {
+        tree,
+        properties,
+        jobs,
+    };
+    Ok(run_test_program(rt, alloc, words, program, writer, errors, watcher))
 }
 
 /// Runs of these tests what the words that the system gave ask for, and says how the program ends:
@@ -67,24 +105,19 @@ pub fn run_tests<T: Threads + Wait + Sync, W: Write, E: Write>(
     errors: &mut E,
 ) -> Result<Ending, BuildFault>
     ensures run { IfOk result (λ ending. IfOk words (λ given. IsTestRun
-        (λ b. replies_by (is_spent b) (tests_left b)) W.contents E.contents
-        (program_parts (held tests.value).tree (properties_of tests.value)) (held tests.value).jobs
+        replies_left W.contents E.contents
+        (program_parts (held tests.value).tree (properties_of tests.value)) (jobs_by (held tests.value).jobs)
         (map string_bytes (into_iter_items given)) writer.old writer.new errors.old errors.new ending)) }
     ensures refused { IfOk result (λ ending. IfErr words (λ error. (fault : LaunchFault)
         × IsGivenFault (error_kind error) fault × Closes tests_sentence_of W.contents E.contents (Err fault) writer.old
         writer.new errors.old errors.new ending)) }
     // No dynamic test holds a key, so a run never gets stuck.
     ensures bare { IfOk result (λ _. HasBareSpares (held tests.value).tree) }
-    ensures unbuilt { IfErr result (λ fault. IsPending (held tests.value) fault.cause × (writer.new ≡ writer.old)
+    ensures unbuilt { IfErr result (λ fault. (IsPending (held tests.value) fault.cause ⊎ (fault.cause ≡ NoMemory)) × (writer.new ≡ writer.old)
         × (errors.new ≡ errors.old)) }
 {
-    let (tree, properties, jobs) = Box::into_inner(tests).into_parts()?;
-    let program = Program {
-        tree,
-        properties,
-        jobs,
-    };
-    Ok(run_test_program(rt, alloc, words, program, writer, errors))
+    let mut nobody = Nobody;
+    run_tests_watched(rt, alloc, words, tests, writer, errors, &mut nobody)
 }
 
 /// Does what `run_tests` does, where the other writer is a terminal. On it stands how far the run has
@@ -100,17 +133,18 @@ pub fn run_tests_on_terminal<T: Threads + Wait + Sync, C: Clock + Drop, W: Write
     errors: &mut E,
 ) -> Result<Ending, BuildFault>
     ensures run { IfOk result (λ ending. IfOk words (λ given. IsTestRunOnTerminal
-        (λ b. replies_by (is_spent b) (tests_left b)) W.contents E.contents
-        (program_parts (held tests.value).tree (properties_of tests.value)) (held tests.value).jobs
+        replies_left W.contents E.contents
+        (program_parts (held tests.value).tree (properties_of tests.value)) (jobs_by (held tests.value).jobs)
         (map string_bytes (into_iter_items given)) writer.old writer.new ending)) }
     ensures refused { IfOk result (λ ending. IfErr words (λ error. (fault : LaunchFault)
         × IsGivenFault (error_kind error) fault × Closes tests_sentence_of W.contents E.contents (Err fault) writer.old
         writer.new errors.old errors.new ending)) }
     ensures bare { IfOk result (λ _. HasBareSpares (held tests.value).tree) }
-    ensures unbuilt { IfErr result (λ fault. IsPending (held tests.value) fault.cause × (writer.new ≡ writer.old)
+    ensures unbuilt { IfErr result (λ fault. (IsPending (held tests.value) fault.cause ⊎ (fault.cause ≡ NoMemory)) × (writer.new ≡ writer.old)
         × (errors.new ≡ errors.old)) }
 {
-    let (tree, properties, jobs) = Box::into_inner(tests).into_parts()?;
+    let (tree, properties, bodies) = Box::into_inner(tests).into_parts()?;
+    let jobs = jobs_of(alloc, bodies)?;
     let program = Program {
         tree,
         properties,

@@ -1,9 +1,12 @@
 //! Tests of the kit's crate `semver`, as a program that runs them.
 #![tactic(auto)]
 
+mod failures;
+
+use failures::FailuresByClass;
 use harness::{
     BuildFault, Checked, Ending, LockMode, TestBox, Tests, assume, check, check_same, exit_code,
-    run_tests,
+    run_tests_watched,
 };
 use semver::{Version, VersionReq};
 use std::alloc::Global;
@@ -61,6 +64,7 @@ fn run<T: Threads + Wait + Sync, W: Write, E: Write>(
     words: io::Result<Args>,
     writer: &mut W,
     errors: &mut E,
+    failures: &mut FailuresByClass,
 ) -> Result<Ending, BuildFault> {
     let mut tests = Tests::new(alloc)?;
     tests.property("junit.jupiter.execution.parallel.enabled", "true")?;
@@ -88,11 +92,13 @@ fn run<T: Threads + Wait + Sync, W: Write, E: Write>(
     tests.dynamic(caret, "1.2.0", two)?;
     let one: TestBox = Box::new(alloc, move |alloc: Global| matches(alloc, 1, false))?;
     tests.dynamic(caret, "1.1.0", one)?;
-    run_tests(rt, alloc, words, tests, writer, errors)
+    run_tests_watched(rt, alloc, words, tests, writer, errors, failures)
 }
 
 fn main(rt: HostRuntime) -> ExitCode {
-    let (words, errors) = (std::env::args(&rt), &mut rt.stderr());
-    let run = run(&rt, rt.alloc(), words, &mut io::writer(&rt), errors);
+    let (words, writer, errors) = (std::env::args(&rt), &mut io::writer(&rt), &mut rt.stderr());
+    let mut failures = FailuresByClass::new(rt.alloc());
+    let run = run(&rt, rt.alloc(), words, writer, errors, &mut failures);
+    failures.print(writer);
     exit_code(run, errors)
 }

@@ -1,15 +1,16 @@
-//! A test's body, which is a job.
+//! A test's body.
 
 ghost use Rattle.std.specs.Prelude.{◌≡◌, ◌+◌, ◌≤◌, ◌⊎◌, ◌↔◌, [], false, true, length, min, Result};
 ghost use Rattle.std.specs.Str.{IsUtf8};
+ghost use Rattle.plan_events.specs.Jobs.{IsPull, IsRun};
 ghost use Rattle.plan_events.specs.declared.outcome.Outcome.{Outcome as Told};
 ghost use Rattle.test_bodies.specs.Bodies.{is_spent, may_answer, tests_left, with_test};
-ghost use Rattle.test_bodies.specs.Replies.{IsSayable};
+ghost use Rattle.test_bodies.specs.Replies.{IsSayable, replies_by};
 ghost use Rattle.test_bodies.specs.Stops.{IsTold};
 
 use crate::code::{Boxed, Code, Plain, TestBox, TestFn};
 use crate::stop::Checked;
-use plan_events::{Job, Outcome, Pull, Status};
+use plan_events::{Outcome, Pull, Status};
 use std::alloc::Global;
 use unique_id::Text;
 
@@ -86,15 +87,12 @@ impl Body {
     {
         self.tests = self.tests.saturating_add(1);
     }
-}
 
-impl Job for Body {
-    ghost use Rattle.plan_events.specs.Jobs.{IsRun};
-    ghost use Rattle.test_bodies.specs.Replies.{replies_by};
-
-    ghost answers = { λ b. replies_by (is_spent b) (tests_left b) };
-
-    fn next(&mut self) -> Pull {
+    /// Whether it registers one dynamic test more.
+    pub fn next_test(&mut self) -> Pull
+        ensures { IsPull (replies_by (is_spent self.old) (tests_left self.old)) result
+            (replies_by (is_spent self.new) (tests_left self.new)) }
+    {
         if self.tests == 0 {
             return Pull::End;
         }
@@ -102,8 +100,9 @@ impl Job for Body {
         Pull::More
     }
 
+    /// Runs its code, unless it was run, and answers how it ended.
     #[tactic(auto, using(crate::proofs::Replying::runs))]
-    fn run(&mut self) -> Outcome
+    pub fn finish(&mut self) -> Outcome
         ensures outcome { IsRun (replies_by (is_spent self.old) (tests_left self.old)) result }
         ensures over { replies_by (is_spent self.new) (tests_left self.new) ≡ [] }
         // What is told is what its code answered, which is gone from it.

@@ -1,3 +1,3 @@
 -- Lemmas of the callers.
+pub mod Ending
 pub mod Passing
-pub mod Ready

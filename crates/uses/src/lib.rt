@@ -1,6 +1,7 @@
 //! A proved caller of each library crate: what a user writes, and what its contract then gives them.
 #![tactic(auto)]
 
+mod boxed_jobs;
 mod built_tests;
 mod child_of_id;
 mod config_word;
@@ -25,6 +26,7 @@ mod threaded_run;
 mod told_refusal;
 mod whole_history;
 
+pub use boxed_jobs::run_each;
 pub use built_tests::one_test;
 pub use child_of_id::child_text;
 pub use config_word::put_word;

@@ -18,8 +18,8 @@ use worker_pool::run_plan;
 
 /// A job that passes.
 #[derive(Drop)]
-struct Passing {
-    is_done: bool,
+pub(crate) struct Passing {
+    pub(crate) is_done: bool,
 }
 
 impl Job for Passing {

@@ -2,7 +2,7 @@
 use Rattle.std.proofs.Common.{arith}
 use Rattle.test_bodies.specs.Bodies.{is_spent, tests_left}
 use Rattle.test_bodies.proofs.Replying.{pulls_end, pulls_more}
-use Rattle.test_bodies.proofs.body.BodyJob.next.Goals as goal
+use Rattle.test_bodies.proofs.body.Body.next_test.Goals as goal
 
 pub returns-then-self-eq0 : goal.returns-then-self-eq0
 returns-then-self-eq0 g c = pulls_end (is_spent c.args.self.now) (tests_left c.args.self.now) c.if-self-eq0.true

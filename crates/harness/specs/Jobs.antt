@@ -1,0 +1,19 @@
+-- The jobs of a program's own tests.
+use Rattle.std.specs.Prelude.{ℕ, List, map}
+use Rattle.plan_events.specs.declared.outcome.Reply.{Reply}
+use Rattle.test_bodies.specs.Bodies.{is_spent, tests_left}
+use Rattle.test_bodies.specs.Replies.{replies_by}
+use Rattle.test_bodies.specs.declared.body.Body.{Body}
+use Rattle.harness.specs.declared.job.TestJob.{TestJob}
+
+module _ {X Y : Type 0} {Z : Y → Type 0} {f : _} {g : _} where
+  -- the replies that a job may still give: those of its body
+  abbrev pub replies_left : TestJob X Y Z f g → List Reply
+  replies_left job = replies_by (is_spent job.body) (tests_left job.body)
+
+  abbrev pub job_by : ℕ × Body X Y Z f g → ℕ × TestJob X Y Z f g
+  job_by x = (x.0, record { body = x.1 })
+
+  -- the jobs of these bodies, with the same numbers
+  abbrev pub jobs_by : List (ℕ × Body X Y Z f g) → List (ℕ × TestJob X Y Z f g)
+  jobs_by bodies = map job_by bodies

@@ -1,0 +1,67 @@
+//! A listener of one's own: how many tests of each class failed.
+
+use harness::{Event, NodeId, Plan, Status, Texts, Watcher};
+use std::alloc::{AllocError, Global};
+use std::io::Write;
+
+/// A class, by its name, and how many of its tests failed.
+#[derive(Drop)]
+struct ClassFailures {
+    name: String,
+    failed: usize,
+}
+
+/// The classes of which a test failed, in the order in which the first of each did.
+#[derive(Drop)]
+pub(crate) struct FailuresByClass {
+    alloc: Global,
+    classes: Vec<ClassFailures>,
+}
+
+impl FailuresByClass {
+    pub(crate) fn new(alloc: Global) -> FailuresByClass {
+        FailuresByClass {
+            alloc,
+            classes: Vec::new(alloc),
+        }
+    }
+
+    /// Counts a test of the class of this name that failed. Without memory it is not counted.
+    fn count(&mut self, class: &str) -> Result<(), AllocError> {
+        for known in self.classes.iter_mut() {
+            if known.name.as_str() == class {
+                known.failed = known.failed.saturating_add(1);
+                return Ok(());
+            }
+        }
+        let name = String::from_str(self.alloc, class)?;
+        self.classes.push(ClassFailures { name, failed: 1 })?;
+        Ok(())
+    }
+
+    /// Prints a line for each class of which a test failed.
+    pub(crate) fn print<W: Write>(&self, writer: &mut W) {
+        for ClassFailures { name, failed } in self.classes.iter() {
+            let _ = writer.write_fmt(format_args!("{name}: {failed} failed\n"));
+        }
+    }
+}
+
+impl Watcher for FailuresByClass {
+    ghost saw = { λ _ _ _ _. Unit {0} };
+
+    fn watch(&mut self, plan: &Plan, _texts: &Texts, event: Event) {
+        let event = &event;
+        if event.status != Some(Status::Failed) || event.node.index() >= plan.tree().len() {
+            return;
+        }
+        match plan.tree().parent(event.node) {
+            Some(class) if class != NodeId::ROOT => {
+                let _ = self.count(plan.tree().node(class).name.as_str());
+            }
+            _ => {}
+        }
+    }
+
+    fn idle(&mut self) {}
+}
