@@ -5,7 +5,8 @@ checks/progress.py [SUITES] [SEED]   20 suites and the seed 1 where they are not
   --program PATH                     another program than crates/console/out/console
 A pseudo-terminal is used. The line is drawn at most ten times a second, its numbers grow, and it is gone
 at the end, also where the output goes to the same terminal. A file, a terminal that is dumb and one of an
-unknown kind get nothing of it. What failed is said once more, and the words that are said select just that.
+unknown kind get nothing of it. What failed is said once more, on a terminal and in a file, at most twenty
+of it, and the words that are said select just that, or the first ten of it.
 Suites made at random print the same with a terminal and without one.
 The last line is 'N passed, M failed': the runs.
 """
@@ -36,6 +37,7 @@ DRAWN = re.compile(rb"\r\x1b\[K(\d+) found, (\d+) running, (\d+) done, (\d+) fai
 ERASED = b"\r\x1b[K"
 BELOW = "[engine:e]/[class:a.B]"
 FAILING = ("t3()", "t'4()")
+MANY = tuple(f"m{number}()" for number in range(23))
 
 
 class Wrong(Exception):
@@ -48,10 +50,10 @@ def slow_suite():
     return ("\n".join(lines) + "\n").encode()
 
 
-def failing_suite():
+def failing_suite(names):
     lines = ["engine e", "  class a.B"]
     lines += [f"    test {name} pass" for name in ("t1()", "t2()")]
-    lines += [f"    test {name} fail wrong" for name in FAILING]
+    lines += [f"    test {name} fail wrong" for name in names]
     return ("\n".join(lines) + "\n").encode()
 
 
@@ -177,23 +179,36 @@ def judge_colours(program):
             raise Wrong(f"{run.errors[:200]!r}")
 
 
-def judge_failures(program, details, is_said):
-    """What failed is said once more, behind all else, with words that select just that."""
-    run = Run(program, failing_suite(), ["--details", details])
-    alone = Run(program, failing_suite(), ["--details", details], errors="pipe")
-    if (run.status, run.output) != (1, alone.output) or alone.errors != b"":
-        raise Wrong(f"status {run.status}, without a terminal {alone.errors!r}")
+def wanted_failures(names, shown):
+    """The lines of what failed, before the words."""
+    lines = [f"Failures ({len(names)}):"]
+    for name in names[:shown]:
+        lines += [f"  {name}", f"    {BELOW}/[method:{name}]", "    => wrong"]
+    return lines + [f"  and {len(names) - shown} more"] * (len(names) > shown)
+
+
+def judge_failures(program, details, names, is_said):
+    """What failed is said once more, behind all else, with words that select just that, or the first ten."""
+    suite = failing_suite(names)
+    run = Run(program, suite, ["--details", details])
+    alone = Run(program, suite, ["--details", details], errors="pipe")
+    if (run.status, run.output) != (1, alone.output):
+        raise Wrong(f"status {run.status}, without a terminal {alone.output!r}")
     said = DRAWN.sub(b"", run.errors).replace(ERASED, b"").decode()
+    if said != alone.errors.decode():
+        raise Wrong(f"said {said!r}, without a terminal {alone.errors!r}")
     if not is_said:
         if said != "":
             raise Wrong(f"said {said!r}")
         return
     lines = said.splitlines()
-    wanted = [f"{BELOW}/[method:{name}]" for name in FAILING]
-    if lines[0] != "Failed:" or [line.strip() for line in lines[1:-2]] != wanted:
+    if lines[:-2] != wanted_failures(names, 20):
         raise Wrong(f"said {said!r}")
-    again = Run(program, failing_suite(), ["--details", "list", *shlex.split(lines[-1])], errors="pipe")
-    if again.output.decode().splitlines() != wanted:
+    which = "just these" if len(names) <= 10 else "just the first of these"
+    if lines[-2] != f"To select {which}, a dynamic test with its factory:":
+        raise Wrong(f"said {lines[-2]!r}")
+    again = Run(program, suite, ["--details", "list", *shlex.split(lines[-1])], errors="pipe")
+    if again.output.decode().splitlines() != [f"{BELOW}/[method:{name}]" for name in names[:10]]:
         raise Wrong(f"the words select {again.output!r}")
 
 
@@ -218,7 +233,8 @@ def main():
     cases += [("a pipe", judge_silent, (program, "pipe", None)), ("a dumb terminal", judge_silent, (program, "terminal", {"TERM": "dumb"}))]
     cases += [("a terminal of no kind", judge_silent, (program, "terminal", {})), ("colours", judge_colours, (program,))]
     said = {"tree": True, "summary": True, "testfeed": False, "none": False, "json": False}
-    cases += [(f"failures behind {details}", judge_failures, (program, details, is_said)) for details, is_said in said.items()]
+    cases += [(f"failures behind {details}", judge_failures, (program, details, FAILING, is_said)) for details, is_said in said.items()]
+    cases += [(f"many failures behind {details}", judge_failures, (program, details, MANY, True)) for details in ("tree", "summary")]
     cases += [(f"suite {n} of seed {given.seed}", judge_random, (program, given.seed, n)) for n in range(1, given.suites + 1)]
     passed = failed = 0
     for what, judge, arguments in cases:

@@ -6,6 +6,7 @@
  *   REFUSE_GROWTH=N         refuses the Nth growth
  *   REFUSE_GROWTHS_FROM=N   that and all behind it
  *   REFUSE_THREADS=F-L      the threads from the Fth to the Lth
+ *   REFUSE_WRITE=1          the first write to standard output, and no other
  *
  * Where the window closes, `growths G threads T refused R` is appended to the file that REFUSE_REPORT names: what was
  * asked for in it, and how much of that was refused.
@@ -31,7 +32,8 @@ extern void *__libc_memalign(size_t, size_t);
 static atomic_int is_open, was_open;
 static atomic_long growths, threads, refused;
 static long first_growth, last_growth, first_thread, last_thread;
-static int is_everywhere;
+static int is_everywhere, fails_write;
+static atomic_int has_failed;
 
 static long number_of(const char *name)
 {
@@ -50,6 +52,7 @@ __attribute__((constructor)) static void begin(void)
     if (span != NULL)
         sscanf(span, "%ld-%ld", &first_thread, &last_thread);
     is_everywhere = getenv("REFUSE_EVERYWHERE") != NULL;
+    fails_write = getenv("REFUSE_WRITE") != NULL;
     atomic_store(&is_open, is_everywhere);
 }
 
@@ -134,6 +137,10 @@ ssize_t write(int file, const void *bytes, size_t count)
         report();
     if (!is_everywhere && count == 5 && memcmp(bytes, "call\n", 5) == 0 && !atomic_exchange(&was_open, 1))
         atomic_store(&is_open, 1);
+    if (fails_write && file == STDOUT_FILENO && !atomic_exchange(&has_failed, 1)) {
+        errno = EIO;
+        return -1;
+    }
     return syscall(SYS_write, file, bytes, count);
 }
 

@@ -1,11 +1,13 @@
 #!/usr/bin/env python3
-"""Holds the program's reports against other readers: Python's json and its xml.etree.
+"""Holds the program's reports against other readers: Python's json, its xml.etree and its xml.dom.
 
 checks/reports.py [SUITES] [SEED]     200 suites and the seed 1 where they are not given
   --program PATH                      another program than crates/console/out/console
-Each suite is made at random, with names and texts that have to be escaped, and run by one worker. The
-JSON has to say what the feed says, the XML what the definitions say of the suite, and the list which
-tests and factories it has. The last line is 'N passed, M failed': the texts that were judged.
+Each suite is made at random, with names and texts that have to be escaped, some with settings that are
+warned of, and run by one worker, some with a schedule. The JSON has to say what the feed says, the XML
+what the definitions say of the suite, as many tests as the summary and a failure where the status is 1,
+and the list which tests and factories would be run. Each has to be that and nothing else. The last line
+is 'N passed, M failed': the texts that were judged.
 """
 
 import argparse
@@ -13,6 +15,8 @@ import json
 import sys
 import xml.etree.ElementTree as xml
 from random import Random
+from xml.dom import minidom
+from xml.parsers.expat import ExpatError
 
 sys.dont_write_bytecode = True
 
@@ -24,6 +28,9 @@ SECONDS_A_RUN = 60
 MOST_SHOWN = 10
 TYPES = {"plan": "PLAN", "engine": "CONTAINER", "class": "CONTAINER", "factory": "CONTAINER"}
 TYPES |= {"test": "TEST", "dyn": "TEST"}
+MODE = "junit.jupiter.execution.parallel.mode."
+KEYS = [f"{MODE}default", f"{MODE}classes.default"]
+BADNESS = {"FAILED": 2, "SKIPPED": 1, "ABORTED": 1}
 # What one format or the other has to escape, and what it has to leave as it is.
 ODD = ['"', "\\", "&", "<", ">", "'", "\x00", "\x01", "\t", "\b", "\f", "a\rb", "\x1f", "\x7f", "\x85", "]]>"]
 ODD += ["\u2028", "\ufffd", "\ufffe", "\uffff", "\U0001f600", "\U0010ffff", "ä", "%", "[", "/", "\\u0041", "&amp;"]
@@ -80,31 +87,56 @@ def feed_line(plan, line):
     return " ".join([f"w{told['worker']}", told["event"], node.id, *ends])
 
 
-def judge_json(plan, text, feed):
-    """Each line is an object that says what the line of the feed says."""
-    lines = [feed_line(plan, line) for line in text.split("\n")[:-1]]
-    same("the feed that the objects say", "".join(f"{line}\n" for line in lines), feed)
+def judge_json(plan, text, told):
+    """Each line is an object that says what the line of the feed says; warnings and a schedule are objects too."""
+    lines = text.split("\n")[:-1]
+    front = [json.dumps({"event": "warning", "key": key}, separators=(",", ":")) for key in told.warnings]
+    same("the warnings", lines[: len(front)], front)
+    back = [json.dumps({"event": "schedule", "steps": steps}, separators=(",", ":")) for steps in told.schedule]
+    same("the schedule", lines[len(lines) - len(back) :], back)
+    said = [feed_line(plan, line) for line in lines[len(front) : len(lines) - len(back)]]
+    same("the feed that the objects say", said, told.lines)
 
 
 def outcome_of(plan, node):
     """What becomes of a node of a suite that is run to its end, and its text."""
     if plan.is_silent(node):
-        return "NOT RUN", "not run"
+        return "NOT RUN", ""
     if node.disabled:
         return "SKIPPED", node.verdict.text
     return plan.ends[node]
 
 
+def cause_of(plan, node):
+    """The node that is told of: the nearest of the worst of this one and those above it."""
+    line = [above for above in (node, *node.ancestors()) if above.word != "plan"]
+    bad = [BADNESS.get(outcome_of(plan, above)[0], 0) for above in line]
+    return line[bad.index(max(bad))]
+
+
+def is_bare(plan, node):
+    """Whether it is a factory without a test, and did not pass."""
+    if node.word != "factory" or not all(plan.is_silent(test) for test in node.children):
+        return False
+    return outcome_of(plan, cause_of(plan, node))[0] != "SUCCESSFUL"
+
+
 def cases_of(plan, node):
     """The nodes that are the cases of a node's suite, in order."""
-    own = outcome_of(plan, node)[0] in ("SKIPPED", "FAILED", "ABORTED") and TYPES[node.word] != "TEST"
-    tests = [child for child in plan.children(node) if TYPES[child.word] == "TEST"]
-    return [node] * own + [test for test in tests if test.word != "dyn" or not plan.is_silent(test)]
+    cases = []
+    for child in plan.children(node) if node.word != "factory" else []:
+        cases += [child] if child.word == "test" or is_bare(plan, child) else []
+        cases += [test for test in child.children if test.word == "dyn" and not plan.is_silent(test)]
+    return cases
 
 
-def class_name(node):
+def class_name(plan, node):
     names = [above.name for above in (node, *node.ancestors()) if above.word not in ("plan", "engine")]
-    return "$".join(reversed(names)) if names else node.name
+    engine = [above.name for above in (node, *node.ancestors()) if above.word == "engine"][0]
+    if not names:
+        return engine
+    several = sum(1 for one in plan.nodes if one.word == "engine") > 1
+    return f"{engine}/" * several + "$".join(reversed(names))
 
 
 def carried(text):
@@ -117,38 +149,74 @@ def element_of(case):
     return case.tag, dict(case.attrib), [(below.tag, dict(below.attrib), below.text) for below in case]
 
 
+def reason_of(plan, node):
+    """The element that says why a case did not pass, if there is one."""
+    cause = cause_of(plan, node)
+    outcome, text = outcome_of(plan, cause)
+    if outcome == "SUCCESSFUL":
+        return []
+    if outcome == "FAILED":
+        return [("failure" if cause is node else "error", {"message": carried(text), "type": outcome}, None)]
+    words = "not run" if outcome == "NOT RUN" else "" if cause is node else f"parent was {outcome.lower()}: "
+    return [("skipped", {"message": words + carried(text), "type": outcome.replace(" ", "_")}, None)]
+
+
 def case_of(plan, node, suite):
     """The same, as it has to be."""
-    outcome, text = outcome_of(plan, node)
-    message = {"message": carried(text)}
-    inside = {
-        "SUCCESSFUL": [],
-        "FAILED": [("failure", message, None)],
-        "ABORTED": [("skipped", message, None), ("system-out", {}, "ABORTED")],
-    }.get(outcome, [("skipped", message, None)])
-    return "testcase", {"name": carried(node.name), "classname": carried(class_name(suite))}, inside
+    name = f"{node.parent.name}[{node.parent.children.index(node) + 1}]" if node.word == "dyn" else node.name
+    attributes = {"name": carried(name), "classname": carried(class_name(plan, suite)), "time": "0"}
+    output = carried(f"unique-id: {node.id}\ndisplay-name: {node.name}")
+    return "testcase", attributes, [*reason_of(plan, node), ("system-out", {}, output)]
 
 
-def judge_xml(plan, text):
+def judge_comments(text, told):
+    """Besides the document's element there are comments, of the warnings before it and of a schedule behind it."""
+    nodes = minidom.parseString(text.encode()).childNodes
+    comments = [f" {line} " for line in [*(f"WARNING {key}" for key in told.warnings), *told.schedule]]
+    same("the comments", [node.data for node in nodes if node.nodeType == node.COMMENT_NODE], comments)
+    same("the element's place", [node.nodeType == node.ELEMENT_NODE for node in nodes].index(True), len(told.warnings))
+    same("the number of nodes", len(nodes), len(comments) + 1)
+
+
+def judge_xml(plan, text, told):
     """Each suite and each case is there, in order, and no other."""
+    judge_comments(text, told)
     root = xml.fromstring(text)
     same("the root", (root.tag, dict(root.attrib)), ("testsuites", {}))
     suites = [node for node in plan.nodes if cases_of(plan, node)]
     same("the number of suites", len(root), len(suites))
-    for told, node in zip(root, suites):
+    bad = tests = 0
+    for given, node in zip(root, suites):
         cases = cases_of(plan, node)
-        ends = [outcome_of(plan, case)[0] for case in cases]
-        failures = ends.count("FAILED")
-        counts = [len(cases), failures, 0, len(cases) - failures - ends.count("SUCCESSFUL")]
-        wanted = dict(zip(("tests", "failures", "errors", "skipped"), map(str, counts)))
-        wanted["name"] = carried(class_name(node))
-        same("a suite", (told.tag, dict(told.attrib)), ("testsuite", wanted))
-        same(f"the cases of {node.id}", [element_of(case) for case in told], [case_of(plan, case, node) for case in cases])
+        ends = [(reason_of(plan, case) or [("passed",)])[0][0] for case in cases]
+        counts = [len(cases), ends.count("failure"), ends.count("error"), ends.count("skipped"), 0]
+        wanted = dict(zip(("tests", "failures", "errors", "skipped", "time"), map(str, counts)))
+        wanted["name"] = carried(class_name(plan, node))
+        same("a suite", (given.tag, dict(given.attrib)), ("testsuite", wanted))
+        same(f"the cases of {node.id}", [element_of(case) for case in given], [case_of(plan, case, node) for case in cases])
+        bad += counts[1] + counts[2]
+        tests += sum(1 for case in cases if case.word != "factory")
+    same("the number of tests", tests, told.tests)
+    same("whether something failed", bad > 0, told.status == 1)
 
 
 def judge_list(plan, text):
-    """Each test but a dynamic one, and each factory."""
-    same("the list", text, "".join(f"{node.id}\n" for node in plan.nodes if node.word in ("test", "factory")))
+    """Each test but a dynamic one, and each factory, unless it is disabled or a node above it is."""
+    units = [node for node in plan.nodes if node.word in ("test", "factory")]
+    run = [node for node in units if not any(above.disabled for above in (node, *node.ancestors()))]
+    same("the list", text, "".join(f"{node.id}\n" for node in run))
+
+
+class Told:
+    """What a run tells people: its warnings, the lines of the feed, its schedule, the tests that it found, and its status."""
+
+    def __init__(self, status, feed, has_schedule, summary):
+        lines = feed.split("\n")[:-1]
+        self.status = status
+        self.warnings = [line[len("WARNING ") :] for line in lines if line.startswith("WARNING ")]
+        self.schedule = lines[-1:] if has_schedule else []
+        self.lines = lines[len(self.warnings) : len(lines) - len(self.schedule)]
+        self.tests = int(next(line for line in summary.split("\n") if "tests found" in line).split()[1])
 
 
 class Reports:
@@ -158,30 +226,38 @@ class Reports:
         self.program = program
         self.passed = self.failed = 0
 
-    def text(self, details, suite):
-        status, text, said = ran(self.program, ["--details", details], suite.encode(), SECONDS_A_RUN)
-        if said or status not in (0, 1):
+    def ran(self, details, suite, *words):
+        status, text, said = ran(self.program, ["--details", details, *words], suite.encode(), SECONDS_A_RUN)
+        is_log = details in ("tree", "summary") and said.startswith(b"Failures (")
+        if (said and not is_log) or status not in (0, 1):
             raise Wrong(f"status {status}: {said.decode(errors='replace')}")
-        return text.decode()
+        return status, text.decode()
+
+    def text(self, details, suite, *words):
+        return self.ran(details, suite, *words)[1]
 
     def judge(self, what, judged):
         try:
             judged()
             self.passed += 1
-        except (Wrong, ValueError, KeyError, xml.ParseError) as why:
+        except (Wrong, ValueError, KeyError, xml.ParseError, ExpatError) as why:
             self.failed += 1
             if self.failed <= MOST_SHOWN:
                 print(f"FAILED {what}: {type(why).__name__} {why}", flush=True)
 
     def suite(self, seed, number):
         """Makes the suite of this number, and judges its reports."""
-        root = OddMaker(Random(f"{seed}/{number}")).plan()
-        suite, plan = text_of(root), Plan(root, False, "same_thread", "same_thread")
+        random = Random(f"{seed}/{number}")
+        root = OddMaker(random).plan()
+        wrong = [f"property {key}=parallel\n" for key in KEYS if random.random() < 0.4]
+        suite, plan = "".join(wrong) + text_of(root), Plan(root, False, "same_thread", "same_thread")
+        words = ["--schedule"] * (random.random() < 0.3)
         name = f"suite {number} of seed {seed}"
-        feed = self.text("testfeed", suite)
-        self.judge(f"{name}, json", lambda: judge_json(plan, self.text("json", suite), feed))
-        self.judge(f"{name}, xml", lambda: judge_xml(plan, self.text("xml", suite)))
-        self.judge(f"{name}, list", lambda: judge_list(plan, self.text("list", suite)))
+        status, feed = self.ran("testfeed", suite, *words)
+        told = Told(status, feed, bool(words), self.text("summary", suite))
+        self.judge(f"{name}, json", lambda: judge_json(plan, self.text("json", suite, *words), told))
+        self.judge(f"{name}, xml", lambda: judge_xml(plan, self.text("xml", suite, *words), told))
+        self.judge(f"{name}, list", lambda: judge_list(plan, self.text("list", suite, *words)))
 
 
 def main():

@@ -55,6 +55,8 @@ fn feed_options(alloc: Global) -> Options {
         },
         params: Params::new(alloc),
         processors: 1,
+        workers: None,
+        spread: None,
         ring: 1024,
         details: Details::Testfeed,
         theme: Theme::Unicode,

@@ -1,17 +1,49 @@
 -- What is said of an answer.
-use Rattle.std.proofs.Common.{ℕ, Bool, List, string_bytes, Option, Some, None, Result, Ok, Err, subst}
+use Rattle.std.proofs.Common.{◌≡◌, ℕ, Bool, true, List, codes, length, take, string_bytes, Option, Some, None, IfOk, Result, Ok, Err, inl, inr, sym, subst}
 use Rattle.std.specs.Io.KnownBytes.{Appends}
+use Rattle.std.specs.Result.{is_ok}
+use Rattle.std.proofs.Math.Seq.{take-length}
+use Rattle.listeners.specs.Sending.{SendsExactly}
+use Rattle.listeners.specs.declared.to_writer.WriteFault.{WriteFault}
+use Rattle.progress.specs.FailedTexts.{failed_of}
+use Rattle.progress.specs.declared.failures.Failures.{Failures}
 use Rattle.launcher.specs.declared.exit_status.ExitStatus.{ExitStatus}
 use Rattle.launch_options.specs.declared.fault.LaunchFault.{LaunchFault}
 use Rattle.messages.specs.Messages.{message_text}
 use Rattle.messages.specs.Sentences.{Sentences}
 use Rattle.messages.specs.declared.message.Message.{Message}
-use Rattle.command_line.specs.Runs.{HasMessage, PrintsMessage, SaysWhy}
+use Rattle.command_line.specs.Runs.{HasMessage, PrintsMessage, SaysFailures, SaysOfRun, SaysWhy}
 
 module _ {E : Type 0} (sentence : Sentences) (said : E → Option (List ℕ)) (quiet told : E) (all : Bool) where
   -- the message that is printed is the answer's
   pub says_why : (answer : Result ExitStatus LaunchFault) (message : Option Message) → HasMessage sentence answer message → PrintsMessage said message quiet told all → SaysWhy said sentence answer quiet told all
-  says_why (Ok status) message none prints = subst (λ (m : Option Message). PrintsMessage said m quiet told all) none prints
+  says_why (Ok status) message none prints = inl (subst (λ (m : Option Message). PrintsMessage said m quiet told all) none prints)
   says_why (Err fault) None has prints = absurd has
   says_why (Err fault) (Some m) has prints =
       (string_bytes m.details, λ whole. subst (λ (text : List ℕ). Appends (said quiet) (said told) (message_text text (string_bytes m.details))) has (prints whole))
+
+  -- and where nothing was refused there is none, so nothing is said
+  pub says_nothing : (answer : Result ExitStatus LaunchFault) (message : Option Message) → HasMessage sentence answer message → PrintsMessage said message quiet told all → IfOk answer (λ status. told ≡ quiet)
+  says_nothing (Ok status) message none prints = subst (λ (m : Option Message). PrintsMessage said m quiet told all) none prints
+  says_nothing (Err fault) message has prints = tt
+
+  -- of a run that was not refused what failed is said behind that
+  pub says_behind : (last : E) (answer : Result ExitStatus LaunchFault) → SaysWhy said sentence answer quiet told all → IfOk answer (λ status. told ≡ quiet) → SaysOfRun said answer told last → SaysWhy said sentence answer quiet last all
+  says_behind last (Ok status) why same more = subst (λ (e : E). SaysFailures said e last) same more
+  says_behind last (Err fault) why same more = subst (λ (e : E). SaysWhy said sentence (Err fault) quiet e all) (sym more) why
+
+module _ {E : Type 0} (said : E → Option (List ℕ)) (old new : E) where
+  -- nothing is said of what was refused, and of a run nothing need be
+  pub nothing_said : (answer : Result ExitStatus LaunchFault) → new ≡ old → SaysOfRun said answer old new
+  nothing_said (Ok status) same = inl same
+  nothing_said (Err fault) same = same
+
+  pub of_run : (answer : Result ExitStatus LaunchFault) → is_ok answer ≡ true → SaysFailures said old new → SaysOfRun said answer old new
+  of_run (Ok status) ok is = is
+  of_run (Err fault) ok is = cc
+
+  -- a text that was handed to the writer stands there as far as this took it
+  pub said_so_far : (failures : Failures) (text : List ℕ) (result : Result (Unit {0}) WriteFault) → text ≡ failed_of (codes "select-unique-id") failures → SendsExactly (said old) (said new) text result → SaysFailures said old new
+  said_so_far failures text (Ok done) is sent =
+      inr (failures, length text, subst (λ (bytes : List ℕ). Appends (said old) (said new) (take (length text) bytes)) is (subst (Appends (said old) (said new)) (sym (take-length text)) sent))
+  said_so_far failures text (Err fault) is sent = inr (failures, fault.sent, subst (λ (bytes : List ℕ). Appends (said old) (said new) (take fault.sent bytes)) is sent.1)

@@ -37,6 +37,7 @@ configuring = fold with_rule filtering (
     repeated (codes "config")
     ∷ repeated (codes "system")
     ∷ single (codes "processors")
+    ∷ single (codes "workers")
     ∷ single (codes "ring")
     ∷ [])
 

@@ -1,5 +1,5 @@
 -- What the program reads and writes by the words of its command line.
-use Rattle.std.specs.Prelude.{◌≡◌, ◌++◌, ℕ, Bool, true, false, List, codes, take, string_bytes, Option, Some, None, IfErr, IfSome, IsSomeAnd, Result, Ok, Err}
+use Rattle.std.specs.Prelude.{◌≡◌, ◌⊎◌, ◌++◌, ℕ, Bool, true, false, List, codes, take, string_bytes, Option, Some, None, IfErr, IfSome, IsSomeAnd, Result, Ok, Err}
 use Rattle.std.specs.Io.KnownBytes.{Appends, Keeps}
 use Rattle.clap.specs.Words.{Text}
 use Rattle.launch_options.specs.Asked.{Asked, asked_by}
@@ -13,6 +13,8 @@ use Rattle.launch_options.specs.declared.fault.LaunchFault.{LaunchFault}
 use Rattle.messages.specs.Messages.{message_text}
 use Rattle.messages.specs.Sentences.{Sentences, sentence_of}
 use Rattle.messages.specs.declared.message.Message.{Message}
+use Rattle.progress.specs.FailedTexts.{failed_of}
+use Rattle.progress.specs.declared.failures.Failures.{Failures}
 use Rattle.suite_text.specs.Reading.Bytes.{suite_read}
 use Rattle.command_line.specs.Words.{ReadsWords}
 use Rattle.command_line.specs.declared.closing.Ending.{Ending}
@@ -62,14 +64,24 @@ module _ {W : Type 0} (contents : W → Option (List ℕ)) where
   PrintsMessage None old new all = new ≡ old
   PrintsMessage (Some said) old new all = WentOut all (contents old) (contents new) (message_text said.sentence.now (string_bytes said.details))
 
-  -- what is said of this answer: nothing where nothing was refused, and else the refusal's sentence among these, and details below it
+  -- nothing is said, or what failed and words that select it, as far as the writer takes that
+  abbrev pub SaysFailures : (old new : W) → Type 0
+  SaysFailures old new = (new ≡ old) ⊎ ((failures : Failures) × (sent : ℕ) × Appends (contents old) (contents new) (take sent (failed_of (codes "select-unique-id") failures)))
+
+  -- and that is said of a run alone that was not refused
+  abbrev pub SaysOfRun : Result ExitStatus LaunchFault → (old new : W) → Type 0
+  SaysOfRun (Ok status) old new = SaysFailures old new
+  SaysOfRun (Err fault) old new = new ≡ old
+
+  -- what is said of this answer: of a run what failed; and where something was refused, the refusal's sentence among these, and details
+  -- below it
   abbrev pub SaysWhy : Sentences → Result ExitStatus LaunchFault → (old new : W) → Bool → Type 0
-  SaysWhy sentence (Ok status) old new all = new ≡ old
+  SaysWhy sentence (Ok status) old new all = SaysFailures old new
   SaysWhy sentence (Err fault) old new all = (details : List ℕ) × WentOut all (contents old) (contents new) (message_text (sentence fault) details)
 
 module _ {W E : Type 0} (sentence : Sentences) (contents : W → Option (List ℕ)) (said : E → Option (List ℕ)) where
-  -- what is done after this answer: a refusal's line is printed unless the writer failed, its message goes to the other writer, and
-  -- the program ends with the number of the answer's status
+  -- what is done after this answer: a refusal's line is printed unless the writer failed, its message, or what failed in a run, goes
+  -- to the other writer, and the program ends with the number of the answer's status
   pub record Closes (answer : Result ExitStatus LaunchFault) (old new : W) (quiet told : E) (ending : Ending) : Type 0 where
     pub line : PrintsLine contents (line_after answer) old new ending.is_printed
     pub message : SaysWhy said sentence answer quiet told ending.is_told
@@ -84,6 +96,6 @@ module _ {R W E : Type 0} (remaining : R → Option (List ℕ)) (contents : W �
     pub run : IsConsoleRun remaining contents words before after left old between answer
     pub closed : Closes sentence_of contents said answer between new quiet told ending
 
-  -- the same on a terminal, on which more is said: how far the run has come, and behind it what failed
+  -- the same on a terminal, on which more is said: how far the run has come
   abbrev pub IsTerminalRun : (words : List Text) (before after : R) (old new : W) (ending : Ending) → Type 0
   IsTerminalRun words before after old new ending = (quiet : E) × (told : E) × IsProgramRun words before after old new quiet told ending

@@ -36,6 +36,6 @@ module _ {B W E : Type 0} (answers : B → List Reply) (contents : W → Option 
     pub runs : RunsTests options old between answer
     pub closed : Closes tests_sentence_of contents said answer between new quiet told ending
 
-  -- the same on a terminal, on which more is said: how far the run has come, and behind it what failed
+  -- the same on a terminal, on which more is said: how far the run has come
   abbrev pub IsTestRunOnTerminal : (words : List Text) (old new : W) (ending : Ending) → Type 0
   IsTestRunOnTerminal words old new ending = (quiet : E) × (told : E) × IsTestRun words old new quiet told ending

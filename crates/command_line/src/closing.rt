@@ -1,14 +1,17 @@
 //! What is said once a run is over.
 
-ghost use Rattle.std.specs.Prelude.{◌≡◌, None, Err};
+ghost use Rattle.std.specs.Prelude.{◌≡◌, None, Err, IfOk, IsTrue, is_ok, true};
 ghost use Rattle.launcher.specs.Closings.{line_after};
 ghost use Rattle.launcher.specs.ExitStatuses.{number_of, status_after};
 ghost use Rattle.messages.specs.Sentences.{sentence_by};
-ghost use Rattle.command_line.specs.Runs.{Closes, PrintsLine, PrintsMessage};
+ghost use Rattle.command_line.specs.Runs.{Closes, PrintsLine, PrintsMessage, SaysFailures, SaysOfRun};
 
 use crate::said::message_after;
-use launcher::{Closing, ExitStatus, LaunchFault};
+use launcher::option_names::SELECT_UNIQUE_ID;
+use launcher::{Closing, Details, ExitStatus, LaunchFault, Options};
+use listeners::print_to;
 use messages::{Message, Subject};
+use progress::{Failures, failed_text};
 use std::alloc::Global;
 use std::io::Write;
 
@@ -73,11 +76,64 @@ pub(crate) fn close_run<W: Write, E: Write>(
     writer: &mut W,
     errors: &mut E,
 ) -> Ending
-    ensures { Closes (sentence_by subject.entry) W.contents E.contents answer writer.old writer.new errors.old errors.new
-        result }
+    ensures closed { Closes (sentence_by subject.entry) W.contents E.contents answer writer.old writer.new errors.old
+        errors.new result }
+    ensures silent { IfOk answer (λ _. errors.new ≡ errors.old) }
 {
     let message = message_after(alloc, answer, words, subject);
     close(answer, message, writer, errors)
+}
+
+/// Whether what failed is said once more: it is behind a tree and behind a summary.
+fn says_failures(answer: Result<ExitStatus, LaunchFault>, options: &Options) -> bool
+    ensures { IsTrue result → is_ok answer ≡ true }
+{
+    answer.is_ok()
+        && options.replay.is_none()
+        && matches!(options.details, Details::Tree | Details::Summary)
+}
+
+/// Says these failures, if there is memory for that, as far as the writer takes it.
+fn print_failures<E: Write>(alloc: Global, failures: &Failures, errors: &mut E)
+    ensures { SaysFailures E.contents errors.old errors.new }
+{
+    if let Ok(text) = failed_text(alloc, SELECT_UNIQUE_ID, failures) {
+        let _ = print_to(errors, text.as_bytes());
+    }
+}
+
+/// Says what failed, where that is said, if something did.
+fn say_failures<E: Write>(
+    alloc: Global,
+    answer: Result<ExitStatus, LaunchFault>,
+    options: &Options,
+    failures: &Failures,
+    errors: &mut E,
+)
+    ensures { SaysOfRun E.contents answer errors.old errors.new }
+{
+    if says_failures(answer, options) && !failures.are_none() {
+        print_failures(alloc, failures, errors);
+    }
+}
+
+/// Says what there is to say after this answer of a run that these words asked for, and of what failed.
+pub(crate) fn close_with_failures<W: Write, E: Write>(
+    alloc: Global,
+    answer: Result<ExitStatus, LaunchFault>,
+    options: &Options,
+    words: &[String],
+    subject: Subject<'_>,
+    failures: &Failures,
+    writer: &mut W,
+    errors: &mut E,
+) -> Ending
+    ensures { Closes (sentence_by subject.entry) W.contents E.contents answer writer.old writer.new errors.old errors.new
+        result }
+{
+    let ending = close_run(alloc, answer, words, subject, writer, errors);
+    say_failures(alloc, answer, options, failures, errors);
+    ending
 }
 
 /// Says what there is to say where the system gave no words, for this reason.

@@ -11,7 +11,7 @@ use launcher::Given;
 use launcher::option_names::{
     CONFIG, DETAILS, DETAILS_THEME, EXCLUDE_TAG, FAIL_FAST, FAIL_IF_NO_TESTS, INCLUDE_TAG,
     PROCESSORS, REPLAY, RING, SCHEDULE, SELECT_CLASS, SELECT_METHOD, SELECT_PACKAGE,
-    SELECT_UNIQUE_ID, SYSTEM,
+    SELECT_UNIQUE_ID, SYSTEM, WORKERS,
 };
 use selectors::SelectorKind;
 use std::alloc::{AllocError, Global};
@@ -106,6 +106,7 @@ pub(crate) fn given_in<'a>(alloc: Global, matches: &ArgMatches<'a>) -> Result<Gi
         config: all_found(alloc, matches, CONFIG)?,
         system: all_found(alloc, matches, SYSTEM)?,
         processors: found(matches, PROCESSORS),
+        workers: found(matches, WORKERS),
         ring: found(matches, RING),
         details: found(matches, DETAILS),
         theme: found(matches, DETAILS_THEME),
@@ -127,6 +128,7 @@ pub(crate) fn nothing_given<'a>(alloc: Global) -> Given<'a>
         config: Vec::new(alloc),
         system: Vec::new(alloc),
         processors: None,
+        workers: None,
         ring: None,
         details: None,
         theme: None,

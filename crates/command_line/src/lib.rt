@@ -2,6 +2,7 @@
 //! one's own.
 #![tactic(auto)]
 
+mod both;
 mod closing;
 mod found;
 mod kept;

@@ -9,7 +9,7 @@ use clap::{Arg, ArgAction, Command};
 use launcher::option_names::{
     CONFIG, DETAILS, DETAILS_THEME, EXCLUDE_TAG, FAIL_FAST, FAIL_IF_NO_TESTS, INCLUDE_TAG,
     PROCESSORS, REPLAY, RING, SCHEDULE, SELECT_CLASS, SELECT_METHOD, SELECT_PACKAGE,
-    SELECT_UNIQUE_ID, SYSTEM,
+    SELECT_UNIQUE_ID, SYSTEM, WORKERS,
 };
 use messages::Subject;
 use std::alloc::{AllocError, Global};
@@ -154,6 +154,14 @@ fn configuring<'a>(alloc: Global, subject: Subject<'_>) -> Result<Command<'a>, A
             alloc,
             PROCESSORS,
             "How many processors there are, 1 to 1024 [default: 1]",
+        ),
+    )?;
+    let command = with(
+        command,
+        single(
+            alloc,
+            WORKERS,
+            "Runs side by side on so many workers, 1 to 64; auto: --processors",
         ),
     )?;
     with(

@@ -8,12 +8,13 @@ ghost use Rattle.messages.specs.Sentences.{sentence_of};
 ghost use Rattle.command_line.specs.Runs.{Closes, IsConsoleRun, IsProgramRun};
 ghost use Rattle.command_line.specs.Words.{ReadsWords};
 
-use crate::closing::{Ending, close_run, refuse};
+use crate::closing::{Ending, close_run, close_with_failures, refuse};
 use crate::kept::{Kept, nothing_kept};
 use crate::system_words::given_words;
 use crate::words::read_options;
-use launcher::{ExitStatus, LaunchFault, Options, run_options};
+use launcher::{ExitStatus, LaunchFault, Options, run_options, run_options_watched};
 use messages::Subject;
+use progress::Failures;
 use std::alloc::Global;
 use std::env::Args;
 use std::io::{self, Read, Write};
@@ -39,7 +40,7 @@ pub fn run_console<T: Threads + Wait + Sync, R: Read, W: Write>(
     answer
 }
 
-/// Runs what these words asked for, and says what there is to say of the answer.
+/// Runs what these words asked for, and says what there is to say of the answer and of what failed.
 fn run_read<T: Threads + Wait + Sync, R: Read, W: Write, E: Write>(
     rt: &T,
     alloc: Global,
@@ -57,14 +58,19 @@ fn run_read<T: Threads + Wait + Sync, R: Read, W: Write, E: Write>(
         reader,
         bytes: nothing_kept(alloc),
     };
-    let answer = run_options(rt, alloc, &options, &mut kept, writer);
-    drop(options);
+    let mut failures = Failures::new(alloc);
+    let answer = run_options_watched(rt, alloc, &options, &mut kept, writer, &mut failures);
     let suite = Subject::Suite(kept.bytes.as_slice());
-    close_run(alloc, answer, words, suite, writer, errors)
+    let ending = close_with_failures(
+        alloc, answer, &options, words, suite, &failures, writer, errors,
+    );
+    drop(options);
+    ending
 }
 
 /// Runs what `run_console` runs, and then prints the line of a refusal, unless the writer failed,
-/// and its message on the other writer.
+/// and its message on the other writer. There what failed is said once more, behind a tree or a
+/// summary, with words that select it.
 pub fn run_words<T: Threads + Wait + Sync, R: Read, W: Write, E: Write>(
     rt: &T,
     alloc: Global,

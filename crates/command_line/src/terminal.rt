@@ -3,19 +3,18 @@
 ghost use Rattle.std.specs.Prelude.{◌≡◌, IfOk, IfErr, Ok, Err, map, string_bytes};
 ghost use Rattle.std.specs.IoError.{error_kind};
 ghost use Rattle.std.specs.Vec.Iter.{into_iter_items};
-ghost use Rattle.messages.specs.Sentences.{sentence_by, sentence_of};
+ghost use Rattle.messages.specs.Sentences.{sentence_of};
 ghost use Rattle.command_line.specs.GivenWords.{IsGivenFault};
 ghost use Rattle.command_line.specs.Runs.{Closes, IsTerminalRun};
 ghost use Rattle.command_line.specs.Words.{ReadsWords};
 
-use crate::closing::{Ending, close_run, refuse};
+use crate::closing::{Ending, close_run, close_with_failures, refuse};
 use crate::kept::{Kept, nothing_kept};
 use crate::system_words::given_words;
 use crate::words::read_options;
-use launcher::option_names::SELECT_UNIQUE_ID;
-use launcher::{Details, ExitStatus, LaunchFault, Options, run_options_watched};
+use launcher::{Details, LaunchFault, Options, run_options_watched};
 use messages::Subject;
-use progress::{Failures, Progress, failed_text};
+use progress::Progress;
 use std::alloc::Global;
 use std::env::Args;
 use std::io::{self, Read, Write};
@@ -26,49 +25,6 @@ use std::time::Clock;
 /// Whether lines are printed while the run goes on.
 pub(crate) fn prints_lines(options: &Options) -> bool {
     options.replay.is_none() && matches!(options.details, Details::Testfeed)
-}
-
-/// Whether what failed is said once more: it is behind a tree and behind a summary.
-fn says_failures(answer: Result<ExitStatus, LaunchFault>, options: &Options) -> bool {
-    answer.is_ok()
-        && options.replay.is_none()
-        && matches!(options.details, Details::Tree | Details::Summary)
-}
-
-/// Says what failed, where that is said, if something did and there is memory to say it.
-fn print_failures<E: Write>(
-    alloc: Global,
-    answer: Result<ExitStatus, LaunchFault>,
-    options: &Options,
-    failures: &Failures,
-    errors: &mut E,
-) {
-    if !says_failures(answer, options) || (failures.are_all && failures.ids.is_empty()) {
-        return;
-    }
-    let ids = failures.ids.as_slice();
-    if let Ok(text) = failed_text(alloc, SELECT_UNIQUE_ID, ids, failures.are_all) {
-        let _ = errors.write_all(text.as_bytes());
-    }
-}
-
-/// Says what there is to say after this answer of a run that these words asked for, and of what failed.
-pub(crate) fn close_drawn<W: Write, E: Write>(
-    alloc: Global,
-    answer: Result<ExitStatus, LaunchFault>,
-    options: &Options,
-    words: &[String],
-    subject: Subject<'_>,
-    failures: &Failures,
-    writer: &mut W,
-    errors: &mut E,
-) -> Ending
-    ensures { (told : E) × Closes (sentence_by subject.entry) W.contents E.contents answer writer.old writer.new
-        errors.old told result }
-{
-    let ending = close_run(alloc, answer, words, subject, writer, errors);
-    print_failures(alloc, answer, options, failures, errors);
-    ending
 }
 
 /// Runs what these words asked for, draws how far it has come, and says what there is to say of the
@@ -94,7 +50,7 @@ fn run_drawn<T: Threads + Wait + Sync, C: Clock + Drop, R: Read, W: Write, E: Wr
     let answer = run_options_watched(rt, alloc, &options, &mut kept, writer, &mut progress);
     let failures = progress.into_failures();
     let suite = Subject::Suite(kept.bytes.as_slice());
-    let ending = close_drawn(
+    let ending = close_with_failures(
         alloc, answer, &options, words, suite, &failures, writer, errors,
     );
     drop(options);

@@ -13,20 +13,23 @@ ghost use Rattle.command_line.specs.Runs.{Closes};
 ghost use Rattle.command_line.specs.TestRuns.{IsTestRun};
 ghost use Rattle.command_line.specs.Words.{ReadsWords};
 
-use crate::closing::{Ending, close_run, refuse};
+use crate::both::Both;
+use crate::closing::{Ending, close_run, close_with_failures, refuse};
 use crate::system_words::given_words;
 use crate::words::read_options;
-use launcher::{LaunchFault, Options, Program, run_jobs};
+use launcher::{LaunchFault, Options, Program, run_jobs_watched};
 use messages::{Subject, said_of_settings};
 use plan_events::Job;
+use progress::Failures;
 use std::alloc::Global;
 use std::env::Args;
 use std::io::{self, Write};
 use std::sync::Wait;
 use std::thread::Threads;
+use worker_pool::Watcher;
 
-/// Runs these jobs as the options say, and says what there is to say of the answer.
-fn run_test_options<B: Job + Send, T: Threads + Wait + Sync, W: Write, E: Write>(
+/// Runs these jobs as the options say, and says what there is to say of the answer and of what failed.
+fn run_test_options<B: Job + Send, T: Threads + Wait + Sync, W: Write, E: Write, V: Watcher>(
     rt: &T,
     alloc: Global,
     options: Options,
@@ -34,6 +37,7 @@ fn run_test_options<B: Job + Send, T: Threads + Wait + Sync, W: Write, E: Write>
     program: Program<B>,
     writer: &mut W,
     errors: &mut E,
+    watcher: &mut V,
 ) -> Ending
     requires jobs { (plan : PlanParts) (workers ring : ℕ) → JobsMayAnswer B.answers
         (run_of plan workers ring program.jobs.items) }
@@ -43,25 +47,35 @@ fn run_test_options<B: Job + Send, T: Threads + Wait + Sync, W: Write, E: Write>
         writer.new errors.old errors.new result }
 {
     let said = said_of_settings(alloc, &options, &program.properties);
-    let answer = run_jobs(rt, alloc, &options, program, writer);
-    drop(options);
+    let mut failures = Failures::new(alloc);
+    let mut both = Both {
+        one: &mut failures,
+        other: watcher,
+    };
+    let answer = run_jobs_watched(rt, alloc, &options, program, writer, &mut both);
     let tests = Subject::Tests(said.as_str());
-    close_run(alloc, answer, words, tests, writer, errors)
+    let ending = close_with_failures(
+        alloc, answer, &options, words, tests, &failures, writer, errors,
+    );
+    drop(options);
+    ending
 }
 
 /// Runs of a program's own tests what the words ask for; the first word is the program's name. What
 /// they ask for is printed, as of a suite. Then the line of a refusal is printed, unless the writer
-/// failed, and its message on the other writer. Words that give no options are refused as
+/// failed, and its message on the other writer, on which what failed is said once more behind a tree
+/// or a summary. Words that give no options are refused as
 /// `read_options` says, and then nothing is run; so is `--schedule` or `--replay`, by 105, since
 /// nobody knows beforehand what the tests answer. Each body of the tree has a job, and whatever plan
-/// is made of the tree, the jobs may answer.
-pub fn run_test_words<B: Job + Send, T: Threads + Wait + Sync, W: Write, E: Write>(
+/// is made of the tree, the jobs may answer. Who watches is shown the run, as one of two watchers.
+pub fn run_test_words<B: Job + Send, T: Threads + Wait + Sync, W: Write, E: Write, V: Watcher>(
     rt: &T,
     alloc: Global,
     words: &[String],
     program: Program<B>,
     writer: &mut W,
     errors: &mut E,
+    watcher: &mut V,
 ) -> Ending
     requires jobs { (plan : PlanParts) (workers ring : ℕ) → JobsMayAnswer B.answers
         (run_of plan workers ring program.jobs.items) }
@@ -70,7 +84,9 @@ pub fn run_test_words<B: Job + Send, T: Threads + Wait + Sync, W: Write, E: Writ
         program.jobs.items (map string_bytes words.now) writer.old writer.new errors.old errors.new result }
 {
     match read_options(alloc, words) {
-        Ok(options) => run_test_options(rt, alloc, options, words, program, writer, errors),
+        Ok(options) => run_test_options(
+            rt, alloc, options, words, program, writer, errors, watcher,
+        ),
         Err(fault) => {
             drop(program);
             close_run(alloc, Err(fault), words, Subject::Tests(""), writer, errors)
@@ -80,13 +96,14 @@ pub fn run_test_words<B: Job + Send, T: Threads + Wait + Sync, W: Write, E: Writ
 
 /// The program: what `run_test_words` does with the words that the system gave. Where it gave none,
 /// that is what is refused. All that is left to do is to end with the status.
-pub fn run_test_program<B: Job + Send, T: Threads + Wait + Sync, W: Write, E: Write>(
+pub fn run_test_program<B: Job + Send, T: Threads + Wait + Sync, W: Write, E: Write, V: Watcher>(
     rt: &T,
     alloc: Global,
     words: io::Result<Args>,
     program: Program<B>,
     writer: &mut W,
     errors: &mut E,
+    watcher: &mut V,
 ) -> Ending
     requires jobs { (plan : PlanParts) (workers ring : ℕ) → JobsMayAnswer B.answers
         (run_of plan workers ring program.jobs.items) }
@@ -99,7 +116,15 @@ pub fn run_test_program<B: Job + Send, T: Threads + Wait + Sync, W: Write, E: Wr
         result) }
 {
     match given_words(alloc, words) {
-        Ok(words) => run_test_words(rt, alloc, words.as_slice(), program, writer, errors),
+        Ok(words) => run_test_words(
+            rt,
+            alloc,
+            words.as_slice(),
+            program,
+            writer,
+            errors,
+            watcher,
+        ),
         Err(fault) => {
             drop(program);
             refuse(alloc, fault, Subject::Tests(""), writer, errors)

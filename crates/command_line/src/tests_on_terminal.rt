@@ -13,9 +13,9 @@ ghost use Rattle.command_line.specs.Runs.{Closes};
 ghost use Rattle.command_line.specs.TestRuns.{IsTestRunOnTerminal};
 ghost use Rattle.command_line.specs.Words.{ReadsWords};
 
-use crate::closing::{Ending, close_run, refuse};
+use crate::closing::{Ending, close_run, close_with_failures, refuse};
 use crate::system_words::given_words;
-use crate::terminal::{close_drawn, prints_lines};
+use crate::terminal::prints_lines;
 use crate::words::read_options;
 use launcher::{LaunchFault, Options, Program, run_jobs_watched};
 use messages::{Subject, said_of_settings};
@@ -52,7 +52,7 @@ fn run_tests_drawn<B: Job + Send, T: Threads + Wait + Sync, C: Clock + Drop, W: 
     let answer = run_jobs_watched(rt, alloc, &options, program, writer, &mut progress);
     let failures = progress.into_failures();
     let tests = Subject::Tests(said.as_str());
-    let ending = close_drawn(
+    let ending = close_with_failures(
         alloc, answer, &options, words, tests, &failures, writer, errors,
     );
     drop(options);

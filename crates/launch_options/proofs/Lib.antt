@@ -1,3 +1,6 @@
 mod Named
+pub mod Crew
+pub mod LongWords
 pub mod Pairing
 pub mod Requesting
+pub mod Usual

@@ -1,5 +1,5 @@
 -- Reading the pairs of words one after the other.
-use Rattle.std.proofs.Common.{◌≡◌, ◌≢◌, ℕ, ◌+◌, ◌<◌, List, [], ◌∷◌, length, take, drop, fold, get_or, Bor, OnOk, Option, Result, Ok, Err, refl, sym, ap, ◌∙◌, arith}
+use Rattle.std.proofs.Common.{◌≡◌, ◌≢◌, ℕ, ◌+◌, ◌<◌, List, [], ◌∷◌, ◌++◌, length, take, drop, fold, get_or, Bor, OnOk, Option, Result, Ok, Err, refl, sym, ap, ◌∙◌, arith}
 use Rattle.std.proofs.lemmas.Bool.{ne_eqb}
 use Rattle.std.proofs.lemmas.List.{drop_more, map-append}
 use Rattle.std.proofs.lemmas.List.Sums.{fold-append}
@@ -44,6 +44,16 @@ with_request params (pair ∷ more) = with_request (with_value params Request pa
 pub with_system : (params : Parameters) (pairs : List Pair) → with_all params System pairs ≡ with_table params System (fold with_pair params.system pairs)
 with_system params [] = refl
 with_system params (pair ∷ more) = with_system (with_value params System pair) more
+
+-- the pairs of more words of the request, behind those of others
+pub more_added : {T E : Type 0} (result : Result T E) (none one two : Parameters) (texts texts_said words : List Text) → texts ≡ texts_said → one ≡ with_all none Request (pairs_in texts)
+    → OnOk result (two ≡ with_all one Request (pairs_in words)) → OnOk result (two ≡ with_all none Request (pairs_in (texts_said ++ words)))
+more_added (Ok done) none one two texts texts_said words same is_one is_two =
+    is_two ∙ ap (λ p. with_all p Request (pairs_in words)) is_one
+    ∙ sym (fold-append (λ all pair. with_value all Request pair) none (pairs_in texts) (pairs_in words))
+    ∙ ap (λ (pairs : List Pair). with_all none Request pairs) (sym (map-append (λ word. (key_of word, value_of word)) texts words))
+    ∙ ap (λ (all : List Text). with_all none Request (pairs_in (all ++ words))) same
+more_added (Err error) none one two texts texts_said words same is_one is_two = tt
 
 -- what the words of both options say
 pub both_said : (none one two : Parameters) (config system : List Pair) → none ≡ nothing_said → one ≡ with_all none Request config → two ≡ with_all one System system

@@ -22,15 +22,18 @@ use Rattle.launch_options.specs.declared.fault.LaunchFault.{LaunchFault}
 use Rattle.launch_options.specs.declared.fault.LaunchFault.TheVariants.{BadWords, BadStep, BadSelector, BadTags}
 use Rattle.step_text.specs.StepTexts.{steps_of}
 use Rattle.launch_options.specs.Given.{Text, Values}
-use Rattle.launch_options.specs.Parameters.{processors_named, ring_named, params_said, params_refusal}
+use Rattle.launch_options.specs.Parameters.{processors_named, ring_named, params_refusal}
+use Rattle.launch_options.specs.Workers.{params_said, unless_twice, workers_asked}
 
--- what is asked for: what is to run, with which parameters and how many processors, how many events may be shown that are not
--- told yet, what is printed and how, whether there have to be tests, whether nothing more is to start once a node has failed, whether
--- the steps of a run are to be printed, and the steps that are to be replayed, if any are
+-- what is asked for: what is to run, with which parameters and how many processors, how many workers `--workers` has said, if it
+-- is given, how many events may be shown that are not told yet, what is printed and how, whether there have to be tests, whether
+-- nothing more is to start once a node has failed, whether the steps of a run are to be printed, and the steps that are to be
+-- replayed, if any are
 pub record Asked : Type 0 where
   pub request : Request
   pub params : Parameters
   pub processors : ℕ
+  pub workers : Option ℕ
   pub ring : ℕ
   pub details : Details
   pub theme : Theme
@@ -45,6 +48,7 @@ asked_by options = record {
   request = options.request;
   params = options.params;
   processors = options.processors;
+  workers = options.workers;
   ring = options.ring;
   details = options.details;
   theme = options.theme;
@@ -165,18 +169,25 @@ names_refusal given =
     option_or (unless_named (processors_named given.processors)) (
     unless_named (ring_named given.ring))))
 
--- why the values are refused: what is asked for by a name or by a number, then the texts that are read, and what says no pair
+-- why `--workers` is refused: for what is no number of workers, and where `--config` says one of its keys too
+abbrev pub workers_refusal : Values → Option LaunchFault
+workers_refusal given = option_or (unless_named (workers_asked given)) (unless_twice given.workers given.config)
+
+-- why the values are refused: what is asked for by a name or by a number, then a number of workers, then the texts that are read,
+-- and what says no pair
 abbrev pub refusal_of : Values → Option LaunchFault
 refusal_of given =
     option_or (names_refusal given) (
+    option_or (workers_refusal given) (
     option_or (texts_refusal given) (
-    params_refusal given))
+    params_refusal given)))
 
 -- the values ask for this
 pub record AreAsked (given : Values) (asked : Asked) : Type 0 where
   pub details : details_named given.details ≡ Some asked.details
   pub theme : theme_named given.theme ≡ Some asked.theme
   pub processors : processors_named given.processors ≡ Some asked.processors
+  pub workers : workers_asked given ≡ Some asked.workers
   pub ring : ring_named given.ring ≡ Some asked.ring
   pub tests : asked.fail_if_no_tests ≡ given.fail_if_no_tests
   pub fail_fast : asked.fail_fast ≡ given.fail_fast
@@ -185,4 +196,4 @@ pub record AreAsked (given : Values) (asked : Asked) : Type 0 where
   pub selectors : asked.request.selectors.items ≡ filter_map spelled given.selectors
   pub include : AreExpressions given.include_tags asked.request.include.items
   pub exclude : AreExpressions given.exclude_tags asked.request.exclude.items
-  pub params : asked.params ≡ params_said given
+  pub params : asked.params ≡ params_said asked.workers given

@@ -15,6 +15,8 @@ use Rattle.step_text.specs.declared.steps.StepsFault.TheVariants as steps
 use Rattle.tag_expr.specs.Faults as tag_faults
 use Rattle.tag_expr.specs.declared.fault.TagFault.{TagFault}
 use Rattle.tag_expr.specs.declared.fault.TagFault.TheVariants as tags
+use Rattle.launch_options.specs.declared.fault.CutCause.TheVariants.{Writer, Memory}
+use Rattle.launch_options.specs.declared.fault.CutOutput.{CutOutput}
 use Rattle.launch_options.specs.declared.fault.LaunchFault.{LaunchFault}
 use Rattle.launch_options.specs.declared.fault.LaunchFault.TheVariants.{NoMemory, Suite, BadWords, BadStep, BadSelector, BadTags, BadPair, BadSettings, NothingMatches, TooManyKeys, TooManyWorkers, NoWorker, Reading, Writing}
 
@@ -33,7 +35,7 @@ number_of TooManyKeys = 50
 number_of TooManyWorkers = 61
 number_of NoWorker = 90
 number_of Reading = 106
-number_of (Writing fault) = 81
+number_of (Writing cut) = 81
 
 -- the place that is printed behind `at`, if there is one
 abbrev pub place_of : LaunchFault → Option ℕ
@@ -43,7 +45,7 @@ place_of (BadSelector number) = Some number
 place_of (BadTags fault) = tag_faults.place fault
 place_of (BadPair fault) = params_faults.place fault
 place_of (NothingMatches number) = Some number
-place_of (Writing fault) = Some fault.sent
+place_of (Writing cut) = Some cut.sent
 place_of _ = None
 
 abbrev pub place_text : Option ℕ → List ℕ
@@ -78,3 +80,11 @@ IsPlanFault plans.TooManyKeys fault = fault ≡ TooManyKeys
 abbrev pub IsSelectFault : SelectFault → LaunchFault → Type 0
 IsSelectFault selections.NoMemory fault = fault ≡ NoMemory
 IsSelectFault (selections.NothingMatches number) fault = fault ≡ NothingMatches number
+
+-- the writer failed behind so many bytes
+abbrev pub cut_by_writer : ℕ → CutOutput
+cut_by_writer sent = record { sent = sent; cause = Writer }
+
+-- so many bytes of a feed were printed, and there was no memory for the rest
+abbrev pub cut_by_memory : ℕ → CutOutput
+cut_by_memory sent = record { sent = sent; cause = Memory }

@@ -16,6 +16,7 @@ pub record Values : Type 0 where
   pub config : List Text
   pub system : List Text
   pub processors : Option Text
+  pub workers : Option Text
   pub ring : Option Text
   pub details : Option Text
   pub theme : Option Text
@@ -45,6 +46,7 @@ values_of given = record {
   config = behind given.config.items;
   system = behind given.system.items;
   processors = maybe_behind given.processors;
+  workers = maybe_behind given.workers;
   ring = maybe_behind given.ring;
   details = maybe_behind given.details;
   theme = maybe_behind given.theme;

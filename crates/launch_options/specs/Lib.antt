@@ -3,3 +3,4 @@ pub mod Faults
 pub mod Given
 pub mod Parameters
 pub mod SettingKeys
+pub mod Workers

@@ -1,9 +1,7 @@
--- What `--config`, `--system`, `--processors` and `--ring` ask for, and why they ask for nothing.
+-- What `--processors` and `--ring` ask for, and why `--config` and `--system` ask for nothing.
 use Rattle.std.specs.Prelude.{ℕ, ◌+◌, ◌==◌, List, [], ◌∷◌, length, map, if◌then◌else◌, Option, Some, None, Result, Ok, Err}
 use Rattle.std.specs.Option.{option_or}
 use Rattle.config_params.specs.Pairs.{Pair, key_of, value_of, pair_of}
-use Rattle.config_params.specs.Parameters.{Parameters}
-use Rattle.config_params.specs.Tables.{table_of}
 use Rattle.config_params.specs.declared.fault.ParamsFault.{ParamsFault}
 use Rattle.suite_text.specs.Numbers.{number_up_to}
 use Rattle.launch_options.specs.declared.fault.LaunchFault.{LaunchFault}
@@ -36,11 +34,6 @@ ring_named text = number_named 16384 1024 text
 -- the pairs of words that are cut at their first equals sign
 abbrev pub pairs_in : List Text → List Pair
 pairs_in words = map (λ word. (key_of word, value_of word)) words
-
--- what the words say: those of `--config` for the request, those of `--system` for the system; of a key that one of the two
--- has again the last value counts
-abbrev pub params_said : Values → Parameters
-params_said given = record { request = table_of (pairs_in given.config); system = table_of (pairs_in given.system); file = [] }
 
 -- refused where a word says no pair, and else where another does not
 abbrev pub unless_pair : Result Pair ParamsFault → Option LaunchFault → Option LaunchFault

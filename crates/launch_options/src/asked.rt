@@ -1,5 +1,6 @@
 //! The options of a run.
 
+ghost use Rattle.launch_options.specs.Workers.{IsSpread};
 ghost use Rattle.run_table.specs.Prepared.{IsRightRing};
 
 use crate::details::Details;
@@ -18,6 +19,11 @@ pub struct Options {
     pub params: Params,
     /// How many processors the machine is taken to have.
     pub processors: u32,
+    /// How many workers `--workers` has asked for, if it is given; `params` says it too.
+    pub workers: Option<u32>,
+    /// With `--workers` the same as `params`, and below it that nodes are concurrent: it stands over
+    /// a suite, or a program, that says no mode.
+    pub spread: Option<Params>,
     /// How many events of a run on threads may be shown that were not told yet, from 1 to 16,384.
     pub ring: u32,
     pub details: Details,
@@ -33,4 +39,5 @@ pub struct Options {
     /// whatever the details are.
     pub replay: Option<Vec<Step>>,
     pub ghost right_ring: { IsRightRing ring },
+    pub ghost is_spread: { IsSpread params workers spread },
 }

@@ -2,7 +2,7 @@
 
 ghost use Rattle.std.specs.Prelude.{◌≡◌};
 ghost use Rattle.launch_options.specs.Faults.{number_of, place_of, IsPlanFault, IsSelectFault, IsStepsFault};
-ghost use Rattle.launch_options.specs.Faults.{IsSuiteFault, IsTagFault};
+ghost use Rattle.launch_options.specs.Faults.{IsSuiteFault, IsTagFault, cut_by_writer};
 ghost use Rattle.launch_options.specs.declared.fault.LaunchFault.TheVariants.{NoMemory, BadSettings, Writing};
 
 use config_params::{ParamsFault, SettingsFault};
@@ -15,6 +15,22 @@ use std::fmt;
 use step_text::StepsFault;
 use suite_text::SuiteFault;
 use tag_expr::TagFault;
+
+/// Why a writer has the first bytes of an output alone.
+#[derive(Clone, Copy, Debug, PartialEq, Eq)]
+pub enum CutCause {
+    /// The writer failed, or took nothing.
+    Writer,
+    /// There was no memory for the rest of a feed that was printed in part.
+    Memory,
+}
+
+/// An output of which the writer took so many bytes, and not all.
+#[derive(Clone, Copy, Debug, PartialEq, Eq)]
+pub struct CutOutput {
+    pub sent: usize,
+    pub cause: CutCause,
+}
 
 /// Why a launch was refused, or broke off. `{}` writes `error`, the number, and behind `at`
 /// the place where there is one.
@@ -48,7 +64,7 @@ pub enum LaunchFault {
     /// Refusal 106: the reader failed.
     Reading,
     /// Refusal 81, at the number of bytes that the writer took.
-    Writing(WriteFault),
+    Writing(CutOutput),
 }
 
 impl From<AllocError> for LaunchFault {
@@ -131,10 +147,13 @@ impl<T: Drop> From<AllocFailed<T>> for LaunchFault {
 }
 
 impl From<WriteFault> for LaunchFault {
-    ghost from_gives = { λ cause fault. fault ≡ Writing cause };
+    ghost from_gives = { λ cause fault. fault ≡ Writing (cut_by_writer cause.sent) };
 
     fn from(cause: WriteFault) -> LaunchFault {
-        LaunchFault::Writing(cause)
+        LaunchFault::Writing(CutOutput {
+            sent: cause.sent,
+            cause: CutCause::Writer,
+        })
     }
 }
 
@@ -190,7 +209,7 @@ impl LaunchFault {
             | LaunchFault::NothingMatches(number) => Some(*number as u64),
             LaunchFault::BadTags(fault) => fault.place().map(|place| place as u64),
             LaunchFault::BadPair(fault) => fault.place(),
-            LaunchFault::Writing(fault) => Some(fault.sent as u64),
+            LaunchFault::Writing(cut) => Some(cut.sent as u64),
             _ => None,
         }
     }

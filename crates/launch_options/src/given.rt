@@ -19,6 +19,8 @@ pub struct Given<'a> {
     pub system: Vec<&'a str>,
     /// `--processors`.
     pub processors: Option<&'a str>,
+    /// `--workers`.
+    pub workers: Option<&'a str>,
     /// `--ring`.
     pub ring: Option<&'a str>,
     /// `--details`.

@@ -11,11 +11,13 @@ mod options;
 mod parameters;
 mod setting_keys;
 mod themes;
+mod workers;
 
 pub use asked::Options;
 pub use details::Details;
-pub use fault::LaunchFault;
+pub use fault::{CutCause, CutOutput, LaunchFault};
 pub use given::Given;
 pub use parameters::{processors_named, ring_named};
 pub use setting_keys::{key_judged, strategy_names};
 pub use themes::{theme_names, theme_of};
+pub use workers::{has_long_key, workers_named};

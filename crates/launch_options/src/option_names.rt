@@ -18,6 +18,8 @@ pub const SYSTEM: &str = "system";
 
 pub const PROCESSORS: &str = "processors";
 
+pub const WORKERS: &str = "workers";
+
 pub const RING: &str = "ring";
 
 pub const DETAILS: &str = "details";

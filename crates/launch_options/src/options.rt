@@ -1,6 +1,6 @@
 //! What each value means that words give the options of a run.
 
-ghost use Rattle.std.specs.Prelude.{◌≡◌, ◌≢◌, Some, None, option_map, IfOk, IfErr, OnOk};
+ghost use Rattle.std.specs.Prelude.{◌≡◌, ◌≢◌, ℕ, Some, None, option_map, IfOk, IfErr, OnOk};
 ghost use Rattle.std.specs.List.{filter_map};
 ghost use Rattle.std.specs.Option.{option_or};
 ghost use Rattle.launch_options.specs.declared.fault.LaunchFault.TheVariants.{NoMemory};
@@ -10,6 +10,7 @@ ghost use Rattle.launch_options.specs.Asked.{unless_named, IsReplay, refusal_of,
 ghost use Rattle.launch_options.specs.Asked.{AreExpressions, names_refusal, texts_refusal};
 ghost use Rattle.launch_options.specs.Parameters.{params_refusal};
 ghost use Rattle.launch_options.specs.Parameters.{processors_named as processors_of_name, ring_named as ring_of_name};
+ghost use Rattle.launch_options.specs.Workers.{in_long_words, workers_asked};
 ghost use Rattle.run_table.specs.Prepared.{IsRightRing};
 
 use crate::asked::Options;
@@ -19,6 +20,7 @@ use crate::given::Given;
 use crate::judged::judge_texts;
 use crate::parameters::{judge_params, params_given, processors_named, ring_named};
 use crate::themes::theme_of;
+use crate::workers::{spread_given, workers_given};
 use config_params::Params;
 use listeners::Theme;
 use scheduling::Step;
@@ -167,23 +169,32 @@ fn judge_values(alloc: Global, given: &Given<'_>) -> Result<(), LaunchFault>
     judge_params(given)
 }
 
-/// The options of values that were judged, with these choices among them.
-fn options_of(alloc: Global, given: &Given<'_>, choices: Choices) -> Result<Options, AllocError>
+/// The options of values that were judged, with these choices and so many workers among them.
+fn options_of(
+    alloc: Global,
+    given: &Given<'_>,
+    choices: Choices,
+    workers: Option<u32>,
+) -> Result<Options, AllocError>
     requires details { details_of_name (maybe_behind given.now.details) ≡ Some choices.details }
     requires theme { theme_of_name (maybe_behind given.now.theme) ≡ Some choices.theme }
     requires processors { processors_of_name (maybe_behind given.now.processors) ≡ Some choices.processors }
     requires ring { ring_of_name (maybe_behind given.now.ring) ≡ Some choices.ring }
     requires right { IsRightRing choices.ring }
+    requires workers { workers_asked (values_of given.now) ≡ Some workers }
     ensures asked { IfOk result (λ options. AreAsked (values_of given.now) (asked_by options)) }
 {
     // what ends soonest is read first, so that little is alive where memory runs out
     let replay = replay_named(alloc, given.replay)?;
     let request = request_of(alloc, given)?;
-    let params = params_given(alloc, given)?;
+    let params = params_given(alloc, given, workers)?;
+    let spread = spread_given(alloc, given, workers)?;
     Ok(Options {
         request,
         params,
         processors: choices.processors,
+        workers,
+        spread,
         ring: choices.ring,
         details: choices.details,
         theme: choices.theme,
@@ -196,8 +207,9 @@ fn options_of(alloc: Global, given: &Given<'_>, choices: Choices) -> Result<Opti
 
 impl Options {
     /// The options that these values ask for. Details and themes that are none of ours are refusal
-    /// 105, and so is what is no number of processors from 1 to 1,024, and what is no number of
-    /// places of the ring from 1 to 16,384; then a word in the text of `--replay` that names no
+    /// 105, and so is what is no number of processors from 1 to 1,024, what is no number of places of
+    /// the ring from 1 to 16,384, and what is no number of workers from 1 to 64 and not `auto`, or
+    /// stands beside one of its keys in `--config`; then a word in the text of `--replay` that names no
     /// step is refusal 104, at its number; then a text that spells no selector is refusal 40, at
     /// the selector's number; then an expression of `--include-tag`, and then of `--exclude-tag`,
     /// is one of 20 to 26, at a place in it; then a word of `--config` or `--system` that has no
@@ -206,12 +218,16 @@ impl Options {
     /// any of them is kept, so want of memory stands in their place nowhere.
     pub fn of(alloc: Global, given: &Given<'_>) -> Result<Options, LaunchFault>
         ensures asked { IfOk result (λ options. AreAsked (values_of given.now) (asked_by options)) }
+        // `--workers` asks for just what its long words ask for.
+        ensures workers { IfOk result (λ options. (number : ℕ) → options.workers ≡ Some number →
+            AreAsked (in_long_words number (values_of given.now)) (record (asked_by options) { workers = None })) }
         ensures accepted { IfOk result (λ _. refusal_of (values_of given.now) ≡ None) }
         ensures refused { IfErr result (λ fault. fault ≢ NoMemory → refusal_of (values_of given.now) ≡ Some fault) }
         ensures no_memory { IfErr result (λ fault. fault ≡ NoMemory → refusal_of (values_of given.now) ≡ None) }
     {
         let choices = choices_of(given)?;
+        let workers = workers_given(given, choices.processors)?;
         judge_values(alloc, given)?;
-        Ok(options_of(alloc, given, choices)?)
+        Ok(options_of(alloc, given, choices, workers)?)
     }
 }

@@ -1,6 +1,6 @@
-//! What `--config`, `--system`, `--processors` and `--ring` ask for.
+//! What `--config`, `--system`, `--processors` and `--ring` ask for, and with `--config` `--workers`.
 
-ghost use Rattle.std.specs.Prelude.{◌≡◌, ◌≢◌, ◌+◌, ◌^◌, ◌<◌, ◌≤◌, Some, None, fold, length, IfOk, IfErr, OnOk};
+ghost use Rattle.std.specs.Prelude.{◌≡◌, ◌≢◌, ◌+◌, ◌++◌, ◌^◌, ◌<◌, ◌≤◌, Some, None, fold, length, IfOk, IfErr, OnOk};
 ghost use Rattle.config_params.specs.Pairs.{key_of, value_of};
 ghost use Rattle.config_params.specs.Parameters.{nothing_said, with_value};
 ghost use Rattle.launch_options.specs.declared.fault.LaunchFault.TheVariants.{NoMemory};
@@ -8,11 +8,13 @@ ghost use Rattle.launch_options.specs.Asked.{unless_named};
 ghost use Rattle.launch_options.specs.Given.{behind, maybe_behind, values_of};
 ghost use Rattle.launch_options.specs.Parameters.{without_plus, number_named as number_of_name};
 ghost use Rattle.launch_options.specs.Parameters.{processors_named as processors_of_name, ring_named as ring_of_name};
-ghost use Rattle.launch_options.specs.Parameters.{pairs_in, params_said, pairs_refusal, params_refusal};
+ghost use Rattle.launch_options.specs.Parameters.{pairs_in, pairs_refusal, params_refusal};
+ghost use Rattle.launch_options.specs.Workers.{params_said, words_for};
 ghost use Rattle.run_table.specs.Prepared.{IsRightRing};
 
 use crate::fault::LaunchFault;
 use crate::given::Given;
+use crate::workers::add_workers;
 use config_params::{Params, Source, pair_of};
 use std::alloc::{AllocError, Global};
 use suite_text::number_up_to;
@@ -40,7 +42,11 @@ fn without_plus(text: &str) -> &str
 }
 
 /// What an option asks for that is a number from 1 to this most, and this one where it is not given.
-fn number_named(most: u32, otherwise: u32, text: Option<&str>) -> Result<u32, LaunchFault>
+pub(crate) fn number_named(
+    most: u32,
+    otherwise: u32,
+    text: Option<&str>,
+) -> Result<u32, LaunchFault>
     requires some { 0 < otherwise }
     requires few { otherwise ≤ most }
     ensures named { IfOk result (λ number. number_of_name most otherwise (maybe_behind text.entry) ≡ Some number) }
@@ -119,7 +125,7 @@ fn add_pair(
 }
 
 /// Puts the pairs that words say into a source.
-fn add_pairs(
+pub(crate) fn add_pairs(
     alloc: Global,
     params: &mut Params,
     source: Source,
@@ -134,20 +140,44 @@ fn add_pairs(
     Ok(())
 }
 
-/// Puts what `--config` and `--system` say into parameters that say nothing yet.
-fn add_given(alloc: Global, params: &mut Params, given: &Given<'_>) -> Result<(), AllocError>
-    requires none { params.old ≡ nothing_said }
-    ensures said { OnOk result (params.new ≡ params_said (values_of given.now)) }
+/// Puts into what the request says the words of `--config`, and behind them those that `--workers`
+/// stands for.
+fn add_request(
+    alloc: Global,
+    params: &mut Params,
+    given: &Given<'_>,
+    workers: Option<u32>,
+) -> Result<(), AllocError>
+    ensures said { OnOk result (params.new ≡ fold (λ all pair. with_value all Source.Request pair) params.old
+        (pairs_in (behind given.now.config.items ++ words_for workers))) }
 {
     add_pairs(alloc, params, Source::Request, given.config.as_slice())?;
+    add_workers(alloc, params, workers)
+}
+
+/// Puts what `--config`, `--workers` and `--system` say into parameters that say nothing yet.
+fn add_given(
+    alloc: Global,
+    params: &mut Params,
+    given: &Given<'_>,
+    workers: Option<u32>,
+) -> Result<(), AllocError>
+    requires none { params.old ≡ nothing_said }
+    ensures said { OnOk result (params.new ≡ params_said workers (values_of given.now)) }
+{
+    add_request(alloc, params, given, workers)?;
     add_pairs(alloc, params, Source::System, given.system.as_slice())
 }
 
-/// What `--config` and `--system` say.
-pub(crate) fn params_given(alloc: Global, given: &Given<'_>) -> Result<Params, AllocError>
-    ensures said { IfOk result (λ params. params ≡ params_said (values_of given.now)) }
+/// What `--config`, `--workers` and `--system` say.
+pub(crate) fn params_given(
+    alloc: Global,
+    given: &Given<'_>,
+    workers: Option<u32>,
+) -> Result<Params, AllocError>
+    ensures said { IfOk result (λ params. params ≡ params_said workers (values_of given.now)) }
 {
     let mut params = Params::new(alloc);
-    add_given(alloc, &mut params, given)?;
+    add_given(alloc, &mut params, given, workers)?;
     Ok(params)
 }

@@ -9,16 +9,29 @@ ghost use Rattle.launch_options.specs.SettingKeys.{key_judged};
 
 use config_params::SettingsFault;
 
+/// Whether parallel execution is enabled.
+pub(crate) const ENABLED: &str = "junit.jupiter.execution.parallel.enabled";
+
+/// The mode of nodes that have none of their own.
+pub(crate) const MODE: &str = "junit.jupiter.execution.parallel.mode.default";
+
+/// How the number of workers is found.
+pub(crate) const STRATEGY: &str = "junit.jupiter.execution.parallel.config.strategy";
+
+/// The number of workers of the strategy `fixed`.
+pub(crate) const PARALLELISM: &str = "junit.jupiter.execution.parallel.config.fixed.parallelism";
+
+/// The workers for each processor of the strategy `dynamic`.
+const FACTOR: &str = "junit.jupiter.execution.parallel.config.dynamic.factor";
+
 /// The key whose value this refusal is about.
 pub fn key_judged(fault: SettingsFault) -> &'static str
     ensures { result.now ≡ key_judged fault }
 {
     match fault {
-        SettingsFault::BadStrategy => "junit.jupiter.execution.parallel.config.strategy",
-        SettingsFault::BadParallelism => {
-            "junit.jupiter.execution.parallel.config.fixed.parallelism"
-        }
-        SettingsFault::BadFactor => "junit.jupiter.execution.parallel.config.dynamic.factor",
+        SettingsFault::BadStrategy => STRATEGY,
+        SettingsFault::BadParallelism => PARALLELISM,
+        SettingsFault::BadFactor => FACTOR,
     }
 }
 

@@ -17,15 +17,15 @@ use Rattle.expected_output.proofs.PrintedAsExpected.{printed_as_expected}
 use Rattle.scheduling.proofs.OnlyHistory.{only_history, as_expected}
 use Rattle.run_table.specs.Balance.{IsBalanced}
 use Rattle.table_rule.specs.Picture.{replies_of}
-use Rattle.worker_pool.specs.Reports.{run_of, AreParts, AreTexts, IsReport}
+use Rattle.worker_pool.specs.Reports.{run_of, AreTexts, IsReport}
 use Rattle.worker_pool.specs.Watching.{HasSeenMore}
 use Rattle.launch_options.specs.Asked.{Asked}
 use Rattle.launcher.specs.declared.exit_status.ExitStatus.{ExitStatus}
 use Rattle.launcher.specs.ExitStatuses.{status_of_run}
-use Rattle.launcher.specs.Programs.{one_each, IsHistoryBy, IsJobsOutput}
+use Rattle.launcher.specs.Programs.{one_each, IsHistoryBy, IsPrintedJobs}
 use Rattle.launcher.specs.Reports.{details_of}
-use Rattle.launcher.specs.WarningTexts.{warning_lines}
-use Rattle.launcher.specs.Watched.{HasWatchedInVain}
+use Rattle.launcher.specs.WarningTexts.{head_of}
+use Rattle.launcher.specs.Watched.{HasSeenPrinted, SomeOutput}
 use Rattle.launcher.proofs.Answered.{said, legal_said, said_given, texts_said}
 use Rattle.launcher.proofs.Reporting.{expected_output}
 
@@ -55,19 +55,17 @@ module _ {B : Type 0} (answers : B → List Reply) (asked : Asked) (settings : S
   printed_so : p.fail_fast ≡ false → IsPrintedAsExpected p answered history texts
   printed_so calm = printed_as_expected p tree answered (one_each answered) (λ job. refl) calm settings.workers history published.legal published.complete texts (texts_said p tree may settings.workers history texts report.legal told)
 
-  pub jobs_output : (Behind : List Event → List ℕ → Type 0) (lists : List (List Event)) → AreParts settings.workers history lists → (left : List (ℕ × B)) → IsBalanced p jobs history left → (behind text : List ℕ) (status : ExitStatus) → Behind history behind
-      → text ≡ warning_lines settings.warnings ++ (details_of asked.details asked.theme p texts history ++ behind) → status ≡ status_of_run asked.fail_if_no_tests (tests_found p history) (has_failed p history) → IsJobsOutput answers Behind asked settings p jobs text status
-  jobs_output Behind lists mine left balanced behind text status is_behind printed exits = record {
-    history = history;
-    texts = texts;
+  -- this is what is printed of it
+  pub printed_jobs : (Behind : List Event → List ℕ → Type 0) (left : List (ℕ × B)) → IsBalanced p jobs history left → (behind text : List ℕ) (status : ExitStatus) → Behind history behind
+      → text ≡ head_of asked.details settings.warnings ++ (details_of asked.details asked.theme p texts history ++ behind) → status ≡ status_of_run asked.fail_if_no_tests (tests_found p history) (has_failed p history)
+      → IsPrintedJobs answers Behind asked settings p jobs history texts text status
+  printed_jobs Behind left balanced behind text status is_behind printed exits = record {
     may_be = report.legal;
     may_say = told;
     reply = answered;
     given = said_given p tree may settings.workers history texts report.legal told;
     published = published;
     are = texts_said p tree may settings.workers history texts report.legal told;
-    lists = lists;
-    mine = mine;
     left = left;
     balanced = balanced;
     behind = behind;
@@ -78,14 +76,13 @@ module _ {B : Type 0} (answers : B → List Reply) (asked : Asked) (settings : S
   }
 
   -- whoever watches has seen a run of which no report was made
-  pub jobs_in_vain : {L : Type 0} (saw : PlanParts → L → L → List Telling → Type 0) (first now : L) → HasSeenMore saw p (tellings_of texts history) first now → (lists : List (List Event)) → AreParts settings.workers history lists → (left : List (ℕ × B))
-      → IsBalanced p jobs history left → (Behind : List Event → List ℕ → Type 0) → (behind : List ℕ) × Behind history behind → HasWatchedInVain saw (IsJobsOutput answers Behind asked settings p jobs) asked settings p first now
-  jobs_in_vain saw first now seen lists mine left balanced Behind some_behind =
-      let text = warning_lines settings.warnings ++ (details_of asked.details asked.theme p texts history ++ some_behind.0) in
+  pub jobs_in_vain : {L : Type 0} (saw : PlanParts → L → L → List Telling → Type 0) (first now : L) → HasSeenMore saw p (tellings_of texts history) first now → (left : List (ℕ × B)) → IsBalanced p jobs history left → (Behind : List Event → List ℕ → Type 0)
+      → (behind : List ℕ) × Behind history behind → SomeOutput (HasSeenPrinted saw (IsPrintedJobs answers Behind asked settings p jobs) p first now)
+  jobs_in_vain saw first now seen left balanced Behind some_behind =
+      let text = head_of asked.details settings.warnings ++ (details_of asked.details asked.theme p texts history ++ some_behind.0) in
       let status = status_of_run asked.fail_if_no_tests (tests_found p history) (has_failed p history) in
       record {
         text = text;
         status = status;
-        output = jobs_output Behind lists mine left balanced some_behind.0 text status some_behind.1 refl refl;
-        watched = record { history = history; texts = texts; behind = some_behind.0; ends = report.ends; printed = refl; seen = seen };
+        output = record { history = history; texts = texts; prints = printed_jobs Behind left balanced some_behind.0 text status some_behind.1 refl refl; seen = seen };
       }

@@ -4,7 +4,9 @@ use Rattle.std.specs.Prelude.{nat_lt, Bool, true, false, if◌then◌else◌}
 use borrow.Author.Tests.{tests}
 use Rattle.std.specs.Result.{IsErrAnd}
 use Rattle.std.specs.Io.KnownBytes.{IsAtEnd}
+use Rattle.resource_locks.specs.Plans.{PlanParts}
 use Rattle.resource_locks.specs.Spares.{HasBareSpares}
+use Rattle.listeners.specs.Listeners.{Telling}
 use Rattle.suite_text.specs.Reading.Bytes.{suite_read}
 use Rattle.suite_text.specs.Reading.Parts.{SuiteParts}
 use Rattle.suite_text.specs.Suites.{suite_parts}
@@ -15,7 +17,7 @@ use Rattle.launch_options.specs.Asked.{Asked}
 use Rattle.launcher.specs.Bytes.{ReadsFront, BreaksOff}
 use Rattle.launch_options.specs.Faults.{IsSuiteFault}
 use Rattle.launcher.specs.Faults.{IsReadFault}
-use Rattle.launcher.specs.Runs.{EndsAs, FailsToRead, IsRun, IsSuiteRun, ReadsSuite, TakesFrom, fault_in}
+use Rattle.launcher.specs.Runs.{EndsAs, FailsToRead, IsRun, IsSeenRun, IsSeenSuiteRun, IsSuiteRun, ReadsSuite, TakesFrom, fault_in}
 use Rattle.launcher.specs.declared.bytes.ReadFault.{ReadFault}
 use Rattle.launcher.specs.declared.bytes.ReadFault.TheVariants as reads
 use Rattle.launcher.specs.declared.exit_status.ExitStatus.{ExitStatus}
@@ -100,13 +102,6 @@ module _ (old new : Option (List ℕ)) where
   takes_refused bytes cause (Ok suite) is few front judged = absurd is
   takes_refused bytes cause (Err fault) is few front judged = takes_whole bytes (Some fault) (λ read. ReadsSuite (suite_read read) (Err fault)) front (not_reading cause fault is) (out_of_memory bytes cause fault is few) judged
 
-  -- where no suite was read nothing is run
-  pub takes_unread : (asked : Asked) (was is : Option (List ℕ)) (fault : LaunchFault) (result : Result ExitStatus LaunchFault) → IsErrAnd result (λ e. e ≡ fault)
-      → TakesFrom old new (Some fault) (λ read. FailsToRead (suite_read read) fault) → TakesFrom old new (fault_in result) (λ read. IsRun asked (suite_read read) was is result)
-  takes_unread asked was is fault (Ok status) same taken = absurd same
-  takes_unread asked was is fault (Err e) same taken =
-      rw same (takes_as (Some fault) (Some fault) (λ read. FailsToRead (suite_read read) fault) (λ read. IsRun asked (suite_read read) was is (Err fault)) (λ read fails. run_unread asked was is fault (suite_read read) (Err fault) refl fails) (λ read fails ends. ends) taken)
-
   -- a run of the suite that was read: it does not fail as a reader does
   ends_run : (asked : Asked) (suite : SuiteParts) (was is : Option (List ℕ)) (result : Result ExitStatus LaunchFault) → IsSuiteRun asked suite was is result → fault_in result ≢ Some Reading
   ends_run asked suite was is (Ok status) run same = cc
@@ -126,9 +121,24 @@ module _ (old new : Option (List ℕ)) where
   ends_run asked suite was is (Err (Writing f)) run same = cc
 
   -- a suite was read, and run
-  pub takes_run : (asked : Asked) (suite : Suite) (was is : Option (List ℕ)) (result : Result ExitStatus LaunchFault) → HasBareSpares suite.tree → IsSuiteRun asked (suite_parts suite) was is result
-      → TakesFrom old new None (λ read. ReadsSuite (suite_read read) (Ok suite)) → TakesFrom old new (fault_in result) (λ read. IsRun asked (suite_read read) was is result)
-  takes_run asked suite was is result bare run taken =
-      takes_as None (fault_in result) (λ read. ReadsSuite (suite_read read) (Ok suite)) (λ read. IsRun asked (suite_read read) was is result)
-      (λ read ok. run_read asked was is suite (suite_read read) result ok bare run)
+  pub takes_run : (asked : Asked) (suite : Suite) (was is : Option (List ℕ)) (result : Result ExitStatus LaunchFault) (Comes : List ℕ → Type 0) → IsSuiteRun asked (suite_parts suite) was is result
+      → ((bytes : List ℕ) → ReadsSuite (suite_read bytes) (Ok suite) → Comes bytes) → TakesFrom old new None (λ read. ReadsSuite (suite_read read) (Ok suite)) → TakesFrom old new (fault_in result) Comes
+  takes_run asked suite was is result Comes run comes taken =
+      takes_as None (fault_in result) (λ read. ReadsSuite (suite_read read) (Ok suite)) Comes comes
       (λ read ok end. ends_whole (fault_in result) (length read) new (ends_run asked (suite_parts suite) was is result run) (λ same. read_small read (suite_parts suite) ok) end) taken
+
+  -- and where none was read nothing is run
+  pub takes_none : (fault : LaunchFault) (result : Result ExitStatus LaunchFault) (Comes : List ℕ → Type 0) → IsErrAnd result (λ e. e ≡ fault) → ((bytes : List ℕ) → FailsToRead (suite_read bytes) fault → Comes bytes)
+      → TakesFrom old new (Some fault) (λ read. FailsToRead (suite_read read) fault) → TakesFrom old new (fault_in result) Comes
+  takes_none fault (Ok status) Comes same comes taken = absurd same
+  takes_none fault (Err e) Comes same comes taken = rw same (takes_as (Some fault) (Some fault) (λ read. FailsToRead (suite_read read) fault) Comes comes (λ read fails ends. ends) taken)
+
+module _ {L : Type 0} (saw : PlanParts → L → L → List Telling → Type 0) (first now : L) (asked : Asked) (old new : Option (List ℕ)) where
+  -- a suite was read, and this is the answer of a run that somebody watches
+  pub seen_read : (suite : Suite) (read : Result SuiteParts SuiteFault) (result : Result ExitStatus LaunchFault) → ReadsSuite read (Ok suite) → HasBareSpares suite.tree → IsSeenSuiteRun saw first now asked (suite_parts suite) old new result → IsSeenRun saw first now asked read old new result
+  seen_read suite read result is bare run = record { loaded = Ok suite; reads = is; runs = (bare, run); unread = tt }
+
+  -- no suite was read
+  pub seen_unread : (fault : LaunchFault) (read : Result SuiteParts SuiteFault) (result : Result ExitStatus LaunchFault) → IsErrAnd result (λ e. e ≡ fault) → now ≡ first → FailsToRead read fault → IsSeenRun saw first now asked read old new result
+  seen_unread fault read (Ok status) same still fails = absurd same
+  seen_unread fault read (Err e) same still fails = record { loaded = Err fault; reads = fails; runs = ap Err same; unread = still }

@@ -1,12 +1,15 @@
 pub mod Answered
+pub mod BrokenOff
 pub mod JobsRan
 pub mod Launching
 pub mod Planning
 pub mod ProgramRuns
+pub mod ProgramShown
 pub mod Reading
 pub mod Replaying
 pub mod Reporting
 pub mod Scripting
+pub mod Seen
 pub mod SeenBeside
 pub mod Selected
 pub mod Showing

@@ -27,8 +27,8 @@ use Rattle.selectors.specs.declared.select_fault.SelectFault.TheVariants as sele
 use Rattle.suite_text.specs.Reading.Parts.{SuiteParts}
 use Rattle.launch_options.specs.Asked.{Asked}
 use Rattle.launch_options.specs.Faults.{IsPlanFault, IsSelectFault}
-use Rattle.launcher.specs.Reports.{IsOutput}
-use Rattle.launcher.specs.Runs.{FailsSuite, IsReady, IsSuiteOutput, IsUnrun, TakesMemory, answers_of, crowd_refusal, keys_refusal, plan_of, plan_refusal, run_refusal, selection_fault, selection_refusal, settings_in, settings_refusal, workers_refusal}
+use Rattle.launcher.specs.Watched.{LacksBy, is_run}
+use Rattle.launcher.specs.Runs.{FailsSuite, IsReady, IsSuiteOutputBy, IsUnrun, TakesMemory, answers_of, crowd_refusal, keys_refusal, plan_of, plan_refusal, run_refusal, selection_fault, selection_refusal, settings_in, settings_refusal, workers_refusal}
 use Rattle.launcher.specs.declared.exit_status.ExitStatus.{ExitStatus}
 use Rattle.launch_options.specs.declared.fault.LaunchFault.{LaunchFault}
 use Rattle.launch_options.specs.declared.fault.LaunchFault.TheVariants.{NoMemory, Suite as OfSuite, BadWords, BadStep, BadSelector, BadTags, BadPair, BadSettings, NothingMatches, TooManyKeys, TooManyWorkers, NoWorker, Reading, Writing}
@@ -165,16 +165,20 @@ module _ (asked : Asked) (suite : SuiteParts) (settings : Settings) (plan : Plan
       after_settings (Ok s) is none = none
       after_settings (Err f) is none = cc
 
-  -- a run that is not begun
-  pub ready_unrun : (fault : LaunchFault) → IsUnrun asked fault → FailsSuite asked suite fault
-  ready_unrun fault why = elim why [ inl memory ↦ rw memory ready_takes | inr none ↦ rw none.0 (ready.accepted, none.1) ]
+  unrun_by : (b : Bool) → is_run asked.replay asked.details ≡ b → (fault : LaunchFault) → LacksBy b fault → FailsSuite asked suite fault
+  unrun_by true runs fault why = elim why [ inl memory ↦ rw memory ready_takes | inr none ↦ rw none (ready.accepted, runs) ]
+  unrun_by false runs fault memory = rw memory ready_takes
 
-  -- the output of the plan is the suite's
-  pub ready_output : (text : List ℕ) (status : ExitStatus) → IsOutput asked settings plan answers text status → IsSuiteOutput asked suite text status
-  ready_output text status output = record {
+  -- a run of which there is no output
+  pub ready_unrun : (fault : LaunchFault) → IsUnrun asked fault → FailsSuite asked suite fault
+  ready_unrun fault why = unrun_by (is_run asked.replay asked.details) refl fault why
+
+  -- what is printed of the plan is the suite's
+  pub ready_output : (Prints : Settings → PlanParts → List (ℕ × Reply) → List ℕ → ExitStatus → Type 0) (text : List ℕ) (status : ExitStatus) → Prints settings plan answers text status → IsSuiteOutputBy Prints asked suite text status
+  ready_output Prints text status output = record {
     accepted = ready.accepted;
     settings = settings;
     are = ready.are;
-    output = subst (λ (p : PlanParts). IsOutput asked settings p (answers_of suite.scripts) text status) ready.plan_is (subst (λ (a : List (ℕ × Reply)). IsOutput asked settings plan a text status) ready.replies_are output);
+    output = subst (λ (p : PlanParts). Prints settings p (answers_of suite.scripts) text status) ready.plan_is (subst (λ (a : List (ℕ × Reply)). Prints settings plan a text status) ready.replies_are output);
     never_stuck = λ bare. subst NeverStuck ready.plan_is (ready.never_stuck bare);
   }

@@ -1,32 +1,35 @@
 -- What is answered of a program's jobs.
-use Rattle.std.proofs.Common.{◌≡◌, ◌∙◌, ℕ, suc, zero, ◌<◌, Bool, true, false, List, [], length, take, Option, Some, None, Result, Ok, Err, IfErr, refl, sym, ap, subst, inl, inr, arith}
+use Rattle.std.proofs.Common.{◌≡◌, ◌∙◌, ℕ, Bool, true, false, List, [], Option, Some, None, Result, Ok, Err, IfErr, refl, sym, ap, subst, inl, inr}
 use Rattle.std.specs.Prelude.{◌⊎◌}
-use Rattle.std.specs.Io.KnownBytes.{Appends}
 use Rattle.std.specs.Option.{option_or}
 use Rattle.std.specs.Result.{IsErrAnd}
+use Rattle.std.proofs.lemmas.Bool.{true≢false}
 use Rattle.std.proofs.lemmas.Option.{none-some}
 use Rattle.config_params.specs.declared.settings.Settings.{Settings}
 use Rattle.config_params.specs.declared.settings_fault.SettingsFault.{SettingsFault}
 use Rattle.descriptor.specs.Nodes.{Nodes, IsTree}
 use Rattle.plan_events.specs.declared.event.Event.{Event}
 use Rattle.plan_events.specs.declared.outcome.Reply.{Reply}
+use Rattle.plan_events.specs.Texts.{TextParts}
+use Rattle.listeners.specs.Listeners.{Telling}
 use Rattle.resource_locks.specs.Plans.{PlanParts}
 use Rattle.never_stuck.specs.Reaching.{NeverStuck}
 use Rattle.scheduling.specs.declared.step.Step.{Step}
 use Rattle.run_table.specs.Prepared.{HasAllJobs}
 use Rattle.selectors.specs.Selections.{answer}
 use Rattle.suite_text.specs.Reading.Parts.{SuiteParts}
-use Rattle.listeners.specs.declared.to_writer.WriteFault.{WriteFault}
 use Rattle.launch_options.specs.Asked.{Asked}
 use Rattle.launch_options.specs.declared.details.Details.{Details}
 use Rattle.launch_options.specs.declared.details.Details.TheVariants as details
 use Rattle.launch_options.specs.declared.fault.LaunchFault.{LaunchFault}
 use Rattle.launch_options.specs.declared.fault.LaunchFault.TheVariants.{NoMemory, Suite as OfSuite, BadWords, BadStep, BadSelector, BadTags, BadPair, BadSettings, NothingMatches, TooManyKeys, TooManyWorkers, NoWorker, Reading, Writing}
 use Rattle.launcher.specs.declared.exit_status.ExitStatus.{ExitStatus}
-use Rattle.launcher.specs.Programs.{FailsProgram, HasJobs, IsJobsOutput, IsProgramOutput, IsProgramRun, IsSelectedOutput, NothingBehind, program_refusal, steps_refusal}
+use Rattle.launcher.specs.Programs.{FailsProgram, HasJobs, IsJobsOutput, IsPrintedJobs, IsProgramOutput, IsProgramRun, IsSeenProgram, IsSeenProgramRun, IsSeenSelectedOutput, IsSelectedOutput, NothingBehind, program_refusal, steps_refusal}
 use Rattle.launcher.specs.Reports.{IsBehindDetails}
 use Rattle.launcher.specs.Runs.{FailsSuite, IsReady, TakesMemory, crowd_refusal, plan_refusal, run_refusal, settings_in, settings_refusal}
-use Rattle.launcher.specs.Watched.{IsAllOf, IsBrokenOff, IsShownRun}
+use Rattle.launcher.specs.Watched.{HasLiveFeed, IsAnswered, LacksBy, SeesRefusal, cut_in, is_run}
+use Rattle.launcher.proofs.BrokenOff.{answered_as, refused}
+use Rattle.launcher.proofs.Showing.{IsTextOf}
 use Rattle.launcher.proofs.Planning.{ready_takes}
 use Rattle.launcher.proofs.Selected.{selected_jobs, all_jobs}
 
@@ -36,31 +39,31 @@ no_job_missing asked parts settings p jobs tree ready found has =
     let same : p.tree ≡ answer parts.tree asked.request = ap (λ (q : PlanParts). q.tree) ready.plan_is in
     all_jobs p jobs (subst (λ (t : Nodes). HasJobs t jobs) (sym same) (selected_jobs parts.tree tree asked.request (subst IsTree same found) jobs has))
 
--- the feed of a run of jobs is what is printed of it
-pub jobs_feed : {B : Type 0} (answers : B → List Reply) (Behind : List Event → List ℕ → Type 0) (asked : Asked) (settings : Settings) (p : PlanParts) (jobs : List (ℕ × B)) → asked.details ≡ details.Testfeed → asked.replay ≡ None
-    → (text : List ℕ) (status : ExitStatus) → IsJobsOutput answers Behind asked settings p jobs text status → IsProgramOutput answers Behind asked.details asked settings p jobs text status
-jobs_feed answers Behind asked settings p jobs kind replay text status output = subst (λ k. IsProgramOutput answers Behind k asked settings p jobs text status) (sym kind) output
+-- what a run of jobs prints is what is printed of the plan, where this is run
+module _ {B : Type 0} (answers : B → List Reply) (Behind : List Event → List ℕ → Type 0) (asked : Asked) (settings : Settings) (p : PlanParts) (jobs : List (ℕ × B)) where
+  jobs_ran : (kind : Details) → is_run None kind ≡ true → (text : List ℕ) (status : ExitStatus) → IsJobsOutput answers Behind asked settings p jobs text status → IsProgramOutput answers Behind kind asked settings p jobs text status
+  jobs_ran details.None runs text status output = output
+  jobs_ran details.Summary runs text status output = output
+  jobs_ran details.Tree runs text status output = output
+  jobs_ran details.Testfeed runs text status output = output
+  jobs_ran details.Json runs text status output = output
+  jobs_ran details.Xml runs text status output = output
+  jobs_ran details.List runs text status output = absurd (true≢false (sym runs))
 
--- what is shown of a plan
-module _ (Output : List ℕ → ExitStatus → Type 0) (old new : Option (List ℕ)) where
-  pub shown_cut : (text : List ℕ) (status : ExitStatus) (fault : WriteFault) (result : Result ExitStatus LaunchFault) → IsErrAnd result (λ e. e ≡ Writing fault) → Output text status
-      → (fault.sent < length text) × Appends old new (take fault.sent text) → IsShownRun Output old new result
-  shown_cut text status fault (Ok done) is output sent = absurd is
-  shown_cut text status fault (Err e) is output sent = rw is (record { text = text; status = status; output = output; short = sent.0; written = sent.1 })
+  pub program_output_of : is_run None asked.details ≡ true → (text : List ℕ) (status : ExitStatus) → IsJobsOutput answers Behind asked settings p jobs text status → IsProgramOutput answers Behind asked.details asked settings p jobs text status
+  program_output_of runs text status output = jobs_ran asked.details runs text status output
 
-  pub shown_whole : (text : List ℕ) (status : ExitStatus) → Output text status → Appends old new text → IsAllOf Output old new status
-  shown_whole text status output sent = record { text = text; output = output; written = sent }
+  pub jobs_text_of : (history : List Event) (texts : TextParts) (text : List ℕ) (status : ExitStatus) → IsPrintedJobs answers Behind asked settings p jobs history texts text status → IsTextOf asked settings p history texts text
+  jobs_text_of history texts text status prints = record { ends = prints.published.ends; behind = prints.behind; printed = prints.printed }
 
-  unrun_so : (fault : LaunchFault) → (fault ≡ NoMemory) ⊎ (fault ≡ NoWorker) → IsShownRun Output old new (Err fault)
-  unrun_so fault why = elim why [ inl is ↦ rw is (inl refl) | inr is ↦ rw is (inr refl) ]
+-- a plan whose feed is printed while it goes on is run
+pub jobs_feed_runs : (asked : Asked) → HasLiveFeed asked → is_run None asked.details ≡ true
+jobs_feed_runs asked feed = ap (is_run None) feed.0
 
-  -- a run that broke off is answered by its fault, unless something was written
-  pub broken_run : (fault result : LaunchFault) (sent : ℕ) → (fault ≡ NoMemory) ⊎ (fault ≡ NoWorker) → IsBrokenOff Output old new sent → (sent ≡ 0 → result ≡ fault) → (0 < sent → result ≡ Writing (record { sent = sent })) → IsShownRun Output old new (Err result)
-  broken_run fault result zero why so none some = rw (none refl) (unrun_so fault why)
-  broken_run fault result (suc n) why so none some = elim so [
-    | inl q ↦ absurd (omega (arith, q.0))
-    | inr part ↦ rw (some (omega arith)) part
-  ]
+no_replay : (schedule : Bool) (replay : Option (List Step)) → steps_refusal schedule replay ≡ None → replay ≡ None
+no_replay true replay none = absurd (none-some BadWords (sym none))
+no_replay false None none = refl
+no_replay false (Some steps) none = absurd (none-some BadWords (sym none))
 
 -- a program whose steps are not asked for
 module _ (asked : Asked) (parts : SuiteParts) (no_steps : steps_refusal asked.schedule asked.replay ≡ None) where
@@ -80,7 +83,7 @@ module _ (asked : Asked) (parts : SuiteParts) (no_steps : steps_refusal asked.sc
   fails_as (NothingMatches n) x = same_refusal ∙ x
   fails_as TooManyKeys x = same_refusal ∙ x
   fails_as TooManyWorkers x = same_refusal ∙ x
-  fails_as NoWorker x = same_refusal ∙ x.0
+  fails_as NoWorker x = (same_refusal ∙ x.0, sym (ap (λ r. is_run r asked.details) (no_replay asked.schedule asked.replay no_steps)) ∙ x.1)
   fails_as Reading x = absurd x
   fails_as (Writing f) x = absurd x
 
@@ -104,70 +107,87 @@ module _ (asked : Asked) (parts : SuiteParts) where
   fails_memory fault (Ok x) is fails = absurd is
   fails_memory fault (Err e) is fails = λ same. (subst (FailsProgram asked parts) (sym is ∙ same) fails).1
 
-  -- a refusal of the plan is one of the program
-  pub planned_fails : {B : Type 0} (answers : B → List Reply) (jobs : List (ℕ × B)) (old new : Option (List ℕ)) (fault : LaunchFault) (result : Result ExitStatus LaunchFault) → IsErrAnd result (λ e. e ≡ fault) → FailsProgram asked parts fault
-      → IsProgramRun answers asked parts jobs old new result
-  planned_fails answers jobs old new fault (Ok status) is fails = absurd is
-  planned_fails answers jobs old new fault (Err e) is fails = rw is (go fault fails)
-    where
-      go : (f : LaunchFault) → FailsProgram asked parts f → IsProgramRun answers asked parts jobs old new (Err f)
-      go NoMemory x = x
-      go (OfSuite f) x = absurd x
-      go BadWords x = x
-      go (BadStep n) x = absurd x
-      go (BadSelector n) x = absurd x
-      go (BadTags f) x = absurd x
-      go (BadPair f) x = absurd x
-      go (BadSettings f) x = x
-      go (NothingMatches n) x = x
-      go TooManyKeys x = x
-      go TooManyWorkers x = x
-      go NoWorker x = x
-      go Reading x = absurd x
-      go (Writing f) x = absurd x
+  -- a refusal of a program tells of no output
+  program_uncut : (f : LaunchFault) → FailsProgram asked parts f → cut_in f ≡ None
+  program_uncut NoMemory x = refl
+  program_uncut (OfSuite f) x = refl
+  program_uncut BadWords x = refl
+  program_uncut (BadStep n) x = refl
+  program_uncut (BadSelector n) x = refl
+  program_uncut (BadTags f) x = refl
+  program_uncut (BadPair f) x = refl
+  program_uncut (BadSettings f) x = refl
+  program_uncut (NothingMatches n) x = refl
+  program_uncut TooManyKeys x = refl
+  program_uncut TooManyWorkers x = refl
+  program_uncut NoWorker x = refl
+  program_uncut Reading x = refl
+  program_uncut (Writing f) x = absurd x
+
+  module _ {B L : Type 0} (answers : B → List Reply) (jobs : List (ℕ × B)) (saw : PlanParts → L → L → List Telling → Type 0) (first now : L) (old new : Option (List ℕ)) where
+    abbrev Selects : List ℕ → ExitStatus → Type 0
+    Selects = IsSeenSelectedOutput answers asked parts jobs saw first now
+
+    abbrev Refuses : LaunchFault → Type 0
+    Refuses fault = FailsProgram asked parts fault × SeesRefusal first now Selects fault
+
+    -- a refusal of the plan is one of the program
+    pub planned_fails : (fault : LaunchFault) (result : Result ExitStatus LaunchFault) → IsErrAnd result (λ e. e ≡ fault) → now ≡ first → FailsProgram asked parts fault → IsSeenProgramRun answers asked parts jobs saw first now old new result
+    planned_fails fault (Ok status) is same fails = absurd is
+    planned_fails fault (Err e) is same fails = subst (λ (f : LaunchFault). IsSeenProgramRun answers asked parts jobs saw first now old new (Err f)) (sym is) (refused asked Selects Refuses old new fault (program_uncut fault fails) (fails, inl same))
+
+    unseen : (text : List ℕ) (status : ExitStatus) → Selects text status → IsSelectedOutput answers asked parts jobs text status
+    unseen text status shows = record { accepted = shows.accepted; settings = shows.settings; are = shows.are; output = shows.output.0; never_stuck = shows.never_stuck }
+
+    -- a run that somebody watches is a run
+    pub unseen_run : (result : Result ExitStatus LaunchFault) → IsSeenProgramRun answers asked parts jobs saw first now old new result → IsProgramRun answers asked parts jobs old new result
+    unseen_run result is = answered_as asked Selects (IsSelectedOutput answers asked parts jobs) Refuses (FailsProgram asked parts) unseen (λ fault fails. fails.0) old new result is
 
 no_schedule : (schedule : Bool) (replay : Option (List Step)) → steps_refusal schedule replay ≡ None → schedule ≡ false
 no_schedule true replay none = absurd (none-some BadWords (sym none))
 no_schedule false replay none = refl
 
-module _ {B : Type 0} (answers : B → List Reply) (asked : Asked) (parts : SuiteParts) (jobs : List (ℕ × B)) (settings : Settings) (p : PlanParts) (ready : IsReady asked parts settings p []) (no_steps : steps_refusal asked.schedule asked.replay ≡ None) where
-  pub planned_memory : (result : Result ExitStatus LaunchFault) → IfErr result (λ fault. fault ≡ NoMemory → TakesMemory asked parts)
-  planned_memory (Ok status) = tt
-  planned_memory (Err fault) = λ same. ready_takes asked parts settings p [] ready
+pub planned_memory : (asked : Asked) (parts : SuiteParts) (settings : Settings) (p : PlanParts) → IsReady asked parts settings p [] → (result : Result ExitStatus LaunchFault) → IfErr result (λ fault. fault ≡ NoMemory → TakesMemory asked parts)
+planned_memory asked parts settings p ready (Ok status) = tt
+planned_memory asked parts settings p ready (Err fault) = λ same. ready_takes asked parts settings p [] ready
 
+module _ {B L : Type 0} (answers : B → List Reply) (asked : Asked) (parts : SuiteParts) (jobs : List (ℕ × B)) (saw : PlanParts → L → L → List Telling → Type 0) (first now : L) (settings : Settings) (p : PlanParts) (ready : IsReady asked parts settings p [])
+    (no_steps : steps_refusal asked.schedule asked.replay ≡ None) where
   abbrev Shows : List ℕ → ExitStatus → Type 0
-  Shows text status = IsProgramOutput answers (IsBehindDetails asked.schedule settings.workers p []) asked.details asked settings p jobs text status
+  Shows = IsSeenProgram answers (IsBehindDetails asked.details asked.schedule settings.workers p []) saw first now asked settings p jobs
+
+  abbrev Lacks : LaunchFault → Type 0
+  Lacks fault = LacksBy (is_run None asked.details) fault × SeesRefusal first now Shows fault
 
   -- nothing stands behind, since no schedule is asked for
-  bare : (text : List ℕ) (status : ExitStatus) → Shows text status → IsProgramOutput answers NothingBehind asked.details asked settings p jobs text status
-  bare text status = subst (λ (b : Bool). IsProgramOutput answers (IsBehindDetails b settings.workers p []) asked.details asked settings p jobs text status) (no_schedule asked.schedule asked.replay no_steps)
+  bare : (text : List ℕ) (status : ExitStatus) → Shows text status → IsSeenProgram answers NothingBehind saw first now asked settings p jobs text status
+  bare text status = subst (λ (b : Bool). IsSeenProgram answers (IsBehindDetails asked.details b settings.workers p []) saw first now asked settings p jobs text status) (no_schedule asked.schedule asked.replay no_steps)
 
   accepted : program_refusal asked parts ≡ None
   accepted = same_refusal asked parts no_steps ∙ ready.accepted
 
-  selected : (text : List ℕ) (status : ExitStatus) → Shows text status → IsSelectedOutput answers asked parts jobs text status
+  selected : (text : List ℕ) (status : ExitStatus) → Shows text status → IsSeenSelectedOutput answers asked parts jobs saw first now text status
   selected text status output = record {
     accepted = accepted;
     settings = settings;
     are = ready.are;
-    output = subst (λ (q : PlanParts). IsProgramOutput answers NothingBehind asked.details asked settings q jobs text status) ready.plan_is (bare text status output);
+    output = subst (λ (q : PlanParts). IsSeenProgram answers NothingBehind saw first now asked settings q jobs text status) ready.plan_is (bare text status output);
     never_stuck = λ bare. subst NeverStuck ready.plan_is (ready.never_stuck bare);
   }
 
+  fails_by : (b : Bool) → is_run None asked.details ≡ b → (fault : LaunchFault) → LacksBy b fault → FailsProgram asked parts fault
+  fails_by true runs fault why = elim why [ inl is ↦ rw is (no_steps, ready_takes asked parts settings p [] ready) | inr is ↦ rw is (accepted, runs) ]
+  fails_by false runs fault is = rw is (no_steps, ready_takes asked parts settings p [] ready)
+
+  fails : (fault : LaunchFault) → Lacks fault → FailsProgram asked parts fault × SeesRefusal first now (IsSeenSelectedOutput answers asked parts jobs saw first now) fault
+  fails fault why = (
+    fails_by (is_run None asked.details) refl fault why.0,
+    elim why.1 [
+      | inl same ↦ inl same
+      | inr vain ↦ inr (vain.0, record { text = vain.1.text; status = vain.1.status; output = selected vain.1.text vain.1.status vain.1.output })
+    ],
+  )
+
   -- what is shown of the plan is what is answered of the program
-  pub program_run : (old new : Option (List ℕ)) (result : Result ExitStatus LaunchFault) → IsShownRun Shows old new result → IsProgramRun answers asked parts jobs old new result
-  program_run old new (Ok status) is = record { text = is.text; output = selected is.text status is.output; written = is.written }
-  program_run old new (Err NoMemory) is = (no_steps, ready_takes asked parts settings p [] ready)
-  program_run old new (Err (OfSuite f)) is = elim is [ inl q ↦ cc | inr q ↦ cc ]
-  program_run old new (Err BadWords) is = elim is [ inl q ↦ cc | inr q ↦ cc ]
-  program_run old new (Err (BadStep n)) is = elim is [ inl q ↦ cc | inr q ↦ cc ]
-  program_run old new (Err (BadSelector n)) is = elim is [ inl q ↦ cc | inr q ↦ cc ]
-  program_run old new (Err (BadTags f)) is = elim is [ inl q ↦ cc | inr q ↦ cc ]
-  program_run old new (Err (BadPair f)) is = elim is [ inl q ↦ cc | inr q ↦ cc ]
-  program_run old new (Err (BadSettings f)) is = elim is [ inl q ↦ cc | inr q ↦ cc ]
-  program_run old new (Err (NothingMatches n)) is = elim is [ inl q ↦ cc | inr q ↦ cc ]
-  program_run old new (Err TooManyKeys) is = elim is [ inl q ↦ cc | inr q ↦ cc ]
-  program_run old new (Err TooManyWorkers) is = elim is [ inl q ↦ cc | inr q ↦ cc ]
-  program_run old new (Err NoWorker) is = accepted
-  program_run old new (Err Reading) is = elim is [ inl q ↦ cc | inr q ↦ cc ]
-  program_run old new (Err (Writing f)) is = record { text = is.text; status = is.status; output = selected is.text is.status is.output; short = is.short; written = is.written }
+  pub program_run : (old new : Option (List ℕ)) (result : Result ExitStatus LaunchFault) → IsAnswered asked Shows Lacks old new result → IsSeenProgramRun answers asked parts jobs saw first now old new result
+  program_run old new result is = answered_as asked Shows (IsSeenSelectedOutput answers asked parts jobs saw first now) Lacks _ selected fails old new result is

@@ -22,7 +22,7 @@ use Rattle.table_rule.specs.Picture.{replies_in, replies_of}
 use Rattle.table_rule.specs.Slots.{slot_count}
 use Rattle.table_rule.proofs.ThatCount.{counted_among}
 use Rattle.table_rule.proofs.MoreReplies.{wide_legal, wide_text}
-use Rattle.worker_pool.specs.Reports.{run_of, AreParts, AreTexts, IsReport, IsRefusedRun}
+use Rattle.worker_pool.specs.Reports.{run_of, AreTexts, IsReport, IsRefusedRun}
 use Rattle.worker_pool.specs.declared.report.RunCause.{RunCause}
 use Rattle.worker_pool.specs.declared.report.RunCause.TheVariants.{Table, NoWorker}
 use Rattle.run_table.specs.Prepared.{HasAllJobs, IsRightRing}
@@ -33,12 +33,13 @@ use Rattle.launcher.specs.declared.exit_status.ExitStatus.{ExitStatus}
 use Rattle.launcher.specs.declared.scripted.ScriptedJob.{ScriptedJob}
 use Rattle.launch_options.specs.Asked.{Asked}
 use Rattle.launcher.specs.ExitStatuses.{status_of_run}
-use Rattle.launcher.specs.Reports.{details_of, expected_details, IsBehindDetails, IsExpectedOutput, IsHistory, IsRunOutput}
+use Rattle.launcher.specs.Reports.{details_of, expected_details, IsBehindDetails, IsExpectedOutput, IsHistory, IsPrintedRun}
 use Rattle.launcher.specs.Scripted.{replies_left, AreScripted}
-use Rattle.launcher.specs.WarningTexts.{warning_lines}
+use Rattle.launcher.specs.WarningTexts.{head_of}
 use Rattle.launcher.specs.ScheduleTexts.{schedule_line}
-use Rattle.launcher.specs.Watched.{HasWatchedInVain, Watches}
+use Rattle.launcher.specs.Watched.{HasSeenPrinted, SomeOutput, Watches}
 use Rattle.launch_options.specs.declared.fault.LaunchFault.{LaunchFault}
+use Rattle.launch_options.specs.declared.fault.LaunchFault.TheVariants as launches
 use Rattle.launcher.specs.declared.report.Output.{Output}
 use Rattle.listeners.specs.Listeners.{Telling, tellings_of}
 use Rattle.worker_pool.specs.Watching.{HasSeenMore}
@@ -64,27 +65,23 @@ history_of p tree safe answers jobs are workers ring history report =
       as_expected = λ calm. as_expected p tree (reply_of answers) (replies_by answers) (λ job. refl) calm workers history legal report.complete;
     }
 
--- the history, with the texts of its nodes, and a list for each worker
+-- the history, with the texts of its nodes
 pub record IsTold (workers : ℕ) (p : PlanParts) (answers : List (ℕ × Reply)) (history : List Event) (texts : TextParts) : Type 0 where
   pub tree : IsTree p.tree
   pub published : IsHistory workers p answers history
   pub are : AreTexts p (replies_by answers) history texts
-  pub lists : List (List Event)
-  pub mine : AreParts workers history lists
 
 -- and the texts that they report are those that the suite says
 pub told_of : (p : PlanParts) → IsTree p.tree → IsGuarded (declared_of p.tree) p → (answers : List (ℕ × Reply)) (jobs : List (ℕ × ScriptedJob)) → AreScripted p answers (slot_count p) jobs → (workers ring : ℕ) (history : List Event) (texts : TextParts)
     → IsReport (run_of p workers ring jobs) (replies_of replies_left (run_of p workers ring jobs)) history → AreTexts p (replies_of replies_left (run_of p workers ring jobs)) history texts
-    → (lists : List (List Event)) → AreParts workers history lists → IsTold workers p answers history texts
-told_of p tree safe answers jobs are workers ring history texts report told lists mine =
+    → IsTold workers p answers history texts
+told_of p tree safe answers jobs are workers ring history texts report told =
     let run = run_of p workers ring jobs in
     let given : AreTexts p (replies_in replies_left jobs) history texts = λ n low. wide_text (replies_of replies_left run) (replies_in replies_left jobs) (counted_among replies_left run) p history n (text_at texts n) (told n low) in
     record {
       tree = tree;
       published = history_of p tree safe answers jobs are workers ring history report;
       are = λ n low. text_as_said p tree answers jobs are history n (text_at texts n) (given n low);
-      lists = lists;
-      mine = mine;
     }
 
 -- a ring that is right is none that is refused
@@ -112,10 +109,10 @@ module _ (asked : Asked) (settings : Settings) (p : PlanParts) (reply : ℕ → 
   expected_text details.Xml text so = absurd (none-some text so)
   expected_text details.List text so = absurd (none-some text so)
 
-  pub expected_output : (behind text : List ℕ) (status : ExitStatus) → text ≡ warning_lines settings.warnings ++ (details_of asked.details asked.theme p texts history ++ behind)
+  pub expected_output : (behind text : List ℕ) (status : ExitStatus) → text ≡ head_of asked.details settings.warnings ++ (details_of asked.details asked.theme p texts history ++ behind)
       → status ≡ status_of_run asked.fail_if_no_tests (tests_found p history) (has_failed p history) → IsExpectedOutput asked settings p.tree reply behind text status
   expected_output behind text status printed exits = record {
-    printed = λ shown so. printed ∙ ap (λ (xs : List ℕ). warning_lines settings.warnings ++ (xs ++ behind)) (expected_text asked.details shown so);
+    printed = λ shown so. printed ∙ ap (λ (xs : List ℕ). head_of asked.details settings.warnings ++ (xs ++ behind)) (expected_text asked.details shown so);
     exits = exits ∙ ap₂ (λ (tests : ℕ) (failed : Bool). status_of_run asked.fail_if_no_tests tests failed) is.tests is.failure;
   }
 
@@ -123,30 +120,27 @@ module _ (asked : Asked) (settings : Settings) (p : PlanParts) (reply : ℕ → 
 printed_so : (workers : ℕ) (p : PlanParts) (answers : List (ℕ × Reply)) (history : List Event) (texts : TextParts) → IsTold workers p answers history texts → p.fail_fast ≡ false → IsPrintedAsExpected p (reply_of answers) history texts
 printed_so workers p answers history texts told calm = printed_as_expected p told.tree (reply_of answers) (replies_by answers) (λ job. refl) calm workers history told.published.legal told.published.complete texts told.are
 
--- what is printed of a history is what is printed of the run
-pub ran : (schedule text : List ℕ) (status : ExitStatus) (asked : Asked) (settings : Settings) (p : PlanParts) (answers : List (ℕ × Reply)) (history : List Event) (texts : TextParts) → IsTold settings.workers p answers history texts
-    → IsBehindDetails asked.schedule settings.workers p answers history schedule → text ≡ warning_lines settings.warnings ++ (details_of asked.details asked.theme p texts history ++ schedule) → status ≡ status_of_run asked.fail_if_no_tests (tests_found p history) (has_failed p history) → IsRunOutput asked settings p answers text status
-ran schedule text status asked settings p answers history texts told behind printed exits = record {
-  history = history;
+-- this is what is printed of it
+pub printed_run : (schedule text : List ℕ) (status : ExitStatus) (asked : Asked) (settings : Settings) (p : PlanParts) (answers : List (ℕ × Reply)) (history : List Event) (texts : TextParts) → IsTold settings.workers p answers history texts
+    → IsBehindDetails asked.details asked.schedule settings.workers p answers history schedule → text ≡ head_of asked.details settings.warnings ++ (details_of asked.details asked.theme p texts history ++ schedule) → status ≡ status_of_run asked.fail_if_no_tests (tests_found p history) (has_failed p history)
+    → IsPrintedRun asked settings p answers history texts text status
+printed_run schedule text status asked settings p answers history texts told behind printed exits = record {
   published = told.published;
-  lists = told.lists;
-  mine = told.mine;
-  details = details_of asked.details asked.theme p texts history;
-  printed = record { texts = texts; are = told.are; printed = refl };
+  are = told.are;
   schedule = schedule;
   behind_details = behind;
-  behind_warnings = printed;
+  printed = printed;
   exits = exits;
   as_expected = λ calm. expected_output asked settings p (reply_of answers) history texts (printed_so settings.workers p answers history texts told calm) schedule text status printed exits;
 }
 
 -- where there is no memory for a schedule, the line that says so would have been printed
-pub schedule_behind : (asked : Bool) (workers : ℕ) (p : PlanParts) (answers : List (ℕ × Reply)) (history : List Event) → (schedule : List ℕ) × IsBehindDetails asked workers p answers history schedule
-schedule_behind false workers p answers history = ([], refl)
-schedule_behind true workers p answers history = (schedule_line None, record { found = None; schedule = tt; namable = tt; printed = refl })
+pub schedule_behind : (kind : Details) (asked : Bool) (workers : ℕ) (p : PlanParts) (answers : List (ℕ × Reply)) (history : List Event) → (schedule : List ℕ) × IsBehindDetails kind asked workers p answers history schedule
+schedule_behind kind false workers p answers history = ([], refl)
+schedule_behind kind true workers p answers history = (schedule_line kind None, record { found = None; schedule = tt; namable = tt; printed = refl })
 
 -- whoever watches has seen a run of which no report was made
-pub watches_in_vain : {L : Type 0} (saw : PlanParts → L → L → List Telling → Type 0) (RunOutput : List ℕ → ExitStatus → Type 0) (asked : Asked) (settings : Settings) (p : PlanParts) (first now : L) (fault : LaunchFault) (result : Result Output LaunchFault)
-    → IsErrAnd result (λ e. e ≡ fault) → HasWatchedInVain saw RunOutput asked settings p first now → Watches saw RunOutput asked settings p first now result
-watches_in_vain saw RunOutput asked settings p first now fault (Ok report) same vain = absurd same
-watches_in_vain saw RunOutput asked settings p first now fault (Err e) same vain = inr vain
+pub watches_in_vain : {L : Type 0} (saw : PlanParts → L → L → List Telling → Type 0) (Prints : List Event → TextParts → List ℕ → ExitStatus → Type 0) (p : PlanParts) (first now : L) (result : Result Output LaunchFault) → IsErrAnd result (λ e. e ≡ launches.NoMemory)
+    → SomeOutput (HasSeenPrinted saw Prints p first now) → Watches saw Prints p first now result
+watches_in_vain saw Prints p first now (Ok report) same vain = absurd same
+watches_in_vain saw Prints p first now (Err e) same vain = inr (same, vain)

@@ -1,36 +1,42 @@
 -- What a feed has printed of a run is a front of its output.
-use Rattle.std.proofs.Common.{◌≡◌, ◌∙◌, ℕ, zero, suc, ◌<◌, List, [], ◌++◌, length, take, Option, Some, None, Result, Ok, Err, IfOk, IfErr, refl, sym, ap, subst, append-nil, inl, inr, arith}
+use Rattle.std.proofs.Common.{◌≡◌, ◌≢◌, ◌∙◌, ℕ, ◌<◌, Bool, true, false, List, [], ◌++◌, length, take, Option, Some, None, Result, Ok, Err, IfOk, IfErr, refl, sym, ap, ap₂, subst, append-nil, inl, inr, arith}
 use Rattle.std.specs.Prelude.{◌⊎◌, string_bytes}
 use Rattle.std.specs.Io.KnownBytes.{Appends}
+use Rattle.std.specs.Result.{IsErrAnd}
 use Rattle.std.proofs.KnownBytes.{Appends-nil}
+use Rattle.std.proofs.lemmas.Bool.{true≢false}
 use Rattle.config_params.specs.declared.settings.Settings.{Settings}
+use Rattle.plan_events.specs.declared.event.Event.{Event}
 use Rattle.plan_events.specs.declared.outcome.Reply.{Reply}
+use Rattle.plan_events.specs.Texts.{TextParts}
 use Rattle.resource_locks.specs.Plans.{PlanParts}
+use Rattle.event_history.specs.Parts.{EndsInPlan}
 use Rattle.scheduling.specs.declared.step.Step.{Step}
 use Rattle.listeners.specs.Listeners.{Telling, tellings_of}
-use Rattle.live_feed.specs.LiveFeeds.{output_of, IsSoFar, IsPrinted, IsFront}
 use Rattle.listeners.specs.Feed.{feed_of}
+use Rattle.listeners.specs.declared.to_writer.WriteFault.{WriteFault}
+use Rattle.live_feed.specs.LiveFeeds.{output_of, IsSoFar, IsPrinted, IsFront}
 use Rattle.live_feed.specs.declared.live_feed.LiveFeed.{LiveFeed}
 use Rattle.live_feed.specs.declared.live_feed.Outlet.{Outlet}
 use Rattle.live_feed.specs.declared.live_feed.Outlet.TheVariants.{Waiting, Open, Closed, Failed}
 use Rattle.live_feed.proofs.Fronts.{IsShort, front, front_short}
+use Rattle.suite_text.specs.Reading.Parts.{SuiteParts}
+use Rattle.launch_options.specs.Asked.{Asked}
+use Rattle.launch_options.specs.Faults.{cut_by_memory, cut_by_writer}
 use Rattle.launch_options.specs.declared.details.Details.{Details}
 use Rattle.launch_options.specs.declared.details.Details.TheVariants as details
-use Rattle.launcher.specs.declared.exit_status.ExitStatus.{ExitStatus}
 use Rattle.launch_options.specs.declared.fault.LaunchFault.{LaunchFault}
+use Rattle.launch_options.specs.declared.fault.LaunchFault.TheVariants.{NoMemory, Suite as OfSuite, BadWords, BadStep, BadSelector, BadTags, BadPair, BadSettings, NothingMatches, TooManyKeys, TooManyWorkers, NoWorker, Reading, Writing}
+use Rattle.launcher.specs.declared.exit_status.ExitStatus.{ExitStatus}
 use Rattle.launcher.specs.declared.report.Output.{Output}
-use Rattle.launch_options.specs.Asked.{Asked}
-use Rattle.launcher.specs.Beside.{HasSeenRun, SeesBeside, SeesRun}
 use Rattle.launcher.specs.declared.watched_feed.WatchedFeed.{WatchedFeed}
-use Rattle.launcher.specs.Reports.{details_of, IsOutput, IsOutputWith, IsPlanOutput, IsRunOutput}
-use Rattle.launcher.specs.WarningTexts.{warning_lines}
-use Rattle.launcher.specs.Runs.{IsReady, IsSuiteRun, IsUnrun, IsWhole, TakesMemory}
+use Rattle.launcher.specs.Beside.{SeesBeside}
+use Rattle.launcher.specs.Reports.{details_of, HasHistory, IsOutput, IsOutputWith, IsPlanOutput, IsPrintedRun, IsRunOutput}
+use Rattle.launcher.specs.Runs.{FailsSuite, IsReady, IsSeenOutput, IsSeenSuiteOutput, IsSeenSuiteRun, IsSuiteOutput, IsSuiteRun, IsUnrun, TakesMemory}
+use Rattle.launcher.specs.WarningTexts.{head_of}
+use Rattle.launcher.specs.Watched.{HasLiveFeed, HasSeenPrinted, IsAllOf, IsBrokenOff, SeesRefusal, SeesTextBy, SomeOutput, WatchesBy, cut_in, is_run, outlet_by}
+use Rattle.launcher.proofs.BrokenOff.{answered_as, broken as broken_run, cut_short, refused, uncut_by, whole as whole_of}
 use Rattle.launcher.proofs.Planning.{ready_output, ready_takes, ready_unrun}
-use Rattle.launch_options.specs.declared.fault.LaunchFault.TheVariants.{NoMemory, NoWorker, Writing}
-use Rattle.listeners.specs.declared.to_writer.WriteFault.{WriteFault}
-use Rattle.suite_text.specs.Reading.Parts.{SuiteParts}
-use Rattle.std.specs.Result.{IsErrAnd}
-use Rattle.launcher.specs.Watched.{HasWatched, IsBrokenOff, Watches, outlet_by}
 
 -- a feed is open at first only if the feed is asked for, and no replay
 feed_asked : (kind : Details) (replay : Option (List Step)) → outlet_by kind replay ≡ Waiting → (kind ≡ details.Testfeed) × (replay ≡ None)
@@ -58,10 +64,10 @@ open_or_closed details.List replay = inr refl
 record IsUnsent {W : Type 0} (contents : W → Option (List ℕ)) (first now : LiveFeed W) : Type 0 where
   same : now.writer.ghost_name ≡ first.writer.ghost_name
   sent : now.sent ≡ 0
-  whole : now.outlet ≡ Failed → ⊥
+  whole : now.outlet ≢ Failed
   kept : Appends (contents first.writer.now) (contents now.writer.now) []
 
-not_failed : (o : Outlet) → (o ≡ Waiting) ⊎ (o ≡ Closed) → o ≡ Failed → ⊥
+not_failed : (o : Outlet) → (o ≡ Waiting) ⊎ (o ≡ Closed) → o ≢ Failed
 not_failed Waiting is failed = cc
 not_failed Open is failed = cc
 not_failed Closed is failed = cc
@@ -74,9 +80,17 @@ at_first Open is sent none output = elim is [ inl q ↦ cc | inr q ↦ cc ]
 at_first Closed is sent none output = inl none
 at_first Failed is sent none output = elim is [ inl q ↦ cc | inr q ↦ cc ]
 
-module _ {W V : Type 0} (contents : W → Option (List ℕ)) (saw : PlanParts → V → V → List Telling → Type 0) (asked : Asked) (settings : Settings) (p : PlanParts) (RunOutput Printed : List ℕ → ExitStatus → Type 0)
-    (as_printed : asked.details ≡ details.Testfeed → asked.replay ≡ None → (text : List ℕ) (status : ExitStatus) → RunOutput text status → Printed text status) (at_first_both both : WatchedFeed W V)
-    (head : at_first_both.feed.head.now ≡ warning_lines settings.warnings) (outlet : at_first_both.feed.outlet ≡ outlet_by asked.details asked.replay) (none : at_first_both.feed.sent ≡ 0) where
+-- what is printed of a history is its details behind the warnings, and something may stand behind these
+pub record IsTextOf (asked : Asked) (settings : Settings) (p : PlanParts) (history : List Event) (texts : TextParts) (text : List ℕ) : Type 0 where
+  pub ends : EndsInPlan history
+  pub behind : List ℕ
+  pub printed : text ≡ head_of asked.details settings.warnings ++ (details_of asked.details asked.theme p texts history ++ behind)
+
+module _ {W V : Type 0} (contents : W → Option (List ℕ)) (saw : PlanParts → V → V → List Telling → Type 0) (asked : Asked) (settings : Settings) (p : PlanParts) (Prints : List Event → TextParts → List ℕ → ExitStatus → Type 0) (Printed : List ℕ → ExitStatus → Type 0)
+    (runs : Bool) (as_output : runs ≡ true → (text : List ℕ) (status : ExitStatus) → HasHistory Prints text status → Printed text status)
+    (as_text : (history : List Event) (texts : TextParts) (text : List ℕ) (status : ExitStatus) → Prints history texts text status → IsTextOf asked settings p history texts text)
+    (live : HasLiveFeed asked → runs ≡ true) (at_first_both both : WatchedFeed W V)
+    (head : at_first_both.feed.head.now ≡ head_of asked.details settings.warnings) (outlet : at_first_both.feed.outlet ≡ outlet_by asked.details asked.replay) (none : at_first_both.feed.sent ≡ 0) where
   abbrev first : LiveFeed W
   first = at_first_both.feed
 
@@ -89,11 +103,27 @@ module _ {W V : Type 0} (contents : W → Option (List ℕ)) (saw : PlanParts �
   abbrev is_now : Option (List ℕ)
   is_now = contents now.writer.now
 
+  -- what the feed and who watches beside it have seen together, and what the latter has seen
+  abbrev BothSee : List ℕ → ExitStatus → Type 0
+  BothSee = HasSeenPrinted (SeesBeside contents saw) Prints p at_first_both both
+
+  abbrev OtherSees : List ℕ → ExitStatus → Type 0
+  OtherSees = HasSeenPrinted saw Prints p at_first_both.watcher.now both.watcher.now
+
+  -- what was printed, and what was seen of it
+  abbrev Shown : List ℕ → ExitStatus → Type 0
+  Shown text status = Printed text status × SeesTextBy saw Prints p at_first_both.watcher.now both.watcher.now runs text status
+
+  -- a history that was seen is printed so
+  seen_output : runs ≡ true → (text : List ℕ) (status : ExitStatus) → OtherSees text status → Shown text status
+  seen_output is text status sees =
+      (as_output is text status (record { history = sees.history; texts = sees.texts; prints = sees.prints }), subst (λ (b : Bool). SeesTextBy saw Prints p at_first_both.watcher.now both.watcher.now b text status) (sym is) sees)
+
   either : (first.outlet ≡ Waiting) ⊎ (first.outlet ≡ Closed)
   either = elim (open_or_closed asked.details asked.replay) [ inl opens ↦ inl (outlet ∙ opens) | inr shut ↦ inr (outlet ∙ shut) ]
 
-  untouched : now ≡ first → IsUnsent contents first now
-  untouched is = subst (IsUnsent contents first) (sym is) (record { same = refl; sent = none; whole = not_failed first.outlet either; kept = Appends-nil was })
+  untouched : both ≡ at_first_both → IsUnsent contents first now
+  untouched is = subst (λ (w : WatchedFeed W V). IsUnsent contents first w.feed) (sym is) (record { same = refl; sent = none; whole = not_failed first.outlet either; kept = Appends-nil was })
 
   nothing_yet : IsPrinted contents p first first []
   nothing_yet = record {
@@ -124,115 +154,215 @@ module _ {W V : Type 0} (contents : W → Option (List ℕ)) (saw : PlanParts �
     printed = subst (λ (n : ℕ). Appends was is_now (take n text)) (sym un.sent) un.kept;
   }
 
-  unsent_broken : IsUnsent contents first now → IsBrokenOff Printed was is_now now.sent
-  unsent_broken un = inl (un.sent, un.kept)
+  unsent_broken : IsUnsent contents first now → IsBrokenOff asked Shown now.outlet was is_now now.sent
+  unsent_broken un = inl (un.whole, un.sent, un.kept)
 
-  module _ (text : List ℕ) (watched : HasWatched (SeesBeside contents saw) asked settings p at_first_both both text) where
+  module _ (text : List ℕ) (status : ExitStatus) (watched : BothSee text status) where
+    is_text : IsTextOf asked settings p watched.history watched.texts text
+    is_text = as_text watched.history watched.texts text status watched.prints
+
     seen_both : SeesBeside contents saw p at_first_both both (tellings_of watched.texts watched.history)
     seen_both = watched.seen at_first_both [] beside_nothing
 
     seen : IsPrinted contents p first now (tellings_of watched.texts watched.history)
     seen = seen_both.printed
 
-    seen_run : HasSeenRun saw at_first_both.watcher.now both.watcher.now
-    seen_run = record { plan = p; texts = watched.texts; history = watched.history; ends = watched.ends; seen = seen_both.seen }
+    other_sees : OtherSees text status
+    other_sees = record { history = watched.history; texts = watched.texts; prints = watched.prints; seen = seen_both.seen }
 
-    whole_text : asked.details ≡ details.Testfeed → text ≡ first.head.now ++ (feed_of p watched.texts watched.history ++ watched.behind)
+    whole_text : asked.details ≡ details.Testfeed → text ≡ first.head.now ++ (feed_of p watched.texts watched.history ++ is_text.behind)
     whole_text kind =
-        watched.printed
-        ∙ ap (λ (k : Details). warning_lines settings.warnings ++ (details_of k asked.theme p watched.texts watched.history ++ watched.behind)) kind
-        ∙ ap (λ (xs : List ℕ). xs ++ (feed_of p watched.texts watched.history ++ watched.behind)) (sym head)
+        is_text.printed
+        ∙ ap (λ (k : Details). head_of asked.details settings.warnings ++ (details_of k asked.theme p watched.texts watched.history ++ is_text.behind)) kind
+        ∙ ap (λ (xs : List ℕ). xs ++ (feed_of p watched.texts watched.history ++ is_text.behind)) (sym head)
 
     watched_front : IsFront was is_now now.outlet now.sent text
     watched_front = elim (open_or_closed asked.details asked.replay) [
-      | inl opens ↦ front watched.texts watched.history watched.ends contents p first now seen watched.behind text (whole_text (feed_asked asked.details asked.replay opens).0)
+      | inl opens ↦ front watched.texts watched.history is_text.ends contents p first now seen is_text.behind text (whole_text (feed_asked asked.details asked.replay opens).0)
       | inr shut ↦ unsent_front text (shut_unsent (outlet ∙ shut) _ seen)
     ]
 
-    part_of : (status : ExitStatus) → RunOutput text status → asked.details ≡ details.Testfeed → asked.replay ≡ None → IsShort now.sent text → IsBrokenOff Printed was is_now now.sent
-    part_of status output kind replay so = elim so [
-      | inl zero_sent ↦ inl (zero_sent, subst (λ (n : ℕ). Appends was is_now (take n text)) zero_sent watched_front.printed)
-      | inr few ↦ inr (record {
-        text = text;
-        status = status;
-        output = as_printed kind replay text status output;
-        short = few;
-        written = watched_front.printed;
-      })
+    part_of : HasLiveFeed asked → IsShort now.outlet now.sent text → IsBrokenOff asked Shown now.outlet was is_now now.sent
+    part_of feed so = elim so [
+      | inl un ↦ inl (un.0, un.1, subst (λ (n : ℕ). Appends was is_now (take n text)) un.1 watched_front.printed)
+      | inr few ↦ inr (
+        record {
+          text = text;
+          status = status;
+          output = seen_output (live feed) text status other_sees;
+          short = few;
+          written = watched_front.printed;
+        },
+        feed,
+      )
     ]
 
-    watched_broken : (status : ExitStatus) → RunOutput text status → IsBrokenOff Printed was is_now now.sent
-    watched_broken status output = elim (open_or_closed asked.details asked.replay) [
+    watched_broken : IsBrokenOff asked Shown now.outlet was is_now now.sent
+    watched_broken = elim (open_or_closed asked.details asked.replay) [
       | inl opens ↦
-          (let kind = feed_asked asked.details asked.replay opens in
-          part_of status output kind.0 kind.1 (front_short watched.texts watched.history watched.ends contents p first now seen watched.behind text (whole_text kind.0)))
+          (let feed = feed_asked asked.details asked.replay opens in
+          part_of feed (front_short watched.texts watched.history is_text.ends contents p first now seen is_text.behind text (whole_text feed.0)))
       | inr shut ↦ unsent_broken (shut_unsent (outlet ∙ shut) _ seen)
     ]
 
-  pub still_same : (result : Result Output LaunchFault) → Watches (SeesBeside contents saw) RunOutput asked settings p at_first_both both result → now.writer.ghost_name ≡ first.writer.ghost_name
-  still_same (Ok report) is = elim is [ inl same ↦ (untouched (ap (λ (w : WatchedFeed W V). w.feed) same)).same | inr watched ↦ (seen (string_bytes report.text) watched).same ]
-  still_same (Err fault) is = elim is [ inl same ↦ (untouched (ap (λ (w : WatchedFeed W V). w.feed) same)).same | inr vain ↦ (seen vain.text vain.watched).same ]
+  -- nothing was seen, or something
+  sees_some : (b : Bool) (result : Result Output LaunchFault) → WatchesBy (SeesBeside contents saw) Prints p at_first_both both b result → (both ≡ at_first_both) ⊎ SomeOutput BothSee
+  sees_some true (Ok report) is = inr (record { text = string_bytes report.text; status = report.status; output = is })
+  sees_some true (Err fault) is = elim is [ inl same ↦ inl same | inr vain ↦ inr vain.1 ]
+  sees_some false result is = inl is
 
-  pub same_watcher : (result : Result Output LaunchFault) → Watches (SeesBeside contents saw) RunOutput asked settings p at_first_both both result → both.watcher.ghost_name ≡ at_first_both.watcher.ghost_name
-  same_watcher (Ok report) is = elim is [ inl same ↦ ap (λ (w : WatchedFeed W V). w.watcher.ghost_name) same | inr watched ↦ (seen_both (string_bytes report.text) watched).same ]
-  same_watcher (Err fault) is = elim is [ inl same ↦ ap (λ (w : WatchedFeed W V). w.watcher.ghost_name) same | inr vain ↦ (seen_both vain.text vain.watched).same ]
+  still_by : (both ≡ at_first_both) ⊎ SomeOutput BothSee → now.writer.ghost_name ≡ first.writer.ghost_name
+  still_by is = elim is [ inl same ↦ (untouched same).same | inr some ↦ (seen some.text some.status some.output).same ]
 
-  -- who watches has seen the run, or nothing
-  pub sees_run : (result : Result Output LaunchFault) → Watches (SeesBeside contents saw) RunOutput asked settings p at_first_both both result → SeesRun saw at_first_both.watcher.now both.watcher.now
-  sees_run (Ok report) is = elim is [ inl same ↦ inl (ap (λ (w : WatchedFeed W V). w.watcher.now) same) | inr watched ↦ inr (seen_run (string_bytes report.text) watched) ]
-  sees_run (Err fault) is = elim is [ inl same ↦ inl (ap (λ (w : WatchedFeed W V). w.watcher.now) same) | inr vain ↦ inr (seen_run vain.text vain.watched) ]
+  watcher_by : (both ≡ at_first_both) ⊎ SomeOutput BothSee → both.watcher.ghost_name ≡ at_first_both.watcher.ghost_name
+  watcher_by is = elim is [ inl same ↦ ap (λ (w : WatchedFeed W V). w.watcher.ghost_name) same | inr some ↦ (seen_both some.text some.status some.output).same ]
 
-  pub shown_front : (result : Result Output LaunchFault) → Watches (SeesBeside contents saw) RunOutput asked settings p at_first_both both result → IfOk result (λ report. IsFront was is_now now.outlet now.sent (string_bytes report.text))
-  shown_front (Ok report) is = elim is [ inl same ↦ unsent_front (string_bytes report.text) (untouched (ap (λ (w : WatchedFeed W V). w.feed) same)) | inr watched ↦ watched_front (string_bytes report.text) watched ]
-  shown_front (Err fault) is = tt
+  same_other : both ≡ at_first_both → both.watcher.now ≡ at_first_both.watcher.now
+  same_other is = ap (λ (w : WatchedFeed W V). w.watcher.now) is
 
-  pub shown_broken : (result : Result Output LaunchFault) → Watches (SeesBeside contents saw) RunOutput asked settings p at_first_both both result → IfErr result (λ fault. IsBrokenOff Printed was is_now now.sent)
-  shown_broken (Ok report) is = tt
-  shown_broken (Err fault) is = elim is [ inl same ↦ unsent_broken (untouched (ap (λ (w : WatchedFeed W V). w.feed) same)) | inr vain ↦ watched_broken vain.text vain.watched vain.status vain.output ]
+  shown_by : (b : Bool) → runs ≡ b → (result : Result Output LaunchFault) → IfOk result (λ report. Printed (string_bytes report.text) report.status) → WatchesBy (SeesBeside contents saw) Prints p at_first_both both b result
+      → IfOk result (λ report. Shown (string_bytes report.text) report.status)
+  shown_by true same (Ok report) printed is = seen_output same (string_bytes report.text) report.status (other_sees (string_bytes report.text) report.status is)
+  shown_by false same (Ok report) printed is =
+      (printed, subst (λ (b : Bool). SeesTextBy saw Prints p at_first_both.watcher.now both.watcher.now b (string_bytes report.text) report.status) (sym same) (same_other is))
+  shown_by b same (Err fault) printed is = tt
+
+  refused_by : (b : Bool) → runs ≡ b → (result : Result Output LaunchFault) → WatchesBy (SeesBeside contents saw) Prints p at_first_both both b result → IfErr result (SeesRefusal at_first_both.watcher.now both.watcher.now Shown)
+  refused_by b same (Ok report) is = tt
+  refused_by true same (Err fault) is = elim is [
+    | inl as_it_was ↦ inl (same_other as_it_was)
+    | inr vain ↦ inr (vain.0, record { text = vain.1.text; status = vain.1.status; output = seen_output same vain.1.text vain.1.status (other_sees vain.1.text vain.1.status vain.1.output) })
+  ]
+  refused_by false same (Err fault) is = inl (same_other is)
+
+  front_by : (b : Bool) (result : Result Output LaunchFault) → WatchesBy (SeesBeside contents saw) Prints p at_first_both both b result → IfOk result (λ report. IsFront was is_now now.outlet now.sent (string_bytes report.text))
+  front_by true (Ok report) is = watched_front (string_bytes report.text) report.status is
+  front_by false (Ok report) is = unsent_front (string_bytes report.text) (untouched is)
+  front_by b (Err fault) is = tt
+
+  always : {P : Type 0} (result : Result Output LaunchFault) → P → IfErr result (λ fault. P)
+  always (Ok report) is = tt
+  always (Err fault) is = is
+
+  broken_by : (both ≡ at_first_both) ⊎ SomeOutput BothSee → IsBrokenOff asked Shown now.outlet was is_now now.sent
+  broken_by is = elim is [ inl same ↦ unsent_broken (untouched same) | inr some ↦ watched_broken some.text some.status some.output ]
+
+  module _ (result : Result Output LaunchFault) (is : WatchesBy (SeesBeside contents saw) Prints p at_first_both both runs result) where
+    pub still_same : now.writer.ghost_name ≡ first.writer.ghost_name
+    still_same = still_by (sees_some runs result is)
+
+    pub same_watcher : both.watcher.ghost_name ≡ at_first_both.watcher.ghost_name
+    same_watcher = watcher_by (sees_some runs result is)
+
+    -- what is printed, and what was seen of it by who watches beside the feed
+    pub shown_output : IfOk result (λ report. Printed (string_bytes report.text) report.status) → IfOk result (λ report. Shown (string_bytes report.text) report.status)
+    shown_output printed = shown_by runs refl result printed is
+
+    pub shown_refusal : IfErr result (SeesRefusal at_first_both.watcher.now both.watcher.now Shown)
+    shown_refusal = refused_by runs refl result is
+
+    pub shown_front : IfOk result (λ report. IsFront was is_now now.outlet now.sent (string_bytes report.text))
+    shown_front = front_by runs result is
+
+    pub shown_broken : IfErr result (λ fault. IsBrokenOff asked Shown now.outlet was is_now now.sent)
+    shown_broken = always result (broken_by (sees_some runs result is))
 
 pub carried : {A : Type 0} {a b : A} → b ≡ a → (P : A → Type 0) → P a → P b
 carried same P p = subst P (sym same) p
 
--- the feed of a suite's run is what is printed of it
-pub suite_feed : (asked : Asked) (settings : Settings) (p : PlanParts) (answers : List (ℕ × Reply)) → asked.details ≡ details.Testfeed → asked.replay ≡ None
-    → (text : List ℕ) (status : ExitStatus) → IsRunOutput asked settings p answers text status → IsOutput asked settings p answers text status
-suite_feed asked settings p answers kind replay text status output =
-    subst (λ r. IsOutputWith r asked settings p answers text status) (sym replay) (subst (λ k. IsPlanOutput k asked settings p answers text status) (sym kind) output)
+pub both_carried : {A B : Type 0} {a b : A} {c d : B} → b ≡ a → d ≡ c → (P : A → B → Type 0) → P a c → P b d
+both_carried {A} {B} {a} {b} {c} {d} same also P p = subst (λ (x : A). P x d) (sym same) (subst (P a) (sym also) p)
 
--- what is answered of a suite that is ready to be run
-module _ (asked : Asked) (suite : SuiteParts) (settings : Settings) (p : PlanParts) (answers : List (ℕ × Reply)) (ready : IsReady asked suite settings p answers) (old new : Option (List ℕ)) where
-  pub wanting : (result : Result ExitStatus LaunchFault) → IsErrAnd result (λ e. e ≡ NoMemory) → IsSuiteRun asked suite old new result
-  wanting (Ok status) is = absurd is
-  wanting (Err e) is = rw is (ready_takes asked suite settings p answers ready)
+-- what a run prints is what is printed of its plan, where this is run
+module _ (asked : Asked) (settings : Settings) (p : PlanParts) (answers : List (ℕ × Reply)) (text : List ℕ) (status : ExitStatus) (output : IsRunOutput asked settings p answers text status) where
+  plan_ran : (kind : Details) → is_run None kind ≡ true → IsPlanOutput kind asked settings p answers text status
+  plan_ran details.None runs = output
+  plan_ran details.Summary runs = output
+  plan_ran details.Tree runs = output
+  plan_ran details.Testfeed runs = output
+  plan_ran details.Json runs = output
+  plan_ran details.Xml runs = output
+  plan_ran details.List runs = absurd (true≢false (sym runs))
 
-  pub memory : (result : Result ExitStatus LaunchFault) → IfErr result (λ fault. fault ≡ NoMemory → TakesMemory asked suite)
-  memory (Ok status) = tt
-  memory (Err e) = λ same. ready_takes asked suite settings p answers ready
+  suite_ran : (replay : Option (List Step)) → is_run replay asked.details ≡ true → IsOutputWith replay asked settings p answers text status
+  suite_ran None runs = plan_ran asked.details runs
+  suite_ran (Some steps) runs = absurd (true≢false (sym runs))
 
-  pub cut : (text : List ℕ) (status : ExitStatus) (fault : WriteFault) (result : Result ExitStatus LaunchFault) → IsErrAnd result (λ e. e ≡ Writing fault) → IsOutput asked settings p answers text status
-      → (fault.sent < length text) × Appends old new (take fault.sent text) → IsSuiteRun asked suite old new result
-  cut text status fault (Ok done) is output sent = absurd is
-  cut text status fault (Err e) is output sent = rw is (record { text = text; status = status; output = ready_output asked suite settings p answers ready text status output; short = sent.0; written = sent.1 })
+pub suite_output_of : (asked : Asked) (settings : Settings) (p : PlanParts) (answers : List (ℕ × Reply)) → is_run asked.replay asked.details ≡ true → (text : List ℕ) (status : ExitStatus) → IsRunOutput asked settings p answers text status → IsOutput asked settings p answers text status
+suite_output_of asked settings p answers runs text status output = suite_ran asked settings p answers text status output asked.replay runs
 
-  pub whole : (text : List ℕ) (status : ExitStatus) → IsOutput asked settings p answers text status → Appends old new text → IsWhole asked suite old new status
-  whole text status output sent = record { text = text; output = ready_output asked suite settings p answers ready text status output; written = sent }
+pub suite_text_of : (asked : Asked) (settings : Settings) (p : PlanParts) (answers : List (ℕ × Reply)) (history : List Event) (texts : TextParts) (text : List ℕ) (status : ExitStatus) → IsPrintedRun asked settings p answers history texts text status
+    → IsTextOf asked settings p history texts text
+suite_text_of asked settings p answers history texts text status prints = record { ends = prints.published.ends; behind = prints.schedule; printed = prints.printed }
 
-  unrun_so : (fault : LaunchFault) → IsUnrun asked fault → IsSuiteRun asked suite old new (Err fault)
-  unrun_so fault why = elim why [
-    | inl is ↦ rw is (ready_takes asked suite settings p answers ready)
-    | inr is ↦ rw is.0 (ready_unrun asked suite settings p answers ready NoWorker (inr (refl, is.1)))
-  ]
+-- a plan whose feed is printed while it goes on is run
+pub feed_runs : (asked : Asked) → HasLiveFeed asked → is_run asked.replay asked.details ≡ true
+feed_runs asked feed = ap₂ is_run feed.1 feed.0
 
-  -- a run that broke off is answered by its fault, unless something was written
-  pub broken : (fault result : LaunchFault) (sent : ℕ) → IsUnrun asked fault → IsBrokenOff (IsOutput asked settings p answers) old new sent → (sent ≡ 0 → result ≡ fault) → (0 < sent → result ≡ Writing (record { sent = sent })) → IsSuiteRun asked suite old new (Err result)
-  broken fault result zero why so none some = rw (none refl) (unrun_so fault why)
-  broken fault result (suc n) why so none some = elim so [
-    | inl q ↦ absurd (omega (arith, q.0))
-    | inr part ↦ rw (some (omega arith)) (record {
-      text = part.text;
-      status = part.status;
-      output = ready_output asked suite settings p answers ready part.text part.status part.output;
-      short = part.short;
-      written = part.written;
-    })
-  ]
+-- a refusal of a suite tells of no output
+suite_uncut : (asked : Asked) (suite : SuiteParts) (fault : LaunchFault) → FailsSuite asked suite fault → cut_in fault ≡ None
+suite_uncut asked suite NoMemory fails = refl
+suite_uncut asked suite (OfSuite f) fails = refl
+suite_uncut asked suite BadWords fails = refl
+suite_uncut asked suite (BadStep n) fails = refl
+suite_uncut asked suite (BadSelector n) fails = refl
+suite_uncut asked suite (BadTags f) fails = refl
+suite_uncut asked suite (BadPair f) fails = refl
+suite_uncut asked suite (BadSettings f) fails = refl
+suite_uncut asked suite (NothingMatches n) fails = refl
+suite_uncut asked suite TooManyKeys fails = refl
+suite_uncut asked suite TooManyWorkers fails = refl
+suite_uncut asked suite NoWorker fails = refl
+suite_uncut asked suite Reading fails = refl
+suite_uncut asked suite (Writing f) fails = absurd fails
+
+module _ {L : Type 0} (saw : PlanParts → L → L → List Telling → Type 0) (first now : L) (asked : Asked) (suite : SuiteParts) (old new : Option (List ℕ)) where
+  abbrev Shows : List ℕ → ExitStatus → Type 0
+  Shows = IsSeenSuiteOutput saw first now asked suite
+
+  abbrev Fails : LaunchFault → Type 0
+  Fails fault = FailsSuite asked suite fault × SeesRefusal first now Shows fault
+
+  -- what is refused before anything is run
+  pub refused_suite : (fault : LaunchFault) (result : Result ExitStatus LaunchFault) → IsErrAnd result (λ e. e ≡ fault) → now ≡ first → FailsSuite asked suite fault → IsSeenSuiteRun saw first now asked suite old new result
+  refused_suite fault (Ok status) is same fails = absurd is
+  refused_suite fault (Err e) is same fails = subst (λ (f : LaunchFault). IsSeenSuiteRun saw first now asked suite old new (Err f)) (sym is) (refused asked Shows Fails old new fault (suite_uncut asked suite fault fails) (fails, inl same))
+
+  unseen : (text : List ℕ) (status : ExitStatus) → Shows text status → IsSuiteOutput asked suite text status
+  unseen text status shows = record { accepted = shows.accepted; settings = shows.settings; are = shows.are; output = shows.output.0; never_stuck = shows.never_stuck }
+
+  -- a run that somebody watches is a run
+  pub suite_run : (result : Result ExitStatus LaunchFault) → IsSeenSuiteRun saw first now asked suite old new result → IsSuiteRun asked suite old new result
+  suite_run result is = answered_as asked Shows (IsSuiteOutput asked suite) Fails (FailsSuite asked suite) unseen (λ fault fails. fails.0) old new result is
+
+  -- what is answered of a suite that is ready to be run
+  module _ (settings : Settings) (p : PlanParts) (answers : List (ℕ × Reply)) (ready : IsReady asked suite settings p answers) where
+    pub memory : (result : Result ExitStatus LaunchFault) → IfErr result (λ fault. fault ≡ NoMemory → TakesMemory asked suite)
+    memory (Ok status) = tt
+    memory (Err e) = λ same. ready_takes asked suite settings p answers ready
+
+    abbrev Prints : List ℕ → ExitStatus → Type 0
+    Prints = IsSeenOutput saw first now asked settings p answers
+
+    pub shows_suite : (text : List ℕ) (status : ExitStatus) → Prints text status → Shows text status
+    shows_suite = ready_output asked suite settings p answers ready (IsSeenOutput saw first now asked)
+
+    pub cut : (text : List ℕ) (status : ExitStatus) (fault : WriteFault) (result : Result ExitStatus LaunchFault) → IsErrAnd result (λ e. e ≡ Writing (cut_by_writer fault.sent)) → Prints text status
+        → (fault.sent < length text) × Appends old new (take fault.sent text) → IsSeenSuiteRun saw first now asked suite old new result
+    cut text status fault result is output sent = cut_short asked Shows Fails old new text status fault result is (shows_suite text status output) sent
+
+    pub whole : (text : List ℕ) (status : ExitStatus) → Prints text status → Appends old new text → IsAllOf Shows old new status
+    whole text status output sent = whole_of asked Shows Fails old new text status (shows_suite text status output) sent
+
+    in_vain : (fault : LaunchFault) → SeesRefusal first now Prints fault → SeesRefusal first now Shows fault
+    in_vain fault is = elim is [
+      | inl same ↦ inl same
+      | inr vain ↦ inr (vain.0, record { text = vain.1.text; status = vain.1.status; output = shows_suite vain.1.text vain.1.status vain.1.output })
+    ]
+
+    -- a run that broke off is answered by its fault, unless its writer failed or a part of it was written
+    pub broken : (fault result : LaunchFault) (outlet : Outlet) (sent : ℕ) → IsUnrun asked fault → SeesRefusal first now Prints fault → IsBrokenOff asked Prints outlet old new sent → (outlet ≡ Failed → result ≡ Writing (cut_by_writer sent))
+        → (outlet ≢ Failed → 0 < sent → result ≡ Writing (cut_by_memory sent)) → (outlet ≢ Failed → sent ≡ 0 → result ≡ fault) → IsSeenSuiteRun saw first now asked suite old new (Err result)
+    broken fault result outlet sent why seen so failed some same =
+        answered_as asked Prints Shows Fails Fails shows_suite (λ f is. is) old new (Err result)
+        (broken_run asked Prints Fails old new fault result (uncut_by (is_run asked.replay asked.details) fault why) (ready_unrun asked suite settings p answers ready fault why, in_vain fault seen) outlet sent so failed some same)

@@ -23,19 +23,20 @@ use Rattle.suite_text.specs.Reading.Parts.{SuiteParts}
 use Rattle.table_rule.specs.Picture.{replies_of}
 use Rattle.table_rule.specs.Slots.{job_with}
 use Rattle.run_table.specs.Balance.{IsBalanced, IsUsed}
-use Rattle.worker_pool.specs.Reports.{run_of, AreParts, AreTexts}
+use Rattle.worker_pool.specs.Reports.{run_of, AreTexts}
+use Rattle.listeners.specs.Listeners.{Telling}
 use Rattle.listeners.specs.Results.{tests_found, has_failed}
 use Rattle.launch_options.specs.Asked.{Asked}
 use Rattle.launch_options.specs.declared.details.Details.{Details}
 use Rattle.launch_options.specs.declared.details.Details.TheVariants as details
 use Rattle.launch_options.specs.declared.fault.LaunchFault.{LaunchFault}
-use Rattle.launch_options.specs.declared.fault.LaunchFault.TheVariants.{BadSettings, BadWords, NoMemory, NothingMatches, NoWorker, TooManyKeys, TooManyWorkers, Writing}
+use Rattle.launch_options.specs.declared.fault.LaunchFault.TheVariants.{BadSettings, BadWords, NoMemory, NothingMatches, NoWorker, TooManyKeys, TooManyWorkers}
 use Rattle.launcher.specs.declared.exit_status.ExitStatus.{ExitStatus}
 use Rattle.launcher.specs.ExitStatuses.{status_of_run}
-use Rattle.launcher.specs.Reports.{details_of, IsExpectedOutput, IsListing}
+use Rattle.launcher.specs.Reports.{details_of, HasHistory, IsExpectedOutput, IsListing}
 use Rattle.launcher.specs.Runs.{TakesMemory, plan_of, run_refusal, settings_in}
-use Rattle.launcher.specs.WarningTexts.{warning_lines}
-use Rattle.launcher.specs.Watched.{IsAllOf, IsPartOf}
+use Rattle.launcher.specs.WarningTexts.{head_of}
+use Rattle.launcher.specs.Watched.{IsAnswered, LacksBy, SeesRefusal, SeesTextBy, is_run}
 
 -- each body and each after-body of the tree has a job
 abbrev pub HasJobs : {B : Type 0} → Nodes → List (ℕ × B) → Type 0
@@ -65,12 +66,10 @@ abbrev pub NothingBehind : List Event → List ℕ → Type 0
 NothingBehind history behind = behind ≡ []
 
 module _ {B : Type 0} (answers : B → List Reply) (Behind : List Event → List ℕ → Type 0) where
-  -- The settings' workers run these jobs on the plan. There is one reply of each job, such that what is printed is a line for each
-  -- warning, then a history of a run in which the jobs gave these replies, as the options say, and then what is to stand behind it;
-  -- its failures make the status.
-  pub record IsJobsOutput (asked : Asked) (settings : Settings) (p : PlanParts) (jobs : List (ℕ × B)) (text : List ℕ) (status : ExitStatus) : Type 0 where
-    pub history : List Event
-    pub texts : TextParts
+  -- What is printed of this history of a run of these jobs by the settings' workers, with these texts of its nodes. There is one
+  -- reply of each job, such that the history is one in which the jobs gave these replies: a line for each warning, then the history as
+  -- the options say, and then what is to stand behind it; its failures make the status.
+  pub record IsPrintedJobs (asked : Asked) (settings : Settings) (p : PlanParts) (jobs : List (ℕ × B)) (history : List Event) (texts : TextParts) (text : List ℕ) (status : ExitStatus) : Type 0 where
     -- the history is legal by what the jobs may answer, and the texts of its nodes are by that too;
     pub may_be : IsLegal p (replies_of answers (run_of p settings.workers asked.ring jobs)) settings.workers history
     pub may_say : AreTexts p (replies_of answers (run_of p settings.workers asked.ring jobs)) history texts
@@ -79,20 +78,21 @@ module _ {B : Type 0} (answers : B → List Reply) (Behind : List Event → List
     pub given : (number : ℕ) → IsUsed p history number → (place : ℕ) × (slice_get (replies_of answers (run_of p settings.workers asked.ring jobs) number) place ≡ Some (reply number))
     pub published : IsHistoryBy settings.workers p reply history
     pub are : AreTexts p (one_each reply) history texts
-    -- the run has reported a list for each of the workers, its own events
-    pub lists : List (List Event)
-    pub mine : AreParts settings.workers history lists
     -- the jobs that were used are just those of the nodes that have finished, each once; all others are left
     pub left : List (ℕ × B)
     pub balanced : IsBalanced p jobs history left
     -- what is printed, to the end
     pub behind : List ℕ
     pub is_behind : Behind history behind
-    pub printed : text ≡ warning_lines settings.warnings ++ (details_of asked.details asked.theme p texts history ++ behind)
+    pub printed : text ≡ head_of asked.details settings.warnings ++ (details_of asked.details asked.theme p texts history ++ behind)
     pub exits : status ≡ status_of_run asked.fail_if_no_tests (tests_found p history) (has_failed p history)
     -- and unless the plan fails fast all this but a feed and what stands behind is what is expected by these replies, whatever the
     -- workers did
     pub as_expected : p.fail_fast ≡ false → IsExpectedOutput asked settings p.tree reply behind text status
+
+  -- the settings' workers run these jobs on the plan, and this is printed of it
+  abbrev pub IsJobsOutput : Asked → Settings → PlanParts → List (ℕ × B) → List ℕ → ExitStatus → Type 0
+  IsJobsOutput asked settings p jobs = HasHistory (IsPrintedJobs asked settings p jobs)
 
   -- what is printed of a plan with these jobs: they are run, unless the list is asked for
   abbrev pub IsProgramOutput : Details → Asked → Settings → PlanParts → List (ℕ × B) → List ℕ → ExitStatus → Type 0
@@ -102,7 +102,16 @@ module _ {B : Type 0} (answers : B → List Reply) (Behind : List Event → List
   IsProgramOutput details.Testfeed asked settings p jobs text status = IsJobsOutput asked settings p jobs text status
   IsProgramOutput details.Json asked settings p jobs text status = IsJobsOutput asked settings p jobs text status
   IsProgramOutput details.Xml asked settings p jobs text status = IsJobsOutput asked settings p jobs text status
-  IsProgramOutput details.List asked settings p jobs text status = IsListing p text status
+  IsProgramOutput details.List asked settings p jobs text status = IsListing asked.fail_if_no_tests p text status
+
+module _ {B : Type 0} (answers : B → List Reply) (Behind : List Event → List ℕ → Type 0) {L : Type 0} (saw : PlanParts → L → L → List Telling → Type 0) (first now : L) (asked : Asked) (settings : Settings) (p : PlanParts) (jobs : List (ℕ × B)) where
+  -- what is printed of a plan; and whoever watches has seen the very history that is printed, or, where nothing is run, nothing
+  abbrev pub IsSeenProgram : List ℕ → ExitStatus → Type 0
+  IsSeenProgram text status = IsProgramOutput answers Behind asked.details asked settings p jobs text status × SeesTextBy saw (IsPrintedJobs answers Behind asked settings p jobs) p first now (is_run None asked.details) text status
+
+  -- the answer of a run of this plan that somebody watches
+  abbrev pub IsSeenPlanRun : Option (List ℕ) → Option (List ℕ) → Result ExitStatus LaunchFault → Type 0
+  IsSeenPlanRun = IsAnswered asked IsSeenProgram (λ fault. LacksBy (is_run None asked.details) fault × SeesRefusal first now IsSeenProgram fault)
 
 -- a program's tree and what it says of the configuration, as those of a suite without scripts
 abbrev pub program_parts : Nodes → Parameters → SuiteParts
@@ -127,22 +136,32 @@ FailsProgram asked parts (BadSettings fault) = program_refusal asked parts ≡ S
 FailsProgram asked parts (NothingMatches number) = program_refusal asked parts ≡ Some (NothingMatches number)
 FailsProgram asked parts TooManyKeys = program_refusal asked parts ≡ Some TooManyKeys
 FailsProgram asked parts TooManyWorkers = program_refusal asked parts ≡ Some TooManyWorkers
-FailsProgram asked parts NoWorker = program_refusal asked parts ≡ None
+FailsProgram asked parts NoWorker = (program_refusal asked parts ≡ None) × (is_run None asked.details ≡ true)
 FailsProgram asked parts _ = ⊥
 
-module _ {B : Type 0} (answers : B → List Reply) where
-  -- what the request selects of the tree is run with these jobs and the settings: the text is what is printed of that, and the
-  -- status is its
-  pub record IsSelectedOutput (asked : Asked) (parts : SuiteParts) (jobs : List (ℕ × B)) (text : List ℕ) (status : ExitStatus) : Type 0 where
-    pub accepted : program_refusal asked parts ≡ None
-    pub settings : Settings
-    pub are : settings_in asked parts ≡ Ok settings
-    pub output : IsProgramOutput answers NothingBehind asked.details asked settings (plan_of asked.fail_fast settings (answer parts.tree asked.request)) jobs text status
-    -- whatever the workers of this plan do first, it can still be brought to its end
-    pub never_stuck : HasBareSpares parts.tree → NeverStuck (plan_of asked.fail_fast settings (answer parts.tree asked.request))
+-- what the request selects of a program's tree is run by the settings, and this is printed of that plan: the text, and the status
+pub record IsSelectedBy (Prints : Settings → PlanParts → List ℕ → ExitStatus → Type 0) (asked : Asked) (parts : SuiteParts) (text : List ℕ) (status : ExitStatus) : Type 0 where
+  pub accepted : program_refusal asked parts ≡ None
+  pub settings : Settings
+  pub are : settings_in asked parts ≡ Ok settings
+  pub output : Prints settings (plan_of asked.fail_fast settings (answer parts.tree asked.request)) text status
+  -- whatever the workers of this plan do first, it can still be brought to its end
+  pub never_stuck : HasBareSpares parts.tree → NeverStuck (plan_of asked.fail_fast settings (answer parts.tree asked.request))
+
+module _ {B : Type 0} (answers : B → List Reply) (asked : Asked) (parts : SuiteParts) (jobs : List (ℕ × B)) where
+  -- what is printed of a program's jobs, and the status
+  abbrev pub IsSelectedOutput : List ℕ → ExitStatus → Type 0
+  IsSelectedOutput = IsSelectedBy (λ settings p. IsProgramOutput answers NothingBehind asked.details asked settings p jobs) asked parts
 
   -- the answer of a run of a program's jobs, and what the writer held before and holds after
-  abbrev pub IsProgramRun : Asked → SuiteParts → List (ℕ × B) → Option (List ℕ) → Option (List ℕ) → Result ExitStatus LaunchFault → Type 0
-  IsProgramRun asked parts jobs old new (Ok status) = IsAllOf (IsSelectedOutput asked parts jobs) old new status
-  IsProgramRun asked parts jobs old new (Err (Writing fault)) = IsPartOf (IsSelectedOutput asked parts jobs) old new fault.sent
-  IsProgramRun asked parts jobs old new (Err fault) = FailsProgram asked parts fault
+  abbrev pub IsProgramRun : Option (List ℕ) → Option (List ℕ) → Result ExitStatus LaunchFault → Type 0
+  IsProgramRun = IsAnswered asked IsSelectedOutput (FailsProgram asked parts)
+
+  module _ {L : Type 0} (saw : PlanParts → L → L → List Telling → Type 0) (first now : L) where
+    -- the same; and whoever watches has seen the very history that is printed, or, where nothing is run, nothing
+    abbrev pub IsSeenSelectedOutput : List ℕ → ExitStatus → Type 0
+    IsSeenSelectedOutput = IsSelectedBy (λ settings p. IsSeenProgram answers NothingBehind saw first now asked settings p jobs) asked parts
+
+    -- the answer of a run that somebody watches, who was like this at first and is like this in the end
+    abbrev pub IsSeenProgramRun : Option (List ℕ) → Option (List ℕ) → Result ExitStatus LaunchFault → Type 0
+    IsSeenProgramRun = IsAnswered asked IsSeenSelectedOutput (λ fault. FailsProgram asked parts fault × SeesRefusal first now IsSeenSelectedOutput fault)

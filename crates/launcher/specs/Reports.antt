@@ -21,7 +21,7 @@ use Rattle.sched_core.specs.Runs.{run, passed_over}
 use Rattle.sched_core.specs.Texts.{AreTexts}
 use Rattle.schedules.specs.Schedules.{IsSchedule}
 use Rattle.step_text.specs.StepSpelling.{AreNamable}
-use Rattle.worker_pool.specs.Reports.{AreParts, AreTexts as AreRunTexts}
+use Rattle.worker_pool.specs.Reports.{AreTexts as AreRunTexts}
 use Rattle.listeners.specs.declared.theme.Theme.{Theme}
 use Rattle.listeners.specs.Counts.{counts_of as node_counts}
 use Rattle.listeners.specs.Feed.{feed_of}
@@ -40,7 +40,7 @@ use Rattle.launch_options.specs.declared.details.Details.TheVariants as details
 use Rattle.launcher.specs.declared.replay.ReplayCounts.{ReplayCounts}
 use Rattle.launcher.specs.ReplayTexts.{replay_line}
 use Rattle.launcher.specs.ScheduleTexts.{schedule_line}
-use Rattle.launcher.specs.WarningTexts.{warning_lines}
+use Rattle.launcher.specs.WarningTexts.{head_of}
 use Rattle.launch_options.specs.Asked.{Asked}
 
 -- A history of a run of the plan by so many workers, whatever these do first: it is legal for what the suite has its bodies answer,
@@ -69,12 +69,6 @@ details_of details.Json theme p texts events = json_of p texts events
 details_of details.Xml theme p texts events = junit_of p texts events
 details_of details.List theme p texts events = list_of p
 
--- the text is what is printed of a history, with the texts of its nodes, by what the suite has its bodies answer
-pub record ArePrinted (details : Details) (theme : Theme) (p : PlanParts) (answers : List (ℕ × Reply)) (history : List Event) (text : List ℕ) : Type 0 where
-  pub texts : TextParts
-  pub are : AreRunTexts p (replies_of answers) history texts
-  pub printed : text ≡ details_of details theme p texts history
-
 -- what is expected to be printed of a tree whose bodies answer so, where nothing fails fast; of a feed and of JSON nothing is, since
 -- they tell in which order things happened; of the report in XML, and of the list, for which nothing is run, nothing is said here
 abbrev pub expected_details : Details → Theme → Nodes → (ℕ → Reply) → Option (List ℕ)
@@ -93,38 +87,44 @@ expected_status needs_tests t reply = status_of_run needs_tests (expected_tests 
 -- The text before the schedule, and the status, are those that are expected of the tree. Neither the workers nor the modes of the
 -- nodes nor their locks are spoken of.
 pub record IsExpectedOutput (asked : Asked) (settings : Settings) (t : Nodes) (reply : ℕ → Reply) (schedule text : List ℕ) (status : ExitStatus) : Type 0 where
-  pub printed : (shown : List ℕ) → expected_details asked.details asked.theme t reply ≡ Some shown → text ≡ warning_lines settings.warnings ++ (shown ++ schedule)
+  pub printed : (shown : List ℕ) → expected_details asked.details asked.theme t reply ≡ Some shown → text ≡ head_of asked.details settings.warnings ++ (shown ++ schedule)
   pub exits : status ≡ expected_status asked.fail_if_no_tests t reply
 
--- The line of a schedule: it names steps by which so many workers come to just this history, or says that none were found.
-pub record IsScheduleLine (workers : ℕ) (p : PlanParts) (answers : List (ℕ × Reply)) (history : List Event) (line : List ℕ) : Type 0 where
+-- The line of a schedule, in the form of the details: it names steps by which so many workers come to just this history, or says that
+-- none were found.
+pub record IsScheduleLine (kind : Details) (workers : ℕ) (p : PlanParts) (answers : List (ℕ × Reply)) (history : List Event) (line : List ℕ) : Type 0 where
   pub found : Option (List Step)
   pub schedule : IfSome found (IsSchedule p answers workers history)
   -- and a text can name them, so that the line is read as just these steps
   pub namable : IfSome found AreNamable
-  pub printed : line ≡ schedule_line found
+  pub printed : line ≡ schedule_line kind found
 
 -- what is printed behind the details of a run: nothing, unless a schedule is asked for
-abbrev pub IsBehindDetails : Bool → ℕ → PlanParts → List (ℕ × Reply) → List Event → List ℕ → Type 0
-IsBehindDetails false workers p answers history schedule = schedule ≡ []
-IsBehindDetails true workers p answers history schedule = IsScheduleLine workers p answers history schedule
+abbrev pub IsBehindDetails : Details → Bool → ℕ → PlanParts → List (ℕ × Reply) → List Event → List ℕ → Type 0
+IsBehindDetails kind false workers p answers history schedule = schedule ≡ []
+IsBehindDetails kind true workers p answers history schedule = IsScheduleLine kind workers p answers history schedule
 
--- the settings' workers run the plan: a line for each warning, then its history as the options say, then its schedule, if one is
--- asked for, and its failures make the status
-pub record IsRunOutput (asked : Asked) (settings : Settings) (p : PlanParts) (answers : List (ℕ × Reply)) (text : List ℕ) (status : ExitStatus) : Type 0 where
-  pub history : List Event
+-- What is printed of this history of a run of the plan by the settings' workers, with these texts of its nodes: what the output
+-- begins with and a line for each warning, then the history as the options say, then its schedule, if one is asked for; and its failures make the status.
+pub record IsPrintedRun (asked : Asked) (settings : Settings) (p : PlanParts) (answers : List (ℕ × Reply)) (history : List Event) (texts : TextParts) (text : List ℕ) (status : ExitStatus) : Type 0 where
   pub published : IsHistory settings.workers p answers history
-  -- the run has reported a list for each of them, its own events: so many workers and no fewer were asked to run it
-  pub lists : List (List Event)
-  pub mine : AreParts settings.workers history lists
-  pub details : List ℕ
-  pub printed : ArePrinted asked.details asked.theme p answers history details
+  pub are : AreRunTexts p (replies_of answers) history texts
   pub schedule : List ℕ
-  pub behind_details : IsBehindDetails asked.schedule settings.workers p answers history schedule
-  pub behind_warnings : text ≡ warning_lines settings.warnings ++ (details ++ schedule)
+  pub behind_details : IsBehindDetails asked.details asked.schedule settings.workers p answers history schedule
+  pub printed : text ≡ head_of asked.details settings.warnings ++ (details_of asked.details asked.theme p texts history ++ schedule)
   pub exits : status ≡ status_of_run asked.fail_if_no_tests (tests_found p history) (has_failed p history)
   -- and unless the plan fails fast all this but a feed and the schedule is what is expected, whatever the workers did
   pub as_expected : p.fail_fast ≡ false → IsExpectedOutput asked settings p.tree (reply_of answers) schedule text status
+
+-- there is a history, with the texts of its nodes, of which this is printed
+pub record HasHistory (Prints : List Event → TextParts → List ℕ → ExitStatus → Type 0) (text : List ℕ) (status : ExitStatus) : Type 0 where
+  pub history : List Event
+  pub texts : TextParts
+  pub prints : Prints history texts text status
+
+-- the settings' workers run the plan, and this is printed of it
+abbrev pub IsRunOutput : Asked → Settings → PlanParts → List (ℕ × Reply) → List ℕ → ExitStatus → Type 0
+IsRunOutput asked settings p answers = HasHistory (IsPrintedRun asked settings p answers)
 
 -- the state in which a replay of these steps by so many workers ends
 abbrev pub replayed : ℕ → PlanParts → List (ℕ × Reply) → List Step → State
@@ -145,10 +145,10 @@ pub record IsReplayOutput (steps : List Step) (workers : ℕ) (p : PlanParts) (a
   pub printed : text ≡ feed_of p texts (replayed workers p answers steps).given ++ replay_line (replay_counts workers p answers steps)
   pub exits : status ≡ Success
 
--- nothing is run: what would be is listed, and the status is success
-pub record IsListing (p : PlanParts) (text : List ℕ) (status : ExitStatus) : Type 0 where
+-- nothing is run: what would be is listed, and the status is success, unless there had to be tests and nothing is listed
+pub record IsListing (needs_tests : Bool) (p : PlanParts) (text : List ℕ) (status : ExitStatus) : Type 0 where
   pub listed : text ≡ list_of p
-  pub exits : status ≡ Success
+  pub exits : status ≡ status_of_run needs_tests (length text) false
 
 -- what is printed of a plan where there are no steps to be replayed, and the status: it is run, unless its list is asked for
 abbrev pub IsPlanOutput : Details → Asked → Settings → PlanParts → List (ℕ × Reply) → List ℕ → ExitStatus → Type 0
@@ -158,7 +158,7 @@ IsPlanOutput details.Tree asked settings p answers text status = IsRunOutput ask
 IsPlanOutput details.Testfeed asked settings p answers text status = IsRunOutput asked settings p answers text status
 IsPlanOutput details.Json asked settings p answers text status = IsRunOutput asked settings p answers text status
 IsPlanOutput details.Xml asked settings p answers text status = IsRunOutput asked settings p answers text status
-IsPlanOutput details.List asked settings p answers text status = IsListing p text status
+IsPlanOutput details.List asked settings p answers text status = IsListing asked.fail_if_no_tests p text status
 
 -- what is printed of a plan, and the status: where there are steps to be replayed the settings' workers take them, and
 -- nothing else counts

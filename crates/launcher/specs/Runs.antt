@@ -1,8 +1,7 @@
 -- What a run reads and what it writes.
-use Rattle.std.specs.Prelude.{◌≡◌, ℕ, ◌<◌, ◌≤◌, ◌⊎◌, nat_lt, List, length, take, map, Bool, true, false, if◌then◌else◌, Option, Some, None, option_map, Result, Ok, Err}
+use Rattle.std.specs.Prelude.{◌≡◌, ℕ, ◌<◌, ◌≤◌, ◌⊎◌, nat_lt, List, length, take, map, Bool, true, false, if◌then◌else◌, Option, Some, None, option_map, IfErr, Result, Ok, Err}
 use Rattle.std.specs.Option.{option_or}
-use Rattle.std.specs.Io.KnownBytes.{Appends, Consumes, IsAtEnd}
-use Rattle.config_params.specs.Parameters.{answer_over}
+use Rattle.std.specs.Io.KnownBytes.{Consumes, IsAtEnd}
 use Rattle.config_params.specs.Settings.{settings_of}
 use Rattle.config_params.specs.declared.settings.Settings.{Settings}
 use Rattle.config_params.specs.declared.settings_fault.SettingsFault.{SettingsFault}
@@ -29,11 +28,15 @@ use Rattle.suite_text.specs.Reading.Parts.{SuiteParts}
 use Rattle.suite_text.specs.Suites.{suite_parts}
 use Rattle.suite_text.specs.declared.suite.Suite as suites
 use Rattle.launch_options.specs.Asked.{Asked}
-use Rattle.launcher.specs.Reports.{IsOutput}
+use Rattle.launch_options.specs.Workers.{answer_with}
+use Rattle.listeners.specs.Listeners.{Telling}
+use Rattle.launcher.specs.Reports.{IsOutput, IsPrintedRun}
+use Rattle.launcher.specs.Watched.{IsAnswered, LacksBy, SeesRefusal, SeesTextBy, is_run}
 
--- the settings of a run: what the options say of a key stands over what the suite says of it
+-- the settings of a run: what the options say of a key stands over what the suite says of it, and with `--workers` nodes are
+-- concurrent where neither says what they are
 abbrev pub settings_in : Asked → SuiteParts → Result Settings SettingsFault
-settings_in asked suite = settings_of (answer_over asked.params suite.properties) asked.processors
+settings_in asked suite = settings_of (answer_with asked.workers asked.params suite.properties) asked.processors
 
 -- the plan of a tree: each node has the mode that the settings give it, locks are held by the nodes that they are hoisted to,
 -- and it fails fast or does not
@@ -88,14 +91,18 @@ pub record TakesMemory (asked : Asked) (suite : SuiteParts) : Type 0 where
   pub settings : settings_refusal (settings_in asked suite) ≡ None
   pub selection : selection_refusal suite.tree asked.request ≡ None
 
--- what the request selects of the suite is run with its settings: the text is what is printed of that, and the status is its
-pub record IsSuiteOutput (asked : Asked) (suite : SuiteParts) (text : List ℕ) (status : ExitStatus) : Type 0 where
+-- what the request selects of the suite is run with its settings, and this is printed of that plan: the text, and the status
+pub record IsSuiteOutputBy (Prints : Settings → PlanParts → List (ℕ × Reply) → List ℕ → ExitStatus → Type 0) (asked : Asked) (suite : SuiteParts) (text : List ℕ) (status : ExitStatus) : Type 0 where
   pub accepted : run_refusal asked suite ≡ None
   pub settings : Settings
   pub are : settings_in asked suite ≡ Ok settings
-  pub output : IsOutput asked settings (plan_of asked.fail_fast settings (answer suite.tree asked.request)) (answers_of suite.scripts) text status
+  pub output : Prints settings (plan_of asked.fail_fast settings (answer suite.tree asked.request)) (answers_of suite.scripts) text status
   -- whatever the workers of this plan do first, it can still be brought to its end
   pub never_stuck : HasBareSpares suite.tree → NeverStuck (plan_of asked.fail_fast settings (answer suite.tree asked.request))
+
+-- what is printed of a suite, and the status
+abbrev pub IsSuiteOutput : Asked → SuiteParts → List ℕ → ExitStatus → Type 0
+IsSuiteOutput asked = IsSuiteOutputBy (IsOutput asked) asked
 
 -- the output of a suite is refused by its first refusal, and want of memory stands in place of none that is judged before; where
 -- nothing refuses the suite there may be no thread to run it
@@ -105,7 +112,7 @@ FailsSuite asked suite (BadSettings fault) = run_refusal asked suite ≡ Some (B
 FailsSuite asked suite (NothingMatches number) = run_refusal asked suite ≡ Some (NothingMatches number)
 FailsSuite asked suite TooManyKeys = run_refusal asked suite ≡ Some TooManyKeys
 FailsSuite asked suite TooManyWorkers = run_refusal asked suite ≡ Some TooManyWorkers
-FailsSuite asked suite NoWorker = (run_refusal asked suite ≡ None) × (asked.replay ≡ None)
+FailsSuite asked suite NoWorker = (run_refusal asked suite ≡ None) × (is_run asked.replay asked.details ≡ true)
 FailsSuite asked suite _ = ⊥
 
 -- The suite is accepted: these are the settings of its run, its plan and what its bodies answer.
@@ -119,29 +126,26 @@ pub record IsReady (asked : Asked) (suite : SuiteParts) (settings : Settings) (p
   pub guarded : IsGuarded (declared_of plan.tree) plan
   pub never_stuck : HasBareSpares suite.tree → NeverStuck plan
 
--- why a plan is not run that nothing refuses: for want of memory; or, where there is no replay, no thread could be started
+-- why there is no output of a plan that nothing refuses: for want of memory; or, where it may be run, no thread could be started
 abbrev pub IsUnrun : Asked → LaunchFault → Type 0
-IsUnrun asked fault = (fault ≡ NoMemory) ⊎ ((fault ≡ NoWorker) × (asked.replay ≡ None))
-
--- the writer took all of a suite's output
-pub record IsWhole (asked : Asked) (suite : SuiteParts) (old new : Option (List ℕ)) (status : ExitStatus) : Type 0 where
-  pub text : List ℕ
-  pub output : IsSuiteOutput asked suite text status
-  pub written : Appends old new text
-
--- the writer took the first so many bytes of a suite's output, and not all
-pub record IsCutShort (asked : Asked) (suite : SuiteParts) (old new : Option (List ℕ)) (sent : ℕ) : Type 0 where
-  pub text : List ℕ
-  pub status : ExitStatus
-  pub output : IsSuiteOutput asked suite text status
-  pub short : sent < length text
-  pub written : Appends old new (take sent text)
+IsUnrun asked = LacksBy (is_run asked.replay asked.details)
 
 -- the answer of a run of this suite, and what the writer held before and holds after
 abbrev pub IsSuiteRun : Asked → SuiteParts → Option (List ℕ) → Option (List ℕ) → Result ExitStatus LaunchFault → Type 0
-IsSuiteRun asked suite old new (Ok status) = IsWhole asked suite old new status
-IsSuiteRun asked suite old new (Err (Writing fault)) = IsCutShort asked suite old new fault.sent
-IsSuiteRun asked suite old new (Err fault) = FailsSuite asked suite fault
+IsSuiteRun asked suite = IsAnswered asked (IsSuiteOutput asked suite) (FailsSuite asked suite)
+
+module _ {L : Type 0} (saw : PlanParts → L → L → List Telling → Type 0) (first now : L) (asked : Asked) where
+  -- what is printed of a plan; and whoever watches has seen the very history that is printed, or, where nothing is run, nothing
+  abbrev pub IsSeenOutput : Settings → PlanParts → List (ℕ × Reply) → List ℕ → ExitStatus → Type 0
+  IsSeenOutput settings p answers text status = IsOutput asked settings p answers text status × SeesTextBy saw (IsPrintedRun asked settings p answers) p first now (is_run asked.replay asked.details) text status
+
+  -- the same of a suite
+  abbrev pub IsSeenSuiteOutput : SuiteParts → List ℕ → ExitStatus → Type 0
+  IsSeenSuiteOutput = IsSuiteOutputBy IsSeenOutput asked
+
+  -- the answer of a run of this suite that somebody watches, who was like this at first and is like this in the end
+  abbrev pub IsSeenSuiteRun : SuiteParts → Option (List ℕ) → Option (List ℕ) → Result ExitStatus LaunchFault → Type 0
+  IsSeenSuiteRun suite = IsAnswered asked (IsSeenSuiteOutput suite) (λ fault. FailsSuite asked suite fault × SeesRefusal first now (IsSeenSuiteOutput suite) fault)
 
 -- what the reading of a suite refuses: the suite's own refusal is the one that the definition gives
 abbrev pub FailsToRead : Result SuiteParts SuiteFault → LaunchFault → Type 0
@@ -167,16 +171,23 @@ ReadsSuite read (Err fault) = FailsToRead read fault
 
 -- What is answered behind a reading: a suite, of which no spare declares a lock and no engine is a factory, is run; a refusal of the
 -- reading is answered.
-abbrev pub RunsLoaded : Asked → Result suites.Suite LaunchFault → Option (List ℕ) → Option (List ℕ) → Result ExitStatus LaunchFault → Type 0
-RunsLoaded asked (Ok suite) old new result = HasBareSpares suite.tree × IsSuiteRun asked (suite_parts suite) old new result
-RunsLoaded asked (Err fault) old new result = result ≡ Err fault
+abbrev pub RunsLoaded : (SuiteParts → Result ExitStatus LaunchFault → Type 0) → Result suites.Suite LaunchFault → Result ExitStatus LaunchFault → Type 0
+RunsLoaded Runs (Ok suite) result = HasBareSpares suite.tree × Runs (suite_parts suite) result
+RunsLoaded Runs (Err fault) result = result ≡ Err fault
 
 -- The bytes are read, and what that gave is run. So want of memory is either that of the reading, or that of the run, which hides
 -- neither settings that are none nor a selector that covers nothing.
 pub record IsRun (asked : Asked) (read : Result SuiteParts SuiteFault) (old new : Option (List ℕ)) (result : Result ExitStatus LaunchFault) : Type 0 where
   pub loaded : Result suites.Suite LaunchFault
   pub reads : ReadsSuite read loaded
-  pub runs : RunsLoaded asked loaded old new result
+  pub runs : RunsLoaded (λ suite. IsSuiteRun asked suite old new) loaded result
+
+-- the same of a run that somebody watches: of what could not be read nothing was seen
+pub record IsSeenRun {L : Type 0} (saw : PlanParts → L → L → List Telling → Type 0) (first now : L) (asked : Asked) (read : Result SuiteParts SuiteFault) (old new : Option (List ℕ)) (result : Result ExitStatus LaunchFault) : Type 0 where
+  pub loaded : Result suites.Suite LaunchFault
+  pub reads : ReadsSuite read loaded
+  pub runs : RunsLoaded (λ suite. IsSeenSuiteRun saw first now asked suite old new) loaded result
+  pub unread : IfErr loaded (λ fault. now ≡ first)
 
 -- the fault is the writer's
 abbrev pub is_writing : LaunchFault → Bool

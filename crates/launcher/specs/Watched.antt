@@ -1,25 +1,24 @@
 -- What is shown of a run that goes on, and what was written of one that broke off.
-use Rattle.std.specs.Prelude.{◌≡◌, ℕ, ◌<◌, ◌⊎◌, List, [], ◌++◌, length, take, Option, Some, None, Result, Ok, Err, string_bytes}
+use Rattle.std.specs.Prelude.{◌≡◌, ◌≢◌, ℕ, ◌<◌, ◌⊎◌, Bool, true, false, List, [], length, take, Option, Some, None, Result, Ok, Err, string_bytes}
 use Rattle.std.specs.Io.KnownBytes.{Appends}
-use Rattle.config_params.specs.declared.settings.Settings.{Settings}
 use Rattle.plan_events.specs.declared.event.Event.{Event}
 use Rattle.plan_events.specs.Texts.{TextParts}
 use Rattle.resource_locks.specs.Plans.{PlanParts}
-use Rattle.event_history.specs.Parts.{EndsInPlan}
 use Rattle.scheduling.specs.declared.step.Step.{Step}
 use Rattle.listeners.specs.Listeners.{Telling, tellings_of}
 use Rattle.live_feed.specs.declared.live_feed.Outlet.{Outlet}
-use Rattle.live_feed.specs.declared.live_feed.Outlet.TheVariants.{Waiting, Closed}
+use Rattle.live_feed.specs.declared.live_feed.Outlet.TheVariants.{Waiting, Closed, Failed}
 use Rattle.worker_pool.specs.Watching.{HasSeenMore}
 use Rattle.launch_options.specs.declared.details.Details.{Details}
 use Rattle.launch_options.specs.declared.details.Details.TheVariants as details
 use Rattle.launcher.specs.declared.exit_status.ExitStatus.{ExitStatus}
+use Rattle.launch_options.specs.declared.fault.CutCause.{CutCause}
+use Rattle.launch_options.specs.declared.fault.CutCause.TheVariants.{Writer, Memory}
+use Rattle.launch_options.specs.declared.fault.CutOutput.{CutOutput}
 use Rattle.launch_options.specs.declared.fault.LaunchFault.{LaunchFault}
 use Rattle.launch_options.specs.declared.fault.LaunchFault.TheVariants.{NoMemory, NoWorker, Writing}
 use Rattle.launcher.specs.declared.report.Output.{Output}
 use Rattle.launch_options.specs.Asked.{Asked}
-use Rattle.launcher.specs.Reports.{details_of}
-use Rattle.launcher.specs.WarningTexts.{warning_lines}
 
 -- whether lines are printed while a run goes on: those of a feed are, unless steps are replayed
 abbrev pub outlet_by : Details → Option (List Step) → Outlet
@@ -32,40 +31,64 @@ outlet_by details.Json replay = Closed
 outlet_by details.Xml replay = Closed
 outlet_by details.List replay = Closed
 
-module _ {L : Type 0} (saw : PlanParts → L → L → List Telling → Type 0) where
-  -- The text is what is printed of a history, up to what stands behind its details; and whoever watches has seen that history.
-  pub record HasWatched (asked : Asked) (settings : Settings) (p : PlanParts) (first now : L) (text : List ℕ) : Type 0 where
-    pub history : List Event
-    pub texts : TextParts
-    pub behind : List ℕ
-    pub ends : EndsInPlan history
-    pub printed : text ≡ warning_lines settings.warnings ++ (details_of asked.details asked.theme p texts history ++ behind)
-    pub seen : HasSeenMore saw p (tellings_of texts history) first now
+-- whether the plan is run: no steps are replayed, and more is asked for than its list
+abbrev pub is_run : Option (List Step) → Details → Bool
+is_run (Some steps) kind = false
+is_run None details.None = true
+is_run None details.Summary = true
+is_run None details.Tree = true
+is_run None details.Testfeed = true
+is_run None details.Json = true
+is_run None details.Xml = true
+is_run None details.List = false
 
-module _ {L : Type 0} (saw : PlanParts → L → L → List Telling → Type 0) (RunOutput : List ℕ → ExitStatus → Type 0) where
-  -- whoever watches has seen the history of a run, of which there is no output for want of memory
-  pub record HasWatchedInVain (asked : Asked) (settings : Settings) (p : PlanParts) (first now : L) : Type 0 where
-    pub text : List ℕ
-    pub status : ExitStatus
-    pub output : RunOutput text status
-    pub watched : HasWatched saw asked settings p first now text
-
-  -- whoever watches has seen the run whose output this is, or nothing
-  abbrev pub Watches : Asked → Settings → PlanParts → L → L → Result Output LaunchFault → Type 0
-  Watches asked settings p first now (Ok report) = (now ≡ first) ⊎ HasWatched saw asked settings p first now (string_bytes report.text)
-  Watches asked settings p first now (Err fault) = (now ≡ first) ⊎ HasWatchedInVain asked settings p first now
-
--- the writer took the first so many bytes of an output, and not all
-pub record IsPartOf (Output : List ℕ → ExitStatus → Type 0) (old new : Option (List ℕ)) (sent : ℕ) : Type 0 where
+-- some output of this kind
+pub record SomeOutput (Output : List ℕ → ExitStatus → Type 0) : Type 0 where
   pub text : List ℕ
   pub status : ExitStatus
   pub output : Output text status
-  pub short : sent < length text
-  pub written : Appends old new (take sent text)
 
--- nothing was written, or a part of an output
-abbrev pub IsBrokenOff : (List ℕ → ExitStatus → Type 0) → Option (List ℕ) → Option (List ℕ) → ℕ → Type 0
-IsBrokenOff Output old new sent = ((sent ≡ 0) × Appends old new []) ⊎ IsPartOf Output old new sent
+module _ {L : Type 0} (saw : PlanParts → L → L → List Telling → Type 0) (Prints : List Event → TextParts → List ℕ → ExitStatus → Type 0) (p : PlanParts) (first now : L) where
+  -- whoever watches has seen the very history of which this is printed, each event with its text
+  pub record HasSeenPrinted (text : List ℕ) (status : ExitStatus) : Type 0 where
+    pub history : List Event
+    pub texts : TextParts
+    pub prints : Prints history texts text status
+    pub seen : HasSeenMore saw p (tellings_of texts history) first now
+
+  -- of a run whoever watches has seen the history that is printed; of one that was not begun nothing; and where there is no output, since
+  -- memory was wanting behind it, the history that would have been printed
+  abbrev pub Watches : Result Output LaunchFault → Type 0
+  Watches (Ok report) = HasSeenPrinted (string_bytes report.text) report.status
+  Watches (Err fault) = (now ≡ first) ⊎ ((fault ≡ NoMemory) × SomeOutput HasSeenPrinted)
+
+  -- the same where a plan may be run; else nothing was seen
+  abbrev pub WatchesBy : Bool → Result Output LaunchFault → Type 0
+  WatchesBy true result = Watches result
+  WatchesBy false result = now ≡ first
+
+  -- whoever watches has seen the history of which this is printed, or, where nothing is run, nothing
+  abbrev pub SeesTextBy : Bool → List ℕ → ExitStatus → Type 0
+  SeesTextBy true text status = HasSeenPrinted text status
+  SeesTextBy false text status = now ≡ first
+
+-- of a refusal nothing was seen; but where memory was wanting behind a run, all that would have been printed
+abbrev pub SeesRefusal : {L : Type 0} → (first now : L) → (Output : List ℕ → ExitStatus → Type 0) → LaunchFault → Type 0
+SeesRefusal first now Output fault = (now ≡ first) ⊎ ((fault ≡ NoMemory) × SomeOutput Output)
+
+-- the lines of a feed are asked for, and no replay: so they are printed while the run goes on
+abbrev pub HasLiveFeed : Asked → Type 0
+HasLiveFeed asked = (asked.details ≡ details.Testfeed) × (asked.replay ≡ None)
+
+-- why the writer has a part of an output alone: it failed; or of a feed so many bytes were printed, and memory for the rest was wanting
+abbrev pub IsCutBy : CutCause → Asked → ℕ → Type 0
+IsCutBy Writer asked sent = Unit {0}
+IsCutBy Memory asked sent = (0 < sent) × HasLiveFeed asked
+
+-- what a refusal says of an output that was cut short, if it is about one
+abbrev pub cut_in : LaunchFault → Option CutOutput
+cut_in (Writing cut) = Some cut
+cut_in fault = None
 
 module _ (Output : List ℕ → ExitStatus → Type 0) where
   -- the writer took all of an output
@@ -74,8 +97,35 @@ module _ (Output : List ℕ → ExitStatus → Type 0) where
     pub output : Output text status
     pub written : Appends old new text
 
-  -- An output was written, or a part of one and not all; or there was no memory, or no thread could be started.
-  abbrev pub IsShownRun : Option (List ℕ) → Option (List ℕ) → Result ExitStatus LaunchFault → Type 0
-  IsShownRun old new (Ok status) = IsAllOf old new status
-  IsShownRun old new (Err (Writing fault)) = IsPartOf Output old new fault.sent
-  IsShownRun old new (Err fault) = (fault ≡ NoMemory) ⊎ (fault ≡ NoWorker)
+  -- the writer took the first so many bytes of an output, and not all
+  pub record IsPartOf (old new : Option (List ℕ)) (sent : ℕ) : Type 0 where
+    pub text : List ℕ
+    pub status : ExitStatus
+    pub output : Output text status
+    pub short : sent < length text
+    pub written : Appends old new (take sent text)
+
+module _ (asked : Asked) (Output : List ℕ → ExitStatus → Type 0) (Fails : LaunchFault → Type 0) where
+  -- a refusal: a part of an output was written, for a reason; or it is one of these
+  abbrev pub IsRefusedBy : Option CutOutput → LaunchFault → (old new : Option (List ℕ)) → Type 0
+  IsRefusedBy (Some cut) fault old new = IsPartOf Output old new cut.sent × IsCutBy cut.cause asked cut.sent
+  IsRefusedBy None fault old new = Fails fault
+
+  -- an answer, and what the writer held before and holds after: an output was written, or a part of one and not all; or it is refused
+  abbrev pub IsAnswered : (old new : Option (List ℕ)) → Result ExitStatus LaunchFault → Type 0
+  IsAnswered old new (Ok status) = IsAllOf Output old new status
+  IsAnswered old new (Err fault) = IsRefusedBy (cut_in fault) fault old new
+
+-- What was written of a run that broke off: nothing, and no writer failed; or a part of an output, of a feed that is printed while
+-- its run goes on.
+abbrev pub IsBrokenOff : Asked → (List ℕ → ExitStatus → Type 0) → Outlet → (old new : Option (List ℕ)) → ℕ → Type 0
+IsBrokenOff asked Output outlet old new sent = ((outlet ≢ Failed) × (sent ≡ 0) × Appends old new []) ⊎ (IsPartOf Output old new sent × HasLiveFeed asked)
+
+-- there was no memory, or no thread could be started
+abbrev pub LacksMeans : LaunchFault → Type 0
+LacksMeans fault = (fault ≡ NoMemory) ⊎ (fault ≡ NoWorker)
+
+-- the same where a plan may be run; else there was no memory
+abbrev pub LacksBy : Bool → LaunchFault → Type 0
+LacksBy true fault = LacksMeans fault
+LacksBy false fault = fault ≡ NoMemory

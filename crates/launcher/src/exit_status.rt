@@ -33,7 +33,7 @@ impl ExitStatus {
     }
 
     /// The status of a run that found so many tests, in which a node other than the plan failed or
-    /// none did.
+    /// none did; and that of a list, with its length for the tests.
     pub fn of_run(needs_tests: bool, tests: usize, has_failure: bool) -> ExitStatus
         ensures { result ≡ status_of_run needs_tests tests has_failure }
     {
@@ -46,8 +46,7 @@ impl ExitStatus {
         }
     }
 
-    /// The status of a replay, which tells what the steps do and not whether the suite passes; of a
-    /// list, too, for which nothing is run.
+    /// The status of a replay, which tells what the steps do and not whether the suite passes.
     pub fn of_replay() -> ExitStatus
         ensures { result ≡ Success }
     {

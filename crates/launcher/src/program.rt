@@ -1,16 +1,16 @@
 //! A run of a program's jobs: from its tree and its jobs to the bytes of a writer.
 
-ghost use Rattle.std.specs.Prelude.{◌≡◌, ◌≤◌, ◌⊎◌, ℕ, [], None, Some, IfOk, IfErr, false, string_bytes};
+ghost use Rattle.std.specs.Prelude.{◌≡◌, ◌≤◌, ℕ, [], None, Some, IfOk, IfErr, false, string_bytes};
 ghost use Rattle.std.specs.Io.KnownBytes.{Keeps};
 ghost use Rattle.descriptor.specs.Nodes.{IsTree};
 ghost use Rattle.launch_options.specs.Asked.{asked_by};
-ghost use Rattle.launcher.specs.Beside.{SeesRun};
-ghost use Rattle.launcher.specs.Programs.{FailsProgram, HasJobs, IsProgramOutput, IsProgramRun};
+ghost use Rattle.launcher.specs.Programs.{FailsProgram, HasJobs, IsProgramRun};
+ghost use Rattle.launcher.specs.Programs.{IsSeenPlanRun, IsSeenProgram, IsSeenProgramRun};
 ghost use Rattle.launcher.specs.Programs.{program_parts, steps_refusal};
 ghost use Rattle.launcher.specs.Reports.{IsBehindDetails};
 ghost use Rattle.launcher.specs.Runs.{IsReady, TakesMemory, is_writing};
-ghost use Rattle.launcher.specs.Watched.{IsBrokenOff, IsShownRun, outlet_by};
-ghost use Rattle.launcher.specs.WarningTexts.{warning_lines};
+ghost use Rattle.launcher.specs.Watched.{IsBrokenOff, LacksBy, SeesRefusal, is_run, outlet_by};
+ghost use Rattle.launcher.specs.WarningTexts.{head_of};
 ghost use Rattle.live_feed.specs.LiveFeeds.{IsFront};
 ghost use Rattle.resource_locks.specs.Declarations.{declared_of};
 ghost use Rattle.resource_locks.specs.Hoisted.{IsGuarded};
@@ -22,7 +22,7 @@ ghost use Rattle.worker_pool.specs.Reports.{run_of};
 use crate::exit_status::ExitStatus;
 use crate::report::{Output, program_report};
 use crate::run::{broken_off, crewed_plan, outlet_for, settings_over};
-use crate::warning_lines::warnings_text;
+use crate::warning_lines::head_text;
 use crate::watched_feed::WatchedFeed;
 use config_params::{Params, Settings};
 use descriptor::Tree;
@@ -79,13 +79,13 @@ fn planned_program(
     ensures steps { IfOk result (λ _. steps_refusal options.now.schedule (asked_by options.now).replay ≡ None) }
     ensures ready { IfOk result (λ planned. IsReady (asked_by options.now) (program_parts tree properties)
         planned.settings planned.plan []) }
-    ensures head { IfOk result (λ planned. string_bytes planned.head ≡ warning_lines planned.settings.warnings) }
+    ensures head { IfOk result (λ planned. string_bytes planned.head ≡ head_of options.now.details planned.settings.warnings) }
     ensures refused { IfErr result (FailsProgram (asked_by options.now) (program_parts tree properties)) }
 {
     refuse_steps(options)?;
     let settings = settings_over(options, properties)?;
     let plan = crewed_plan(alloc, options, &settings, tree)?;
-    let head = warnings_text(alloc, settings.warnings)?;
+    let head = head_text(alloc, options.details, settings.warnings)?;
     Ok(PlannedProgram {
         settings,
         plan,
@@ -109,21 +109,25 @@ fn shown_program<B: Job + Send, T: Threads + Wait + Sync, W: Write, V: Watcher>(
     requires tree { IsTree plan.tree }
     requires jobs { JobsMayAnswer B.answers (run_of plan settings.now.workers options.now.ring jobs.items) }
     requires all { HasAllJobs plan jobs.items }
-    requires head { live.old.feed.head.now ≡ warning_lines settings.now.warnings }
+    requires head { live.old.feed.head.now ≡ head_of options.now.details settings.now.warnings }
     requires outlet { live.old.feed.outlet ≡ outlet_by options.now.details (asked_by options.now).replay }
     requires none { live.old.feed.sent ≡ 0 }
     ensures same { live.new.feed.writer.ghost_name ≡ live.old.feed.writer.ghost_name }
     ensures same_watcher { live.new.watcher.ghost_name ≡ live.old.watcher.ghost_name }
-    ensures output { IfOk result (λ report. IsProgramOutput B.answers (IsBehindDetails options.now.schedule
-        settings.now.workers plan []) options.now.details (asked_by options.now) settings.now plan jobs.items
-        (string_bytes report.text) report.status) }
+    ensures output { IfOk result (λ report. IsSeenProgram B.answers (IsBehindDetails options.now.details options.now.schedule
+        settings.now.workers plan []) V.saw live.old.watcher.now live.new.watcher.now (asked_by options.now)
+        settings.now plan jobs.items (string_bytes report.text) report.status) }
     ensures front { IfOk result (λ report. IsFront (W.contents live.old.feed.writer.now) (W.contents live.new.feed.writer.now)
         live.new.feed.outlet live.new.feed.sent (string_bytes report.text)) }
-    ensures watched { SeesRun V.saw live.old.watcher.now live.new.watcher.now }
-    ensures refused { IfErr result (λ fault. (fault ≡ LaunchFault.NoMemory) ⊎ (fault ≡ LaunchFault.NoWorker)) }
+    ensures refused { IfErr result (LacksBy (is_run None options.now.details)) }
+    ensures seen { IfErr result (SeesRefusal live.old.watcher.now live.new.watcher.now (IsSeenProgram B.answers
+        (IsBehindDetails options.now.details options.now.schedule settings.now.workers plan []) V.saw live.old.watcher.now
+        live.new.watcher.now (asked_by options.now) settings.now plan jobs.items)) }
     ensures broken_off { IfErr result
-        (λ _. IsBrokenOff (IsProgramOutput B.answers (IsBehindDetails options.now.schedule settings.now.workers plan [])
-        options.now.details (asked_by options.now) settings.now plan jobs.items) (W.contents live.old.feed.writer.now) (W.contents live.new.feed.writer.now) live.new.feed.sent) }
+        (λ _. IsBrokenOff (asked_by options.now) (IsSeenProgram B.answers (IsBehindDetails options.now.details options.now.schedule
+        settings.now.workers plan []) V.saw live.old.watcher.now live.new.watcher.now (asked_by options.now)
+        settings.now plan jobs.items) live.new.feed.outlet (W.contents live.old.feed.writer.now) (W.contents live.new.feed.writer.now)
+        live.new.feed.sent) }
 {
     program_report(rt, alloc, options, settings, plan, jobs, live)
 }
@@ -146,12 +150,12 @@ fn run_planned<B: Job + Send, T: Threads + Wait + Sync, W: Write, V: Watcher>(
     requires tree { IsTree plan.tree }
     requires jobs { JobsMayAnswer B.answers (run_of plan settings.now.workers options.now.ring jobs.items) }
     requires all { HasAllJobs plan jobs.items }
-    requires head { head.now ≡ warning_lines settings.now.warnings }
-    ensures exact { IsShownRun (IsProgramOutput B.answers (IsBehindDetails options.now.schedule settings.now.workers
-        plan []) options.now.details (asked_by options.now) settings.now plan jobs.items) (W.contents writer.old) (W.contents writer.new) result }
+    requires head { head.now ≡ head_of options.now.details settings.now.warnings }
+    ensures exact { IsSeenPlanRun B.answers (IsBehindDetails options.now.details options.now.schedule settings.now.workers plan []) V.saw
+        watcher.old watcher.new (asked_by options.now) settings.now plan jobs.items (W.contents writer.old)
+        (W.contents writer.new) result }
     ensures quiet { IfErr result (λ fault. is_writing fault ≡ false →
         Keeps (W.contents writer.old) (W.contents writer.new)) }
-    ensures watched { SeesRun V.saw watcher.old watcher.new }
 {
     let feed = LiveFeed::new(alloc, writer, head, outlet_for(options));
     let mut live = WatchedFeed { feed, watcher };
@@ -160,7 +164,7 @@ fn run_planned<B: Job + Send, T: Threads + Wait + Sync, W: Write, V: Watcher>(
             live.finish(report.text.as_bytes())?;
             Ok(report.status)
         }
-        Err(fault) => Err(broken_off(fault, live.sent())),
+        Err(fault) => Err(broken_off(fault, live.outlet(), live.sent())),
     }
 }
 
@@ -188,7 +192,9 @@ pub fn run_jobs_watched<B: Job + Send, T: Threads + Wait + Sync, W: Write, V: Wa
         TakesMemory (asked_by options.now) (program_parts program.tree program.properties)) }
     ensures quiet { IfErr result (λ fault. is_writing fault ≡ false →
         Keeps (W.contents writer.old) (W.contents writer.new)) }
-    ensures watched { SeesRun V.saw watcher.old watcher.new }
+    ensures watched { IsSeenProgramRun B.answers (asked_by options.now) (program_parts program.tree
+        program.properties) program.jobs.items V.saw watcher.old watcher.new (W.contents writer.old)
+        (W.contents writer.new) result }
 {
     let Program {
         tree,

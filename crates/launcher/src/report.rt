@@ -1,6 +1,6 @@
 //! What is printed of a run or of a replay, and its status.
 
-ghost use Rattle.std.specs.Prelude.{◌≡◌, ℕ, ◌≤◌, List, [], ◌++◌, ◌⊎◌, IfOk, IfErr, string_bytes};
+ghost use Rattle.std.specs.Prelude.{◌≡◌, ℕ, ◌≤◌, List, [], ◌++◌, ◌⊎◌, None, IfOk, IfErr, string_bytes};
 ghost use Rattle.descriptor.specs.Nodes.{IsTree};
 ghost use Rattle.listeners.specs.Counts.{counts_of};
 ghost use Rattle.listeners.specs.Results.{tests_found, has_failed};
@@ -9,12 +9,12 @@ ghost use Rattle.listeners.specs.TreeTexts.{tree_of};
 ghost use Rattle.launch_options.specs.Asked.{asked_by};
 ghost use Rattle.launcher.specs.ExitStatuses.{status_of_run};
 ghost use Rattle.launcher.specs.Faults.{unrun_fault};
-ghost use Rattle.launcher.specs.Reports.{details_of, ArePrinted, IsBehindDetails, IsRunOutput, IsReplayOutput};
-ghost use Rattle.launcher.specs.Programs.{IsJobsOutput, IsProgramOutput};
+ghost use Rattle.launcher.specs.Reports.{details_of, IsBehindDetails, IsPrintedRun, IsRunOutput, IsReplayOutput};
+ghost use Rattle.launcher.specs.Programs.{IsJobsOutput, IsPrintedJobs, IsProgramOutput};
 ghost use Rattle.launcher.specs.Reports.{IsListing, IsPlanOutput, IsOutput};
 ghost use Rattle.launcher.specs.Runs.{IsUnrun};
-ghost use Rattle.launcher.specs.Watched.{Watches};
-ghost use Rattle.launcher.specs.WarningTexts.{warning_lines};
+ghost use Rattle.launcher.specs.Watched.{LacksBy, LacksMeans, Watches, WatchesBy, is_run};
+ghost use Rattle.launcher.specs.WarningTexts.{head_of};
 ghost use Rattle.resource_locks.specs.Declarations.{declared_of};
 ghost use Rattle.resource_locks.specs.Hoisted.{IsGuarded};
 ghost use Rattle.run_table.specs.Prepared.{HasAllJobs};
@@ -25,7 +25,7 @@ use crate::exit_status::ExitStatus;
 use crate::replay::{ReplayCounts, push_replay_line};
 use crate::schedule_line::behind_details;
 use crate::scripted::scripted_jobs;
-use crate::warning_lines::warnings_text;
+use crate::warning_lines::head_text;
 use config_params::{Settings, Warnings};
 use launch_options::{Details, LaunchFault, Options};
 use listeners::{Audience, Results, Theme, feed_text};
@@ -100,7 +100,8 @@ fn put_behind(first: String, second: String) -> Result<String, AllocError>
     Ok(text)
 }
 
-/// What is printed of a run: a line for each warning, what is printed of its results, and the schedule behind it.
+/// What is printed of a run: what the output begins with and a line for each warning, what is printed of its results, and the
+/// schedule behind it.
 fn run_text(
     alloc: Global,
     options: &Options,
@@ -113,11 +114,11 @@ fn run_text(
 ) -> Result<String, AllocError>
     requires plan { plan.now ≡ results.now.plan }
     requires events { history.now ≡ results.now.events }
-    ensures { IfOk result (λ text. string_bytes text ≡ warning_lines warnings
+    ensures { IfOk result (λ text. string_bytes text ≡ head_of options.now.details warnings
         ++ (details_of options.now.details options.now.theme results.now.plan texts.now results.now.events
         ++ schedule.now)) }
 {
-    let head = warnings_text(alloc, warnings)?;
+    let head = head_text(alloc, options.details, warnings)?;
     let details = details_text(alloc, options, plan, history, results, texts)?;
     let mut text = put_behind(head, details)?;
     text.push_str(schedule)?;
@@ -134,7 +135,7 @@ fn history_report(
     history: &[Event],
     schedule: &str,
 ) -> Result<Output, AllocError>
-    ensures text { IfOk result (λ report. string_bytes report.text ≡ warning_lines warnings
+    ensures text { IfOk result (λ report. string_bytes report.text ≡ head_of options.now.details warnings
         ++ (details_of options.now.details options.now.theme plan.now texts.now history.now ++ schedule.now)) }
     ensures status { IfOk result (λ report. report.status ≡ status_of_run options.now.fail_if_no_tests
         (tests_found plan.now history.now) (has_failed plan.now history.now)) }
@@ -174,9 +175,9 @@ fn ended_report<B: Job>(
     answers: &Answers,
     ran: &Report<B>,
 ) -> Result<Output, AllocError>
-    ensures text { IfOk result (λ report. (schedule : List ℕ) × IsBehindDetails options.now.schedule
+    ensures text { IfOk result (λ report. (schedule : List ℕ) × IsBehindDetails options.now.details options.now.schedule
         settings.now.workers ran.now.plan answers.now ran.now.events.items schedule
-        × (string_bytes report.text ≡ warning_lines settings.now.warnings
+        × (string_bytes report.text ≡ head_of options.now.details settings.now.warnings
         ++ (details_of options.now.details options.now.theme ran.now.plan ran.now.texts ran.now.events.items
         ++ schedule))) }
     ensures status { IfOk result (λ report. report.status ≡ status_of_run options.now.fail_if_no_tests
@@ -185,6 +186,7 @@ fn ended_report<B: Job>(
     let history = ran.events.as_slice();
     let schedule = behind_details(
         alloc,
+        options.details,
         options.schedule,
         &ran.plan,
         answers,
@@ -210,9 +212,9 @@ fn output_of<B: Job>(
     answers: &Answers,
     ran: Report<B>,
 ) -> Result<Output, AllocError>
-    ensures text { IfOk result (λ report. (schedule : List ℕ) × IsBehindDetails options.now.schedule
+    ensures text { IfOk result (λ report. (schedule : List ℕ) × IsBehindDetails options.now.details options.now.schedule
         settings.now.workers ran.plan answers.now ran.events.items schedule
-        × (string_bytes report.text ≡ warning_lines settings.now.warnings
+        × (string_bytes report.text ≡ head_of options.now.details settings.now.warnings
         ++ (details_of options.now.details options.now.theme ran.plan ran.texts ran.events.items
         ++ schedule))) }
     ensures status { IfOk result (λ report. report.status ≡ status_of_run options.now.fail_if_no_tests
@@ -239,13 +241,12 @@ fn ran_report<B: Job + Send, T: Threads + Wait + Sync, V: Watcher>(
     requires tree { IsTree plan.tree }
     requires jobs { JobsMayAnswer B.answers (run_of plan settings.now.workers options.now.ring jobs.items) }
     requires all { HasAllJobs plan jobs.items }
-    ensures output { IfOk result (λ report. IsJobsOutput B.answers (IsBehindDetails options.now.schedule
+    ensures output { IfOk result (λ report. IsJobsOutput B.answers (IsBehindDetails options.now.details options.now.schedule
         settings.now.workers plan answers.now) (asked_by options.now) settings.now plan jobs.items
         (string_bytes report.text) report.status) }
-    ensures watched { Watches V.saw (IsJobsOutput B.answers (IsBehindDetails options.now.schedule settings.now.workers
-        plan answers.now) (asked_by options.now) settings.now plan jobs.items) (asked_by options.now) settings.now plan
-        watcher.old watcher.new result }
-    ensures refused { IfErr result (λ fault. (fault ≡ LaunchFault.NoMemory) ⊎ (fault ≡ LaunchFault.NoWorker)) }
+    ensures watched { Watches V.saw (IsPrintedJobs B.answers (IsBehindDetails options.now.details options.now.schedule settings.now.workers
+        plan answers.now) (asked_by options.now) settings.now plan jobs.items) plan watcher.old watcher.new result }
+    ensures refused { IfErr result LacksMeans }
 {
     let Ok(mut nobody) = Audience::new(Vec::new(alloc)) else {
         unreachable!()
@@ -281,9 +282,9 @@ fn run_report<T: Threads + Wait + Sync, V: Watcher>(
     requires guarded { IsGuarded (declared_of plan.tree) plan }
     ensures output { IfOk result (λ report. IsRunOutput (asked_by options.now) settings.now plan answers.now
         (string_bytes report.text) report.status) }
-    ensures watched { Watches V.saw (IsRunOutput (asked_by options.now) settings.now plan answers.now)
-        (asked_by options.now) settings.now plan watcher.old watcher.new result }
-    ensures refused { IfErr result (λ fault. (fault ≡ LaunchFault.NoMemory) ⊎ (fault ≡ LaunchFault.NoWorker)) }
+    ensures watched { Watches V.saw (IsPrintedRun (asked_by options.now) settings.now plan answers.now) plan
+        watcher.old watcher.new result }
+    ensures refused { IfErr result LacksMeans }
 {
     let jobs = scripted_jobs(alloc, &plan, answers, spins)?;
     ran_report(rt, alloc, options, settings, plan, jobs, answers, watcher)
@@ -320,14 +321,13 @@ fn replay_report(
     })
 }
 
-/// The list of what would be run.
-fn listing(alloc: Global, plan: &Plan) -> Result<Output, AllocError>
-    ensures { IfOk result (λ report. IsListing plan.now (string_bytes report.text) report.status) }
+/// The list of what would be run, and whether there had to be something.
+fn listing(alloc: Global, needs_tests: bool, plan: &Plan) -> Result<Output, AllocError>
+    ensures { IfOk result (λ report. IsListing needs_tests plan.now (string_bytes report.text) report.status) }
 {
-    Ok(Output {
-        text: list_text(alloc, plan)?,
-        status: ExitStatus::of_replay(),
-    })
+    let text = list_text(alloc, plan)?;
+    let status = ExitStatus::of_run(needs_tests, text.len(), false);
+    Ok(Output { text, status })
 }
 
 /// What the options print of a plan where there are no steps to be replayed: it is run, unless its list is asked for.
@@ -346,12 +346,12 @@ fn plan_report<T: Threads + Wait + Sync, V: Watcher>(
     requires guarded { IsGuarded (declared_of plan.tree) plan }
     ensures output { IfOk result (λ report. IsPlanOutput options.now.details (asked_by options.now) settings.now plan
         answers.now (string_bytes report.text) report.status) }
-    ensures watched { Watches V.saw (IsRunOutput (asked_by options.now) settings.now plan answers.now)
-        (asked_by options.now) settings.now plan watcher.old watcher.new result }
-    ensures refused { IfErr result (λ fault. (fault ≡ LaunchFault.NoMemory) ⊎ (fault ≡ LaunchFault.NoWorker)) }
+    ensures watched { WatchesBy V.saw (IsPrintedRun (asked_by options.now) settings.now plan answers.now) plan
+        watcher.old watcher.new (is_run None options.now.details) result }
+    ensures refused { IfErr result (LacksBy (is_run None options.now.details)) }
 {
     match options.details {
-        Details::List => Ok(listing(alloc, &plan)?),
+        Details::List => Ok(listing(alloc, options.fail_if_no_tests, &plan)?),
         Details::None
         | Details::Summary
         | Details::Tree
@@ -379,8 +379,8 @@ pub(crate) fn report_of<T: Threads + Wait + Sync, V: Watcher>(
     requires guarded { IsGuarded (declared_of plan.tree) plan }
     ensures output { IfOk result (λ report. IsOutput (asked_by options.now) settings.now plan answers.now
         (string_bytes report.text) report.status) }
-    ensures watched { Watches V.saw (IsRunOutput (asked_by options.now) settings.now plan answers.now)
-        (asked_by options.now) settings.now plan watcher.old watcher.new result }
+    ensures watched { WatchesBy V.saw (IsPrintedRun (asked_by options.now) settings.now plan answers.now) plan
+        watcher.old watcher.new (is_run (asked_by options.now).replay options.now.details) result }
     ensures refused { IfErr result (IsUnrun (asked_by options.now)) }
 {
     match &options.replay {
@@ -409,17 +409,17 @@ pub(crate) fn program_report<B: Job + Send, T: Threads + Wait + Sync, V: Watcher
     requires tree { IsTree plan.tree }
     requires jobs { JobsMayAnswer B.answers (run_of plan settings.now.workers options.now.ring jobs.items) }
     requires all { HasAllJobs plan jobs.items }
-    ensures output { IfOk result (λ report. IsProgramOutput B.answers (IsBehindDetails options.now.schedule
+    ensures output { IfOk result (λ report. IsProgramOutput B.answers (IsBehindDetails options.now.details options.now.schedule
         settings.now.workers plan []) options.now.details (asked_by options.now) settings.now plan jobs.items
         (string_bytes report.text) report.status) }
-    ensures watched { Watches V.saw (IsJobsOutput B.answers (IsBehindDetails options.now.schedule settings.now.workers
-        plan []) (asked_by options.now) settings.now plan jobs.items) (asked_by options.now) settings.now plan
-        watcher.old watcher.new result }
-    ensures refused { IfErr result (λ fault. (fault ≡ LaunchFault.NoMemory) ⊎ (fault ≡ LaunchFault.NoWorker)) }
+    ensures watched { WatchesBy V.saw (IsPrintedJobs B.answers (IsBehindDetails options.now.details options.now.schedule settings.now.workers
+        plan []) (asked_by options.now) settings.now plan jobs.items) plan watcher.old watcher.new
+        (is_run None options.now.details) result }
+    ensures refused { IfErr result (LacksBy (is_run None options.now.details)) }
 {
     let nothing_known = Answers::of(Vec::new(alloc));
     match options.details {
-        Details::List => Ok(listing(alloc, &plan)?),
+        Details::List => Ok(listing(alloc, options.fail_if_no_tests, &plan)?),
         Details::None
         | Details::Summary
         | Details::Tree

@@ -3,7 +3,6 @@
 ghost use Rattle.std.specs.Prelude.{◌≡◌, ◌≢◌, ◌<◌, ◌≤◌, None, Some, IfOk, IfErr, IfSome, false, take, string_bytes};
 ghost use Rattle.std.specs.Io.KnownBytes.{Keeps};
 ghost use Rattle.std.specs.Option.{option_or};
-ghost use Rattle.config_params.specs.Parameters.{answer_over};
 ghost use Rattle.config_params.specs.Settings.{settings_of};
 ghost use Rattle.resource_locks.specs.Spares.{HasBareSpares};
 ghost use Rattle.never_stuck.specs.Reaching.{NeverStuck};
@@ -11,29 +10,29 @@ ghost use Rattle.suite_text.specs.Reading.Bytes.{suite_read};
 ghost use Rattle.suite_text.specs.Reading.Parts.{SuiteParts};
 ghost use Rattle.suite_text.specs.Suites.{suite_parts};
 ghost use Rattle.launcher.specs.Runs.{IsReady, IsRun, IsSuiteRun, IsUnrun, FailsSuite, ReadsSuite, TakesFrom};
+ghost use Rattle.launcher.specs.Runs.{IsSeenOutput, IsSeenRun, IsSeenSuiteRun};
 ghost use Rattle.launcher.specs.Runs.{TakesMemory, answers_of as answers_in, fault_in, is_writing};
 ghost use Rattle.launcher.specs.Runs.{plan_of as plan_in, plan_refusal, selection_refusal, workers_refusal};
 ghost use Rattle.resource_locks.specs.Declarations.{declared_of};
 ghost use Rattle.resource_locks.specs.Hoisted.{IsGuarded};
 ghost use Rattle.selectors.specs.Selections.{answer};
 ghost use Rattle.launch_options.specs.Asked.{asked_by};
-ghost use Rattle.launcher.specs.Beside.{SeesRun};
-ghost use Rattle.launcher.specs.Reports.{IsOutput};
-ghost use Rattle.launcher.specs.Watched.{IsBrokenOff, outlet_by};
-ghost use Rattle.launcher.specs.WarningTexts.{warning_lines};
+ghost use Rattle.launch_options.specs.Faults.{cut_by_memory, cut_by_writer};
+ghost use Rattle.launch_options.specs.Workers.{answer_with};
+ghost use Rattle.launcher.specs.Watched.{IsBrokenOff, SeesRefusal, outlet_by};
+ghost use Rattle.launcher.specs.WarningTexts.{head_of};
 ghost use Rattle.live_feed.specs.LiveFeeds.{IsFront};
 
 use crate::bytes::{ReadFault, read_front};
 use crate::exit_status::ExitStatus;
 use crate::report::{Output, report_of};
 use crate::scripted::spins_of;
-use crate::warning_lines::warnings_text;
+use crate::warning_lines::head_text;
 use crate::watched_feed::WatchedFeed;
 use config_params::{Params, Settings, SettingsFault};
 use descriptor::Tree;
 use exec_mode::modes;
-use launch_options::{Details, LaunchFault, Options};
-use listeners::WriteFault;
+use launch_options::{CutCause, CutOutput, Details, LaunchFault, Options};
 use live_feed::{LiveFeed, Outlet};
 use plan_events::MOST_WORKERS;
 use resource_locks::Plan;
@@ -132,10 +131,12 @@ pub(crate) fn settings_over(
     options: &Options,
     properties: Params,
 ) -> Result<Settings, SettingsFault>
-    ensures exact { result ≡ settings_of (answer_over options.now.params properties) options.now.processors }
+    ensures exact { result ≡ settings_of (answer_with options.now.workers options.now.params properties)
+        options.now.processors }
     ensures some { IfOk result (λ settings. 1 ≤ settings.workers) }
 {
-    Settings::read_over(&options.params, &properties, options.processors)
+    let over = options.params_over(&properties);
+    Settings::read_over(over, &properties, options.processors)
 }
 
 /// The plan that `plan_of` makes, for so many workers as may run it.
@@ -221,20 +222,22 @@ fn shown_report<T: Threads + Wait + Sync, W: Write, V: Watcher>(
     requires some { 1 ≤ ready.settings.workers }
     requires few { ready.settings.workers ≤ 64 }
     requires guarded { IsGuarded (declared_of ready.plan.tree) ready.plan }
-    requires head { live.old.feed.head.now ≡ warning_lines ready.settings.warnings }
+    requires head { live.old.feed.head.now ≡ head_of options.now.details ready.settings.warnings }
     requires outlet { live.old.feed.outlet ≡ outlet_by options.now.details (asked_by options.now).replay }
     requires none { live.old.feed.sent ≡ 0 }
     ensures same { live.new.feed.writer.ghost_name ≡ live.old.feed.writer.ghost_name }
     ensures same_watcher { live.new.watcher.ghost_name ≡ live.old.watcher.ghost_name }
-    ensures output { IfOk result (λ report. IsOutput (asked_by options.now) ready.settings ready.plan ready.answers
-        (string_bytes report.text) report.status) }
+    ensures output { IfOk result (λ report. IsSeenOutput V.saw live.old.watcher.now live.new.watcher.now
+        (asked_by options.now) ready.settings ready.plan ready.answers (string_bytes report.text) report.status) }
     ensures front { IfOk result (λ report. IsFront (W.contents live.old.feed.writer.now) (W.contents live.new.feed.writer.now)
         live.new.feed.outlet live.new.feed.sent (string_bytes report.text)) }
-    ensures watched { SeesRun V.saw live.old.watcher.now live.new.watcher.now }
     ensures refused { IfErr result (IsUnrun (asked_by options.now)) }
+    ensures seen { IfErr result (SeesRefusal live.old.watcher.now live.new.watcher.now (IsSeenOutput V.saw
+        live.old.watcher.now live.new.watcher.now (asked_by options.now) ready.settings ready.plan ready.answers)) }
     ensures broken_off { IfErr result
-        (λ _. IsBrokenOff (IsOutput (asked_by options.now) ready.settings ready.plan ready.answers)
-        (W.contents live.old.feed.writer.now) (W.contents live.new.feed.writer.now) live.new.feed.sent) }
+        (λ _. IsBrokenOff (asked_by options.now) (IsSeenOutput V.saw live.old.watcher.now live.new.watcher.now
+        (asked_by options.now) ready.settings ready.plan ready.answers) live.new.feed.outlet (W.contents live.old.feed.writer.now)
+        (W.contents live.new.feed.writer.now) live.new.feed.sent) }
 {
     let ReadyRun {
         settings,
@@ -254,15 +257,28 @@ fn shown_report<T: Threads + Wait + Sync, W: Write, V: Watcher>(
     )
 }
 
-/// What is answered for this fault where so many bytes were written before.
-pub(crate) fn broken_off(fault: LaunchFault, sent: usize) -> LaunchFault
-    ensures none { sent ≡ 0 → result ≡ fault }
-    ensures some { 0 < sent → result ≡ LaunchFault.Writing (record { sent = sent }) }
+/// What is answered where a run broke off by this fault, of whose feed so many bytes were printed: that its writer
+/// failed was found before; and who has a part of a feed is told that memory for the rest was wanting.
+pub(crate) fn broken_off(fault: LaunchFault, outlet: Outlet, sent: usize) -> LaunchFault
+    ensures failed { outlet ≡ Outlet.Failed → result ≡ LaunchFault.Writing (cut_by_writer sent) }
+    ensures some { outlet ≢ Outlet.Failed → 0 < sent → result ≡ LaunchFault.Writing (cut_by_memory sent) }
+    ensures none { outlet ≢ Outlet.Failed → sent ≡ 0 → result ≡ fault }
 {
-    if sent > 0 {
-        LaunchFault::Writing(WriteFault { sent })
-    } else {
-        fault
+    match outlet {
+        Outlet::Failed => LaunchFault::Writing(CutOutput {
+            sent,
+            cause: CutCause::Writer,
+        }),
+        Outlet::Waiting | Outlet::Open | Outlet::Closed => {
+            if sent > 0 {
+                LaunchFault::Writing(CutOutput {
+                    sent,
+                    cause: CutCause::Memory,
+                })
+            } else {
+                fault
+            }
+        }
     }
 }
 
@@ -279,12 +295,12 @@ fn run_ready<T: Threads + Wait + Sync, W: Write, V: Watcher>(
     requires some { 1 ≤ ready.settings.workers }
     requires few { ready.settings.workers ≤ 64 }
     requires guarded { IsGuarded (declared_of ready.plan.tree) ready.plan }
-    requires head { head.now ≡ warning_lines ready.settings.warnings }
+    requires head { head.now ≡ head_of options.now.details ready.settings.warnings }
     ensures exact { (suite : SuiteParts) → IsReady (asked_by options.now) suite ready.settings ready.plan ready.answers
-        → IsSuiteRun (asked_by options.now) suite (W.contents writer.old) (W.contents writer.new) result }
+        → IsSeenSuiteRun V.saw watcher.old watcher.new (asked_by options.now) suite (W.contents writer.old)
+        (W.contents writer.new) result }
     ensures quiet { IfErr result (λ fault. is_writing fault ≡ false →
         Keeps (W.contents writer.old) (W.contents writer.new)) }
-    ensures watched { SeesRun V.saw watcher.old watcher.new }
 {
     let feed = LiveFeed::new(alloc, writer, head, outlet_for(options));
     let mut live = WatchedFeed { feed, watcher };
@@ -293,7 +309,7 @@ fn run_ready<T: Threads + Wait + Sync, W: Write, V: Watcher>(
             live.finish(report.text.as_bytes())?;
             Ok(report.status)
         }
-        Err(fault) => Err(broken_off(fault, live.sent())),
+        Err(fault) => Err(broken_off(fault, live.outlet(), live.sent())),
     }
 }
 
@@ -303,9 +319,9 @@ fn run_ready<T: Threads + Wait + Sync, W: Write, V: Watcher>(
 /// settings (34, 32, 33) and a selector that covers nothing (41), which are judged before any
 /// memory is taken; more than 256 keys (50), more than 64 workers (61), that no thread could be
 /// started (90), and an output of which the writer has only the first bytes (81), since it failed or
-/// since there was no memory for the rest. On any refusal but 81 nothing is written. Each event of a
+/// since there was no memory for the rest of a feed. On any refusal but 81 nothing is written. Each event of a
 /// run is shown to the watcher, before its line is written if it has one; what is written when the
-/// run is over is written when the watcher has seen all.
+/// run is over is written when the watcher has seen all. Of a replay and of a list it sees nothing.
 pub fn run_suite_watched<T: Threads + Wait + Sync, W: Write, V: Watcher>(
     rt: &T,
     alloc: Global,
@@ -320,10 +336,11 @@ pub fn run_suite_watched<T: Threads + Wait + Sync, W: Write, V: Watcher>(
         (λ fault. fault ≡ LaunchFault.NoMemory → TakesMemory (asked_by options.now) (suite_parts suite)) }
     ensures quiet { IfErr result (λ fault. is_writing fault ≡ false →
         Keeps (W.contents writer.old) (W.contents writer.new)) }
-    ensures watched { SeesRun V.saw watcher.old watcher.new }
+    ensures watched { IsSeenSuiteRun V.saw watcher.old watcher.new (asked_by options.now) (suite_parts suite)
+        (W.contents writer.old) (W.contents writer.new) result }
 {
     let ready = ready_run(alloc, options, suite)?;
-    let head = warnings_text(alloc, ready.settings.warnings)?;
+    let head = head_text(alloc, options.details, ready.settings.warnings)?;
     run_ready(rt, alloc, options, ready, head.as_str(), writer, watcher)
 }
 
@@ -367,7 +384,9 @@ pub fn run_options_watched<T: Threads + Wait + Sync, R: Read, W: Write, V: Watch
         result) }
     ensures quiet { IfErr result (λ fault. is_writing fault ≡ false →
         Keeps (W.contents writer.old) (W.contents writer.new)) }
-    ensures watched { SeesRun V.saw watcher.old watcher.new }
+    ensures watched { TakesFrom (R.remaining reader.old) (R.remaining reader.new) (fault_in result)
+        (λ bytes. IsSeenRun V.saw watcher.old watcher.new (asked_by options.now) (suite_read bytes)
+        (W.contents writer.old) (W.contents writer.new) result) }
 {
     let suite = read_suite(alloc, reader)?;
     run_suite_watched(rt, alloc, options, suite, writer, watcher)

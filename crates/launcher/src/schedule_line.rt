@@ -1,12 +1,15 @@
 //! The line that a run ends with where its schedule is asked for.
 
-ghost use Rattle.std.specs.Prelude.{◌≡◌, IfOk, IfSome, option_map, string_bytes};
+ghost use Rattle.std.specs.Prelude.{◌≡◌, ◌++◌, IfOk, IfSome, OnOk, option_map, string_bytes};
 ghost use Rattle.schedules.specs.Schedules.{IsSchedule};
 ghost use Rattle.step_text.specs.StepSpelling.{AreNamable};
 ghost use Rattle.launcher.specs.Reports.{IsBehindDetails};
-ghost use Rattle.launcher.specs.ScheduleTexts.{schedule_line as line_of};
+ghost use Rattle.launcher.specs.ScheduleTexts.{line_by, schedule_line as line_of, schedule_member as member_of};
+ghost use Rattle.launcher.specs.ScheduleTexts.{schedule_text as text_of};
 
+use launch_options::Details;
 use plan_events::Event;
+use reports::push_note;
 use resource_locks::Plan;
 use sched_core::Answers;
 use schedules::schedule_of;
@@ -36,33 +39,75 @@ fn namable_schedule(
     }
 }
 
-/// The line of these steps, or that none were found.
-fn schedule_line(alloc: Global, found: Option<Vec<Step>>) -> Result<String, AllocError>
-    ensures { IfOk result (λ line. string_bytes line ≡ line_of (option_map (λ steps. steps.items) found)) }
+/// The text of these steps, or that none were found.
+fn schedule_text(alloc: Global, found: &Option<Vec<Step>>) -> Result<String, AllocError>
+    ensures { IfOk result (λ text. string_bytes text ≡ text_of (option_map (λ steps. steps.items) found.now)) }
 {
-    let mut line = String::new(alloc);
+    let mut text = String::new(alloc);
     match found {
-        Some(steps) => push_steps(&mut line, steps.as_slice())?,
-        None => line.push_str("no schedule was found")?,
+        Some(steps) => push_steps(&mut text, steps.as_slice())?,
+        None => text.push_str("no schedule was found")?,
     }
-    line.push_str("\n")?;
+    Ok(text)
+}
+
+/// The member of an object of JSON that has that text.
+fn schedule_member(found: &Option<Vec<Step>>) -> &'static str
+    ensures { result.now ≡ member_of (option_map (λ steps. steps.items) found.now) }
+{
+    match found {
+        Some(_) => "steps",
+        None => "text",
+    }
+}
+
+/// Appends this text as a line, in the form of the details, of which JSON's is an object with this member.
+fn push_line(
+    line: &mut String,
+    details: Details,
+    member: &str,
+    text: &str,
+) -> Result<(), AllocError>
+    ensures { OnOk result (string_bytes line.new ≡ string_bytes line.old ++ line_by details member.now text.now) }
+{
+    match details {
+        Details::Json => push_note(line, "schedule", member, text),
+        Details::Xml => writeln!(line, "<!-- {text} -->"),
+        Details::None | Details::Summary | Details::Tree | Details::Testfeed | Details::List =>
+            writeln!(line, "{text}"),
+    }
+}
+
+/// The line of these steps, or that none were found.
+fn schedule_line(
+    alloc: Global,
+    details: Details,
+    found: Option<Vec<Step>>,
+) -> Result<String, AllocError>
+    ensures { IfOk result (λ line. string_bytes line ≡ line_of details (option_map (λ steps. steps.items) found)) }
+{
+    let text = schedule_text(alloc, &found)?;
+    let mut line = String::new(alloc);
+    push_line(&mut line, details, schedule_member(&found), text.as_str())?;
     Ok(line)
 }
 
 /// What is printed behind the details of a run: nothing, unless a schedule is asked for.
 pub(crate) fn behind_details(
     alloc: Global,
+    details: Details,
     asked: bool,
     plan: &Plan,
     answers: &Answers,
     workers: u32,
     history: &[Event],
 ) -> Result<String, AllocError>
-    ensures { IfOk result (λ text. IsBehindDetails asked workers plan.now answers.now history.now (string_bytes text)) }
+    ensures { IfOk result (λ text. IsBehindDetails details asked workers plan.now answers.now history.now
+        (string_bytes text)) }
 {
     if !asked {
         return Ok(String::new(alloc));
     }
     let found = namable_schedule(alloc, plan, answers, workers, history)?;
-    schedule_line(alloc, found)
+    schedule_line(alloc, details, found)
 }

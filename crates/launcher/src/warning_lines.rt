@@ -1,27 +1,58 @@
-//! The lines that a run begins with where its configuration is taken with warnings.
+//! What a run's output begins with, and its warnings where its configuration is taken with some.
 
 ghost use Rattle.std.specs.Prelude.{◌≡◌, ◌++◌, IfOk, OnOk, string_bytes};
-ghost use Rattle.launcher.specs.WarningTexts.{warning_lines};
+ghost use Rattle.std.specs.List.{flat_map};
+ghost use Rattle.config_params.specs.Settings.{keys_of};
+ghost use Rattle.launcher.specs.WarningTexts.{beginning, head_of, warning_line};
 
 use config_params::Warnings;
+use launch_options::Details;
+use reports::push_note;
 use std::alloc::{AllocError, Global};
 
+/// What an output begins with, whatever is warned of.
+fn beginning(details: Details) -> &'static str
+    ensures { result.now ≡ beginning details }
+{
+    match details {
+        Details::Xml => "<?xml version=\"1.0\" encoding=\"UTF-8\"?>\n",
+        _ => "",
+    }
+}
+
+/// Appends the line of a key that is warned of, in the form of the details.
+fn push_warning(text: &mut String, details: Details, key: &str) -> Result<(), AllocError>
+    ensures { OnOk result (string_bytes text.new ≡ string_bytes text.old ++ warning_line details key.now) }
+{
+    match details {
+        Details::Json => push_note(text, "warning", "key", key),
+        Details::Xml => writeln!(text, "<!-- WARNING {key} -->"),
+        Details::None | Details::Summary | Details::Tree | Details::Testfeed | Details::List =>
+            writeln!(text, "WARNING {key}"),
+    }
+}
+
 /// Appends a line for each key that is warned of.
-fn push_warnings(text: &mut String, warnings: Warnings) -> Result<(), AllocError>
-    ensures { OnOk result (string_bytes text.new ≡ string_bytes text.old ++ warning_lines warnings) }
+fn push_warnings(text: &mut String, details: Details, warnings: Warnings) -> Result<(), AllocError>
+    ensures { OnOk result (string_bytes text.new ≡ string_bytes text.old
+        ++ flat_map (warning_line details) (keys_of warnings)) }
 {
     let keys = warnings.keys();
     for key in keys {
-        writeln!(text, "WARNING {key}")?;
+        push_warning(text, details, key)?;
     }
     Ok(())
 }
 
-/// A line for each key that is warned of.
-pub(crate) fn warnings_text(alloc: Global, warnings: Warnings) -> Result<String, AllocError>
-    ensures { IfOk result (λ text. string_bytes text ≡ warning_lines warnings) }
+/// What an output with these details begins with, and a line for each key that is warned of.
+pub(crate) fn head_text(
+    alloc: Global,
+    details: Details,
+    warnings: Warnings,
+) -> Result<String, AllocError>
+    ensures { IfOk result (λ text. string_bytes text ≡ head_of details warnings) }
 {
-    let mut text = String::new(alloc);
-    push_warnings(&mut text, warnings)?;
+    let mut text = String::from_str(alloc, beginning(details))?;
+    push_warnings(&mut text, details, warnings)?;
     Ok(text)
 }

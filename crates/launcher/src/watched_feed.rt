@@ -29,6 +29,13 @@ impl<'w, 'v, W: Write, V: Watcher> WatchedFeed<'w, 'v, W, V> {
         self.feed.sent()
     }
 
+    /// How the feed's printing goes.
+    pub(crate) fn outlet(&self) -> Outlet
+        ensures { result ≡ self.now.feed.outlet }
+    {
+        self.feed.outlet()
+    }
+
     /// Prints what is left of the whole output, as `LiveFeed::finish` does.
     pub(crate) fn finish(&mut self, whole: &[u8]) -> Result<(), WriteFault>
         requires fits { self.old.feed.sent ≤ length whole.now }

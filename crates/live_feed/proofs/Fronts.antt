@@ -1,5 +1,5 @@
 -- Of a run that is over the feed has printed a front of the whole output, and not all.
-use Rattle.std.proofs.Common.{◌≡◌, ◌∙◌, ℕ, zero, suc, ◌<◌, ◌≤◌, ◌⊎◌, inl, inr, Bool, true, false, ◌||◌, ◌&&◌, ◌==◌, List, [], ◌∷◌, ◌++◌, length, take, Option, Some, slice_get, refl, sym, ap, ap₂, subst, arith, append_assoc, length-append}
+use Rattle.std.proofs.Common.{◌≡◌, ◌≢◌, ◌∙◌, ℕ, zero, suc, ◌<◌, ◌≤◌, ◌⊎◌, inl, inr, Bool, true, false, ◌||◌, ◌&&◌, ◌==◌, List, [], ◌∷◌, ◌++◌, length, take, Option, Some, slice_get, refl, sym, ap, ap₂, subst, arith, append_assoc, length-append}
 use Rattle.std.specs.List.{flat_map}
 use Rattle.std.specs.Io.KnownBytes.{Appends}
 use Rattle.std.proofs.lemmas.List.{take-append-le}
@@ -35,18 +35,24 @@ ends_so e kind node = ap₂ (λ (k : EventKind) (n : ℕ). is_finish k && (n == 
 over : (texts : TextParts) (h : List Event) → EndsInPlan h → has_end (tellings_of texts h) ≡ true
 over texts h is = has_finish texts h is.place is.stands.event is.stands.here (ends_so is.stands.event is.stands.kind is.stands.node)
 
--- nothing was printed, or not all
-abbrev pub IsShort : ℕ → List ℕ → Type 0
-IsShort sent text = (sent ≡ 0) ⊎ (sent < length text)
+-- nothing was printed, and the writer did not fail; or not all was
+abbrev pub IsShort : Outlet → ℕ → List ℕ → Type 0
+IsShort o sent text = ((o ≢ Failed) × (sent ≡ 0)) ⊎ (sent < length text)
+
+waiting_whole : Waiting ≢ Failed
+waiting_whole q = cc
+
+closed_whole : Closed ≢ Failed
+closed_whole q = cc
 
 module _ (texts : TextParts) (h : List Event) (ends : EndsInPlan h) where
-  short : (o : Outlet) (sent : ℕ) (output : List ℕ) → IsSoFar o sent output (tellings_of texts h) → IsShort sent output
-  short Waiting sent output so = inl so.0
+  short : (o : Outlet) (sent : ℕ) (output : List ℕ) → IsSoFar o sent output (tellings_of texts h) → IsShort o sent output
+  short Waiting sent output so = inl (waiting_whole, so.0)
   short Open sent output so = absurd (different (sym so.1 ∙ over texts h ends))
     where
       different : false ≡ true → ⊥
       different q = cc
-  short Closed sent output so = so
+  short Closed sent output so = elim so [ inl none ↦ inl (closed_whole, none) | inr few ↦ inr few ]
   short Failed sent output so = inr so
 
   module _ {W : Type 0} (contents : W → Option (List ℕ)) (p : PlanParts) (first now : LiveFeed W) (is : IsPrinted contents p first now (tellings_of texts h)) (rest text : List ℕ) (whole : text ≡ first.head.now ++ (feed_of p texts h ++ rest)) where
@@ -59,11 +65,11 @@ module _ (texts : TextParts) (h : List Event) (ends : EndsInPlan h) where
     longer : length output ≤ length text
     longer = omega (arith, ap length begins, length-append output rest)
 
-    so_short : IsShort now.sent output
+    so_short : IsShort now.outlet now.sent output
     so_short = short now.outlet now.sent output is.so_far
 
     low : now.sent ≤ length output
-    low = elim so_short [ inl none ↦ omega (arith, none) | inr few ↦ omega (arith, few) ]
+    low = elim so_short [ inl none ↦ omega (arith, none.1) | inr few ↦ omega (arith, few) ]
 
     not_all : now.outlet ≡ Failed → now.sent < length text
     not_all failed = (let few = subst (λ (o : Outlet). IsSoFar o now.sent output (tellings_of texts h)) failed is.so_far in omega (arith, few, longer))
@@ -75,5 +81,5 @@ module _ (texts : TextParts) (h : List Event) (ends : EndsInPlan h) where
       printed = subst (Appends (contents first.writer.now) (contents now.writer.now)) (sym (ap (take now.sent) begins ∙ take-append-le now.sent output rest low)) is.printed;
     }
 
-    pub front_short : IsShort now.sent text
+    pub front_short : IsShort now.outlet now.sent text
     front_short = elim so_short [ inl none ↦ inl none | inr few ↦ inr (omega (arith, few, longer)) ]

@@ -65,6 +65,13 @@ impl<'w, W: Write> LiveFeed<'w, W> {
         self.sent
     }
 
+    /// How the printing goes.
+    pub fn outlet(&self) -> Outlet
+        ensures { result ≡ self.now.outlet }
+    {
+        self.outlet
+    }
+
     /// The line of an event, behind what stands in front of the first.
     fn next_lines(&self, plan: &Plan, texts: &Texts, event: Event) -> Result<String, AllocError>
         ensures { IfOk result (λ text. string_bytes text ≡ front_of self.now.outlet self.now.head.now

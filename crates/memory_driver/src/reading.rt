@@ -53,9 +53,11 @@ shop.Mail#sends()
 --exclude-tag
 quick
 --config
-junit.jupiter.execution.parallel.enabled=true
+junit.jupiter.execution.parallel.mode.classes.default=same_thread
 --system
 junit.jupiter.execution.parallel.mode.default=concurrent
+--workers
+2
 --details
 testfeed
 --fail-fast

@@ -40,9 +40,13 @@ pub(crate) fn push_options(said: &mut Said, options: &Options) {
     said.quote("\n", &options.replay);
     said.add("\n");
     push_params(said, &options.params);
+    if let Some(spread) = &options.spread {
+        push_params(said, spread);
+    }
     said.quote("", &options.details);
     said.quote(" ", &options.theme);
     said.show("\n", options.processors);
+    said.quote(" ", &options.workers);
     said.show(" ", options.ring);
     said.show("\n", options.fail_if_no_tests);
     said.show(" ", options.fail_fast);

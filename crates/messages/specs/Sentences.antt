@@ -6,6 +6,8 @@ use Rattle.config_params.specs.declared.settings_fault.SettingsFault.{SettingsFa
 use Rattle.config_params.specs.declared.settings_fault.SettingsFault.TheVariants as settings
 use Rattle.descriptor.specs.declared.fault.TreeFault.{TreeFault}
 use Rattle.descriptor.specs.declared.fault.TreeFault.TheVariants as trees
+use Rattle.launch_options.specs.declared.fault.CutCause.{CutCause}
+use Rattle.launch_options.specs.declared.fault.CutCause.TheVariants as cuts
 use Rattle.launch_options.specs.declared.fault.LaunchFault.{LaunchFault}
 use Rattle.launch_options.specs.declared.fault.LaunchFault.TheVariants as launches
 use Rattle.messages.specs.declared.subject.Subject.{Subject}
@@ -61,6 +63,11 @@ of_settings settings.BadStrategy = codes "the strategy of parallel execution is 
 of_settings settings.BadParallelism = codes "the number of workers is missing, or is none"
 of_settings settings.BadFactor = codes "the factor of workers for a processor is none"
 
+-- of an output that was cut short
+abbrev pub of_cut : CutCause → List ℕ
+of_cut cuts.Writer = codes "standard output did not take all that was written"
+of_cut cuts.Memory = codes "there was not enough memory to go on"
+
 -- of each refusal where a suite is run
 abbrev pub sentence_of : LaunchFault → List ℕ
 sentence_of launches.NoMemory = codes "there was not enough memory"
@@ -76,7 +83,7 @@ sentence_of launches.TooManyKeys = codes "the nodes that are to run declare too 
 sentence_of launches.TooManyWorkers = codes "the configuration asks for too many workers"
 sentence_of launches.NoWorker = codes "no thread could be started"
 sentence_of launches.Reading = codes "standard input could not be read"
-sentence_of (launches.Writing place) = codes "standard output did not take all that was written"
+sentence_of (launches.Writing cut) = of_cut cut.cause
 
 -- and where tests of a program's own are
 abbrev pub tests_sentence_of : LaunchFault → List ℕ

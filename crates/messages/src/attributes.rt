@@ -1,5 +1,9 @@
 //! What is wrong with the attributes and the verdict of a line.
 
+ghost use Rattle.std.specs.Prelude.{◌≡◌};
+ghost use Rattle.std.specs.Option.{is_some};
+ghost use Rattle.tag_expr.specs.Tags.{tag_refusal};
+
 use crate::line::cut;
 use crate::nearest::is_known;
 use descriptor::Mode;
@@ -7,7 +11,7 @@ use std::alloc::Global;
 use suite_text::{
     Attribute, LONGEST_SPIN, MOST_PULLS, Verdict, Word, key_and_mode, key_and_value, number_up_to,
 };
-use tag_expr::tag_of;
+use tag_expr::{TagFault, tag_of};
 
 /// One key of locks more than a line may have: where so many were found, further ones change nothing.
 const MOST_COUNTED: usize = 17;
@@ -112,14 +116,22 @@ fn trouble_of_number(
     }
 }
 
+/// Whether a text is refused as a tag. Want of memory hides no refusal: so then it is none.
+fn is_refused(alloc: Global, text: &str) -> bool
+    ensures { result ≡ is_some (tag_refusal text.now) }
+{
+    match tag_of(alloc, text) {
+        Ok(_) | Err(TagFault::NoMemory) => false,
+        Err(_) => true,
+    }
+}
+
 /// What is wrong with a tag, which stands behind its sign.
 fn trouble_of_tag(alloc: Global, word: &str) -> Option<&'static str> {
-    match tag_of(alloc, word.strip_prefix('#').unwrap_or(word)) {
-        Ok(_) => None,
-        Err(_) => {
-            Some("a tag is not empty, and has no control character and none of , ( ) & | !")
-        }
+    if is_refused(alloc, word.strip_prefix('#').unwrap_or(word)) {
+        return Some("a tag is not empty, and has no control character and none of , ( ) & | !");
     }
+    None
 }
 
 /// What is wrong with a lock.

@@ -12,7 +12,7 @@ use crate::values::{
     push_covering, push_pair, push_selector, push_step, push_step_option, push_tags, push_words,
 };
 use config_params::SettingsFault;
-use launch_options::{Given, LaunchFault};
+use launch_options::{CutCause, CutOutput, Given, LaunchFault};
 use std::alloc::{AllocError, Global};
 use std::fmt;
 use suite_text::SuiteFault;
@@ -92,6 +92,15 @@ fn push_refused_suite(
     }
 }
 
+/// Appends how much of an output that was cut short went out.
+fn push_cut(text: &mut String, cut: CutOutput) -> Result<(), AllocError> {
+    let sent = cut.sent;
+    match cut.cause {
+        CutCause::Writer => write!(text, "It took {sent} bytes, and then failed.\n"),
+        CutCause::Memory => write!(text, "{sent} bytes of the feed were printed.\n"),
+    }
+}
+
 /// Appends what a refusal of these values, or of what was to be run, says besides its sentence.
 fn push_details(
     alloc: Global,
@@ -122,10 +131,7 @@ fn push_details(
         LaunchFault::Reading => {
             text.push_str("The suite is read from there: give it as in `./console < FILE`.\n")
         }
-        LaunchFault::Writing(fault) => {
-            let sent = fault.sent;
-            write!(text, "It took {sent} bytes, and then failed.\n")
-        }
+        LaunchFault::Writing(cut) => push_cut(text, cut),
     }
 }
 

@@ -1,13 +1,13 @@
 //! The sentence that a refusal's message begins with.
 
 ghost use Rattle.std.specs.Prelude.{◌≡◌};
-ghost use Rattle.messages.specs.Sentences.{of_params, of_settings, of_suite, of_tags, of_tree, sentence_by, sentence_of};
+ghost use Rattle.messages.specs.Sentences.{of_cut, of_params, of_settings, of_suite, of_tags, of_tree, sentence_by, sentence_of};
 ghost use Rattle.messages.specs.Sentences.{tests_sentence_of};
 
 use crate::subject::Subject;
 use config_params::{ParamsFault, SettingsFault};
 use descriptor::TreeFault;
-use launch_options::LaunchFault;
+use launch_options::{CutCause, LaunchFault};
 use suite_text::SuiteFault;
 use tag_expr::TagFault;
 
@@ -78,6 +78,15 @@ fn of_settings(fault: SettingsFault) -> &'static str
     }
 }
 
+fn of_cut(cause: CutCause) -> &'static str
+    ensures { result.now ≡ of_cut cause }
+{
+    match cause {
+        CutCause::Writer => "standard output did not take all that was written",
+        CutCause::Memory => "there was not enough memory to go on",
+    }
+}
+
 /// The sentence that says which refusal of a suite this is.
 fn sentence_of(fault: LaunchFault) -> &'static str
     ensures { result.now ≡ sentence_of fault }
@@ -96,7 +105,7 @@ fn sentence_of(fault: LaunchFault) -> &'static str
         LaunchFault::TooManyWorkers => "the configuration asks for too many workers",
         LaunchFault::NoWorker => "no thread could be started",
         LaunchFault::Reading => "standard input could not be read",
-        LaunchFault::Writing(_) => "standard output did not take all that was written",
+        LaunchFault::Writing(cut) => of_cut(cut.cause),
     }
 }
 

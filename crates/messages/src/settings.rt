@@ -56,7 +56,8 @@ fn push_workers(
     options: &Options,
     properties: &Params,
 ) -> Result<(), AllocError> {
-    if let Ok(settings) = Settings::read_over(&options.params, properties, options.processors) {
+    let over = options.params_over(properties);
+    if let Ok(settings) = Settings::read_over(over, properties, options.processors) {
         let workers = settings.workers;
         write!(
             text,
@@ -129,7 +130,8 @@ fn push_refused(
     options: &Options,
     properties: &Params,
 ) -> Result<(), AllocError> {
-    match Settings::read_over(&options.params, properties, options.processors) {
+    let over = options.params_over(properties);
+    match Settings::read_over(over, properties, options.processors) {
         Ok(settings) if settings.workers <= u32::from(MOST_WORKERS) => Ok(()),
         Ok(_) => push_asked(alloc, text, None, options, properties),
         Err(fault) => push_asked(alloc, text, Some(fault), options, properties),

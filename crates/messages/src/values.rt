@@ -1,5 +1,9 @@
 //! What is wrong with the values of options.
 
+ghost use Rattle.std.specs.Prelude.{◌≡◌};
+ghost use Rattle.std.specs.Option.{is_some};
+ghost use Rattle.tag_expr.specs.ExpressionFaults.{expression_refusal};
+
 use crate::bytes::text_of;
 use crate::lines::class_names;
 use crate::marked::push_marked;
@@ -8,10 +12,13 @@ use crate::options::{form_of, option_of, pair_option};
 use crate::subject::Subject;
 use config_params::ParamsFault;
 use launch_options::option_names::{
-    DETAILS, DETAILS_THEME, EXCLUDE_TAG, INCLUDE_TAG, PROCESSORS, REPLAY, RING, SCHEDULE,
-    SELECT_UNIQUE_ID,
+    CONFIG, DETAILS, DETAILS_THEME, EXCLUDE_TAG, INCLUDE_TAG, PROCESSORS, REPLAY, RING, SCHEDULE,
+    SELECT_UNIQUE_ID, WORKERS,
 };
-use launch_options::{Details, Given, processors_named, ring_named, theme_names, theme_of};
+use launch_options::{
+    Details, Given, has_long_key, processors_named, ring_named, theme_names, theme_of,
+    workers_named,
+};
 use selectors::SelectorKind;
 use std::alloc::{AllocError, Global};
 use step_text::step_forms;
@@ -61,8 +68,30 @@ fn push_range(
     push_option(alloc, text, option, value, 0)
 }
 
+/// Appends why `--workers` is refused with this value, if it is: it is no number of workers, or
+/// `--config` says one of its keys too.
+fn push_workers(
+    alloc: Global,
+    text: &mut String,
+    value: &str,
+    given: &Given<'_>,
+) -> Result<(), AllocError> {
+    let processors = processors_named(given.processors).unwrap_or(1);
+    if workers_named(processors, Some(value)).is_err() {
+        text.push_str("--workers is a number from 1 to 64, or auto: one for each processor\n")?;
+        return push_option(alloc, text, WORKERS, value, 0);
+    }
+    for word in given.config.as_slice() {
+        if has_long_key(word) {
+            text.push_str("--workers says this too: leave one of the two out\n")?;
+            return push_option(alloc, text, CONFIG, word, 0);
+        }
+    }
+    Ok(())
+}
+
 /// Appends which of the values that stand for something is none: what `--details`, then `--details-theme`, then
-/// `--processors`, and then `--ring` may be.
+/// `--processors`, then `--ring`, and then `--workers` may be.
 pub(crate) fn push_words(
     alloc: Global,
     text: &mut String,
@@ -88,7 +117,10 @@ pub(crate) fn push_words(
             return push_range(alloc, text, RING, number, "16,384");
         }
     }
-    Ok(())
+    match given.workers {
+        Some(value) => push_workers(alloc, text, value, given),
+        None => Ok(()),
+    }
 }
 
 /// Appends which option asks for the steps of a run whose bodies nobody has scripted.
@@ -254,6 +286,16 @@ fn said_of_tags(fault: TagFault) -> &'static str {
     }
 }
 
+/// Whether a text is refused as a tag expression. Want of memory hides no refusal: so then it is none.
+fn is_refused(alloc: Global, expression: &str) -> bool
+    ensures { result ≡ is_some (expression_refusal expression.now) }
+{
+    match TagExpr::parse(alloc, expression) {
+        Ok(_) | Err(TagFault::NoMemory) => false,
+        Err(_) => true,
+    }
+}
+
 /// Appends the first of these expressions that is refused; whether there is one.
 fn push_expression(
     alloc: Global,
@@ -263,7 +305,7 @@ fn push_expression(
     expressions: &[&str],
 ) -> Result<bool, AllocError> {
     for expression in expressions {
-        if TagExpr::parse(alloc, expression).is_err() {
+        if is_refused(alloc, expression) {
             let said = said_of_tags(fault);
             write!(text, "{said}\n")?;
             push_option(alloc, text, option, expression, fault.place().unwrap_or(0))?;

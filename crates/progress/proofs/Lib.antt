@@ -1,2 +1,3 @@
 -- How the texts grow.
+pub mod Drawing
 pub mod Growing

@@ -1,18 +1,19 @@
--- The ids of the nodes that failed.
-use Rattle.std.specs.Prelude.{◌≡◌, ◌⊎◌, ◌++◌, ◌∷◌, [], ℕ, List, true, false, map, string_bytes}
+-- The nodes that failed, as they are kept.
+use Rattle.std.specs.Prelude.{◌≡◌, ◌⊎◌, ◌++◌, ◌∷◌, [], ℕ, ◌<◌, ◌≤◌, List, length}
+use Rattle.progress.specs.declared.failure.Failure.{Failure}
 use Rattle.progress.specs.declared.failures.Failures.{Failures}
 
-abbrev pub ids_of : Failures → List (List ℕ)
-ids_of f = map string_bytes f.ids.items
+-- it stands behind the others, of which there were fewer than twenty
+pub record Adds (failure : Failure) (old new : Failures) : Type 0 where
+  pub few : length old.kept.items < 20
+  pub kept : new.kept.items ≡ old.kept.items ++ failure ∷ []
+  pub more : new.more ≡ old.more
 
--- the id stands behind the others
-abbrev pub Adds : List ℕ → Failures → Failures → Type 0
-Adds id old new = (ids_of new ≡ ids_of old ++ id ∷ []) × (new.are_all ≡ old.are_all)
-
--- there was no memory for it
-abbrev pub Loses : Failures → Failures → Type 0
-Loses old new = (ids_of new ≡ ids_of old) × (new.are_all ≡ false)
+-- it is counted with those that are not kept
+pub record Misses (old new : Failures) : Type 0 where
+  pub kept : new.kept.items ≡ old.kept.items
+  pub more : old.more ≤ new.more
 
 -- what is kept of a node more that failed
-abbrev pub Keeps : List ℕ → Failures → Failures → Type 0
-Keeps id old new = Adds id old new ⊎ Loses old new
+abbrev pub Keeps : Failure → Failures → Failures → Type 0
+Keeps failure old new = Adds failure old new ⊎ Misses old new

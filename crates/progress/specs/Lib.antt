@@ -2,3 +2,4 @@
 pub mod FailedTexts
 pub mod Failing
 pub mod Lines
+pub mod Terminals

@@ -1,41 +1,143 @@
 //! The nodes of a run that failed.
 
-ghost use Rattle.std.specs.Prelude.{◌≡◌, [], true};
-ghost use Rattle.progress.specs.Failing.{Keeps, ids_of};
+ghost use Rattle.std.specs.Prelude.{◌≡◌, ◌≤◌, []};
+ghost use Rattle.std.specs.List.{list_any};
+ghost use Rattle.progress.specs.FailedTexts.{are_some, is_left_out};
+ghost use Rattle.progress.specs.Failing.{Keeps};
 
+use crate::failure::{Failure, Naming};
+use descriptor::NodeId;
+use plan_events::{Event, Status, Texts};
+use resource_locks::Plan;
 use std::alloc::Global;
+use worker_pool::Watcher;
 
-/// The ids of the nodes that failed, in the order in which they ended.
-#[derive(Debug, Drop)]
+/// How many failures are kept.
+const MOST_KEPT: usize = 20;
+
+/// How many of them the words name.
+const MOST_NAMED: usize = 10;
+
+/// Whether the words had no room for one of them.
+fn any_left_out(failures: &[Failure]) -> bool
+    ensures { result ≡ list_any (λ f. is_left_out f.naming) failures.now }
+{
+    failures.iter().any(|failure| failure.naming.is_left_out())
+}
+
+/// The nodes that failed, in the order in which they ended: the first are kept, all are counted. As a
+/// watcher of a run it takes note of each that fails.
+#[derive(Drop)]
 pub struct Failures {
     alloc: Global,
-    pub ids: Vec<String>,
-    /// Whether there was memory for all of them.
-    pub are_all: bool,
+    pub kept: Vec<Failure>,
+    /// How many others failed.
+    pub more: u32,
 }
 
 impl Failures {
     /// No node failed.
     pub fn new(alloc: Global) -> Failures
-        ensures none { ids_of result ≡ [] }
-        ensures all { result.are_all ≡ true }
+        ensures none { result.kept.items ≡ [] }
+        ensures more { result.more ≡ 0 }
     {
         Failures {
             alloc,
-            ids: Vec::new(alloc),
-            are_all: true,
+            kept: Vec::new(alloc),
+            more: 0,
         }
     }
 
-    /// Keeps the id of a node that failed, if there is memory for it.
-    pub fn keep(&mut self, id: &str)
-        ensures { Keeps id.now self.old self.new }
+    /// Whether no node failed.
+    pub fn are_none(&self) -> bool {
+        self.kept.is_empty() && self.more == 0
+    }
+
+    /// Whether the words select not all that failed.
+    pub fn are_some(&self) -> bool
+        ensures { result ≡ are_some self.now }
     {
-        if let Ok(text) = String::from_str(self.alloc, id) {
-            if self.ids.push(text).is_ok() {
-                return;
+        self.more > 0 || any_left_out(self.kept.as_slice())
+    }
+
+    /// Counts a node that failed and is not kept.
+    fn miss(&mut self)
+        ensures kept { self.new.kept ≡ self.old.kept }
+        ensures more { self.old.more ≤ self.new.more }
+    {
+        self.more = self.more.saturating_add(1);
+    }
+
+    /// Keeps a node that failed, if it is one of the first and there is memory for it, or counts it.
+    pub fn keep(&mut self, failure: Failure)
+        ensures { Keeps failure self.old self.new }
+    {
+        if self.kept.len() >= MOST_KEPT {
+            drop(failure);
+            self.miss();
+            return;
+        }
+        if self.kept.push(failure).is_err() {
+            self.miss();
+        }
+    }
+
+    /// Whether a node failed that is below this one.
+    fn has_below(&self, plan: &Plan, node: NodeId) -> bool {
+        let tree = plan.tree();
+        for failure in self.kept.as_slice() {
+            if failure.node.index() < tree.len() && tree.below(failure.node, node) {
+                return true;
             }
         }
-        self.are_all = false;
+        false
     }
+
+    /// How many the words name.
+    fn named(&self) -> usize {
+        self.kept
+            .iter()
+            .filter(|failure| failure.naming.is_named())
+            .count()
+    }
+
+    /// Whether the words are to name a node that failed.
+    fn naming(&self, plan: &Plan, node: NodeId) -> Naming {
+        if self.has_below(plan, node) {
+            Naming::Above
+        } else if self.named() < MOST_NAMED {
+            Naming::Named
+        } else {
+            Naming::LeftOut
+        }
+    }
+
+    /// Takes note of a node that failed.
+    fn note(&mut self, plan: &Plan, texts: &Texts, node: NodeId) {
+        if self.kept.len() >= MOST_KEPT
+            || node == NodeId::ROOT
+            || node.index() >= plan.tree().len()
+        {
+            self.miss();
+            return;
+        }
+        let naming = self.naming(plan, node);
+        match Failure::of(self.alloc, plan, texts, node, naming) {
+            Ok(failure) => self.keep(failure),
+            Err(_) => self.miss(),
+        }
+    }
+}
+
+impl Watcher for Failures {
+    ghost saw = { λ _ _ _ _. Unit {0} };
+
+    fn watch(&mut self, plan: &Plan, texts: &Texts, event: Event) {
+        let event = &event;
+        if event.status == Some(Status::Failed) && event.node != NodeId::ROOT {
+            self.note(plan, texts, event.node);
+        }
+    }
+
+    fn idle(&mut self) {}
 }

@@ -1,12 +1,12 @@
 //! A watcher that draws how far a run has come.
 
 ghost use Rattle.std.specs.Prelude.{◌≡◌};
+ghost use Rattle.progress.specs.Terminals.{Extends};
 
 use crate::failures::Failures;
 use crate::test_counts::{TestCounts, progress_line};
-use descriptor::NodeId;
-use listeners::{Listener, Summary};
-use plan_events::{Event, Status, Texts};
+use listeners::{Listener, Summary, print_to};
+use plan_events::{Event, Texts};
 use resource_locks::Plan;
 use std::alloc::{AllocError, Global};
 use std::io::Write;
@@ -19,8 +19,18 @@ const SHORTEST: u64 = 100;
 /// What a terminal takes as: go to the start of the line, and erase what stands behind.
 const ERASING: &str = "\r\x1b[K";
 
+/// Hands this text to a terminal; tells whether all of it stands there.
+fn hand_on<E: Write>(terminal: &mut E, text: &str) -> bool
+    ensures { Extends (E.contents terminal.old) (E.contents terminal.new) }
+{
+    match print_to(&mut *terminal, text.as_bytes()) {
+        Ok(()) => terminal.flush().is_ok(),
+        Err(_) => false,
+    }
+}
+
 /// Draws how far a run has come on a line of a terminal, at most ten times a second, and erases it
-/// when the plan is finished. It keeps the ids of the nodes that failed.
+/// when the plan is finished. It keeps the nodes that failed.
 #[derive(Drop)]
 pub struct Progress<'e, E: Write, C: Clock + Drop> {
     alloc: Global,
@@ -45,7 +55,10 @@ impl<'e, E: Write, C: Clock + Drop> Progress<'e, E, C> {
         terminal: &'e mut E,
         clock: C,
         among_lines: bool,
-    ) -> Progress<'e, E, C> {
+    ) -> Progress<'e, E, C>
+        ensures same { result.terminal.ghost_name ≡ terminal.entry.ghost_name }
+        ensures terminal { result.terminal.now ≡ terminal.old }
+    {
         let begun = Instant::now(&clock).ok();
         Progress {
             alloc,
@@ -70,14 +83,20 @@ impl<'e, E: Write, C: Clock + Drop> Progress<'e, E, C> {
     }
 
     /// Hands this to the terminal; one that fails is left alone from then on.
-    fn show(&mut self, text: &str) {
-        if self.terminal.write_all(text.as_bytes()).is_err() || self.terminal.flush().is_err() {
+    fn show(&mut self, text: &str)
+        ensures same { self.new.terminal.ghost_name ≡ self.old.terminal.ghost_name }
+        ensures extends { Extends (E.contents self.old.terminal.now) (E.contents self.new.terminal.now) }
+    {
+        if !hand_on(&mut *self.terminal, text) {
             self.is_over = true;
         }
     }
 
     /// Erases the line, if it is drawn.
-    fn erase(&mut self) {
+    fn erase(&mut self)
+        ensures same { self.new.terminal.ghost_name ≡ self.old.terminal.ghost_name }
+        ensures extends { Extends (E.contents self.old.terminal.now) (E.contents self.new.terminal.now) }
+    {
         if self.is_drawn {
             self.is_drawn = false;
             self.show(ERASING);
@@ -93,26 +112,61 @@ impl<'e, E: Write, C: Clock + Drop> Progress<'e, E, C> {
         Ok(text)
     }
 
-    /// Draws the line anew, unless it was drawn a moment ago.
-    fn draw(&mut self) {
+    /// The line, if it is to be drawn anew: unless it was drawn a moment ago.
+    fn next_line(&mut self) -> Option<String>
+        ensures { self.new.terminal ≡ self.old.terminal }
+    {
         let (Some(begun), Some(drawn)) = (self.begun, self.drawn) else {
-            return;
+            return None;
         };
         let Ok(now) = Instant::now(&self.clock) else {
-            return;
+            return None;
         };
         if now.duration_since(drawn) < Duration::from_millis(SHORTEST) {
-            return;
+            return None;
         }
         self.drawn = Some(now);
-        if let Ok(text) = self.line(now.duration_since(begun).as_secs()) {
+        self.line(now.duration_since(begun).as_secs()).ok()
+    }
+
+    /// Draws the line anew, unless it was drawn a moment ago.
+    fn draw(&mut self)
+        ensures same { self.new.terminal.ghost_name ≡ self.old.terminal.ghost_name }
+        ensures extends { Extends (E.contents self.old.terminal.now) (E.contents self.new.terminal.now) }
+    {
+        if let Some(text) = self.next_line() {
             self.is_drawn = true;
             self.show(text.as_str());
         }
     }
 
+    /// Erases the line where others print lines, and draws it anew where not.
+    fn redraw(&mut self)
+        ensures same { self.new.terminal.ghost_name ≡ self.old.terminal.ghost_name }
+        ensures extends { Extends (E.contents self.old.terminal.now) (E.contents self.new.terminal.now) }
+    {
+        if self.among_lines {
+            self.erase();
+        } else if !self.is_over {
+            self.draw();
+        }
+    }
+
+    /// Erases the line for good where the plan is finished.
+    fn close(&mut self, is_finished: bool)
+        ensures same { self.new.terminal.ghost_name ≡ self.old.terminal.ghost_name }
+        ensures extends { Extends (E.contents self.old.terminal.now) (E.contents self.new.terminal.now) }
+    {
+        if is_finished {
+            self.erase();
+            self.is_over = true;
+        }
+    }
+
     /// Counts an event. Where there is no memory for the counts nothing is drawn.
-    fn count(&mut self, plan: &Plan, event: Event) {
+    fn count(&mut self, plan: &Plan, event: Event)
+        ensures { self.new.terminal ≡ self.old.terminal }
+    {
         if self.summary.got().is_empty() && self.summary.prepare(plan).is_err() {
             self.is_over = true;
         }
@@ -121,34 +175,25 @@ impl<'e, E: Write, C: Clock + Drop> Progress<'e, E, C> {
         }
     }
 
-    /// Keeps the id of a node that failed.
-    fn keep_failure(&mut self, plan: &Plan, event: Event) {
-        let event = &event;
-        if event.status != Some(Status::Failed) || event.node == NodeId::ROOT {
-            return;
-        }
-        if event.node.index() < plan.tree().len() {
-            self.failures.keep(plan.tree().node(event.node).id.text());
-        }
+    /// Takes note of a node that failed.
+    fn note(&mut self, plan: &Plan, texts: &Texts, event: Event)
+        ensures { self.new.terminal ≡ self.old.terminal }
+    {
+        self.failures.watch(plan, texts, event);
     }
 }
 
 impl<'e, E: Write, C: Clock + Drop> Watcher for Progress<'e, E, C> {
-    ghost saw = { λ _ _ _ _. Unit {0} };
+    ghost use Rattle.progress.specs.Terminals.{IsDrawnOn};
 
-    fn watch(&mut self, plan: &Plan, _texts: &Texts, event: Event) {
+    ghost saw = { λ _ first now _. IsDrawnOn E.contents first now };
+
+    fn watch(&mut self, plan: &Plan, texts: &Texts, event: Event) {
         let event = &event;
         self.count(plan, *event);
-        self.keep_failure(plan, *event);
-        if self.among_lines {
-            self.erase();
-        } else if !self.is_over {
-            self.draw();
-        }
-        if ends_plan(*event) {
-            self.erase();
-            self.is_over = true;
-        }
+        self.note(plan, texts, *event);
+        self.redraw();
+        self.close(ends_plan(*event));
     }
 
     fn idle(&mut self) {

@@ -2,18 +2,18 @@
 use Rattle.std.proofs.Common.{◌≡◌, ℕ, ◌==◌, Bool, false, cond, List, [], ◌++◌, length, ap, ap₂, sym, ◌∙◌}
 use Rattle.descriptor.specs.Nodes.{Nodes}
 use Rattle.plan_events.specs.Texts.{TextParts}
-use Rattle.plan_events.specs.declared.event.Event.{Event}
 use Rattle.resource_locks.specs.Plans.{PlanParts}
 use Rattle.reports.specs.Cases.{cases_of}
 use Rattle.reports.specs.ClassNames.{class_name}
 use Rattle.reports.specs.Junit.{suite_element, suite_with, suite_of}
 use Rattle.reports.specs.declared.cases.Case.{Case}
+use Rattle.reports.specs.declared.told.NodeTold.{NodeTold}
 
-pub told_suite : (p : PlanParts) (texts : TextParts) (events : List Event) (n : ℕ) (tree : Nodes) (class : List ℕ) (cases : List Case) (old new : List ℕ) → tree ≡ p.tree → class ≡ class_name tree n → cases ≡ cases_of tree events n
-    → (length cases == 0) ≡ false → new ≡ old ++ suite_element tree texts class cases → new ≡ old ++ suite_of p texts events n
-told_suite p texts events n tree class cases old new same named are some written =
+pub told_suite : (p : PlanParts) (texts : TextParts) (told : List NodeTold) (n : ℕ) (tree : Nodes) (class : List ℕ) (cases : List Case) (old new : List ℕ) → tree ≡ p.tree → class ≡ class_name tree n → cases ≡ cases_of tree told n
+    → (length cases == 0) ≡ false → new ≡ old ++ suite_element p texts class cases → new ≡ old ++ suite_of p texts told n
+told_suite p texts told n tree class cases old new same named are some written =
     written
     ∙ ap (λ (l : List ℕ). old ++ l) (
-    sym (ap (λ (b : Bool). cond b [] (suite_element tree texts class cases)) some)
-    ∙ ap₂ (λ (k : List ℕ) (cs : List Case). suite_with tree texts k cs) named are
-    ∙ ap (λ (t : Nodes). suite_with t texts (class_name t n) (cases_of t events n)) same)
+    sym (ap (λ (b : Bool). cond b [] (suite_element p texts class cases)) some)
+    ∙ ap₂ (λ (k : List ℕ) (cs : List Case). suite_with p texts k cs) named are
+    ∙ ap (λ (t : Nodes). suite_with p texts (class_name t n) (cases_of t told n)) same)

@@ -48,6 +48,10 @@ abbrev pub event_object : PlanParts → TextParts → Event → List ℕ
 event_object plan texts e =
     object (text_member (codes "event") (kind_word e.kind) ∷ number_member (codes "worker") e.worker ∷ node_members plan texts e)
 
+-- a line that tells of no node: what it is, and one member besides
+abbrev pub note_line : List ℕ → List ℕ → List ℕ → List ℕ
+note_line what name text = object (text_member (codes "event") what ∷ text_member name text ∷ []) ++ codes "\n"
+
 -- the whole text: the objects of the events, in their order
 abbrev pub json_of : PlanParts → TextParts → List Event → List ℕ
 json_of plan texts events = flat_map (λ e. event_object plan texts e ++ codes "\n") events

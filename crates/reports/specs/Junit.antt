@@ -1,68 +1,91 @@
 -- The report that build servers read: JUnit's XML. A suite for each node that has cases, and in it an element for each case.
-use Rattle.std.specs.Prelude.{ℕ, ◌==◌, cond, List, [], ◌++◌, length, codes}
+use Rattle.std.specs.Prelude.{ℕ, ◌==◌, Bool, cond, List, [], ◌++◌, length, codes}
 use Rattle.std.specs.List.{flat_map, count_by, range_with_len}
-use Rattle.descriptor.specs.Nodes.{Nodes, size}
+use Rattle.descriptor.specs.Nodes.{size}
 use Rattle.resource_locks.specs.Plans.{PlanParts}
 use Rattle.plan_events.specs.Texts.{TextParts, text_at}
 use Rattle.plan_events.specs.declared.event.Event.{Event}
-use Rattle.listeners.specs.Feed.{text_or}
+use Rattle.listeners.specs.Feed.{id_at, text_or}
 use Rattle.listeners.specs.TreeTexts.{name_at}
-use Rattle.reports.specs.Cases.{is_failure, is_skip, cases_of}
-use Rattle.reports.specs.ClassNames.{class_name}
-use Rattle.reports.specs.XmlStrings.{attribute, number_attribute, element, empty_element}
+use Rattle.reports.specs.Cases.{cases_of, has_error, has_failed, is_left_out}
+use Rattle.reports.specs.ClassNames.{class_name, reported_name}
+use Rattle.reports.specs.Told.{all_told}
+use Rattle.reports.specs.XmlStrings.{attribute, attribute_of, number_attribute, element, empty_element, escaped}
 use Rattle.reports.specs.declared.cases.Case.{Case}
-use Rattle.reports.specs.declared.cases.CaseEnd.{CaseEnd}
-use Rattle.reports.specs.declared.cases.CaseEnd.TheVariants.{Passed, Failed, Aborted, Skipped, NotRun}
+use Rattle.reports.specs.declared.told.NodeEnd.{NodeEnd}
+use Rattle.reports.specs.declared.told.NodeEnd.TheVariants.{Passed, Failed, Aborted, Skipped, NotRun}
+use Rattle.reports.specs.declared.told.NodeTold.{NodeTold}
 
--- an element that says why
-abbrev pub message_element : List ℕ → List ℕ → List ℕ
-message_element name text = empty_element name (attribute (codes "message") text)
+-- an element that says why, with these words before the text, and of which type that is
+abbrev pub reason_element : List ℕ → List ℕ → List ℕ → List ℕ → List ℕ
+reason_element name words text kind =
+    empty_element name (attribute_of (codes "message") (words ++ escaped text) ++ attribute_of (codes "type") kind)
 
--- what stands in a case with this text: nothing where it passed; an aborted case counts as skipped, and says so
-abbrev pub end_elements : CaseEnd → List ℕ → List ℕ
-end_elements Passed text = []
-end_elements Failed text = message_element (codes "failure") text
-end_elements Aborted text = message_element (codes "skipped") text ++ element (codes "system-out") [] (codes "ABORTED")
-end_elements Skipped text = message_element (codes "skipped") text
-end_elements NotRun text = message_element (codes "skipped") (codes "not run")
+-- a case that failed itself is a failure, one below a node that failed an error
+abbrev pub failure_name : Bool → List ℕ
+failure_name own = cond own (codes "failure") (codes "error")
 
--- the element of a case in a class: its name, that of the class, and what became of it
-abbrev pub case_element : List ℕ → List ℕ → List ℕ → CaseEnd → List ℕ
-case_element class name text end =
-    element (codes "testcase") (attribute (codes "name") name ++ attribute (codes "classname") class) (end_elements end text)
+-- what stands before the text of a skipped or aborted node, in a case of its own and in one below it
+abbrev pub words_above : Bool → List ℕ → List ℕ
+words_above own words = cond own [] words
 
--- the start of a case's line, to the end of its element's first tag
-abbrev pub case_start : List ℕ → List ℕ → List ℕ
-case_start class name = codes "    <testcase" ++ ((attribute (codes "name") name ++ attribute (codes "classname") class) ++ codes ">")
+-- what is told of a case, of its own node or of one that it is below, with this text; nothing where it passed
+abbrev pub end_elements : Bool → NodeEnd → List ℕ → List ℕ
+end_elements own Passed text = []
+end_elements own Failed text = reason_element (failure_name own) [] text (codes "FAILED")
+end_elements own Aborted text = reason_element (codes "skipped") (words_above own (codes "parent was aborted: ")) text (codes "ABORTED")
+end_elements own Skipped text = reason_element (codes "skipped") (words_above own (codes "parent was skipped: ")) text (codes "SKIPPED")
+end_elements own NotRun text = reason_element (codes "skipped") (codes "not run") [] (codes "NOT_RUN")
+
+-- what a case says of its node besides: its unique id and its name, a line each
+abbrev pub output_element : PlanParts → ℕ → List ℕ
+output_element plan n =
+    codes "<system-out>unique-id: " ++ (escaped (id_at plan n) ++ (codes "&#10;display-name: " ++ (escaped (name_at plan.tree n) ++ codes "</system-out>")))
+
+-- what stands in a case
+abbrev pub case_content : PlanParts → TextParts → Case → List ℕ
+case_content plan texts c =
+    end_elements (c.cause.node == c.node) c.cause.end (text_or (text_at texts c.cause.node)) ++ output_element plan c.node
+
+-- the name of a case and that of its class; a run has no clock
+abbrev pub case_attributes : PlanParts → List ℕ → ℕ → List ℕ
+case_attributes plan class n =
+    attribute_of (codes "name") (reported_name plan.tree n) ++ (attribute (codes "classname") class ++ number_attribute (codes "time") 0)
 
 -- a case's line
-abbrev pub case_line : Nodes → TextParts → List ℕ → Case → List ℕ
-case_line t texts class c = codes "    " ++ (case_element class (name_at t c.node) (text_or (text_at texts c.node)) c.end ++ codes "\n")
+abbrev pub case_line : PlanParts → TextParts → List ℕ → Case → List ℕ
+case_line plan texts class c =
+    codes "    " ++ (element (codes "testcase") (case_attributes plan class c.node) (case_content plan texts c) ++ codes "\n")
 
--- the name of a suite and its counts: all cases, those that failed, and those that neither passed nor failed; none is an error
+-- the name of a suite and its counts: all cases, those that failed, those below a node that failed, and those that neither passed nor
+-- failed
 abbrev pub suite_attributes : List ℕ → List Case → List ℕ
 suite_attributes class cases =
     attribute (codes "name") class
     ++ (number_attribute (codes "tests") (length cases)
-    ++ (number_attribute (codes "failures") (count_by (λ c. is_failure c.end) cases)
-    ++ (number_attribute (codes "errors") 0
-    ++ number_attribute (codes "skipped") (count_by (λ c. is_skip c.end) cases))))
+    ++ (number_attribute (codes "failures") (count_by has_failed cases)
+    ++ (number_attribute (codes "errors") (count_by has_error cases)
+    ++ (number_attribute (codes "skipped") (count_by is_left_out cases)
+    ++ number_attribute (codes "time") 0))))
 
 -- a suite of these cases, from a line of its own to the end of a line
-abbrev pub suite_element : Nodes → TextParts → List ℕ → List Case → List ℕ
-suite_element t texts class cases =
-    codes "  " ++ (element (codes "testsuite") (suite_attributes class cases) (codes "\n" ++ (flat_map (case_line t texts class) cases ++ codes "  ")) ++ codes "\n")
+abbrev pub suite_element : PlanParts → TextParts → List ℕ → List Case → List ℕ
+suite_element plan texts class cases =
+    codes "  " ++ (element (codes "testsuite") (suite_attributes class cases) (codes "\n" ++ (flat_map (case_line plan texts class) cases ++ codes "  ")) ++ codes "\n")
 
 -- a suite, and nothing where there is no case
-abbrev pub suite_with : Nodes → TextParts → List ℕ → List Case → List ℕ
-suite_with t texts class cases = cond (length cases == 0) [] (suite_element t texts class cases)
+abbrev pub suite_with : PlanParts → TextParts → List ℕ → List Case → List ℕ
+suite_with plan texts class cases = cond (length cases == 0) [] (suite_element plan texts class cases)
 
--- the suite of node n
-abbrev pub suite_of : PlanParts → TextParts → List Event → ℕ → List ℕ
-suite_of plan texts events n = suite_with plan.tree texts (class_name plan.tree n) (cases_of plan.tree events n)
+-- the suite of node n, of whose nodes this was told
+abbrev pub suite_of : PlanParts → TextParts → List NodeTold → ℕ → List ℕ
+suite_of plan texts told n = suite_with plan texts (class_name plan.tree n) (cases_of plan.tree told n)
 
--- the whole text: the suites of all nodes, in the plan's order
+-- the element of all suites, in the plan's order
+abbrev pub suites_element : PlanParts → TextParts → List NodeTold → List ℕ
+suites_element plan texts told =
+    element (codes "testsuites") [] (codes "\n" ++ flat_map (suite_of plan texts told) (range_with_len 0 (size plan.tree))) ++ codes "\n"
+
+-- the whole text, from the line of the document's element
 abbrev pub junit_of : PlanParts → TextParts → List Event → List ℕ
-junit_of plan texts events =
-    codes "<?xml version=\"1.0\" encoding=\"UTF-8\"?>\n"
-    ++ (element (codes "testsuites") [] (codes "\n" ++ flat_map (suite_of plan texts events) (range_with_len 0 (size plan.tree))) ++ codes "\n")
+junit_of plan texts events = suites_element plan texts (all_told (size plan.tree) events)

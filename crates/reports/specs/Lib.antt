@@ -5,4 +5,5 @@ pub mod Json
 pub mod JsonStrings
 pub mod Junit
 pub mod Lists
+pub mod Told
 pub mod XmlStrings

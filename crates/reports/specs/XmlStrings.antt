@@ -28,13 +28,17 @@ xml_char c =
 abbrev pub escaped : List ℕ → List ℕ
 escaped text = flat_map xml_char (chars text)
 
+-- an attribute, with its value as it stands between the marks
+abbrev pub attribute_of : List ℕ → List ℕ → List ℕ
+attribute_of name value = codes " " ++ (name ++ (codes "=\"" ++ (value ++ codes "\"")))
+
 -- an attribute whose value is a text
 abbrev pub attribute : List ℕ → List ℕ → List ℕ
-attribute name value = codes " " ++ (name ++ (codes "=\"" ++ (escaped value ++ codes "\"")))
+attribute name value = attribute_of name (escaped value)
 
 -- an attribute whose value is a number
 abbrev pub number_attribute : List ℕ → ℕ → List ℕ
-number_attribute name n = codes " " ++ (name ++ (codes "=\"" ++ (decimal n ++ codes "\"")))
+number_attribute name n = attribute_of name (decimal n)
 
 -- an element with something in it
 abbrev pub element : List ℕ → List ℕ → List ℕ → List ℕ
@@ -44,3 +48,11 @@ element name attributes content =
 -- an element without anything in it
 abbrev pub empty_element : List ℕ → List ℕ → List ℕ
 empty_element name attributes = codes "<" ++ (name ++ (attributes ++ codes "/>"))
+
+-- the line that a document begins with
+abbrev pub declaration : List ℕ
+declaration = codes "<?xml version=\"1.0\" encoding=\"UTF-8\"?>\n"
+
+-- a comment on a line of its own; it may stand before the document's element and behind it, and no two hyphens may stand in it
+abbrev pub comment_line : List ℕ → List ℕ
+comment_line text = codes "<!-- " ++ (text ++ codes " -->\n")

@@ -3,6 +3,7 @@
 ghost use Rattle.std.specs.Prelude.{◌≡◌, ◌++◌, OnOk, IfOk, codes, string_bytes};
 ghost use Rattle.listeners.specs.Feed.{kind_word};
 ghost use Rattle.reports.specs.Json.{type_word, status_members, ending_members, node_members, event_object, json_of};
+ghost use Rattle.reports.specs.Json.{note_line};
 ghost use Rattle.reports.specs.JsonStrings.{behind_commas};
 
 use crate::json_strings::{push_further, push_member, push_number};
@@ -87,6 +88,16 @@ fn push_event(json: &mut String, plan: &Plan, texts: &Texts, event: Event) -> Re
     push_member(json, "event", event_word(event.kind))?;
     push_number(json, "worker", event.worker)?;
     push_node(json, plan, texts, event)?;
+    json.push_str("}\n")
+}
+
+/// Appends a line that tells of no node: what it is, and one member besides.
+pub fn push_note(json: &mut String, what: &str, name: &str, text: &str) -> Result<(), AllocError>
+    ensures { OnOk result (string_bytes json.new ≡ string_bytes json.old ++ note_line what.now name.now text.now) }
+{
+    json.push_str("{")?;
+    push_member(json, "event", what)?;
+    push_further(json, name, text)?;
     json.push_str("}\n")
 }
 

@@ -3,99 +3,55 @@
 ghost use Rattle.std.specs.Prelude.{◌≡◌, ◌<◌, ◌++◌, OnOk, IfOk, codes, length, string_bytes};
 ghost use Rattle.std.specs.List.{count_by, flat_map, range_with_len};
 ghost use Rattle.descriptor.specs.Nodes.{size};
-ghost use Rattle.reports.specs.Cases.{is_failure, is_skip};
-ghost use Rattle.reports.specs.Junit.{message_element, end_elements, case_start, case_line, suite_attributes};
-ghost use Rattle.reports.specs.Junit.{suite_element, suite_of, junit_of};
+ghost use Rattle.reports.specs.Cases.{has_error, has_failed, is_left_out};
+ghost use Rattle.reports.specs.Junit.{case_line, suite_attributes, suite_element, suite_of, junit_of};
 
-use crate::cases::{Case, CaseEnd, cases_of};
+use crate::cases::{Case, cases_of};
 use crate::class_names::class_name;
-use crate::nodes::{name_of, text_of};
+use crate::junit_case::push_case;
+use crate::told::{NodeTold, all_told};
 use crate::xml_strings::{push_attribute, push_number};
-use descriptor::{NodeId, Tree};
+use descriptor::NodeId;
 use plan_events::{Event, Texts};
 use resource_locks::Plan;
 use std::alloc::{AllocError, Global};
 
-/// Appends an element that says why.
-fn push_message(xml: &mut String, name: &str, text: &str) -> Result<(), AllocError>
-    ensures { OnOk result (string_bytes xml.new ≡ string_bytes xml.old ++ message_element name.now text.now) }
-{
-    write!(xml, "<{name}")?;
-    push_attribute(xml, "message", text)?;
-    xml.push_str("/>")
-}
-
-/// Appends what stands in a case.
-fn push_end(xml: &mut String, end: CaseEnd, text: &str) -> Result<(), AllocError>
-    ensures { OnOk result (string_bytes xml.new ≡ string_bytes xml.old ++ end_elements end text.now) }
-{
-    match end {
-        CaseEnd::Passed => Ok(()),
-        CaseEnd::Failed => push_message(xml, "failure", text),
-        CaseEnd::Aborted => {
-            push_message(xml, "skipped", text)?;
-            xml.push_str("<system-out>ABORTED</system-out>")?;
-            Ok(())
-        }
-        CaseEnd::Skipped => push_message(xml, "skipped", text),
-        CaseEnd::NotRun => push_message(xml, "skipped", "not run"),
-    }
-}
-
-/// Appends the start of a case's line, to the end of its element's first tag.
-fn push_case_start(xml: &mut String, class: &str, name: &str) -> Result<(), AllocError>
-    ensures { OnOk result (string_bytes xml.new ≡ string_bytes xml.old ++ case_start class.now name.now) }
-{
-    xml.push_str("    <testcase")?;
-    push_attribute(xml, "name", name)?;
-    push_attribute(xml, "classname", class)?;
-    xml.push_str(">")
-}
-
-/// Appends the line of a case in a class.
-fn push_case(
-    xml: &mut String,
-    tree: &Tree,
-    texts: &Texts,
-    class: &str,
-    case: Case,
-) -> Result<(), AllocError>
-    ensures { OnOk result (string_bytes xml.new ≡ string_bytes xml.old ++ case_line tree.now texts.now class.now case) }
-{
-    push_case_start(xml, class, name_of(tree, case.node))?;
-    push_end(xml, case.end, text_of(texts, case.node))?;
-    xml.push_str("</testcase>\n")
-}
-
 /// Appends the lines of the cases in a class.
 fn push_lines(
     xml: &mut String,
-    tree: &Tree,
+    plan: &Plan,
     texts: &Texts,
     class: &str,
     cases: &[Case],
 ) -> Result<(), AllocError>
     ensures { OnOk result (string_bytes xml.new ≡ string_bytes xml.old
-        ++ flat_map (case_line tree.now texts.now class.now) cases.now) }
+        ++ flat_map (case_line plan.now texts.now class.now) cases.now) }
 {
     for case in cases {
-        push_case(xml, tree, texts, class, *case)?;
+        push_case(xml, plan, texts, class, *case)?;
     }
     Ok(())
 }
 
-/// How many of the cases failed.
+/// How many of the cases failed themselves.
 fn failures(cases: &[Case]) -> usize
-    ensures { result ≡ count_by (λ c. is_failure c.end) cases.now }
+    ensures { result ≡ count_by has_failed cases.now }
 {
-    cases.iter().filter(|case| case.end.is_failure()).count()
+    cases.iter().filter(|case| case.has_failed()).count()
+}
+
+/// How many of the cases are below a node that failed.
+fn errors(cases: &[Case]) -> usize
+    ensures { result ≡ count_by has_error cases.now }
+{
+    cases.iter().filter(|case| case.has_error()).count()
 }
 
 /// How many of the cases neither passed nor failed.
 fn skips(cases: &[Case]) -> usize
-    ensures { result ≡ count_by (λ c. is_skip c.end) cases.now }
+    ensures { result ≡ count_by is_left_out cases.now }
 {
-    cases.iter().filter(|case| case.end.is_skip()).count()
+    cases.iter().filter(|case| case.is_left_out()).count()
 }
 
 /// Appends the name of a suite and its counts.
@@ -105,47 +61,48 @@ fn push_counts(xml: &mut String, class: &str, cases: &[Case]) -> Result<(), Allo
     push_attribute(xml, "name", class)?;
     push_number(xml, "tests", cases.len())?;
     push_number(xml, "failures", failures(cases))?;
-    push_number(xml, "errors", 0)?;
-    push_number(xml, "skipped", skips(cases))
+    push_number(xml, "errors", errors(cases))?;
+    push_number(xml, "skipped", skips(cases))?;
+    push_number(xml, "time", 0)
 }
 
 /// Appends the element of a suite of these cases.
 fn push_cases(
     xml: &mut String,
-    tree: &Tree,
+    plan: &Plan,
     texts: &Texts,
     class: &str,
     cases: &[Case],
 ) -> Result<(), AllocError>
-    ensures { OnOk result (string_bytes xml.new ≡ string_bytes xml.old ++ suite_element tree.now texts.now class.now
+    ensures { OnOk result (string_bytes xml.new ≡ string_bytes xml.old ++ suite_element plan.now texts.now class.now
         cases.now) }
 {
     xml.push_str("  <testsuite")?;
     push_counts(xml, class, cases)?;
     xml.push_str(">\n")?;
-    push_lines(xml, tree, texts, class, cases)?;
+    push_lines(xml, plan, texts, class, cases)?;
     xml.push_str("  </testsuite>\n")
 }
 
-/// Appends the suite of a node; nothing where it has no cases.
+/// Appends the suite of a node, of whose nodes this was told; nothing where it has no cases.
 fn push_suite(
     alloc: Global,
     xml: &mut String,
     plan: &Plan,
     texts: &Texts,
-    events: &[Event],
+    told: &[NodeTold],
     node: NodeId,
 ) -> Result<(), AllocError>
     requires { node < size plan.now.tree }
-    ensures { OnOk result (string_bytes xml.new ≡ string_bytes xml.old ++ suite_of plan.now texts.now events.now node) }
+    ensures { OnOk result (string_bytes xml.new ≡ string_bytes xml.old ++ suite_of plan.now texts.now told.now node) }
 {
     let tree = plan.tree();
-    let cases = cases_of(alloc, tree, events, node)?;
+    let cases = cases_of(alloc, tree, told, node)?;
     if cases.is_empty() {
         return Ok(());
     }
     let class = class_name(alloc, tree, node)?;
-    push_cases(xml, tree, texts, class.as_str(), cases.as_slice())
+    push_cases(xml, plan, texts, class.as_str(), cases.as_slice())
 }
 
 /// Appends the suites of all nodes.
@@ -154,21 +111,22 @@ fn push_suites(
     xml: &mut String,
     plan: &Plan,
     texts: &Texts,
-    events: &[Event],
+    told: &[NodeTold],
 ) -> Result<(), AllocError>
     ensures { OnOk result (string_bytes xml.new ≡ string_bytes xml.old
-        ++ flat_map (suite_of plan.now texts.now events.now) (range_with_len 0 (size plan.now.tree))) }
+        ++ flat_map (suite_of plan.now texts.now told.now) (range_with_len 0 (size plan.now.tree))) }
 {
     let tree = plan.tree();
     for number in 0..tree.len() {
         let node = NodeId::new(number as u16);
-        push_suite(alloc, xml, plan, texts, events, node)?;
+        push_suite(alloc, xml, plan, texts, told, node)?;
     }
     Ok(())
 }
 
-/// The report of these events in JUnit's XML: a suite for each node of the plan that has cases, and
-/// in it an element for each case.
+/// The report of these events in JUnit's XML, from the line of the document's element: a suite for
+/// each node of the plan that has cases, and in it an element for each case. It takes one pass over
+/// the events.
 pub fn junit_text(
     alloc: Global,
     plan: &Plan,
@@ -177,11 +135,9 @@ pub fn junit_text(
 ) -> Result<String, AllocError>
     ensures { IfOk result (λ xml. string_bytes xml ≡ junit_of plan.now texts.now events.now) }
 {
-    let mut xml = String::from_str(
-        alloc,
-        "<?xml version=\"1.0\" encoding=\"UTF-8\"?>\n<testsuites>\n",
-    )?;
-    push_suites(alloc, &mut xml, plan, texts, events)?;
+    let told = all_told(alloc, plan.tree().len(), events)?;
+    let mut xml = String::from_str(alloc, "<testsuites>\n")?;
+    push_suites(alloc, &mut xml, plan, texts, told.as_slice())?;
     xml.push_str("</testsuites>\n")?;
     Ok(xml)
 }

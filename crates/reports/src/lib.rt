@@ -6,10 +6,12 @@ mod class_names;
 mod json;
 mod json_strings;
 mod junit;
+mod junit_case;
 mod list;
 mod nodes;
+mod told;
 mod xml_strings;
 
-pub use json::json_text;
+pub use json::{json_text, push_note};
 pub use junit::junit_text;
 pub use list::list_text;

@@ -1,7 +1,7 @@
 //! What a plan says of a node, also of one that it lacks.
 
-ghost use Rattle.std.specs.Prelude.{◌≡◌};
-ghost use Rattle.descriptor.specs.Nodes.{kind_of, role_of};
+ghost use Rattle.std.specs.Prelude.{◌≡◌, ◌<◌, cond, None, Some, IfSome};
+ghost use Rattle.descriptor.specs.Nodes.{is_spare_at, kind_of, parent_of, role_of};
 ghost use Rattle.listeners.specs.Feed.{id_at, text_or};
 ghost use Rattle.listeners.specs.TreeTexts.{name_at};
 ghost use Rattle.plan_events.specs.Texts.{text_at};
@@ -28,6 +28,17 @@ pub(crate) fn role_of(tree: &Tree, node: NodeId) -> Role
         return Role::Plain;
     }
     tree.role(node)
+}
+
+/// The factory of a dynamic test; no other node has one.
+pub(crate) fn factory_of(tree: &Tree, node: NodeId) -> Option<NodeId>
+    ensures value { result ≡ cond (is_spare_at tree.now node) (Some (parent_of tree.now node)) None }
+    ensures smaller { IfSome result (λ factory. factory < node) }
+{
+    if node.index() >= tree.len() || !tree.role(node).is_spare() {
+        return None;
+    }
+    tree.parent(node)
 }
 
 /// The name of a node; nothing for node 0, and for a node that the tree lacks.

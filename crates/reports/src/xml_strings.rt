@@ -1,7 +1,7 @@
 //! Values and attributes of XML.
 
 ghost use Rattle.std.specs.Prelude.{◌≡◌, ◌++◌, OnOk, codes, string_bytes};
-ghost use Rattle.reports.specs.XmlStrings.{is_barred, xml_char, escaped, attribute, number_attribute, empty_element};
+ghost use Rattle.reports.specs.XmlStrings.{is_barred, xml_char, escaped, attribute, number_attribute};
 
 use std::alloc::AllocError;
 
@@ -31,7 +31,7 @@ fn push_char(xml: &mut String, c: char) -> Result<(), AllocError>
 }
 
 /// Appends a text as a value.
-fn push_escaped(xml: &mut String, text: &str) -> Result<(), AllocError>
+pub(crate) fn push_escaped(xml: &mut String, text: &str) -> Result<(), AllocError>
     ensures { OnOk result (string_bytes xml.new ≡ string_bytes xml.old ++ escaped text.now) }
 {
     for c in text.chars() {

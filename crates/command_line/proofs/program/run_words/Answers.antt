@@ -12,5 +12,5 @@ returns-in-Err g c = record {
   left = g.R.Read.remaining c.args.reader.now;
   between = _;
   run = words_refused (g.R.Read.remaining) (g.W.Write.contents) (map string_bytes c.args.words.now) c.in-Err.fault (Err c.in-Err.fault) _ _ _ refl c.in-Err.ensures.read;
-  closed = c.close_run.ensures;
+  closed = c.close_run.ensures.closed;
 }

@@ -6,13 +6,13 @@ use Rattle.command_line.proofs.terminal.run_drawn.Goals as goal
 pub returns : goal.returns
 returns g c reads = (
   _,
-  c.close_drawn-ending.ensures.0,
+  _,
   record {
     answer = c.run_options_watched-answer.result;
     left = g.R.Read.remaining c.run_options_watched-answer.new.reader.reader.now;
     between = _;
     run =
         words_run (g.R.Read.remaining) (g.W.Write.contents) (map string_bytes c.args.words.now) c.args.options c.run_options_watched-answer.result _ _ _ _ _ reads c.run_options_watched-answer.ensures.exact c.run_options_watched-answer.ensures.reads c.run_options_watched-answer.ensures.quiet;
-    closed = c.close_drawn-ending.ensures.1;
+    closed = c.close_with_failures-ending.ensures;
   },
 )

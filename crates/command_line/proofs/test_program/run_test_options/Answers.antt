@@ -6,8 +6,8 @@ pub returns : goal.returns
 returns g c reads = record {
   options = Ok c.args.options;
   reads = reads;
-  answer = c.run_jobs-answer.result;
+  answer = c.run_jobs_watched-answer.result;
   between = _;
-  runs = record { exact = c.run_jobs-answer.ensures.exact; quiet = c.run_jobs-answer.ensures.quiet };
-  closed = c.close_run.ensures;
+  runs = record { exact = c.run_jobs_watched-answer.ensures.exact; quiet = c.run_jobs_watched-answer.ensures.quiet };
+  closed = c.close_with_failures-ending.ensures;
 }

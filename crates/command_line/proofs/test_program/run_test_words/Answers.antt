@@ -6,4 +6,4 @@ pub returns-in-Ok : goal.returns-in-Ok
 returns-in-Ok g c = c.run_test_options.ensures c.in-Ok.ensures.read
 
 pub returns-in-Err : goal.returns-in-Err
-returns-in-Err g c = record { options = Err c.in-Err.fault; reads = c.in-Err.ensures.read; answer = Err c.in-Err.fault; between = _; runs = (refl, refl); closed = c.close_run.ensures }
+returns-in-Err g c = record { options = Err c.in-Err.fault; reads = c.in-Err.ensures.read; answer = Err c.in-Err.fault; between = _; runs = (refl, refl); closed = c.close_run.ensures.closed }

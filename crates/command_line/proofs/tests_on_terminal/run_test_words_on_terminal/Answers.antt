@@ -9,5 +9,5 @@ pub returns-in-Err : goal.returns-in-Err
 returns-in-Err g c = (
   _,
   _,
-  record { options = Err c.in-Err.fault; reads = c.in-Err.ensures.read; answer = Err c.in-Err.fault; between = _; runs = (refl, refl); closed = c.close_run.ensures },
+  record { options = Err c.in-Err.fault; reads = c.in-Err.ensures.read; answer = Err c.in-Err.fault; between = _; runs = (refl, refl); closed = c.close_run.ensures.closed },
 )

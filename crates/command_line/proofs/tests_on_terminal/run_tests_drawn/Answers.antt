@@ -5,13 +5,13 @@ use Rattle.command_line.proofs.tests_on_terminal.run_tests_drawn.Goals as goal
 pub returns : goal.returns
 returns g c reads = (
   _,
-  c.close_drawn-ending.ensures.0,
+  _,
   record {
     options = Ok c.args.options;
     reads = reads;
     answer = c.run_jobs_watched-answer.result;
     between = _;
     runs = record { exact = c.run_jobs_watched-answer.ensures.exact; quiet = c.run_jobs_watched-answer.ensures.quiet };
-    closed = c.close_drawn-ending.ensures.1;
+    closed = c.close_with_failures-ending.ensures;
   },
 )

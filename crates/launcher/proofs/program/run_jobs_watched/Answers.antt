@@ -1,7 +1,8 @@
 -- What is shown of the plan of what is selected is what is answered of the program.
+use Rattle.std.proofs.Common.{refl}
 use Rattle.launch_options.specs.Asked.{asked_by}
 use Rattle.launcher.specs.Programs.{program_parts}
-use Rattle.launcher.proofs.ProgramRuns.{fails_memory, no_job_missing, planned_fails, planned_memory, program_run}
+use Rattle.launcher.proofs.ProgramRuns.{fails_memory, no_job_missing, planned_fails, planned_memory, program_run, unseen_run}
 use Rattle.launcher.proofs.program.run_jobs_watched.Goals as goal
 
 pub run_planned-requires-clause-all : goal.run_planned-requires-clause-all
@@ -11,20 +12,30 @@ run_planned-requires-clause-all g c κs within =
 pub run_planned-requires-clause-jobs : goal.run_planned-requires-clause-jobs
 run_planned-requires-clause-jobs g c κs within = c.requires.jobs c.in_ok-settings.field-0.plan c.in_ok-settings.field-0.settings.workers c.args.options.now.ring
 
+pub returns-in_err-settings-clause-watched : goal.returns-in_err-settings-clause-watched
+returns-in_err-settings-clause-watched g c =
+    planned_fails (asked_by c.args.options.now) (program_parts c.args.program.tree c.args.program.properties) g.B.Job.answers c.args.program.jobs.items g.V.Watcher.saw c.args.watcher.now c.args.watcher.now _ _ c.in_err-settings.field-0.0 c.from_residual.result c.from_residual.ensures.1 refl c.in_err-settings.ensures.refused
+
 pub returns-in_err-settings-clause-exact : goal.returns-in_err-settings-clause-exact
 returns-in_err-settings-clause-exact g c =
-    planned_fails (asked_by c.args.options.now) (program_parts c.args.program.tree c.args.program.properties) g.B.Job.answers c.args.program.jobs.items _ _ c.in_err-settings.field-0.0 c.from_residual.result c.from_residual.ensures.1 c.in_err-settings.ensures.refused
+    unseen_run (asked_by c.args.options.now) (program_parts c.args.program.tree c.args.program.properties) g.B.Job.answers c.args.program.jobs.items g.V.Watcher.saw c.args.watcher.now c.args.watcher.now _ _ c.from_residual.result
+    (planned_fails (asked_by c.args.options.now) (program_parts c.args.program.tree c.args.program.properties) g.B.Job.answers c.args.program.jobs.items g.V.Watcher.saw c.args.watcher.now c.args.watcher.now _ _ c.in_err-settings.field-0.0 c.from_residual.result c.from_residual.ensures.1 refl c.in_err-settings.ensures.refused)
 
 pub returns-in_err-settings-clause-no_memory : goal.returns-in_err-settings-clause-no_memory
 returns-in_err-settings-clause-no_memory g c =
     fails_memory (asked_by c.args.options.now) (program_parts c.args.program.tree c.args.program.properties) c.in_err-settings.field-0.0 c.from_residual.result c.from_residual.ensures.1 c.in_err-settings.ensures.refused
 
+pub returns-clause-watched : goal.returns-clause-watched
+returns-clause-watched g c =
+    program_run g.B.Job.answers (asked_by c.args.options.now) (program_parts c.args.program.tree c.args.program.properties) c.args.program.jobs.items g.V.Watcher.saw c.args.watcher.now c.run_planned.new.watcher c.in_ok-settings.field-0.settings c.in_ok-settings.field-0.plan c.in_ok-settings.ensures.ready
+    c.in_ok-settings.ensures.steps (g.W.Write.contents c.args.writer.now) _ c.run_planned.result c.run_planned.ensures.exact
+
 pub returns-clause-exact : goal.returns-clause-exact
 returns-clause-exact g c =
-    program_run g.B.Job.answers (asked_by c.args.options.now) (program_parts c.args.program.tree c.args.program.properties) c.args.program.jobs.items c.in_ok-settings.field-0.settings c.in_ok-settings.field-0.plan c.in_ok-settings.ensures.ready c.in_ok-settings.ensures.steps
-    (g.W.Write.contents c.args.writer.now) _ c.run_planned.result c.run_planned.ensures.exact
+    unseen_run (asked_by c.args.options.now) (program_parts c.args.program.tree c.args.program.properties) g.B.Job.answers c.args.program.jobs.items g.V.Watcher.saw c.args.watcher.now c.run_planned.new.watcher _ _ c.run_planned.result
+    (program_run g.B.Job.answers (asked_by c.args.options.now) (program_parts c.args.program.tree c.args.program.properties) c.args.program.jobs.items g.V.Watcher.saw c.args.watcher.now c.run_planned.new.watcher c.in_ok-settings.field-0.settings c.in_ok-settings.field-0.plan c.in_ok-settings.ensures.ready
+    c.in_ok-settings.ensures.steps (g.W.Write.contents c.args.writer.now) _ c.run_planned.result c.run_planned.ensures.exact)
 
 pub returns-clause-no_memory : goal.returns-clause-no_memory
 returns-clause-no_memory g c =
-    planned_memory g.B.Job.answers (asked_by c.args.options.now) (program_parts c.args.program.tree c.args.program.properties) c.args.program.jobs.items c.in_ok-settings.field-0.settings c.in_ok-settings.field-0.plan c.in_ok-settings.ensures.ready c.in_ok-settings.ensures.steps
-    c.run_planned.result
+    planned_memory (asked_by c.args.options.now) (program_parts c.args.program.tree c.args.program.properties) c.in_ok-settings.field-0.settings c.in_ok-settings.field-0.plan c.in_ok-settings.ensures.ready c.run_planned.result

@@ -1,48 +1,75 @@
--- What the feed has printed is a front of the output.
-use Rattle.std.proofs.Common.{[]}
+-- What the feed has printed is a front of the output, and who watches beside it has seen what is printed.
+use Rattle.std.proofs.Common.{None, []}
 use Rattle.launch_options.specs.Asked.{asked_by}
-use Rattle.launcher.specs.Programs.{IsJobsOutput, IsProgramOutput}
+use Rattle.launcher.specs.Programs.{IsPrintedJobs, IsProgramOutput}
 use Rattle.launcher.specs.Reports.{IsBehindDetails}
-use Rattle.launcher.proofs.ProgramRuns.{jobs_feed}
-use Rattle.launcher.proofs.Showing.{same_watcher, sees_run, shown_broken, shown_front, still_same}
+use Rattle.launcher.specs.Watched.{is_run}
+use Rattle.launcher.proofs.ProgramRuns.{jobs_feed_runs, jobs_text_of, program_output_of}
+use Rattle.launcher.proofs.Showing.{same_watcher, shown_broken, shown_front, shown_output, shown_refusal, still_same}
 use Rattle.launcher.proofs.program.shown_program.Goals as goal
 
 pub returns-clause-same : goal.returns-clause-same
 returns-clause-same g c =
     let asked = asked_by c.args.options.now in
     let settings = c.args.settings.now in
-    let behind = IsBehindDetails asked.schedule settings.workers c.args.plan [] in
-    still_same g.W.Write.contents g.V.Watcher.saw asked settings c.args.plan (IsJobsOutput g.B.Job.answers behind asked settings c.args.plan c.args.jobs.items) (IsProgramOutput g.B.Job.answers behind asked.details asked settings c.args.plan c.args.jobs.items)
-    (jobs_feed g.B.Job.answers behind asked settings c.args.plan c.args.jobs.items) c.args.live.now c.program_report.new.watcher c.requires.head c.requires.outlet c.requires.none c.program_report.result c.program_report.ensures.watched
+    let p = c.args.plan in
+    let jobs = c.args.jobs.items in
+    let behind = IsBehindDetails asked.details asked.schedule settings.workers p [] in
+    let answers = g.B.Job.answers in
+    still_same g.W.Write.contents g.V.Watcher.saw asked settings p (IsPrintedJobs answers behind asked settings p jobs) (IsProgramOutput answers behind asked.details asked settings p jobs) (is_run None asked.details) (program_output_of answers behind asked settings p jobs)
+    (jobs_text_of answers behind asked settings p jobs) (jobs_feed_runs asked) c.args.live.now c.program_report.new.watcher c.requires.head c.requires.outlet c.requires.none c.program_report.result c.program_report.ensures.watched
 
 pub returns-clause-same_watcher : goal.returns-clause-same_watcher
 returns-clause-same_watcher g c =
     let asked = asked_by c.args.options.now in
     let settings = c.args.settings.now in
-    let behind = IsBehindDetails asked.schedule settings.workers c.args.plan [] in
-    same_watcher g.W.Write.contents g.V.Watcher.saw asked settings c.args.plan (IsJobsOutput g.B.Job.answers behind asked settings c.args.plan c.args.jobs.items) (IsProgramOutput g.B.Job.answers behind asked.details asked settings c.args.plan c.args.jobs.items)
-    (jobs_feed g.B.Job.answers behind asked settings c.args.plan c.args.jobs.items) c.args.live.now c.program_report.new.watcher c.requires.head c.requires.outlet c.requires.none c.program_report.result c.program_report.ensures.watched
+    let p = c.args.plan in
+    let jobs = c.args.jobs.items in
+    let behind = IsBehindDetails asked.details asked.schedule settings.workers p [] in
+    let answers = g.B.Job.answers in
+    same_watcher g.W.Write.contents g.V.Watcher.saw asked settings p (IsPrintedJobs answers behind asked settings p jobs) (IsProgramOutput answers behind asked.details asked settings p jobs) (is_run None asked.details) (program_output_of answers behind asked settings p jobs)
+    (jobs_text_of answers behind asked settings p jobs) (jobs_feed_runs asked) c.args.live.now c.program_report.new.watcher c.requires.head c.requires.outlet c.requires.none c.program_report.result c.program_report.ensures.watched
+
+pub returns-clause-output : goal.returns-clause-output
+returns-clause-output g c =
+    let asked = asked_by c.args.options.now in
+    let settings = c.args.settings.now in
+    let p = c.args.plan in
+    let jobs = c.args.jobs.items in
+    let behind = IsBehindDetails asked.details asked.schedule settings.workers p [] in
+    let answers = g.B.Job.answers in
+    shown_output g.W.Write.contents g.V.Watcher.saw asked settings p (IsPrintedJobs answers behind asked settings p jobs) (IsProgramOutput answers behind asked.details asked settings p jobs) (is_run None asked.details) (program_output_of answers behind asked settings p jobs)
+    (jobs_text_of answers behind asked settings p jobs) (jobs_feed_runs asked) c.args.live.now c.program_report.new.watcher c.requires.head c.requires.outlet c.requires.none c.program_report.result c.program_report.ensures.watched c.program_report.ensures.output
 
 pub returns-clause-front : goal.returns-clause-front
 returns-clause-front g c =
     let asked = asked_by c.args.options.now in
     let settings = c.args.settings.now in
-    let behind = IsBehindDetails asked.schedule settings.workers c.args.plan [] in
-    shown_front g.W.Write.contents g.V.Watcher.saw asked settings c.args.plan (IsJobsOutput g.B.Job.answers behind asked settings c.args.plan c.args.jobs.items) (IsProgramOutput g.B.Job.answers behind asked.details asked settings c.args.plan c.args.jobs.items)
-    (jobs_feed g.B.Job.answers behind asked settings c.args.plan c.args.jobs.items) c.args.live.now c.program_report.new.watcher c.requires.head c.requires.outlet c.requires.none c.program_report.result c.program_report.ensures.watched
+    let p = c.args.plan in
+    let jobs = c.args.jobs.items in
+    let behind = IsBehindDetails asked.details asked.schedule settings.workers p [] in
+    let answers = g.B.Job.answers in
+    shown_front g.W.Write.contents g.V.Watcher.saw asked settings p (IsPrintedJobs answers behind asked settings p jobs) (IsProgramOutput answers behind asked.details asked settings p jobs) (is_run None asked.details) (program_output_of answers behind asked settings p jobs)
+    (jobs_text_of answers behind asked settings p jobs) (jobs_feed_runs asked) c.args.live.now c.program_report.new.watcher c.requires.head c.requires.outlet c.requires.none c.program_report.result c.program_report.ensures.watched
 
-pub returns-clause-watched : goal.returns-clause-watched
-returns-clause-watched g c =
+pub returns-clause-seen : goal.returns-clause-seen
+returns-clause-seen g c =
     let asked = asked_by c.args.options.now in
     let settings = c.args.settings.now in
-    let behind = IsBehindDetails asked.schedule settings.workers c.args.plan [] in
-    sees_run g.W.Write.contents g.V.Watcher.saw asked settings c.args.plan (IsJobsOutput g.B.Job.answers behind asked settings c.args.plan c.args.jobs.items) (IsProgramOutput g.B.Job.answers behind asked.details asked settings c.args.plan c.args.jobs.items)
-    (jobs_feed g.B.Job.answers behind asked settings c.args.plan c.args.jobs.items) c.args.live.now c.program_report.new.watcher c.requires.head c.requires.outlet c.requires.none c.program_report.result c.program_report.ensures.watched
+    let p = c.args.plan in
+    let jobs = c.args.jobs.items in
+    let behind = IsBehindDetails asked.details asked.schedule settings.workers p [] in
+    let answers = g.B.Job.answers in
+    shown_refusal g.W.Write.contents g.V.Watcher.saw asked settings p (IsPrintedJobs answers behind asked settings p jobs) (IsProgramOutput answers behind asked.details asked settings p jobs) (is_run None asked.details) (program_output_of answers behind asked settings p jobs)
+    (jobs_text_of answers behind asked settings p jobs) (jobs_feed_runs asked) c.args.live.now c.program_report.new.watcher c.requires.head c.requires.outlet c.requires.none c.program_report.result c.program_report.ensures.watched
 
 pub returns-clause-broken_off : goal.returns-clause-broken_off
 returns-clause-broken_off g c =
     let asked = asked_by c.args.options.now in
     let settings = c.args.settings.now in
-    let behind = IsBehindDetails asked.schedule settings.workers c.args.plan [] in
-    shown_broken g.W.Write.contents g.V.Watcher.saw asked settings c.args.plan (IsJobsOutput g.B.Job.answers behind asked settings c.args.plan c.args.jobs.items) (IsProgramOutput g.B.Job.answers behind asked.details asked settings c.args.plan c.args.jobs.items)
-    (jobs_feed g.B.Job.answers behind asked settings c.args.plan c.args.jobs.items) c.args.live.now c.program_report.new.watcher c.requires.head c.requires.outlet c.requires.none c.program_report.result c.program_report.ensures.watched
+    let p = c.args.plan in
+    let jobs = c.args.jobs.items in
+    let behind = IsBehindDetails asked.details asked.schedule settings.workers p [] in
+    let answers = g.B.Job.answers in
+    shown_broken g.W.Write.contents g.V.Watcher.saw asked settings p (IsPrintedJobs answers behind asked settings p jobs) (IsProgramOutput answers behind asked.details asked settings p jobs) (is_run None asked.details) (program_output_of answers behind asked settings p jobs)
+    (jobs_text_of answers behind asked settings p jobs) (jobs_feed_runs asked) c.args.live.now c.program_report.new.watcher c.requires.head c.requires.outlet c.requires.none c.program_report.result c.program_report.ensures.watched

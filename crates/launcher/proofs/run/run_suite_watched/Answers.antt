@@ -1,18 +1,44 @@
 -- What is ready to be run is run; memory for its head is all that may be wanting before.
+use Rattle.std.proofs.Common.{refl}
 use Rattle.suite_text.specs.Suites.{suite_parts}
 use Rattle.launch_options.specs.Asked.{asked_by}
-use Rattle.launcher.proofs.Showing.{memory, wanting}
+use Rattle.launch_options.specs.declared.fault.LaunchFault.TheVariants.{NoMemory}
+use Rattle.launcher.proofs.Planning.{ready_takes}
+use Rattle.launcher.proofs.Showing.{memory, refused_suite, suite_run}
 use Rattle.launcher.proofs.run.run_suite_watched.Goals as goal
+
+pub returns-in_err-ready-clause-watched : goal.returns-in_err-ready-clause-watched
+returns-in_err-ready-clause-watched g c =
+    refused_suite g.V.Watcher.saw c.args.watcher.now c.args.watcher.now (asked_by c.args.options.now) (suite_parts c.args.suite) _ _ c.in_err-ready.field-0.0 c.from_residual.result c.from_residual.ensures.1 refl c.in_err-ready.ensures.refused
+
+pub returns-in_err-ready-clause-exact : goal.returns-in_err-ready-clause-exact
+returns-in_err-ready-clause-exact g c =
+    suite_run g.V.Watcher.saw c.args.watcher.now c.args.watcher.now (asked_by c.args.options.now) (suite_parts c.args.suite) _ _ c.from_residual.result
+    (refused_suite g.V.Watcher.saw c.args.watcher.now c.args.watcher.now (asked_by c.args.options.now) (suite_parts c.args.suite) _ _ c.in_err-ready.field-0.0 c.from_residual.result c.from_residual.ensures.1 refl c.in_err-ready.ensures.refused)
+
+pub returns-in_err-head-clause-watched : goal.returns-in_err-head-clause-watched
+returns-in_err-head-clause-watched g c =
+    refused_suite g.V.Watcher.saw c.args.watcher.now c.args.watcher.now (asked_by c.args.options.now) (suite_parts c.args.suite) _ _ NoMemory c.from_residual-in_err-head.result c.from_residual-in_err-head.ensures.1 refl
+    (ready_takes (asked_by c.args.options.now) (suite_parts c.args.suite) c.in_ok-ready.ready.settings c.in_ok-ready.ready.plan c.in_ok-ready.ready.answers c.in_ok-ready.ensures.ready)
 
 pub returns-in_err-head-clause-exact : goal.returns-in_err-head-clause-exact
 returns-in_err-head-clause-exact g c =
-    wanting (asked_by c.args.options.now) (suite_parts c.args.suite) c.in_ok-ready.ready.settings c.in_ok-ready.ready.plan c.in_ok-ready.ready.answers c.in_ok-ready.ensures.ready _ _ _ c.from_residual-in_err-head.ensures.1
+    suite_run g.V.Watcher.saw c.args.watcher.now c.args.watcher.now (asked_by c.args.options.now) (suite_parts c.args.suite) _ _ c.from_residual-in_err-head.result
+    (refused_suite g.V.Watcher.saw c.args.watcher.now c.args.watcher.now (asked_by c.args.options.now) (suite_parts c.args.suite) _ _ NoMemory c.from_residual-in_err-head.result c.from_residual-in_err-head.ensures.1 refl
+    (ready_takes (asked_by c.args.options.now) (suite_parts c.args.suite) c.in_ok-ready.ready.settings c.in_ok-ready.ready.plan c.in_ok-ready.ready.answers c.in_ok-ready.ensures.ready))
 
 pub returns-in_err-head-clause-no_memory : goal.returns-in_err-head-clause-no_memory
-returns-in_err-head-clause-no_memory g c = memory (asked_by c.args.options.now) (suite_parts c.args.suite) c.in_ok-ready.ready.settings c.in_ok-ready.ready.plan c.in_ok-ready.ready.answers c.in_ok-ready.ensures.ready (g.W.Write.contents c.args.writer.now) (g.W.Write.contents c.args.writer.now) _
+returns-in_err-head-clause-no_memory g c =
+    memory g.V.Watcher.saw c.args.watcher.now c.args.watcher.now (asked_by c.args.options.now) (suite_parts c.args.suite) (g.W.Write.contents c.args.writer.now) (g.W.Write.contents c.args.writer.now) c.in_ok-ready.ready.settings c.in_ok-ready.ready.plan c.in_ok-ready.ready.answers c.in_ok-ready.ensures.ready _
 
 pub returns-clause-exact : goal.returns-clause-exact
-returns-clause-exact g c = c.run_ready.ensures.exact (suite_parts c.args.suite) c.in_ok-ready.ensures.ready
+returns-clause-exact g c =
+    suite_run g.V.Watcher.saw c.args.watcher.now c.run_ready.new.watcher (asked_by c.args.options.now) (suite_parts c.args.suite) _ _ c.run_ready.result (c.run_ready.ensures.exact (suite_parts c.args.suite) c.in_ok-ready.ensures.ready)
+
+pub returns-clause-watched : goal.returns-clause-watched
+returns-clause-watched g c = c.run_ready.ensures.exact (suite_parts c.args.suite) c.in_ok-ready.ensures.ready
 
 pub returns-clause-no_memory : goal.returns-clause-no_memory
-returns-clause-no_memory g c = memory (asked_by c.args.options.now) (suite_parts c.args.suite) c.in_ok-ready.ready.settings c.in_ok-ready.ready.plan c.in_ok-ready.ready.answers c.in_ok-ready.ensures.ready (g.W.Write.contents c.args.writer.now) (g.W.Write.contents c.args.writer.now) c.run_ready.result
+returns-clause-no_memory g c =
+    memory g.V.Watcher.saw c.args.watcher.now c.args.watcher.now (asked_by c.args.options.now) (suite_parts c.args.suite) (g.W.Write.contents c.args.writer.now) (g.W.Write.contents c.args.writer.now) c.in_ok-ready.ready.settings c.in_ok-ready.ready.plan c.in_ok-ready.ready.answers c.in_ok-ready.ensures.ready
+    c.run_ready.result

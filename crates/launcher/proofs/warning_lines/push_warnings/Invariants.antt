@@ -6,4 +6,4 @@ use Rattle.launcher.specs.WarningTexts.{warning_line}
 use Rattle.launcher.proofs.warning_lines.push_warnings.Given as goal
 
 abbrev pub invariant-loop-key : goal.invariant-loop-key
-invariant-loop-key l = string_bytes l.text ≡ string_bytes l.initial.text ++ flat_map warning_line (behind (take l.key-index l.keys))
+invariant-loop-key l = string_bytes l.text ≡ string_bytes l.initial.text ++ flat_map (warning_line l.details) (behind (take l.key-index l.keys))

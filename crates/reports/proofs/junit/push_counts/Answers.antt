@@ -10,10 +10,11 @@ returns c =
     let named = string_bytes c.push_attribute.new.xml in
     let counted = string_bytes c.push_number.new.xml in
     let judged = string_bytes c.push_number-2.new.xml in
-    let zero = string_bytes c.push_number-3.new.xml in
+    let stopped = string_bytes c.push_number-3.new.xml in
+    let last = string_bytes c.push_number-4.new.xml in
     let failed = c.in_ok-push_number-2.ensures ∙ ap (λ (n : ℕ). counted ++ number_attribute (codes "failures") n) c.failures.ensures in
-    on_ok_weaker c.push_number-4.result
-    (λ last.
-    let skipped = last ∙ ap (λ (n : ℕ). zero ++ number_attribute (codes "skipped") n) c.skips.ensures in
-    then (string_bytes c.args.xml.now) _ _ c.in_ok-push_attribute.ensures (then named _ _ c.in_ok-push_number.ensures (then counted _ _ failed (then judged _ _ c.in_ok-push_number-3.ensures skipped))))
-    c.push_number-4.ensures
+    let errors = c.in_ok-push_number-3.ensures ∙ ap (λ (n : ℕ). judged ++ number_attribute (codes "errors") n) c.errors.ensures in
+    let skipped = c.in_ok-push_number-4.ensures ∙ ap (λ (n : ℕ). stopped ++ number_attribute (codes "skipped") n) c.skips.ensures in
+    on_ok_weaker c.push_number-5.result
+    (λ time. then (string_bytes c.args.xml.now) _ _ c.in_ok-push_attribute.ensures (then named _ _ c.in_ok-push_number.ensures (then counted _ _ failed (then judged _ _ errors (then stopped _ _ skipped time)))))
+    c.push_number-5.ensures

@@ -1,0 +1,31 @@
+-- What is asked for by `--workers` is asked for by its long words.
+use Rattle.std.proofs.Common.{◌≡◌, ℕ, List, [], ◌++◌, Option, Some, None, refl, sym, ap, ◌∙◌}
+use Rattle.std.proofs.lemmas.List.{append-nil}
+use Rattle.config_params.specs.Parameters.{Parameters}
+use Rattle.config_params.specs.Tables.{table_of}
+use Rattle.launch_options.specs.Asked.{Asked, AreAsked}
+use Rattle.launch_options.specs.Given.{Text, Values}
+use Rattle.launch_options.specs.Parameters.{pairs_in}
+use Rattle.launch_options.specs.Workers.{in_long_words, long_words, params_said}
+
+abbrev said_of : List Text → List Text → Parameters
+said_of request system = record { request = table_of (pairs_in request); system = table_of (pairs_in system); file = [] }
+
+pub in_other_words : (given : Values) (asked : Asked) → AreAsked given asked → (number : ℕ) → asked.workers ≡ Some number → AreAsked (in_long_words number given) (record asked { workers = None })
+in_other_words given asked are number is = record {
+  details = are.details;
+  theme = are.theme;
+  processors = are.processors;
+  workers = refl;
+  ring = are.ring;
+  tests = are.tests;
+  fail_fast = are.fail_fast;
+  schedule = are.schedule;
+  replay = are.replay;
+  selectors = are.selectors;
+  include = are.include;
+  exclude = are.exclude;
+  params =
+      are.params ∙ ap (λ workers. params_said workers given) is
+      ∙ ap (λ request. said_of request given.system) (sym (append-nil (given.config ++ long_words number)));
+}

@@ -1,0 +1,8 @@
+-- The long words ask for the same.
+use Rattle.launch_options.specs.Asked.{asked_by}
+use Rattle.launch_options.specs.Given.{values_of}
+use Rattle.launch_options.proofs.LongWords.{in_other_words}
+use Rattle.launch_options.proofs.asked.Options.of.Goals as goal
+
+pub returns-clause-workers : goal.returns-clause-workers
+returns-clause-workers c = λ number is. in_other_words (values_of c.args.given.now) (asked_by c.in_ok-options_of.field-0) c.in_ok-options_of.ensures.asked number is
