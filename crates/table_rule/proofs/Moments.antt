@@ -1,5 +1,5 @@
--- Whenever the rule holds, the table stands so that what the dispatcher has read is legal and the run can still end.
-use Rattle.std.proofs.Common.{◌≡◌, ℕ, ◌+◌, ◌<◌, ◌≤◌, ◌==◌, Bool, true, false, MatchBool, List, [], ◌∷◌, length, length-append, Some, refl, sym, ap, ◌∙◌, subst, arith}
+-- Whenever the rule holds, the table stands so that what the dispatcher has read is legal and the run can still end; and what a worker finds there.
+use Rattle.std.proofs.Common.{◌≡◌, ◌⊎◌, inl, inr, ℕ, ◌+◌, ◌<◌, ◌≤◌, ◌==◌, Bool, true, false, MatchBool, List, [], ◌∷◌, length, length-append, get_or, Some, refl, sym, ap, ◌∙◌, subst, arith}
 use mathlib.Core.Option.{some}
 use lib.ListN.{get_elem?}
 use Rattle.std.proofs.lemmas.Option.{none-some}
@@ -13,34 +13,41 @@ use Rattle.plan_events.specs.declared.outcome.Reply.{Reply}
 use Rattle.plan_events.specs.Words.{is_lawful, word_of}
 use Rattle.resource_locks.specs.Plans.{IsPlan, most_events}
 use Rattle.event_history.specs.History.{IsLegal}
+use Rattle.event_history.proofs.Apart.{apart}
 use Rattle.event_history.proofs.EventBound.{legal_few}
 use Rattle.event_history.proofs.Front.{prefix_legal}
 use Rattle.scheduling.specs.Runs.{opening, IsRight}
-use Rattle.scheduling.specs.State.{State}
+use Rattle.scheduling.specs.declared.status.NodeStatus.TheVariants.{Ready, Claimed}
+use Rattle.scheduling.specs.State.{State, status_at}
 use Rattle.scheduling.proofs.Headline.{core_plan, kept_right}
-use Rattle.never_stuck.specs.Reaching.{only, IsNotStuckAt}
+use Rattle.never_stuck.specs.Reaching.{only}
 use Rattle.never_stuck.proofs.Asked.{on_as_asked}
-use Rattle.never_stuck.proofs.Theorem.{reaches_end}
 use Rattle.table_rule.specs.declared.view.About.{About}
 use Rattle.table_rule.specs.declared.view.View.{View}
 use Rattle.table_rule.specs.declared.view.Slot.{Slot}
 use Rattle.table_rule.specs.declared.view.Place.{Place}
 use Rattle.table_rule.specs.declared.view.Place.TheVariants.{Dispatcher}
-use Rattle.table_rule.specs.Picture.{Dealt, AreAmong, AnswerOnce, DispatcherFits, PlaceFits, Names, IsPictureOf, Ruled, opener, replies_of}
+use Rattle.table_rule.specs.Endings.{IsNotStuckWithin}
+use Rattle.table_rule.specs.Picture.{Dealt, AreAmong, AnswerOnce, DispatcherFits, PlaceFits, Names, IsPictureOf, Ruled, opener, dispatcher_view, replies_of}
 use Rattle.table_rule.specs.declared.view.Shelf.TheVariants.{Unmoved}
 use Rattle.table_rule.specs.Rings.{mark_in, event_in, empty_ring}
-use Rattle.table_rule.specs.Words.{words_of}
+use Rattle.table_rule.specs.Words.{status_word, words_of, read_place}
 use Rattle.table_rule.specs.Slots.{after_slot, made_of, slot_count, fresh}
 use Rattle.table_rule.specs.Plays.{dispatcher, seated, reads_on}
-use Rattle.table_rule.specs.Moments.{IsMoment, IsMomentOf, IsStart}
+use Rattle.table_rule.specs.Published.{IsTold}
+use Rattle.table_rule.specs.Moments.{KeepsApart, IsMoment, IsMomentOf, IsStart, IsSight, FindsWord}
+use Rattle.table_rule.proofs.Owed.{found_as, sizes, word_same}
+use Rattle.table_rule.proofs.Words.{read_found, status_found}
 use Rattle.table_rule.proofs.Ready.{here_after}
+use Rattle.table_rule.proofs.Telling.{published_told}
+use Rattle.table_rule.proofs.RingEnds.{ends_within}
 use Rattle.table_rule.proofs.Opening.{none_told, none_dealt, opening_picture}
 use Rattle.table_rule.proofs.MoreReplies.{wide_kept}
 
 module _ {B : Type 0} where
-  -- The state of which the table is the picture is one from which a run can end.
-  pub picture_not_stuck : (told : ℕ → List Reply) (key : About B) (c : State) (dealt : Dealt) (s : TableState (Slot B) (View B)) → IsPictureOf told key c dealt s → IsNotStuckAt key.plan told c
-  picture_not_stuck told key c dealt s r spares reply may = reaches_end key.plan r.plan spares reply c (record {
+  -- The state of which the table is the picture is one from which a run can end, with the table's ring.
+  pub picture_not_stuck : (told : ℕ → List Reply) (key : About B) (c : State) (dealt : Dealt) (s : TableState (Slot B) (View B)) → IsPictureOf told key c dealt s → IsNotStuckWithin key.plan key.ring told c
+  picture_not_stuck told key c dealt s r spares reply may = ends_within key.plan key.ring reply r.plan (subst (λ (n : ℕ). 0 < n) r.size r.ring.some) spares c (record {
     kept = wide_kept told (only reply) (λ number i x q. (0, ap Some (may.told_is number i x q))) key.plan c r.kept;
     on = on_as_asked key.plan told c reply may r.on;
     placed = r.placed;
@@ -55,9 +62,13 @@ module _ {B : Type 0} where
   pub given_legal : (replies : ℕ → List Reply) (key : About B) (c : State) (read : List Event) → IsRight key.plan replies key.workers c → c.given ≡ read → IsLegal key.plan replies key.workers read
   given_legal replies key c read right given = subst (λ (l : List Event). IsLegal key.plan replies key.workers l) given (prefix_legal key.plan replies key.workers c.given c.published right.given right.legal)
 
-  -- A moment, at which the table is this picture.
-  abbrev pub moment_by : (replies told : ℕ → List Reply) (key : About B) (c : State) (dealt : Dealt) (s : TableState (Slot B) (View B)) → AreAmong told replies → AnswerOnce told → IsPictureOf told key c dealt s → (read : List Event) → c.given ≡ read → IsMoment replies key read
-  moment_by replies told key c dealt s among once r read given = record {
+  pub picture_apart : (replies told : ℕ → List Reply) (key : About B) (c : State) (dealt : Dealt) (s : TableState (Slot B) (View B)) → IsPictureOf told key c dealt s → IsRight key.plan replies key.workers c → KeepsApart key.plan c.published
+  picture_apart replies told key c dealt s r right safe = apart key.plan r.plan.tree replies key.workers c.published safe right.legal right.order right.exclusive
+
+  -- A moment, at which the table is this picture, of the dispatcher that has read so.
+  abbrev pub moment_by : (replies told : ℕ → List Reply) (key : About B) (c : State) (dealt : Dealt) (s : TableState (Slot B) (View B)) → AreAmong told replies → AnswerOnce told → IsPictureOf told key c dealt s
+      → (read : List Event) → c.given ≡ read → IsTold key.plan key.ring c.seats s.words read c.published → IsMoment replies key read
+  moment_by replies told key c dealt s among once r read given shown = record {
     table = s;
     core = c;
     dealt = dealt;
@@ -67,6 +78,8 @@ module _ {B : Type 0} where
     is = r;
     given = given;
     right = picture_right replies told key c dealt s among r;
+    apart = picture_apart replies told key c dealt s r (picture_right replies told key c dealt s among r);
+    shown = shown;
     legal = given_legal replies key c read (picture_right replies told key c dealt s among r) given;
     not_stuck = picture_not_stuck told key c dealt s r;
   }
@@ -76,7 +89,8 @@ module _ {B : Type 0} where
       → ((k : ℕ) → k < slot_count key.plan → get_elem? slots k ≡ some (fresh key k)) → IsStart replies key
   starts replies key words slots plan crew few above is many jobs = record {
     moment = moment_by replies none_told key (opening key.plan key.workers) (none_dealt key) (table_opening words slots (opener key)) (λ number i reply q. absurd (none-some reply q)) (λ number i reply q. absurd (none-some reply q))
-        (opening_picture key words slots plan crew few above is many jobs) [] refl;
+        (opening_picture key words slots plan crew few above is many jobs) [] refl
+        (published_told none_told key (opening key.plan key.workers) (none_dealt key) (table_opening words slots (opener key)) (opening_picture key words slots plan crew few above is many jobs) 0 (dispatcher (opener key)) refl);
     opens = refl;
     jobs = λ k low. at_map (λ (y : Slot B). some y) slots k (fresh key k) (jobs k low);
   }
@@ -121,8 +135,10 @@ module _ {B : Type 0} where
         let view = rule.picture.is.views id v at in
         let about : v.about ≡ key = subst (λ (place : Place). Names key v.about place) is view.names in
         let fits : DispatcherFits rule.picture.core rule.picture.dealt id d = subst (λ (place : Place). PlaceFits key.plan rule.told rule.picture.core rule.picture.dealt id place) is view.fits in
+        let whole : v ≡ dispatcher_view key d = λ k. record { about = about k; place = is k } in
+        let told = published_told rule.told key rule.picture.core rule.picture.dealt s rule.picture.is id d (subst (λ (u : View B). get_elem? s.views id ≡ some u) whole at) in
         subst (λ (a : About B). IsMoment (replies_of answers a) a d.read) (sym about)
-        (moment_by (replies_of answers key) rule.told key rule.picture.core rule.picture.dealt s rule.among rule.once rule.picture.is d.read (sym fits.read))
+        (moment_by (replies_of answers key) rule.told key rule.picture.core rule.picture.dealt s rule.among rule.once rule.picture.is d.read (sym fits.read) told)
 
     -- So a step that the rule allows tells it besides.
     pub allows_moment : (slots id : ℕ) (m : Me (Slot B) (View B)) (i : ℕ) (f : ℕ → ℕ) (told : ℕ → Me (Slot B) (View B) → Type 0) → Allows (Ruled (replies_of answers key) key) slots id m i f told
@@ -130,3 +146,34 @@ module _ {B : Type 0} where
     allows_moment slots id m i f told allows s r long at fits =
         let o = allows s r long at fits in
         (o.0, o.1, o.2, o.3, (o.4, moment_at _ o.3 id o.0 (here_after s.views id o.0 m.0 at)))
+
+    -- A worker that is at the table where the rule holds, with what stands in a word then.
+    pub sight_at : (s : TableState (Slot B) (View B)) → Ruled (replies_of answers key) key s → (id : ℕ) (v : View B) → get_elem? s.views id ≡ some v → (i word : ℕ) → get_or s.words i 0 ≡ word → FindsWord answers v i word
+    sight_at s rule id v at i word found w is =
+        let about : v.about ≡ key = subst (λ (place : Place). Names key v.about place) is (rule.picture.is.views id v at).names in
+        subst (λ (a : About B). (x : IsSight (replies_of answers a) a v) × (get_or x.table.words i 0 ≡ word)) (sym about)
+        (record { table = s; core = rule.picture.core; dealt = rule.picture.dealt; told = rule.told; among = rule.among; once = rule.once; is = rule.picture.is; id = id; here = at }, found)
+
+    -- So a look that the rule allows tells it besides.
+    pub allows_sight : (slots id : ℕ) (m : Me (Slot B) (View B)) (i : ℕ) (told : ℕ → Me (Slot B) (View B) → Type 0) → Allows (Ruled (replies_of answers key) key) slots id m i (λ x. x) told
+        → Allows (Ruled (replies_of answers key) key) slots id m i (λ x. x) (λ r n. told r n × FindsWord answers n.0 i r)
+    allows_sight slots id m i told allows s r long at fits =
+        let o = allows s r long at fits in
+        (o.0, o.1, o.2, o.3, (o.4, sight_at _ o.3 id o.0 (here_after s.views id o.0 m.0 at) i (get_or s.words i 0) (ap (λ (l : List ℕ). get_or l i 0) (word_same s.words i (get_or s.words i 0) refl))))
+
+-- What stands in the word of a node's status, and in that of the places that are read, by the state of the moment.
+module _ {B : Type 0} (replies : ℕ → List Reply) (key : About B) (v : View B) (x : IsSight replies key v) where
+  pub status_then : (n word : ℕ) → n < size key.plan.tree → get_or x.table.words n 0 ≡ word → status_word (status_at x.core n) ≡ word
+  status_then n word low found = sym (found_as x.told key x.core x.dealt x.table x.is n (status_word (status_at x.core n)) (status_found key.plan x.dealt.ring x.core (sizes x.told key x.core x.dealt x.table x.is) n low)) ∙ found
+
+  pub read_then : (word : ℕ) → get_or x.table.words (read_place key.plan) 0 ≡ word → x.dealt.ring.count ≡ word
+  read_then word found = sym (found_as x.told key x.core x.dealt x.table x.is (read_place key.plan) x.dealt.ring.count (read_found key.plan x.dealt.ring x.core (sizes x.told key x.core x.dealt x.table x.is))) ∙ found
+
+  -- whoever a node is offered to, or is claimed by, is one of 64 at most
+  pub owner_few : (n o : ℕ) → (status_at x.core n ≡ Ready (Some o)) ⊎ (status_at x.core n ≡ Claimed o) → o < 64
+  owner_few n o is =
+      let few = x.is.kept.1.workers_few in
+      elim is [
+        | inl a ↦ (let low = (x.is.on.offered n o a).0 in omega (arith, low, few))
+        | inr a ↦ (let low = x.is.on.claimed n o a in omega (arith, low, few))
+      ]

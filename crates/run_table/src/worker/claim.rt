@@ -5,6 +5,7 @@ ghost use Rattle.descriptor.specs.Nodes.{size};
 ghost use Rattle.scheduling.specs.Rows.{is_of_hand as is_of_hand_of};
 ghost use Rattle.scheduling.specs.declared.status.NodeStatus.TheVariants.{Settled};
 ghost use Rattle.scheduling.specs.declared.task.Task.TheVariants.{Free};
+ghost use Rattle.table_rule.specs.Moments.{HasFound};
 ghost use Rattle.table_rule.specs.Plays.{worker, claimed_seat, finds_over};
 ghost use Rattle.run_table.specs.Reading.{status_read};
 ghost use Rattle.run_table.specs.Seats.{IsSeatOf, IsMove, SameSeat, seated};
@@ -81,12 +82,14 @@ impl<B: Job> WorkerSeat<B> {
         Ok(self.task)
     }
 
-    /// Looks at the status of a node, for a worker that is free. That node 0 is settled is kept in what the seat knows.
+    /// Looks at the status of a node, for a worker that is free, and says what it was at that moment. That node 0 is
+    /// settled is kept in what the seat knows.
     pub fn look_at(&mut self, table: &RunTable<B>, node: NodeId) -> Result<NodeStatus, NotEnabled>
         requires { IsSeatOf table.now.table self.old.seat }
         ensures same { SameSeat self.old.seat self.new.seat }
         ensures done { IfOk result (λ s. (word : ℕ) × (s ≡ status_read word)
             × (worker self.new.seat.me.0 ≡ finds_over ((node == 0) && (word == 1)) (worker self.old.seat.me.0))) }
+        ensures found { IfOk result (λ s. HasFound B.answers self.new.seat.me.0 node s) }
         ensures over { IfOk result (λ s. node ≡ 0 → s ≡ Settled → (worker self.new.seat.me.0).over ≡ true) }
         ensures refused { IfErr result (λ _. (self.new.seat.me ≡ self.old.seat.me)
             × (self.old.task ≡ Free → node < size self.old.seat.me.0.about.plan.tree → ⊥)) }
