@@ -1,5 +1,5 @@
 -- Jobs that have not been asked may answer.
-use Rattle.std.proofs.Common.{◌≡◌, ℕ, zero, suc, ◌<◌, ◌==◌, cond, Bool, true, false, not, nat_lt, List, [], ◌∷◌, ◌++◌, length, Option, Some, refl, sym, subst, arith}
+use Rattle.std.proofs.Common.{◌≡◌, ◌∙◌, ℕ, zero, suc, ◌<◌, ◌==◌, cond, Bool, true, false, not, nat_lt, List, [], ◌∷◌, ◌++◌, length, Option, Some, refl, sym, subst, arith}
 use Rattle.std.proofs.lemmas.Bool.Decides.{nat_tests}
 use Rattle.std.proofs.lemmas.Option.{none-some, same_Some}
 use Rattle.plan_events.specs.Jobs.{unpulled, HasOutcome}
@@ -28,30 +28,35 @@ ends_well ends left fresh pulls is = subst (λ (o : Option Ends). 0 < length (un
 pub ends_badly : (ends : Ends) (left : Option Ends) (fresh : Bool) (pulls : ℕ) → left ≡ Some ends → fresh ≡ true → HasOutcome (left_of left fresh pulls) ends.badly
 ends_badly ends left fresh pulls is new = subst (λ (o : Option Ends). HasOutcome (left_of o fresh pulls) ends.badly) (sym is) (subst (λ (f : Bool). HasOutcome (left_of (Some ends) f pulls) ends.badly) (sym new) (record { place = 1; reply = reply 0 ends.badly; stands = refl; no_pulls = refl; is = refl }))
 
--- the job that was found with a number may end without being asked
-found_fresh : (jobs : List (ℕ × Actor)) → AreFresh jobs → (number : ℕ) (job : Actor) → job_with jobs number ≡ Some job → 0 < length (unpulled (replies_left job))
-found_fresh [] each number job q = absurd (none-some job q)
-found_fresh (x ∷ jobs) each number job q = go (x.0 == number) (found_fresh jobs each.1 number job) q
-  where
-    go : (b : Bool) → (job_with jobs number ≡ Some job → 0 < length (unpulled (replies_left job))) → cond b (Some x.1) (job_with jobs number) ≡ Some job → 0 < length (unpulled (replies_left job))
-    go true rest h = subst (λ (j : Actor). 0 < length (unpulled (replies_left j))) (same_Some x.1 job h) each.0
-    go false rest h = rest h
-
-pub none_fresh : (jobs : List (ℕ × Actor)) → jobs ≡ [] → AreFresh jobs
-none_fresh jobs is = subst AreFresh (sym is) tt
-
-pub fresh_push : (jobs : List (ℕ × Actor)) (x : ℕ × Actor) → AreFresh jobs → 0 < length (unpulled (replies_left x.1)) → AreFresh (jobs ++ x ∷ [])
-fresh_push [] x each last = (last, tt)
-fresh_push (y ∷ jobs) x each last = (each.0, fresh_push jobs x each.1 last)
-
 -- where some reply has no pulls there is a reply
 some : (replies : List Reply) → 0 < length (unpulled replies) → 0 < length replies
 some [] low = low
 some (x ∷ replies) low = omega arith
 
-pub may_answer : (p : PlanParts) (workers ring : ℕ) (jobs : List (ℕ × Actor)) → AreFresh jobs → JobsMayAnswer replies_left (run_of p workers ring jobs)
-may_answer p workers ring jobs each = record {
-  factories = λ n number job pulls is found. some (replies_left job) (found_fresh jobs each number job found);
-  bodies = λ n number job pulls is found. found_fresh jobs each number job found;
-  after_bodies = λ n number job is found. found_fresh jobs each number job found;
-}
+-- what a job in a box may answer is what the job may
+pub fresh_still : (a b c : List Reply) → a ≡ b → b ≡ c → 0 < length (unpulled c) → 0 < length (unpulled a)
+fresh_still a b c first second low = subst (λ (l : List Reply). 0 < length (unpulled l)) (sym second ∙ sym first) low
+
+module _ {B : Type 0} (answers : B → List Reply) where
+  -- the job that was found with a number may end without being asked
+  found_fresh : (jobs : List (ℕ × B)) → AreFresh answers jobs → (number : ℕ) (job : B) → job_with jobs number ≡ Some job → 0 < length (unpulled (answers job))
+  found_fresh [] each number job q = absurd (none-some job q)
+  found_fresh (x ∷ jobs) each number job q = go (x.0 == number) (found_fresh jobs each.1 number job) q
+    where
+      go : (b : Bool) → (job_with jobs number ≡ Some job → 0 < length (unpulled (answers job))) → cond b (Some x.1) (job_with jobs number) ≡ Some job → 0 < length (unpulled (answers job))
+      go true rest h = subst (λ (j : B). 0 < length (unpulled (answers j))) (same_Some x.1 job h) each.0
+      go false rest h = rest h
+
+  pub may_answer : (p : PlanParts) (workers ring : ℕ) (jobs : List (ℕ × B)) → AreFresh answers jobs → JobsMayAnswer answers (run_of p workers ring jobs)
+  may_answer p workers ring jobs each = record {
+    factories = λ n number job pulls is found. some (answers job) (found_fresh jobs each number job found);
+    bodies = λ n number job pulls is found. found_fresh jobs each number job found;
+    after_bodies = λ n number job is found. found_fresh jobs each number job found;
+  }
+
+pub none_fresh : (jobs : List (ℕ × Actor)) → jobs ≡ [] → AreFresh replies_left jobs
+none_fresh jobs is = subst (AreFresh replies_left) (sym is) tt
+
+pub fresh_push : (jobs : List (ℕ × Actor)) (x : ℕ × Actor) → AreFresh replies_left jobs → 0 < length (unpulled (replies_left x.1)) → AreFresh replies_left (jobs ++ x ∷ [])
+fresh_push [] x each last = (last, tt)
+fresh_push (y ∷ jobs) x each last = (each.0, fresh_push jobs x each.1 last)

@@ -18,7 +18,8 @@ left_of (Some ends) false pulls = reply pulls ends.well ∷ []
 abbrev pub replies_left : Actor → List Reply
 replies_left job = left_of job.ends job.fresh job.pulls
 
--- each may end without being asked
-abbrev pub AreFresh : List (ℕ × Actor) → Type 0
-AreFresh [] = Unit {0}
-AreFresh (job ∷ jobs) = (0 < length (unpulled (replies_left job.1))) × AreFresh jobs
+module _ {B : Type 0} (answers : B → List Reply) where
+  -- each of these jobs, of whatever kinds, may end without being asked
+  abbrev pub AreFresh : List (ℕ × B) → Type 0
+  AreFresh [] = Unit {0}
+  AreFresh (job ∷ jobs) = (0 < length (unpulled (answers job.1))) × AreFresh jobs

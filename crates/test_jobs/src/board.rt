@@ -4,12 +4,14 @@ use std::alloc::{AllocError, Global};
 use std::sync::atomic::{AtomicBool, AtomicU64, Ordering};
 
 /// A flag for each of the first nodes, how many jobs are at work, how often a job was asked for a
-/// dynamic test, how many bytes of texts the listener was told, and whether a body began too early.
+/// dynamic test, how often counted jobs were run, how many bytes of texts the listener was told, and
+/// whether a body began too early.
 #[derive(Drop)]
 pub struct Board {
     flags: Vec<AtomicBool>,
     at_work: AtomicU64,
     asked: AtomicU64,
+    runs: AtomicU64,
     heard: AtomicU64,
     early: AtomicBool,
 }
@@ -21,6 +23,7 @@ impl Board {
             flags: Vec::new(alloc),
             at_work: AtomicU64::new(0),
             asked: AtomicU64::new(0),
+            runs: AtomicU64::new(0),
             heard: AtomicU64::new(0),
             early: AtomicBool::new(false),
         };
@@ -63,6 +66,16 @@ impl Board {
     /// How often jobs were asked for a dynamic test.
     pub fn asked(&self) -> u64 {
         self.asked.load(Ordering::SeqCst)
+    }
+
+    /// A counted job is run once more.
+    pub(crate) fn count_run(&self) {
+        self.runs.fetch_add(1, Ordering::SeqCst);
+    }
+
+    /// How often counted jobs were run.
+    pub fn runs(&self) -> u64 {
+        self.runs.load(Ordering::SeqCst)
     }
 
     /// The listener was told a text of so many bytes.

@@ -32,7 +32,7 @@ fn told(scripts: &[Script], number: BodyId) -> Result<(u16, Outcome), AllocError
 }
 
 /// The job of this number, of this node.
-fn actor(
+pub fn actor(
     alloc: Global,
     scripts: &[Script],
     number: BodyId,
@@ -70,7 +70,7 @@ fn put(
     board: &Arc<Board>,
 ) -> Result<(), AllocError>
     requires { slot < slot_count plan.now }
-    ensures { OnOk result (AreFresh jobs.old.items → AreFresh jobs.new.items) }
+    ensures { OnOk result (AreFresh replies_left jobs.old.items → AreFresh replies_left jobs.new.items) }
 {
     let Some(number) = job_number(plan, slot) else {
         return Ok(());
@@ -89,7 +89,7 @@ fn filled(
     act: Act,
     board: &Arc<Board>,
 ) -> Result<Jobs<Actor>, AllocError>
-    ensures { IfOk result (λ jobs. AreFresh jobs.items) }
+    ensures { IfOk result (λ jobs. AreFresh replies_left jobs.items) }
 {
     let mut jobs = Vec::new(alloc);
     let nodes = plan.tree().len();

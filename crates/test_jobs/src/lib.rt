@@ -5,7 +5,9 @@
 mod acting;
 mod board;
 mod casting;
+mod counted;
 
 pub use acting::{Act, Actor, sees_begin};
 pub use board::Board;
-pub use casting::{cast, no_jobs};
+pub use casting::{actor, cast, no_jobs};
+pub use counted::Counted;

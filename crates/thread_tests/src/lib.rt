@@ -5,6 +5,8 @@
 #![tactic(auto)]
 
 #[cfg(test)]
+mod boxed;
+#[cfg(test)]
 mod lanes;
 #[cfg(test)]
 mod meeting;

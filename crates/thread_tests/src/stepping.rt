@@ -1,7 +1,9 @@
 //! One worker and the dispatcher, both on the calling thread: when an event is told.
 
-ghost use Rattle.std.specs.Prelude.{◌≡◌, ◌≤◌, None};
+ghost use Rattle.std.specs.Prelude.{◌≡◌, ◌≤◌, ℕ, List, [], None, IfOk};
 ghost use Rattle.std.specs.List.{All};
+ghost use Rattle.descriptor.specs.Nodes.{IsTree};
+ghost use Rattle.plan_events.specs.declared.outcome.Reply.{Reply};
 ghost use Rattle.scheduling.specs.declared.task.Task.TheVariants.{Free};
 ghost use Rattle.table_rule.specs.Picture.{about_of};
 ghost use Rattle.table_rule.specs.Plays.{dispatcher};
@@ -9,7 +11,7 @@ ghost use Rattle.run_table.specs.Seats.{IsSeatOf};
 ghost use Rattle.test_jobs.specs.Acting.{replies_left};
 ghost use Rattle.worker_pool.specs.Premises.{JobsMayAnswer, MayAnswer};
 ghost use Rattle.worker_pool.specs.Reports.{run_of};
-ghost use Rattle.worker_pool.specs.Telling.{KeepsTexts, left_to_read};
+ghost use Rattle.worker_pool.specs.Telling.{AreTextsRead, KeepsTexts, left_to_read};
 
 use crate::running::{WIDE, push_events, staged};
 use crate::watching::{audience_of_one, board_of, one_watcher};
@@ -186,6 +188,14 @@ fn is_told_at<R: Wait>(
     }
 }
 
+/// The texts of a plan of which nothing was told.
+fn texts_at_first(alloc: Global, plan: &Plan) -> Result<Texts, AllocError>
+    ensures tree { IfOk result (λ _. IsTree plan.now.tree) }
+    ensures texts { IfOk result (λ texts. (replies : ℕ → List Reply) → AreTextsRead plan.now replies [] texts) }
+{
+    Texts::new(alloc, plan.tree())
+}
+
 /// Whether it is so at a table of this plan.
 fn is_told_of<R: Wait>(
     rt: &R,
@@ -202,7 +212,7 @@ fn is_told_of<R: Wait>(
         return Ok(false);
     }
     audience.prepare(&plan)?;
-    let mut texts = Texts::new(alloc, plan.tree())?;
+    let mut texts = texts_at_first(alloc, &plan)?;
     let Ok((table, mut desk)) = RunTable::prepare(alloc, plan, jobs, 1, ring) else {
         return Ok(false);
     };

@@ -8,7 +8,7 @@ use Rattle.table_rule.specs.Plays.{dispatcher}
 use Rattle.worker_pool.specs.Telling.{AreTextsRead}
 use Rattle.worker_pool.proofs.Balance.{balance_reported}
 use Rattle.worker_pool.proofs.TextsRead.{texts_reported}
-use Rattle.worker_pool.proofs.Reported.{carried, kept_apart, reported}
+use Rattle.worker_pool.proofs.Reported.{carried, ended_so, kept_apart, reported}
 use Rattle.worker_pool.proofs.Shares.{fits_all}
 use Rattle.worker_pool.proofs.report.ended.Goals as goal
 
@@ -37,6 +37,7 @@ returns-clause-report g c =
       plan = c.close-plan.ensures.plan;
       right = is;
       apart = kept_apart key replies events q.tree is;
+      replied = ended_so key replies desk jobs events q.noted q.over q.tree c.close-plan.ensures.ends;
       mine = search rules;
       texts = texts_reported key.plan replies key.workers desk.read events after.texts q.noted is.legal
           (carried (sym q.seat.about) (λ a. AreTextsRead a.plan (replies_of g.B.Job.answers a) desk.read after.texts) q.texts);
