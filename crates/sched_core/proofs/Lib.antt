@@ -13,3 +13,6 @@ pub mod Knowing
 pub mod AtStart
 pub mod OneWorker
 pub mod Endings
+pub mod Taken
+pub mod Finding
+pub mod Serving

@@ -3,3 +3,4 @@ pub mod AnswerFields
 pub mod Bounds
 pub mod CoreFields
 pub mod Fields
+pub mod Rounds

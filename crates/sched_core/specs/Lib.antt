@@ -2,9 +2,11 @@
 pub mod Replies
 pub mod Steps
 pub mod Runs
+pub mod Taken
 pub mod Drives
 pub mod Snapshot
 pub mod Traces
+pub mod Rounds
 pub mod Texts
 pub mod Inside
 pub mod Endings

@@ -75,6 +75,7 @@ impl Core {
     ghost use Rattle.sched_core.specs.Snapshot.{stepped, IsStep};
     ghost use Rattle.scheduling.specs.Shown.{IsShown};
     ghost use Rattle.sched_core.specs.Endings.{IsNotStuck};
+    ghost use Rattle.sched_core.specs.Taken.{IsBoundedOn, IsShortOn};
     ghost use Rattle.sched_core.specs.Traces.{IsTraceOf, IsRightTrace, KeepsApart, HasExpected};
 
     /// The run of a plan by so many workers, before its first step. It makes room for every event, so that no step
@@ -113,6 +114,9 @@ impl Core {
         ensures expected { IfOk result (λ trace. HasExpected self.now.plan self.now.answers trace) }
         // Whatever the steps so far were, further ones bring the run to its end.
         ensures never_stuck { IsNotStuck self.now.plan self.now.answers self.now.state }
+        // Of whatever steps are taken from here on few change the state.
+        ensures bounded { IsBoundedOn self.now.plan self.now.answers self.now.state }
+        ensures short { IsShortOn self.now.plan self.now.answers self.now.state }
     {
         self.machine.trace(alloc, 0)
     }

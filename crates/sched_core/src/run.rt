@@ -7,8 +7,10 @@ ghost use Rattle.scheduling.specs.Shown.{IsShown};
 ghost use Rattle.sched_core.specs.Snapshot.{workers_refusal};
 ghost use Rattle.sched_core.specs.Runs.{run, passed_over};
 ghost use Rattle.sched_core.specs.Endings.{IsNotStuck};
+ghost use Rattle.sched_core.specs.Taken.{IsBounded, IsShort};
 ghost use Rattle.sched_core.specs.Traces.{IsTraceOf, IsRightTrace, IsDriven, IsOnlyDriven, IsShownAtEnd, IsWhole};
 ghost use Rattle.sched_core.specs.Traces.{KeepsApart, HasExpected, IsOnlyHistory};
+ghost use Rattle.sched_core.specs.Rounds.{IsTakenWhole, EndsWhole};
 ghost use Rattle.sched_core.specs.Inside.Fields.{state_of, IsSound};
 
 use crate::answers::Answers;
@@ -59,6 +61,10 @@ pub fn run_steps(
     // Whatever the steps were, further ones bring the run to its end.
     ensures never_stuck { OnOk result
         (IsNotStuck plan.now answers.now (run plan.now answers.now (opening plan.now workers) steps.now)) }
+    // Few of the steps change the state: the plan and the number of workers bound them, and the times that a worker is
+    // turned back at a key; of a plan that is free of conflict the plan and the number of workers alone.
+    ensures bounded { IfOk result (λ trace. IsBounded plan.now answers.now workers steps.now trace.passed_over) }
+    ensures short { IfOk result (λ trace. IsShort plan.now answers.now workers steps.now trace.passed_over) }
     ensures accepted { IfOk result (λ _. workers_refusal workers ≡ None) }
     ensures refused { IfErr result (λ fault. fault ≢ CoreFault.NoMemory → workers_refusal workers ≡ Some fault) }
     ensures no_memory { IfErr result (λ fault. fault ≡ CoreFault.NoMemory → workers_refusal workers ≡ None) }
@@ -88,4 +94,29 @@ pub fn drive(alloc: Global, plan: &Plan, answers: &Answers) -> Result<Trace, All
     let mut machine = Machine::new(alloc, plan, 1)?;
     machine.drive(plan, &turns, answers);
     machine.trace(alloc, 0)
+}
+
+/// Runs the plan with so many workers, which take turns in the order of their numbers, until no turn of a round finds
+/// anything to do. Before each turn the dispatcher reads the next event, if it is shown. In its turn a worker takes the
+/// one step that its task allows. A free one goes on with the factory in its hand, or takes the least numbered node
+/// that is offered to it or to any and all of whose keys are free: then it claims it and takes these keys. No workers
+/// are refusal 60, more than 64 are refusal 61, want of memory is refusal 0.
+pub fn drive_with(
+    alloc: Global,
+    plan: &Plan,
+    answers: &Answers,
+    workers: u32,
+) -> Result<Trace, CoreFault>
+    ensures taken { IfOk result (λ trace. IsTakenWhole plan.now answers.now workers trace) }
+    ensures right { IfOk result (λ trace. IsRightTrace plan.now answers.now workers trace) }
+    ensures whole { IfOk result (λ trace. EndsWhole plan.now trace) }
+    ensures apart { IfOk result (λ trace. KeepsApart plan.now trace) }
+    ensures expected { IfOk result (λ trace. HasExpected plan.now answers.now trace) }
+    ensures accepted { IfOk result (λ _. workers_refusal workers ≡ None) }
+    ensures refused { IfErr result (λ fault. fault ≢ CoreFault.NoMemory → workers_refusal workers ≡ Some fault) }
+    ensures no_memory { IfErr result (λ fault. fault ≡ CoreFault.NoMemory → workers_refusal workers ≡ None) }
+{
+    let (turns, mut machine) = started(alloc, plan, workers)?;
+    machine.drive_rounds(plan, &turns, answers);
+    Ok(machine.trace(alloc, 0)?)
 }

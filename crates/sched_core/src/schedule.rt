@@ -44,7 +44,7 @@ impl Machine {
     }
 
     /// Gives the next event, if it is shown, and says whether it did.
-    fn reads(&mut self, plan: &Plan, turns: &Turns, answers: &Answers) -> bool
+    pub(crate) fn reads(&mut self, plan: &Plan, turns: &Turns, answers: &Answers) -> bool
         requires turns { AreTurns plan.now turns.now }
         requires sound { IsSound plan.now answers.now self.old }
         ensures sound { IsSound plan.now answers.now self.new }

@@ -72,6 +72,13 @@ try_if p b = cond b (3 * weight p) 0
 decided_turned : (p : PlanParts) (reply : Reply) (locks : List LockWord) (t : Task) (a : Action) → try_if p (is_turned_back p locks (decided p reply t) a) ≤ try_if p (is_turned_back p locks t a)
 decided_turned p reply locks t a = decided_no_higher p reply (λ (x : Task). try_if p (is_turned_back p locks x a)) (λ x calm. ap (try_if p) (calm_turned p locks x a calm)) t
 
+-- what the reply decides leaves no more
+pub decided_left : (p : PlanParts) (s : State) (w : ℕ) (reply : Reply) (seat : Seat) → slice_get s.seats w ≡ Some seat → left p (decides p s w reply seat) ≤ left p s
+decided_left p s w reply seat is =
+    let work = goes_no_higher p s w seat is (decided_seat p reply seat) (decided_rank p reply seat.task) in
+    let sums = sum_no_higher (seat_back p) s.seats w seat (decided_seat p reply seat) is (decided_no_higher p reply (back_rank p) (calm_back p) seat.task) in
+    omega (arith, work, sums)
+
 module _ (p : PlanParts) (core : IsCorePlan p) (replies : ℕ → List Reply) (s : State) (g : ℕ → Stage) (h : Holds p replies s g) (w : ℕ) (seat : Seat) (is : slice_get s.seats w ≡ Some seat) (a : Action) where
   abbrev Falls : State → Type 0
   Falls t = left p t < left p s + try_if p (is_turned_back p s.locks seat.task a)
@@ -88,16 +95,22 @@ module _ (p : PlanParts) (core : IsCorePlan p) (replies : ℕ → List Reply) (s
       plain : (work2 work sum2 sum rank old_rank new_rank back old_back new_back more : ℕ) → work2 + rank ≡ work + new_rank → sum2 + back ≡ sum + new_back → rank ≡ old_rank → back ≡ old_back → new_rank + new_back < old_rank + old_back + more → work2 + sum2 < work + sum + more
       plain work2 work sum2 sum rank old_rank new_rank back old_back new_back more a b c d less = omega (arith, a, b, c, d, less)
 
-  plain_falls : (reply : Reply) (t : State) → row p s w seat reply a ≡ Some t → Plain p s w seat.task a t → Falls t
-  plain_falls reply t q k =
+  pub plain_lowers : (reply : Reply) (t : State) → row p s w seat reply a ≡ Some t → Plain p s w seat.task a t → left p t < left p s
+  plain_lowers reply t q k =
       let falls = row_lessens p core replies s g h w seat is reply a (no_look p s w seat.task a t k) k.clear t q in
       let none = ahead_back p k.new.task k.ahead in
       let sums = sum_no_higher (seat_back p) s.seats w seat k.new is (omega (arith, none)) in
       let seats = ap (sum_by (seat_back p)) k.seats in
-      plain _ _ _ _ _ _ falls sums seats
+      plain _ _ _ _ _ falls sums seats
     where
-      plain : (work2 work sum2 sum set_sum more : ℕ) → work2 < work → set_sum ≤ sum → sum2 ≡ set_sum → work2 + sum2 < work + sum + more
-      plain work2 work sum2 sum set_sum more a b c = omega (arith, a, b, c)
+      plain : (work2 work sum2 sum set_sum : ℕ) → work2 < work → set_sum ≤ sum → sum2 ≡ set_sum → work2 + sum2 < work + sum
+      plain work2 work sum2 sum set_sum a b c = omega (arith, a, b, c)
+
+  plain_falls : (reply : Reply) (t : State) → row p s w seat reply a ≡ Some t → Plain p s w seat.task a t → Falls t
+  plain_falls reply t q k = (let lower = plain_lowers reply t q k in plain (left p t) (left p s) _ lower)
+    where
+      plain : (after before more : ℕ) → after < before → after < before + more
+      plain after before more lower = omega (arith, lower)
 
   opens : (n : ℕ) (d : Opening) → seat.task ≡ Opens n d → (n < size p.tree) × (g n ≡ OpenedBy w d)
   opens n d e = subst (TaskOk p g w) e (h.seats w seat is).task
@@ -155,6 +168,16 @@ module _ (p : PlanParts) (core : IsCorePlan p) (replies : ℕ → List Reply) (s
       plain : (work2 work sum2 sum weight rank back more : ℕ) → work2 + rank ≡ work + weight + (weight + 1) → sum2 + back ≡ sum + 0 → rank ≡ 0 → back ≡ 2 * weight + 2 + 0 → work2 + sum2 < work + sum + more
       plain work2 work sum2 sum weight rank back more a b c d = omega (arith, a, b, c, d)
 
+  -- who is on the way back is not turned back
+  lowers : (t : State) (i n : ℕ) → seat.task ≡ Opens n (Backing i) → Falls t → left p t < left p s
+  lowers t i n e falls = (let none = turned_so false (ap (λ (x : Task). is_turned_back p s.locks x a) e) in omega (arith, falls, none))
+
+  pub back_lowers : (t : State) → Backs p s w seat seat.task t → left p t < left p s
+  back_lowers t k = lowers t (suc k.place) k.node k.task (back_falls t k)
+
+  pub given_up_lowers : (t : State) → GivesUp p s w seat seat.task t → left p t < left p s
+  given_up_lowers t k = lowers t zero k.node k.task (given_up_falls t k)
+
   -- the step leaves less, or it changed nothing
   pub kind_falls : (reply : Reply) (t : State) → row p s w seat reply a ≡ Some t → Kind p s w seat seat.task a t → ((seat.task ≡ Free) × (t ≡ s)) ⊎ Falls t
   kind_falls reply t q (AsFree look free same) = inl (free, same)
@@ -179,16 +202,15 @@ module _ (p : PlanParts) (core : IsCorePlan p) (replies : ℕ → List Reply) wh
       go x = elim (kind_falls p core replies (decides p s w reply x.seat) x.kept.0 x.kept.1 w (decided_seat p reply x.seat) x.here a reply t x.makes x.kind) [
         | inl same ↦ inl (same.1 ∙ free_same p s w reply x.seat x.is same.0)
         | inr falls ↦ inr (
-            let work = goes_no_higher p s w x.seat x.is (decided_seat p reply x.seat) (decided_rank p reply x.seat.task) in
-            let sums = sum_no_higher (seat_back p) s.seats w x.seat (decided_seat p reply x.seat) x.is (decided_no_higher p reply (back_rank p) (calm_back p) x.seat.task) in
+            let no_more = decided_left p s w reply x.seat x.is in
             let turned = decided_turned p reply s.locks x.seat.task a in
             let flag : turns_back p s (Works w a reply) ≡ is_turned_back p s.locks x.seat.task a = ap (turns_seat_back p s a) x.is in
             let same = ap (try_if p) flag in
-            plain _ _ _ _ _ _ _ _ falls work sums turned same)
+            plain _ _ _ _ _ _ falls no_more turned same)
       ]
         where
-          plain : (all work2 work sum2 sum more2 more more3 : ℕ) → all < work2 + sum2 + more2 → work2 ≤ work → sum2 ≤ sum → more2 ≤ more → more3 ≡ more → all < work + sum + more3
-          plain all work2 work sum2 sum more2 more more3 a b c d e = omega (arith, a, b, c, d, e)
+          plain : (all here before more2 more more3 : ℕ) → all < here + more2 → here ≤ before → more2 ≤ more → more3 ≡ more → all < before + more3
+          plain all here before more2 more more3 a b c d = omega (arith, a, b, c, d)
 
   -- one more step of a list
   counted : (b : Bool) (times each : ℕ) → (bit b + times) * each ≡ cond b each 0 + times * each

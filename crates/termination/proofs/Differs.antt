@@ -10,6 +10,7 @@ use Rattle.scheduling.specs.declared.task.Task.{Task}
 use Rattle.scheduling.specs.declared.task.Task.TheVariants.{Free, Opens}
 use Rattle.scheduling.specs.declared.seat.Seat.{Seat}
 use Rattle.scheduling.specs.declared.step.Action.{Action}
+use Rattle.scheduling.specs.declared.step.Action.TheVariants.{Look}
 use Rattle.scheduling.specs.State.{State, lock_at}
 use Rattle.scheduling.specs.Choices.{key_at, mode_at, admits, decided}
 use Rattle.scheduling.specs.Rows.{with_task, weighed, decided_seat, Step, Works, Dispatches, after}
@@ -22,6 +23,7 @@ use Rattle.scheduling.proofs.LessWork.{row_lessens}
 use Rattle.scheduling.proofs.LessWorkMoves.{goes_no_higher}
 use Rattle.scheduling.proofs.LessWorkSteps.{read_lessens}
 use Rattle.scheduling.proofs.TaskRanks.{decided_rank}
+use Rattle.scheduling.proofs.Steps.{decided_free}
 use Rattle.termination.proofs.Bounded.{back_rank}
 use Rattle.termination.proofs.StepKinds.{is_midway, Kind, AsFree, AsPlain, AsWeigh, AsMiss, AsBack, AsGivenUp}
 use Rattle.termination.proofs.Acting.{decides, Acts, acts_so, free_same, no_look}
@@ -33,6 +35,14 @@ midway_stays : (p : PlanParts) (reply : Reply) (t : Task) → is_midway t ≡ tr
 midway_stays p reply (Opens n (Weighed i word)) q = refl
 midway_stays p reply (Opens n (Backing i)) q = refl
 midway_stays p reply _ q = absurd (false≢true q)
+
+-- a free worker looks for work
+pub record LooksFree (s : State) (w : ℕ) (a : Action) (t : State) : Type 0 where
+  pub seat : Seat
+  pub is : slice_get s.seats w ≡ Some seat
+  pub look : a ≡ Look
+  pub free : seat.task ≡ Free
+  pub same : t ≡ s
 
 less_other : (p : PlanParts) (s t : State) → work_left p t < work_left p s → t ≢ s
 less_other p s t less e = (let same = ap (work_left p) e in omega (arith, less, same))
@@ -49,8 +59,8 @@ module _ (p : PlanParts) (core : IsCorePlan p) (replies : ℕ → List Reply) (s
   not_midway : (old new : Task) → decided p reply x.seat.task ≡ old → is_midway old ≡ true → x.seat.task ≡ new → is_midway new ≡ false → decided p reply new ≡ new → ⊥
   not_midway old new was yes' is no' stays = both_ways (is_midway old) (ap is_midway (sym was ∙ ap (decided p reply) is ∙ stays) ∙ no') yes'
 
-  pub kind_differs : Kind p (decides p s w reply x.seat) w (decided_seat p reply x.seat) (decided_seat p reply x.seat).task a t → (t ≡ s) ⊎ (t ≢ s)
-  kind_differs (AsFree look free same) = inl (same ∙ free_same p s w reply x.seat x.is free)
+  kind_differs : Kind p (decides p s w reply x.seat) w (decided_seat p reply x.seat) (decided_seat p reply x.seat).task a t → LooksFree s w a t ⊎ (t ≢ s)
+  kind_differs (AsFree look free same) = inl (record { seat = x.seat; is = x.is; look = look; free = decided_free p reply x.seat.task free; same = same ∙ free_same p s w reply x.seat x.is free })
   kind_differs (AsPlain k) =
       let falls = row_lessens p core replies (decides p s w reply x.seat) x.kept.0 x.kept.1 w (decided_seat p reply x.seat) x.here reply a (no_look p (decides p s w reply x.seat) w (decided_seat p reply x.seat).task a t k) k.clear t x.makes in
       let no_higher = goes_no_higher p s w x.seat x.is (decided_seat p reply x.seat) (decided_rank p reply x.seat.task) in
@@ -67,6 +77,17 @@ module _ (p : PlanParts) (core : IsCorePlan p) (replies : ℕ → List Reply) (s
       omega (arith, ranks))
   kind_differs (AsGivenUp k) = inr (λ e. not_midway (Opens k.node (Backing zero)) Free k.task refl (same_task (with_task (decided_seat p reply x.seat) Free) (ap (λ (u : State). u.seats) k.is) e) refl refl)
 
+-- A possible step of a worker makes another state, or it is a free worker's look.
+pub work_differs : (p : PlanParts) → IsCorePlan p → (replies : ℕ → List Reply) (s t : State) (w : ℕ) (a : Action) (reply : Reply) → IsKept p replies s → IsReplied p replies s (Works w a reply) → after p s (Works w a reply) ≡ Some t → LooksFree s w a t ⊎ (t ≢ s)
+work_differs p core replies s t w a reply kept replied q = (let x = acts_so p core replies s t w a reply kept replied q in kind_differs p core replies s t w a reply x x.kind)
+
+-- and one of the dispatcher does
+pub read_differs : (p : PlanParts) (s t : State) → after p s Dispatches ≡ Some t → t ≢ s
+read_differs p s t q = less_other p s t (read_lessens p s t q)
+
 pub step_differs : (p : PlanParts) → IsCorePlan p → (replies : ℕ → List Reply) (s t : State) (a : Step) → IsKept p replies s → IsReplied p replies s a → after p s a ≡ Some t → (t ≡ s) ⊎ (t ≢ s)
-step_differs p core replies s t Dispatches kept replied q = inr (less_other p s t (read_lessens p s t q))
-step_differs p core replies s t (Works w a reply) kept replied q = (let x = acts_so p core replies s t w a reply kept replied q in kind_differs p core replies s t w a reply x x.kind)
+step_differs p core replies s t Dispatches kept replied q = inr (read_differs p s t q)
+step_differs p core replies s t (Works w a reply) kept replied q = elim (work_differs p core replies s t w a reply kept replied q) [
+  | inl looks ↦ inl looks.same
+  | inr other ↦ inr other
+]

@@ -7,7 +7,11 @@ pub mod Bounded
 pub mod TakingTurns
 pub mod Apart
 pub mod Short
+pub mod Reached
 pub mod Differs
 pub mod Ends
 pub mod Free
 pub mod Round
+pub mod TaskSteps
+pub mod InTurn
+pub mod TurnsEnd

@@ -4,7 +4,6 @@ use Rattle.std.proofs.lemmas.Bool.{cases_Bool, and_parts, eqb-true, false_from_n
 use Rattle.std.proofs.lemmas.List.Sums.{sum_by-cons, sum_by_push, sum_by_more, sum_by-take-le}
 use Rattle.std.proofs.lemmas.Nat.{mul-le}
 use Rattle.std.proofs.Math.Nat.{suc-mul, mul-le-mul_left}
-use Rattle.descriptor.specs.declared.lock.Lock.{Lock}
 use Rattle.descriptor.specs.Nodes.{Nodes, size, parent_of, is_child, is_spare_at, bit, count_below}
 use Rattle.resource_locks.specs.Held.{table}
 use Rattle.resource_locks.specs.Plans.{PlanParts, IsPlan}
@@ -85,20 +84,20 @@ sum_replicate f x (suc n) =
     let times : suc n * f x ≡ n * f x + f x = suc-mul n (f x) in
     omega (arith, cons, rest, times)
 
--- the keys that the nodes hold
-held_first : (l : List (List Lock)) (n : ℕ) → n ≤ length l → sum_below (λ k. length (slice_index_or l k [])) n ≡ sum_by length (take n l)
-held_first l zero le = refl
-held_first l (suc n) le =
+-- a sum over the first elements of a list
+pub sum_first : {X : Type 0} (f : X → ℕ) (d : X) (l : List X) (n : ℕ) → n ≤ length l → sum_below (λ k. f (slice_index_or l k d)) n ≡ sum_by f (take n l)
+sum_first f d l zero le = refl
+sum_first f d l (suc n) le =
     let one : suc n ≡ n + 1 = omega arith in
-    let more = ap (λ (k : ℕ). sum_by length (take k l)) one ∙ sum_by_more length l n [] (omega (arith, le)) in
-    let rest = held_first l n (omega (arith, le)) in
+    let more = ap (λ (k : ℕ). sum_by f (take k l)) one ∙ sum_by_more f l n d (omega (arith, le)) in
+    let rest = sum_first f d l n (omega (arith, le)) in
     omega (arith, more, rest)
 
 pub weight_held : (p : PlanParts) → IsPlan p → weight p ≤ keys_held p + 8
 unfolding weight
 weight_held p plan =
     let len = plan.held_len in
-    let first = held_first p.held (size p.tree) (omega (arith, len)) in
+    let first = sum_first length [] p.held (size p.tree) (omega (arith, len)) in
     let all = sum_by-take-le length p.held (size p.tree) in
     omega (arith, first, all)
 

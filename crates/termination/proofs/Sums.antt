@@ -1,5 +1,5 @@
 -- Sums over the seats, products that grow, and what a step does to the work that is left.
-use Rattle.std.proofs.Common.{◌≡◌, ℕ, suc, ◌+◌, ◌*◌, ◌-◌, ◌<◌, ◌≤◌, List, [], ◌∷◌, length, set, get_or, sum_by, Some, slice_get, ap, ◌∙◌, arith}
+use Rattle.std.proofs.Common.{◌≡◌, ℕ, suc, ◌+◌, ◌*◌, ◌-◌, ◌<◌, ◌≤◌, List, [], ◌∷◌, length, set, get_or, sum_by, Some, slice_get, refl, ap, ◌∙◌, arith}
 use Rattle.std.proofs.lemmas.Option.{slice_get_within, get_or_from_slice_get}
 use Rattle.std.proofs.lemmas.List.Sums.{sum_by-cons, sum_by-set}
 use Rattle.std.proofs.Math.Nat.{suc-mul, mul-le-mul_right}
@@ -22,18 +22,36 @@ sum_moves f l w seat next is =
 pub sum_no_higher : (f : Seat → ℕ) (l : List Seat) (w : ℕ) (seat next : Seat) → slice_get l w ≡ Some seat → f next ≤ f seat → sum_by f (set l w next) ≤ sum_by f l
 sum_no_higher f l w seat next is le = (let a = sum_moves f l w seat next is in omega (arith, a, le))
 
--- each seat counts at most so much
-pub sum_few : (f : Seat → ℕ) (m : ℕ) → ((seat : Seat) → f seat ≤ m) → (l : List Seat) → sum_by f l ≤ length l * m
-sum_few f m each [] = omega arith
-sum_few f m each (x ∷ l) =
-    let one = each x in
-    let rest = sum_few f m each l in
+-- each element counts at most so much
+pub sum_few_at : {X : Type 0} (f : X → ℕ) (m : ℕ) (l : List X) → ((v : ℕ) (x : X) → slice_get l v ≡ Some x → f x ≤ m) → sum_by f l ≤ length l * m
+sum_few_at f m [] each = omega arith
+sum_few_at f m (x ∷ l) each =
+    let one = each 0 x refl in
+    let rest = sum_few_at f m l (λ v y at. each (suc v) y at) in
     let sum = sum_by-cons f x l in
     let times : suc (length l) * m ≡ length l * m + m = suc-mul (length l) m in
     plain (sum_by f (x ∷ l)) (sum_by f l) (f x) (length l * m) (suc (length l) * m) sum one rest times
   where
     plain : (all most this times next : ℕ) → all ≡ this + most → this ≤ m → most ≤ times → next ≡ times + m → all ≤ next
     plain all most this times next sum one rest is = omega (arith, sum, one, rest, is)
+
+pub sum_few : {X : Type 0} (f : X → ℕ) (m : ℕ) → ((x : X) → f x ≤ m) → (l : List X) → sum_by f l ≤ length l * m
+sum_few f m each l = sum_few_at f m l (λ v x at. each x)
+
+-- and so do three counts of it together
+pub sums_few : (f g h : Seat → ℕ) (m : ℕ) (l : List Seat) → ((v : ℕ) (o : Seat) → slice_get l v ≡ Some o → f o + g o + h o ≤ m) → sum_by f l + sum_by g l + sum_by h l ≤ length l * m
+sums_few f g h m [] each = omega arith
+sums_few f g h m (o ∷ l) each =
+    let one = each 0 o refl in
+    let rest = sums_few f g h m l (λ v x at. each (suc v) x at) in
+    let first = sum_by-cons f o l in
+    let second = sum_by-cons g o l in
+    let third = sum_by-cons h o l in
+    let times : suc (length l) * m ≡ length l * m + m = suc-mul (length l) m in
+    plain _ _ _ _ _ _ (f o) (g o) (h o) (length l * m) (suc (length l) * m) one rest first second third times
+  where
+    plain : (a b c a2 b2 c2 x y z times next : ℕ) → x + y + z ≤ m → a2 + b2 + c2 ≤ times → a ≡ x + a2 → b ≡ y + b2 → c ≡ z + c2 → next ≡ times + m → a + b + c ≤ next
+    plain a b c a2 b2 c2 x y z times next one rest d e k is = omega (arith, one, rest, d, e, k, is)
 
 -- times c, and a rest below c
 pub times_lower : (c x y f g : ℕ) → x < y → f < c → x * c + f < y * c + g

@@ -23,3 +23,12 @@ steps_of_a_try p = 3 * (keys_held p + 8)
 -- Of a plan that is free of conflict they take at most this many in all.
 abbrev pub most_steps_apart : PlanParts → ℕ → ℕ
 most_steps_apart p workers = most_steps p workers * (2 * workers + 1)
+
+-- From whatever state a run has come to they take at most this many more, if no worker is turned back: each may be in a try, and no event
+-- may be given yet.
+abbrev pub most_steps_on : PlanParts → ℕ → ℕ
+most_steps_on p workers = most_changes p * (keys_held p + 8) + workers * steps_of_a_try p + most_events p
+
+-- And of a plan that is free of conflict they take at most this many more in all.
+abbrev pub most_steps_apart_on : PlanParts → ℕ → ℕ
+most_steps_apart_on p workers = most_steps_on p workers * (2 * workers + 1) + 2 * workers

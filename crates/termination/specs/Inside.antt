@@ -1,2 +1,3 @@
 -- What only private functions and proofs need.
 pub mod Branches
+pub mod Turns

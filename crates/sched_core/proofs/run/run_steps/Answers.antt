@@ -1,11 +1,13 @@
 -- What the trace of a list of steps tells.
-use Rattle.std.proofs.Common.{◌∙◌, ap, subst}
+use Rattle.std.proofs.Common.{◌∙◌, ◌≤◌, sym, ap, subst, arith}
 use Rattle.scheduling.specs.Shown.{IsShown}
 use Rattle.scheduling.specs.State.{State}
-use Rattle.sched_core.specs.Runs.{run}
+use Rattle.sched_core.specs.Runs.{run, passed_over}
 use Rattle.sched_core.specs.Endings.{IsNotStuck}
+use Rattle.sched_core.specs.Taken.{IsBounded, IsShort}
 use Rattle.sched_core.specs.Inside.Fields.{state_of}
 use Rattle.sched_core.proofs.Endings.{not_stuck}
+use Rattle.sched_core.proofs.Taken.{bounded_run, short_run}
 use Rattle.sched_core.proofs.Tracing.{right_trace, shown_trace, right_apart, right_expected}
 use Rattle.sched_core.proofs.run.run_steps.Goals as goal
 
@@ -37,3 +39,25 @@ returns-clause-never_stuck c =
     let from = c.in_ok-turns.ensures.opening in
     let ends = c.run-missed.ensures.state ∙ ap (λ (s : State). run c.args.plan.now c.args.answers.now s c.args.steps.now) from in
     subst (IsNotStuck c.args.plan.now c.args.answers.now) ends (not_stuck c.args.plan.now sound.plan c.args.answers.now (state_of c.run-missed.new.self) sound.live)
+
+pub returns-clause-bounded : goal.returns-clause-bounded
+returns-clause-bounded c =
+    let sound = c.run-missed.ensures.sound in
+    let from = c.in_ok-turns.ensures.opening in
+    let count = c.run-missed.ensures.workers ∙ c.in_ok-turns.ensures.workers in
+    let seats = sound.workers in
+    let most = sound.live.kept.1.workers_few in
+    let few : c.args.workers ≤ 64 = omega (arith, most, seats, count) in
+    let counts = c.in_ok-trace.ensures.passed_over_is ∙ c.run-missed.ensures.passed_over ∙ ap (λ (s : State). passed_over c.args.plan.now c.args.answers.now s c.args.steps.now) from in
+    subst (IsBounded c.args.plan.now c.args.answers.now c.args.workers c.args.steps.now) (sym counts) (bounded_run c.args.plan.now sound.plan c.args.answers.now c.args.workers few c.args.steps.now)
+
+pub returns-clause-short : goal.returns-clause-short
+returns-clause-short c =
+    let sound = c.run-missed.ensures.sound in
+    let from = c.in_ok-turns.ensures.opening in
+    let count = c.run-missed.ensures.workers ∙ c.in_ok-turns.ensures.workers in
+    let seats = sound.workers in
+    let most = sound.live.kept.1.workers_few in
+    let few : c.args.workers ≤ 64 = omega (arith, most, seats, count) in
+    let counts = c.in_ok-trace.ensures.passed_over_is ∙ c.run-missed.ensures.passed_over ∙ ap (λ (s : State). passed_over c.args.plan.now c.args.answers.now s c.args.steps.now) from in
+    subst (IsShort c.args.plan.now c.args.answers.now c.args.workers c.args.steps.now) (sym counts) (short_run c.args.plan.now sound.plan c.args.answers.now c.args.workers few c.args.steps.now)

@@ -5,8 +5,10 @@ use Rattle.sched_core.specs.Snapshot.{Snapshot}
 use Rattle.sched_core.specs.Traces.{IsRightTrace}
 use Rattle.sched_core.specs.declared.trace.Trace.{Trace}
 use Rattle.sched_core.specs.Endings.{IsNotStuck}
+use Rattle.sched_core.specs.Taken.{IsBoundedOn, IsShortOn}
 use Rattle.sched_core.specs.Inside.Fields.{state_of}
 use Rattle.sched_core.proofs.Endings.{not_stuck}
+use Rattle.sched_core.proofs.Taken.{bounded_from, short_from}
 use Rattle.sched_core.proofs.Tracing.{right_trace, right_apart, right_expected, if_ok}
 use Rattle.sched_core.proofs.core_steps.Core.trace.Goals as goal
 
@@ -32,3 +34,15 @@ returns-clause-never_stuck c =
     let core = c.self.inside in
     let sound = c.self.invariant.0 in
     subst (λ (s : Snapshot). IsNotStuck s.plan s.answers s.state) c.self.view_is (not_stuck core.plan sound.plan core.answers (state_of core.machine) sound.live)
+
+pub returns-clause-bounded : goal.returns-clause-bounded
+returns-clause-bounded c =
+    let core = c.self.inside in
+    let sound = c.self.invariant.0 in
+    subst (λ (s : Snapshot). IsBoundedOn s.plan s.answers s.state) c.self.view_is (bounded_from core.plan sound.plan core.answers (state_of core.machine) sound.live.kept)
+
+pub returns-clause-short : goal.returns-clause-short
+returns-clause-short c =
+    let core = c.self.inside in
+    let sound = c.self.invariant.0 in
+    subst (λ (s : Snapshot). IsShortOn s.plan s.answers s.state) c.self.view_is (short_from core.plan sound.plan core.answers (state_of core.machine) sound.live.kept)

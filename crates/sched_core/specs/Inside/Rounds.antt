@@ -1,0 +1,47 @@
+-- What a turn leaves. Only private functions and proofs need this file.
+use Rattle.std.specs.Prelude.{◌≡◌, ℕ, ◌+◌, ◌<◌, ◌≤◌, true, List, length, Option, Some, None, slice_get}
+use Rattle.descriptor.specs.Nodes.{size}
+use Rattle.plan_events.specs.declared.outcome.Reply.{Reply}
+use Rattle.resource_locks.specs.Plans.{PlanParts}
+use Rattle.scheduling.specs.declared.seat.Seat.{Seat}
+use Rattle.scheduling.specs.declared.step.Action.{Action}
+use Rattle.scheduling.specs.declared.step.Step.{Step}
+use Rattle.scheduling.specs.Choices.{key_at, mode_at, admits, decided}
+use Rattle.scheduling.specs.Inside.Work.{work_left}
+use Rattle.scheduling.specs.Rows.{read_row}
+use Rattle.scheduling.specs.State.{State, lock_at}
+use Rattle.termination.specs.Inside.Turns.{MayTake, NextInTurn}
+use Rattle.sched_core.specs.Runs.{run, passed_over}
+use Rattle.sched_core.specs.Steps.{reply_for}
+
+-- the first so many keys of node n may be taken
+abbrev pub AreFreeBelow : PlanParts → State → ℕ → ℕ → Type 0
+AreFreeBelow p s n i = (j : ℕ) → j < i → admits (mode_at p n j) (lock_at s (key_at p n j)) ≡ true
+
+-- none of the first so many nodes may be taken by the worker at place w
+abbrev pub NoneFoundBelow : PlanParts → State → ℕ → ℕ → Type 0
+NoneFoundBelow p s w k = (n : ℕ) → n < k → MayTake p s w n → ⊥
+
+-- a node that the worker at place w may take, or there is none
+abbrev pub IsFoundFor : PlanParts → State → ℕ → Option ℕ → Type 0
+IsFoundFor p s w None = (n : ℕ) → n < size p.tree → MayTake p s w n → ⊥
+IsFoundFor p s w (Some n) = (n < size p.tree) × MayTake p s w n
+
+-- what the worker at place w does in its turn, in this seat
+abbrev pub IsNextInTurn : PlanParts → List (ℕ × Reply) → State → ℕ → Seat → Option Action → Type 0
+IsNextInTurn p answers s w seat found = NextInTurn p s w (reply_for p answers seat) seat.hand (decided p (reply_for p answers seat) seat.task) found
+
+-- it has nothing to do
+abbrev pub IsIdle : PlanParts → List (ℕ × Reply) → State → ℕ → Type 0
+IsIdle p answers s w = (seat : Seat) → slice_get s.seats w ≡ Some seat → IsNextInTurn p answers s w seat None
+
+-- nor is there anything to be read
+abbrev pub IsQuiet : PlanParts → List (ℕ × Reply) → State → ℕ → Type 0
+IsQuiet p answers s w = (read_row s ≡ None) × IsIdle p answers s w
+
+-- Steps of which none is passed over lead from the one state to the other, and each leaves less to do.
+pub record Leads (p : PlanParts) (answers : List (ℕ × Reply)) (s t : State) : Type 0 where
+  pub steps : List Step
+  pub is : run p answers s steps ≡ t
+  pub all : passed_over p answers s steps ≡ 0
+  pub less : length steps + work_left p t ≤ work_left p s
