@@ -4,6 +4,8 @@ pub mod FewLocks
 pub mod Outcomes
 pub mod Attributes
 pub mod Ids
+pub mod Judged
+pub mod Kinds
 pub mod Locks
 pub mod Never
 pub mod Paths

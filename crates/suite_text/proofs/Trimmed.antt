@@ -11,7 +11,7 @@ module _ (p : ℕ → Bool) where
   pass_both [] ys h k = k
   pass_both (x ∷ xs) ys h k = (h.0, pass_both xs ys h.1 k)
 
-  pass_reverse : (xs : List ℕ) → Pass xs → Pass (reverse xs)
+  pub pass_reverse : (xs : List ℕ) → Pass xs → Pass (reverse xs)
   pass_reverse [] h = tt
   pass_reverse (x ∷ xs) h = subst Pass (sym (reverse-append (x ∷ []) xs)) (pass_both (reverse xs) (x ∷ []) (pass_reverse xs h.1) (h.0, tt))
 

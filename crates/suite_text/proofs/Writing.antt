@@ -1,9 +1,15 @@
--- Lemmas on what may be written: it is read back.
+-- Lemmas on what may be written: it is read back, and no other text is read.
 mod Words
+mod Cuts
+mod Said
+mod NodeLines
+mod Sets
+mod Stacks
 mod Texts
 mod AfterLines
 mod Lines
 mod Locks
 mod Properties
 pub mod Suites
+pub mod Read
 mod Trees

@@ -4,6 +4,7 @@ pub mod Attributes
 pub mod Bytes
 pub mod Faults
 pub mod Ids
+pub mod Judged
 pub mod Lines
 pub mod Locks
 pub mod Nodes

@@ -2,10 +2,14 @@
 
 ghost use Rattle.std.specs.Prelude.{◌≡◌, ◌≢◌, ◌≤◌, ◌+◌, ◌==◌, length, count_by, IfOk, IfErr, Ok, Err};
 ghost use Rattle.std.specs.Str.{IsUtf8};
+ghost use Rattle.std.specs.Str.Lines.{lines};
+ghost use Rattle.descriptor.specs.Nodes.{IsTree};
 ghost use Rattle.resource_locks.specs.Spares.{HasBareSpares};
+ghost use Rattle.suite_text.specs.Kinds.{words_of, AreNodesOf, IsKind, HasBodies};
 ghost use Rattle.suite_text.specs.Reading.Bytes.{suite_read};
 ghost use Rattle.suite_text.specs.Reading.Faults.{Gives};
 ghost use Rattle.suite_text.specs.Reading.Ids.{IdsFollow};
+ghost use Rattle.suite_text.specs.Reading.Judged.{MayRunOut};
 ghost use Rattle.suite_text.specs.Reading.Parts.{SuiteParts, no_lines, AreBodiesOf, bodies_answered};
 ghost use Rattle.suite_text.specs.Suites.{suite_from, suite_of, suite_of_lines, suite_parts};
 ghost use Rattle.suite_text.specs.Writing.Suites.{IsSuite};
@@ -15,6 +19,7 @@ mod after;
 mod attributes;
 mod builder;
 mod fault;
+mod first_line;
 mod line_word;
 mod lines;
 mod locks;
@@ -30,6 +35,7 @@ use builder::SuiteBuilder;
 use config_params::Params;
 use descriptor::Tree;
 pub use fault::SuiteFault;
+use first_line::judge_first;
 pub use line_word::LineWord;
 use lines::lines_in;
 pub use locks::key_and_mode;
@@ -66,6 +72,7 @@ fn builder_of(alloc: Global, lines: &[&str]) -> Result<SuiteBuilder, SuiteFault>
 /// The suite of all lines of a text.
 fn suite_of_lines(alloc: Global, lines: &[&str]) -> Result<Suite, SuiteFault>
     ensures exact { Gives suite_parts result (suite_of_lines (texts lines.now)) }
+    ensures tree { IfOk result (λ suite. IsTree suite.tree) }
     ensures ids { IfOk result (λ suite. IdsFollow suite.tree) }
     ensures answered { IfOk result (λ suite. AreBodiesOf suite.tree.nodes (bodies_answered suite.scripts.items)) }
 {
@@ -75,21 +82,25 @@ fn suite_of_lines(alloc: Global, lines: &[&str]) -> Result<Suite, SuiteFault>
 /// The suite of a text, line by line.
 fn suite_in(alloc: Global, text: &str) -> Result<Suite, SuiteFault>
     ensures exact { Gives suite_parts result (suite_of text.now) }
+    ensures tree { IfOk result (λ suite. IsTree suite.tree) }
     ensures ids { IfOk result (λ suite. IdsFollow suite.tree) }
     ensures answered { IfOk result (λ suite. AreBodiesOf suite.tree.nodes (bodies_answered suite.scripts.items)) }
-    ensures no_memory { IfErr result (λ fault. fault ≡ SuiteFault.NoMemory → length text.now ≤ 1048576) }
+    ensures no_memory { IfErr result (λ fault. fault ≡ SuiteFault.NoMemory → (length text.now ≤ 1048576)
+        × MayRunOut 1 no_lines (lines text.now)) }
 {
     if text.len() > LONGEST_SUITE {
         return Err(SuiteFault::TooLarge);
     }
+    judge_first(text)?;
     suite_of_lines(alloc, &lines_in(alloc, text)?)
 }
 
 /// The suite of bytes, which are judged before their lines.
 fn suite_of_bytes(alloc: Global, bytes: &[u8]) -> Result<Suite, SuiteFault>
     ensures exact { Gives suite_parts result (suite_read bytes.now) }
+    ensures tree { IfOk result (λ suite. IsTree suite.tree) }
     ensures no_memory { IfErr result (λ fault. fault ≡ SuiteFault.NoMemory → (length bytes.now ≤ 1048576)
-        × IsUtf8 bytes.now) }
+        × IsUtf8 bytes.now × MayRunOut 1 no_lines (lines bytes.now)) }
 {
     if bytes.len() > LONGEST_SUITE {
         return Err(SuiteFault::TooLarge);
@@ -116,24 +127,33 @@ impl Suite {
     /// The suite of a text. Lines end at a line feed, before which a carriage return is dropped;
     /// the last may go without. Refusals: 103 for more than 1,048,576 bytes, else the first
     /// faulty line's: 101, 100, 102, 17 (its id), 10, 12 and 17 (its reason), in this order; of a
-    /// property's line 101, 100, 30, 31. Memory is taken before the first line is judged, so want
-    /// of memory may stand in place of a line's refusal.
+    /// property's line 101, 100, 30, 31. Of the first faulty line want of memory may hide what is
+    /// judged behind a node's name, and no other fault if no line before it takes memory.
     pub fn parse(alloc: Global, text: &str) -> Result<Suite, SuiteFault>
         ensures exact { Gives suite_parts result (suite_of text.now) }
         // A text that may be written for a suite is read as that suite.
         ensures reads_back { (suite : SuiteParts) → IsSuite text.now suite → Gives suite_parts result (Ok suite) }
+        // And no other text is read: each that is may be written for what was read.
+        ensures written { IfOk result (λ suite. IsSuite text.now (suite_parts suite)) }
         // Want of memory is no property of a text.
         ensures never { suite_of text.now ≢ Err SuiteFault.NoMemory }
         // Each node's unique id is its parent's with one more segment, whose value is its name; of a
         // factory's k-th dynamic test `#k`.
         ensures ids { IfOk result (λ suite. IdsFollow suite.tree) }
+        // Each line that declares a node makes one, in order: an engine, a class, a test, a factory or
+        // a dynamic test, by the line's word, with that type in its unique id.
+        ensures kinds { IfOk result (λ suite. AreNodesOf (IsKind suite.tree) suite.tree (words_of (lines text.now))) }
+        // Which of these nodes have a body, and an after-body, and their numbers.
+        ensures bodies { IfOk result (λ suite. AreNodesOf HasBodies suite.tree (words_of (lines text.now))) }
         // No dynamic test declares a lock, and no engine is a factory.
         ensures bare { IfOk result (λ suite. HasBareSpares suite.tree) }
         // Each body of the tree has one script, in the order of the nodes; behind these each
         // after-body has one, in the order of their lines.
         ensures answered { IfOk result (λ suite. AreBodiesOf suite.tree.nodes (bodies_answered suite.scripts.items)) }
-        // Memory is taken only for a text that is not too large.
-        ensures no_memory { IfErr result (λ fault. fault ≡ SuiteFault.NoMemory → length text.now ≤ 1048576) }
+        // Memory is taken only for a text that is not too large, behind lines that are read, and for a
+        // line in which nothing is at fault that is judged before.
+        ensures no_memory { IfErr result (λ fault. fault ≡ SuiteFault.NoMemory → (length text.now ≤ 1048576)
+            × MayRunOut 1 no_lines (lines text.now)) }
     {
         suite_in(alloc, text)
     }
@@ -145,10 +165,12 @@ impl Suite {
         // Bytes that may be written for a suite are read as that suite.
         ensures reads_back { IsUtf8 bytes.now → (suite : SuiteParts) → IsSuite bytes.now suite →
             Gives suite_parts result (Ok suite) }
+        // And no other bytes are read.
+        ensures written { IfOk result (λ suite. IsSuite bytes.now (suite_parts suite)) }
         ensures bare { IfOk result (λ suite. HasBareSpares suite.tree) }
-        // Memory is taken only for bytes that are a text, and not too large a one.
+        // Memory is taken only for bytes that are a text, not too large a one, and as `parse` takes it.
         ensures no_memory { IfErr result (λ fault. fault ≡ SuiteFault.NoMemory → (length bytes.now ≤ 1048576)
-            × IsUtf8 bytes.now) }
+            × IsUtf8 bytes.now × MayRunOut 1 no_lines (lines bytes.now)) }
     {
         suite_of_bytes(alloc, bytes)
     }

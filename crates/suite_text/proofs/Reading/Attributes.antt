@@ -42,7 +42,7 @@ module _ (number : ℕ) (kind : Word) (said : Attributes) (text : List ℕ) wher
   at_end none = first_of (front text) ∙ ap on_found none
 
   module _ (attribute : Attribute) (is : attribute_of kind (first_word text) ≡ Some attribute) where
-    step : all ≡ (with_attribute number said (first_word text) attribute >>= rest_after)
+    pub step : all ≡ (with_attribute number said (first_word text) attribute >>= rest_after)
     step = first_of (front text) ∙ ap on_found is
 
     pub next_read : (next : Attributes) → with_attribute number said (first_word text) attribute ≡ Ok next → rest_after next ≡ all

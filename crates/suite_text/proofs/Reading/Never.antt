@@ -36,7 +36,7 @@ use Rattle.config_params.specs.Pairs as pairs
 use Rattle.config_params.specs.Pairs.{Pair, is_equals_sign, said}
 use Rattle.config_params.specs.Parameters.{Parameters}
 use Rattle.suite_text.specs.Reading.Properties.{with_said, with_property}
-use Rattle.suite_text.specs.Suites.{with_declared, with_declaration, with_words_on, is_property_in, with_pair, with_properties, with_line, suite_from, suite_of}
+use Rattle.suite_text.specs.Suites.{with_declared, with_declaration, with_words_on, is_property_in, with_pair, with_properties, with_line, suite_from, suite_of_lines, suite_of}
 
 abbrev Never : {A : Type 0} → Result A SuiteFault → Type 0
 Never r = r ≢ Err NoMemory
@@ -194,5 +194,8 @@ from_never : (number : ℕ) (read : LinesRead) (ls : List (List ℕ)) → Never 
 from_never number read [] = λ e. cc
 from_never number read (line ∷ more) = then_never (with_line number read line) (λ next. suite_from (number + 1) next more) (line_never number read line) (λ next. from_never (number + 1) next more)
 
+pub lines_never : (ls : List (List ℕ)) → suite_of_lines ls ≢ Err NoMemory
+lines_never ls = then_never (suite_from 1 no_lines ls) _ (from_never 1 no_lines ls) (λ read. λ e. cc)
+
 pub never_no_memory : (text : List ℕ) → suite_of text ≢ Err NoMemory
-never_no_memory text = if_never (nat_lt 1048576 (length text)) _ _ (λ e. cc) (then_never (suite_from 1 no_lines (lines text)) _ (from_never 1 no_lines (lines text)) (λ read. λ e. cc))
+never_no_memory text = if_never (nat_lt 1048576 (length text)) _ _ (λ e. cc) (lines_never (lines text))

@@ -38,20 +38,20 @@ use Rattle.suite_text.specs.Reading.Words.{Declaration, word_of, may_stand, plac
 use Rattle.suite_text.proofs.Reading.Paths.{get_before, get_last}
 
 -- What holds of each answer of a step.
-then_holds : {A B : Type 0} (P : A → Type 0) (Q : B → Type 0) (r : Result A SuiteFault) (f : A → Result B SuiteFault) → IfOk r P → ((x : A) → P x → IfOk (f x) Q) → IfOk (r >>= f) Q
+pub then_holds : {A B : Type 0} (P : A → Type 0) (Q : B → Type 0) (r : Result A SuiteFault) (f : A → Result B SuiteFault) → IfOk r P → ((x : A) → P x → IfOk (f x) Q) → IfOk (r >>= f) Q
 then_holds P Q (Ok x) f h g = g x h
 then_holds P Q (Err fault) f h g = tt
 
-chosen : {A : Type 0} (P : A → Type 0) (b : Bool) (r s : Result A SuiteFault) → (b ≡ true → IfOk r P) → IfOk s P → IfOk (if b then r else s) P
+pub chosen : {A : Type 0} (P : A → Type 0) (b : Bool) (r s : Result A SuiteFault) → (b ≡ true → IfOk r P) → IfOk s P → IfOk (if b then r else s) P
 chosen P true r s h k = h refl
 chosen P false r s h k = k
 
-always : {A : Type 0} (P : A → Type 0) (r : Result A SuiteFault) → ((x : A) → P x) → IfOk r P
+pub always : {A : Type 0} (P : A → Type 0) (r : Result A SuiteFault) → ((x : A) → P x) → IfOk r P
 always P (Ok x) h = h x
 always P (Err fault) h = tt
 
 -- of a step of which nothing has to be known
-after_any : {A B : Type 0} (Q : B → Type 0) (r : Result A SuiteFault) (f : A → Result B SuiteFault) → ((x : A) → IfOk (f x) Q) → IfOk (r >>= f) Q
+pub after_any : {A B : Type 0} (Q : B → Type 0) (r : Result A SuiteFault) (f : A → Result B SuiteFault) → ((x : A) → IfOk (f x) Q) → IfOk (r >>= f) Q
 after_any Q (Ok x) f h = h x
 after_any Q (Err fault) f h = tt
 
@@ -96,10 +96,10 @@ record IsBareBelow (above : Option Word) (d : Declaration) : Type 0 where
   pub stands : may_stand above d.word ≡ true
   pub locks : d.word ≡ Dyn → d.attributes.locks ≡ []
 
-abbrev Stands : Option Word → Word → Type 0
+abbrev pub Stands : Option Word → Word → Type 0
 Stands above word = may_stand above word ≡ true
 
-placed_stands : (number : ℕ) (above word : Option Word) → IfOk (placed number above word) (Stands above)
+pub placed_stands : (number : ℕ) (above word : Option Word) → IfOk (placed number above word) (Stands above)
 placed_stands number above None = tt
 placed_stands number above (Some word) = chosen (Stands above) (may_stand above word) (Ok word) _ (λ e. e) tt
 

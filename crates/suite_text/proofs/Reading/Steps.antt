@@ -22,7 +22,7 @@ fails_then fault r f h = λ other. ap (λ x. x >>= f) (h other)
 pub fails_as : {A : Type 0} (fault : SuiteFault) (r s : Result A SuiteFault) → r ≡ s → Fails fault r → Fails fault s
 fails_as fault r s e h = λ other. sym e ∙ h other
 
-texts_drop : (xs : List (Bor (List ℕ))) (i : ℕ) (d : Bor (List ℕ)) → i < length xs → drop i (texts xs) ≡ (get_or xs i d).now ∷ drop (i + 1) (texts xs)
+pub texts_drop : (xs : List (Bor (List ℕ))) (i : ℕ) (d : Bor (List ℕ)) → i < length xs → drop i (texts xs) ≡ (get_or xs i d).now ∷ drop (i + 1) (texts xs)
 texts_drop xs i d h =
     let now : Bor (List ℕ) → List ℕ = λ x. x.now in
     drop-map now i xs ∙ ap (map now) (drop_more xs i d h) ∙ ap (λ t. now (get_or xs i d) ∷ t) (sym (drop-map now (i + 1) xs))

@@ -34,7 +34,7 @@ last_differs key front e =
 abbrev named : List ℕ → LockSign → Lock
 named key sign = record { key = key; mode = sign_mode sign }
 
-lock_is : (key : List ℕ) (sign : LockSign) → MaySign key sign → lock_of (key ++ sign_text sign) ≡ named key sign
+pub lock_is : (key : List ℕ) (sign : LockSign) → MaySign key sign → lock_of (key ++ sign_text sign) ≡ named key sign
 lock_is key Plain may = ap lock_of (append-nil key) ∙ sym (plain_is key may.0 may.1)
 lock_is key Reads may = rw (ends (key ++ codes ":r") key (codes ":r") refl) (ap (λ k. named k Reads) (front_is 2 key (codes ":r") refl))
 lock_is key Writes may =

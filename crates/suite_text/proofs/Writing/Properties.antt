@@ -12,9 +12,9 @@ use Rattle.suite_text.specs.Reading.Lines as lines
 use Rattle.suite_text.specs.Reading.Lines.{first_word, after_word, level_of}
 use Rattle.suite_text.specs.Reading.Properties.{is_property, with_said, with_property}
 use Rattle.suite_text.specs.Writing.Lines.{IsWord}
-use Rattle.suite_text.specs.Writing.Properties.{is_blank, AreBlanks, Between, between_text, IsBetween, IsKey, Property, Sets, Remarks, said_text, property_text, IsProperty, said_to}
+use Rattle.suite_text.specs.Writing.Properties.{is_blank, AreBlanks, Between, between_text, IsBetween, IsKey, Property, Sets, Remarks, Bare, said_text, property_text, IsProperty, said_to}
 use Rattle.suite_text.proofs.Trimmed.{from_front, to_end, front_passes, front_kept, between}
-use Rattle.suite_text.proofs.Writing.Words.{or_true, first_is, after_is}
+use Rattle.suite_text.proofs.Writing.Words.{Follows, or_true, first_is, after_is}
 
 -- spaces and tabs round a text
 between_is : (b : Between) → IsBetween b → to_end is_blank (from_front is_blank (between_text b)) ≡ b.text
@@ -96,9 +96,10 @@ remark front comment h (inr sign) = ap (λ t. (length t == 0) || begins_with_sig
     comment_says : (rest : List ℕ) → pairs.says_nothing (35 ∷ rest) ≡ true
     comment_says rest = or_true (length (35 ∷ rest) == 0)
 
-said_back : (number : ℕ) (params : Parameters) (property : Property) → IsProperty property → with_said params (property_of number (said_text property)) ≡ Ok (said_to params property)
+said_back : (number : ℕ) (params : Parameters) (property : Property) → IsProperty property → with_said params (property_of number (drop 1 (said_text property))) ≡ Ok (said_to params property)
+said_back number params Bare is = refl
 said_back number params (Sets key value) is =
-    ap (λ b. with_said params (if b then Ok None else pairs.said (pair_of number (said_text (Sets key value))))) (says number key value is.0 is.1)
+    ap (λ b. with_said params (if b then Ok None else pairs.said (pair_of number (between_text key ++ (61 ∷ between_text value))))) (says number key value is.0 is.1)
     ∙ ap (λ r. with_said params (pairs.said r)) (pair_is number key value is.0 is.1)
 said_back number params (Remarks front comment) is =
     ap (λ b. with_said params (if b then Ok None else pairs.said (pair_of number (front ++ comment)))) (remark front comment is.0 is.1)
@@ -106,6 +107,11 @@ said_back number params (Remarks front comment) is =
 -- the line
 is_word : IsWord (codes "property")
 is_word = (omega arith, search rules)
+
+behind_word : (property : Property) → Follows (said_text property)
+behind_word (Sets key value) = refl
+behind_word (Remarks front comment) = refl
+behind_word Bare = tt
 
 module _ (property : Property) where
   pub property_says : lines.says_nothing (property_text property) ≡ false
@@ -115,8 +121,8 @@ module _ (property : Property) where
   property_level number = refl
 
   pub property_is : is_property (property_text property) ≡ true
-  property_is = ap (λ t. bytes_eq t (codes "property")) (first_is 0 (codes "property") (32 ∷ said_text property) is_word refl)
+  property_is = ap (λ t. bytes_eq t (codes "property")) (first_is 0 (codes "property") (said_text property) is_word (behind_word property))
 
   pub property_back : (number : ℕ) (params : Parameters) → IsProperty property → with_property number params (property_text property) ≡ Ok (said_to params property)
   property_back number params is =
-      ap (λ t. with_said params (property_of number t)) (after_is 0 (codes "property") (32 ∷ said_text property) is_word refl) ∙ said_back number params property is
+      ap (λ t. with_said params (property_of number t)) (after_is 0 (codes "property") (said_text property) is_word (behind_word property)) ∙ said_back number params property is

@@ -194,7 +194,7 @@ module _ (number level : ℕ) (read : LinesRead) (line : AfterLine) (fits : leve
     with_afters l = record { tree = with_after read.tree class_node (after_body class_node); scripts = read.scripts; afters = l; properties = read.properties }
 
 -- the nodes that are fronts on the path so far
-above_front : (level n : ℕ) (path : List Opened) → level ≤ n → above (take n path) level ≡ above path level
+pub above_front : (level n : ℕ) (path : List Opened) → level ≤ n → above (take n path) level ≡ above path level
 above_front zero n path h = refl
 above_front (suc l) n path h = get_front l n path (omega (arith, h)) where
   get_front : (l n : ℕ) (path : List Opened) → l < n → slice_get (take n path) l ≡ slice_get path l

@@ -8,10 +8,10 @@ use Rattle.std.proofs.lemmas.List.Splits.{slice_split-cons_yes, slice_split-cons
 use Rattle.suite_text.specs.Writing.Suites.{Line, LineEnd, Feed, ReturnFeed, TextEnd, end_text, text_of_lines, MayEndWith, AreLines}
 use Rattle.suite_text.proofs.Reading.Paths.{get_last}
 
-abbrev is_feed : ℕ → Bool
+abbrev pub is_feed : ℕ → Bool
 is_feed byte = byte == 10
 
-abbrev HasNoFeed : List ℕ → Type 0
+abbrev pub HasNoFeed : List ℕ → Type 0
 HasNoFeed text = AllByRecursion (λ byte. (byte == 10) ≡ false) text
 
 split_line : (x bs : List ℕ) → HasNoFeed x → slice_split is_feed (x ++ 10 ∷ bs) ≡ x ∷ slice_split is_feed bs
@@ -45,7 +45,7 @@ with_return x =
     let found : slice_index (x ++ 13 ∷ []) (length (x ++ 13 ∷ []) - 1) ≡ 13 = ap (slice_index (x ++ 13 ∷ [])) place ∙ get_last x 13 in
     ap (λ k. cond (k == 13) (take (length (x ++ 13 ∷ []) - 1) (x ++ 13 ∷ [])) (x ++ 13 ∷ [])) found ∙ ap (λ k. take k (x ++ 13 ∷ [])) place ∙ take_at x (13 ∷ []) _ refl
 
-last_line : (x : List ℕ) → 0 < length x → lines_of_parts (x ∷ []) ≡ x ∷ []
+pub last_line : (x : List ℕ) → 0 < length x → lines_of_parts (x ∷ []) ≡ x ∷ []
 last_line [] h = absurd (omega (arith, h))
 last_line (b ∷ x) h = ap (λ z. cond z [] ((b ∷ x) ∷ [])) (ne_eqb (length (b ∷ x)) 0 (λ e. omega (arith, e)))
 

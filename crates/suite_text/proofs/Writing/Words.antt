@@ -28,7 +28,7 @@ pub all_spaces : (bs : List ℕ) → AllByRecursion (λ byte. is_space byte ≡ 
 all_spaces [] h = refl
 all_spaces (b ∷ bs) h = spaced b bs h.0 ∙ all_spaces bs h.1
 
-are_spaces : (n : ℕ) → AllByRecursion (λ byte. is_space byte ≡ true) (spaces n)
+pub are_spaces : (n : ℕ) → AllByRecursion (λ byte. is_space byte ≡ true) (spaces n)
 are_spaces zero = tt
 are_spaces (suc n) = (refl, are_spaces n)
 
@@ -78,11 +78,11 @@ spaces_end : (n : ℕ) → spaces n ++ 32 ∷ [] ≡ 32 ∷ spaces n
 spaces_end zero = refl
 spaces_end (suc n) = ap (λ l. 32 ∷ l) (spaces_end n)
 
-reverse_spaces : (n : ℕ) → reverse (spaces n) ≡ spaces n
+pub reverse_spaces : (n : ℕ) → reverse (spaces n) ≡ spaces n
 reverse_spaces zero = refl
 reverse_spaces (suc n) = reverse-append (32 ∷ []) (spaces n) ∙ ap (λ l. l ++ 32 ∷ []) (reverse_spaces n) ∙ spaces_end n
 
-length_spaces : (n : ℕ) → length (spaces n) ≡ n
+pub length_spaces : (n : ℕ) → length (spaces n) ≡ n
 length_spaces zero = refl
 length_spaces (suc n) = ap suc (length_spaces n)
 

@@ -35,26 +35,30 @@ pub record IsKey (b : Between) : Type 0 where
   pub no_sign : begins_with_sign b.text ≡ false
   pub no_equals : AllByRecursion (λ byte. is_equals_sign byte ≡ false) b.text
 
--- what a property's line says: a key and its value; or nothing, with a comment or without
+-- what a property's line says: a key and its value; or nothing, with a comment or without; or nothing, and the word is all of it
 pub data Property : Type 0 where
   Sets : (key value : Between) → Property
   Remarks : (front comment : List ℕ) → Property
+  Bare : Property
 
--- what stands behind the word and one space
+-- what stands behind the word
 abbrev pub said_text : Property → List ℕ
-said_text (Sets key value) = between_text key ++ (61 ∷ between_text value)
-said_text (Remarks front comment) = front ++ comment
+said_text (Sets key value) = 32 ∷ (between_text key ++ (61 ∷ between_text value))
+said_text (Remarks front comment) = 32 ∷ (front ++ comment)
+said_text Bare = []
 
 -- the text of its line
 abbrev pub property_text : Property → List ℕ
-property_text property = codes "property" ++ (32 ∷ said_text property)
+property_text property = codes "property" ++ said_text property
 
 -- it may be written so
 abbrev pub IsProperty : Property → Type 0
 IsProperty (Sets key value) = IsKey key × IsBetween value
 IsProperty (Remarks front comment) = AreBlanks front × ((comment ≡ []) ⊎ ((rest : List ℕ) × (comment ≡ 35 ∷ rest)))
+IsProperty Bare = Unit {0}
 
 -- parameters with what it says
 abbrev pub said_to : Parameters → Property → Parameters
 said_to params (Sets key value) = with_value params File (key.text, value.text)
 said_to params (Remarks front comment) = params
+said_to params Bare = params

@@ -325,7 +325,11 @@ fn grow(
     ensures path_kept { OnErr result (path.new.items ≡ path.old.items) }
     ensures scripts_kept { OnErr result (scripts.new.items ≡ scripts.old.items) }
 {
-    make_room(path, scripts)?;
+    if let Err(fault) = make_room(path, scripts) {
+        // one call, where `?` writes out the drop of each field
+        drop(made);
+        return Err(TreeFault::from(fault));
+    }
     let word = made.word;
     let node = hang(alloc, tree, scripts, parent, made)?;
     open_on(path, level, Opened { node, word });
@@ -397,6 +401,7 @@ impl SuiteBuilder {
     ghost use Rattle.suite_text.specs.Reading.Lines.{indentation_of};
     ghost use Rattle.suite_text.specs.Reading.Nodes.{node_on, is_over_limit_on, script_declared};
     ghost use Rattle.suite_text.specs.Reading.Faults.{Fails, Gives};
+    ghost use Rattle.suite_text.specs.Reading.Judged.{judged_after, judged_node, judged_declaration, judged_words, TakesMemory, MayRunOut};
     ghost use Rattle.suite_text.specs.Reading.After.{class_of, with_after_body, with_after_line};
     ghost use Rattle.suite_text.specs.Suites.{is_property_in, with_declared, with_node_words, with_declaration};
     ghost use Rattle.suite_text.specs.Suites.{with_words, with_line, suite_from, suite_parts};
@@ -588,6 +593,8 @@ impl SuiteBuilder {
         requires { level ≤ length self.old.path }
         ensures added { OnOk result (with_after_line number self.old level rest.now ≡ Ok self.new) }
         ensures refused { IfErr result (λ fault. Fails fault (with_after_line number self.old level rest.now)) }
+        ensures no_memory { IfErr result (λ fault. fault ≡ SuiteFault.NoMemory →
+            judged_after number self.old level rest.now ≡ Ok tt) }
     {
         let class = self.class_on(number, level)?;
         let (status, text) = after_in(number, rest)?;
@@ -618,6 +625,8 @@ impl SuiteBuilder {
         ensures added { OnOk result (with_node_words number self.old level first.now rest.now ≡ Ok self.new) }
         ensures refused { IfErr result (λ fault. Fails fault
             (with_node_words number self.old level first.now rest.now)) }
+        ensures no_memory { IfErr result (λ fault. fault ≡ SuiteFault.NoMemory →
+            judged_node number (word_on self.old level) first.now rest.now ≡ Ok tt) }
     {
         let declared = declared_as(alloc, number, self.word_on(level), first, rest)?;
         self.declare(alloc, number, level, declared)
@@ -634,6 +643,8 @@ impl SuiteBuilder {
         requires { level ≤ length self.old.path }
         ensures added { OnOk result (with_declaration number self.old level line.now ≡ Ok self.new) }
         ensures refused { IfErr result (λ fault. Fails fault (with_declaration number self.old level line.now)) }
+        ensures no_memory { IfErr result (λ fault. fault ≡ SuiteFault.NoMemory →
+            judged_declaration number self.old level line.now ≡ Ok tt) }
     {
         let (first, rest) = next_word(line);
         if first == LineWord::After.spelling() {
@@ -654,6 +665,8 @@ impl SuiteBuilder {
         requires { indentation ≡ indentation_of line.now }
         ensures added { OnOk result (with_words number self.old line.now ≡ Ok self.new) }
         ensures refused { IfErr result (λ fault. Fails fault (with_words number self.old line.now)) }
+        ensures no_memory { IfErr result (λ fault. fault ≡ SuiteFault.NoMemory →
+            judged_words number self.old line.now ≡ Ok tt) }
     {
         let level = level_at(number, self.levels(), indentation)?;
         if self.is_property(line) {
@@ -673,6 +686,8 @@ impl SuiteBuilder {
     fn read_line(&mut self, alloc: Global, number: usize, line: &str) -> Result<(), SuiteFault>
         ensures added { OnOk result (with_line number self.old line.now ≡ Ok self.new) }
         ensures refused { IfErr result (λ fault. Fails fault (with_line number self.old line.now)) }
+        // Memory is taken only if nothing is at fault that is judged before.
+        ensures no_memory { IfErr result (λ fault. fault ≡ SuiteFault.NoMemory → TakesMemory number self.old line.now) }
     {
         let indentation = indentation(line);
         if says_nothing(indentation, line) {
@@ -685,6 +700,9 @@ impl SuiteBuilder {
     pub(crate) fn read_lines(&mut self, alloc: Global, lines: &[&str]) -> Result<(), SuiteFault>
         ensures added { OnOk result (suite_from 1 self.old (texts lines.now) ≡ Ok self.new) }
         ensures refused { IfErr result (λ fault. Fails fault (suite_from 1 self.old (texts lines.now))) }
+        // Want of memory comes behind lines that are read.
+        ensures no_memory { IfErr result (λ fault. fault ≡ SuiteFault.NoMemory →
+            MayRunOut 1 self.old (texts lines.now)) }
     {
         for (index, line) in lines.iter().enumerate() {
             self.read_line(alloc, index + 1, line)?;
@@ -695,6 +713,7 @@ impl SuiteBuilder {
     /// What the lines have made.
     pub(crate) fn finish(self, alloc: Global) -> Result<Suite, AllocError>
         ensures parts { IfOk result (λ suite. suite_parts suite ≡ parts_of self) }
+        ensures tree { IfOk result (λ suite. IsTree suite.tree) }
         ensures ids { IfOk result (λ suite. IdsFollow suite.tree) }
         ensures answered { IfOk result (λ suite. AreBodiesOf suite.tree.nodes (bodies_answered suite.scripts.items)) }
     {

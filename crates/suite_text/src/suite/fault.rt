@@ -31,13 +31,13 @@ fn write_line<W: fmt::Write>(f: &mut fmt::Formatter<W>, line: usize, what: &str)
 impl fmt::Display for SuiteFault {
     fn fmt<W: fmt::Write>(&self, f: &mut fmt::Formatter<W>) -> fmt::Result {
         match self {
-            SuiteFault::NoMemory => write!(f, "no memory"),
+            SuiteFault::NoMemory => f.write_str("no memory"),
             SuiteFault::BadLine(line) => write_line(f, *line, "a word that may not stand there"),
             SuiteFault::BadIndent(line) => {
                 write_line(f, *line, "an indentation that no line above can take")
             }
             SuiteFault::MissingVerdict(line) => write_line(f, *line, "no verdict"),
-            SuiteFault::TooLarge => write!(f, "more than 1048576 bytes"),
+            SuiteFault::TooLarge => f.write_str("more than 1048576 bytes"),
             SuiteFault::Refused { fault, line } => write!(f, "line {line}: {fault}"),
             SuiteFault::BadProperty(fault) => write!(f, "{fault}"),
         }

@@ -2,6 +2,7 @@
 
 ghost use Rattle.std.specs.Prelude.{◌≡◌, OnOk, IfErr, Ok};
 ghost use Rattle.suite_text.specs.Reading.Faults.{Fails};
+ghost use Rattle.suite_text.specs.Reading.Judged.{judged_property};
 ghost use Rattle.suite_text.specs.Reading.Properties.{is_property, with_property};
 
 use crate::suite::fault::SuiteFault;
@@ -26,6 +27,8 @@ pub(crate) fn put_property(
 ) -> Result<(), SuiteFault>
     ensures added { OnOk result (with_property number params.old line.now ≡ Ok params.new) }
     ensures refused { IfErr result (λ fault. Fails fault (with_property number params.old line.now)) }
+    // Memory is taken only for a line that is not at fault.
+    ensures no_memory { IfErr result (λ fault. fault ≡ SuiteFault.NoMemory → judged_property number line.now ≡ Ok tt) }
 {
     match property_of(number, next_word(line).1) {
         Ok(Some(pair)) => Ok(params.add(alloc, Source::File, pair.key, pair.value)?),

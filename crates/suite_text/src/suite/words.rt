@@ -1,10 +1,11 @@
 //! What the words of a line declare.
 
-ghost use Rattle.std.specs.Prelude.{◌≡◌, ◌≢◌, IfOk, IfErr, Some};
+ghost use Rattle.std.specs.Prelude.{◌≡◌, ◌≢◌, IfOk, IfErr, Some, Ok};
 ghost use Rattle.std.specs.List.{Contains};
 ghost use Rattle.suite_text.specs.Reading.Words.{word_of, may_stand, placed, with_attributes};
 ghost use Rattle.suite_text.specs.Reading.Words.{with_name, declared_as, declaration_of};
 ghost use Rattle.suite_text.specs.Reading.Faults.{Gives};
+ghost use Rattle.suite_text.specs.Reading.Judged.{judged_name, judged_node};
 ghost use Rattle.suite_text.specs.Grammar.{words};
 ghost use Rattle.suite_text.specs.Writing.Lines.{word_text};
 ghost use Rattle.suite_text.specs.declared.suite.words.Word.{Word};
@@ -232,7 +233,11 @@ impl<'a> Declared<'a> {
 }
 
 /// The word, where it may stand right below a node of the word above.
-fn placed(number: usize, above: Option<Word>, word: Option<Word>) -> Result<Word, SuiteFault>
+pub(crate) fn placed(
+    number: usize,
+    above: Option<Word>,
+    word: Option<Word>,
+) -> Result<Word, SuiteFault>
     ensures exact { Gives (λ word. word) result (placed number above word) }
     ensures real { IfErr result (λ fault. fault ≢ SuiteFault.NoMemory) }
 {
@@ -272,7 +277,9 @@ fn with_name<'a>(
     word: Word,
     rest: &'a str,
 ) -> Result<Declared<'a>, SuiteFault>
-    ensures { Gives declaration_of result (with_name number word rest.now) }
+    ensures exact { Gives declaration_of result (with_name number word rest.now) }
+    // Memory is taken only for a line that has a name.
+    ensures no_memory { IfErr result (λ fault. fault ≡ SuiteFault.NoMemory → judged_name number rest.now ≡ Ok tt) }
 {
     let (name, rest) = next_word(rest);
     if name.is_empty() {
@@ -289,7 +296,10 @@ pub(crate) fn declared_as<'a>(
     first: &str,
     rest: &'a str,
 ) -> Result<Declared<'a>, SuiteFault>
-    ensures { Gives declaration_of result (declared_as number above first.now rest.now) }
+    ensures exact { Gives declaration_of result (declared_as number above first.now rest.now) }
+    // Memory is taken only for a word that may stand there, and that a name follows.
+    ensures no_memory { IfErr result (λ fault. fault ≡ SuiteFault.NoMemory →
+        judged_node number above first.now rest.now ≡ Ok tt) }
 {
     let word = placed(number, above, Word::spelled(first))?;
     with_name(alloc, number, word, rest)

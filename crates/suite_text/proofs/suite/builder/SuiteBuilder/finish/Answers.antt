@@ -1,12 +1,15 @@
 -- Each body and after-body has one script.
 use Rattle.std.proofs.Common.{◌≡◌, List, arith, subst, sym}
 use Rattle.std.proofs.lemmas.Grind.{common_steps}
-use Rattle.descriptor.specs.Nodes.{Nodes}
+use Rattle.descriptor.specs.Nodes.{Nodes, IsTree}
 use Rattle.suite_text.specs.declared.script.Script.{Script}
 use Rattle.suite_text.specs.Reading.Parts.{AreBodiesOf, bodies_answered, parts_of}
 use Rattle.suite_text.specs.Inside.Paths.{IsSound}
 use Rattle.suite_text.proofs.Reading.Pulls.{all_answered}
 use Rattle.suite_text.proofs.suite.builder.SuiteBuilder.finish.Goals as goal
+
+pub returns-clause-tree : goal.returns-clause-tree
+returns-clause-tree c = subst IsTree (sym c.in_ok-suite.ensures.tree) c.finish-tree.ensures.tree
 
 pub returns-clause-answered : goal.returns-clause-answered
 returns-clause-answered c =
