@@ -1,5 +1,5 @@
 -- What is printed of a complete legal history, where nothing fails fast, is what is expected of the tree: every such history gives the
--- same tree, counts, tests and failure.
+-- same tree, XML, counts, tests and failure.
 use Rattle.std.proofs.Common.{◌≡◌, ℕ, ◌<◌, ◌&&◌, ◌||◌, not, nat_lt, false, List, [], length, ap, ◌∙◌, arith}
 use Rattle.descriptor.specs.Kinds.{is_test}
 use Rattle.descriptor.specs.Nodes.{IsTree, size, kind_of, is_spare_at}
@@ -7,6 +7,8 @@ use Rattle.plan_events.specs.declared.event.Event.{Event}
 use Rattle.plan_events.specs.declared.outcome.Reply.{Reply}
 use Rattle.plan_events.specs.Statuses.{is_failed}
 use Rattle.plan_events.specs.Texts.{TextParts, text_at}
+use Rattle.reports.specs.Junit.{junit_of}
+use Rattle.reports.proofs.SameReports.{same_report}
 use Rattle.resource_locks.specs.Plans.{PlanParts}
 use Rattle.event_history.specs.Expected.{HasOneReply}
 use Rattle.event_history.specs.History.{IsLegal, IsComplete, IsTextOf}
@@ -17,7 +19,7 @@ use Rattle.listeners.specs.Results.{is_failure, tests_found, has_failed}
 use Rattle.listeners.specs.Told.{ended, told_of, all_told}
 use Rattle.listeners.specs.TreeTexts.{tree_of}
 use Rattle.listeners.proofs.Places.{places_len}
-use Rattle.expected_output.specs.Expectations.{expected_told, all_expected, expected_texts, expected_tree, expected_counts, is_expected_found, expected_tests, is_expected_failure, expects_failure, IsPrintedAsExpected}
+use Rattle.expected_output.specs.Expectations.{expected_told, all_expected, expected_texts, expected_tree, expected_xml, expected_counts, is_expected_found, expected_tests, is_expected_failure, expects_failure, IsPrintedAsExpected}
 use Rattle.expected_output.proofs.Alike.{same_map, same_any, same_count, same_lines}
 use Rattle.expected_output.proofs.ToldAsExpected.{told_is, text_is}
 
@@ -33,6 +35,11 @@ module _ (p : PlanParts) (tree : IsTree p.tree) (reply : ℕ → Reply) (replies
   pub tree_as_expected : (theme : Theme) (texts : TextParts) → ((n : ℕ) → n < size p.tree → IsTextOf p replies h n (text_at texts n)) → tree_of theme p texts h ≡ expected_tree theme p.tree reply
   tree_as_expected theme texts are =
       same_lines theme p.tree texts (expected_texts p.tree reply) (told_of h) (expected_told p.tree reply) told_so (λ n inside. text_is p tree reply replies one calm workers h legal complete texts n inside (are n inside)) (size p.tree) [] 0
+
+  -- the report in XML
+  pub xml_as_expected : (texts : TextParts) → ((n : ℕ) → n < size p.tree → IsTextOf p replies h n (text_at texts n)) → junit_of p texts h ≡ expected_xml p.tree reply
+  xml_as_expected texts are =
+      same_report p tree [] [] [] false texts (expected_texts p.tree reply) (λ n inside. text_is p tree reply replies one calm workers h legal complete texts n inside (are n inside)) h (expected_told p.tree reply) told_so
 
   -- the twelve counts
   pub counts_as_expected : counts_of p h ≡ expected_counts p.tree reply
@@ -51,4 +58,4 @@ module _ (p : PlanParts) (tree : IsTree p.tree) (reply : ℕ → Reply) (replies
 
   -- All of it.
   pub printed_as_expected : (texts : TextParts) → ((n : ℕ) → n < size p.tree → IsTextOf p replies h n (text_at texts n)) → IsPrintedAsExpected p reply h texts
-  printed_as_expected texts are = record { tree = λ theme. tree_as_expected theme texts are; counts = counts_as_expected; tests = tests_as_expected; failure = failure_as_expected }
+  printed_as_expected texts are = record { tree = λ theme. tree_as_expected theme texts are; xml = xml_as_expected texts are; counts = counts_as_expected; tests = tests_as_expected; failure = failure_as_expected }

@@ -17,6 +17,8 @@ use Rattle.plan_events.specs.declared.note.Note.TheVariants.{Reason, Own}
 use Rattle.plan_events.specs.declared.outcome.Reply.{Reply}
 use Rattle.plan_events.specs.Statuses.{is_failed}
 use Rattle.plan_events.specs.Texts.{TextParts, reasons_of}
+use Rattle.reports.specs.Junit.{junit_of}
+use Rattle.reports.specs.JunitBy.{junit_by}
 use Rattle.resource_locks.specs.Plans.{PlanParts}
 
 -- a plan on this tree; modes and locks say nothing of results
@@ -57,6 +59,10 @@ expected_texts t reply = record { notes = map (λ n. note_by (result_at t reply 
 abbrev pub expected_tree : Theme → Nodes → (ℕ → Reply) → List ℕ
 expected_tree theme t reply = lines_below (record { theme = theme; tree = t; texts = expected_texts t reply; told = expected_told t reply }) (size t) [] 0
 
+-- the report in XML
+abbrev pub expected_xml : Nodes → (ℕ → Reply) → List ℕ
+expected_xml t reply = junit_by (plan_on t) (expected_texts t reply) (expected_told t reply)
+
 -- the twelve counts
 abbrev pub expected_counts : Nodes → (ℕ → Reply) → List ℕ
 expected_counts t reply = counts_in (outline_of t) (all_expected t reply)
@@ -80,6 +86,7 @@ expects_failure t reply = list_any (is_expected_failure t reply) (range_with_len
 -- what is printed of this history with these texts is what is expected of the tree and the replies
 pub record IsPrintedAsExpected (p : PlanParts) (reply : ℕ → Reply) (h : List Event) (texts : TextParts) : Type 0 where
   pub tree : (theme : Theme) → tree_of theme p texts h ≡ expected_tree theme p.tree reply
+  pub xml : junit_of p texts h ≡ expected_xml p.tree reply
   pub counts : counts_of p h ≡ expected_counts p.tree reply
   pub tests : tests_found p h ≡ expected_tests p.tree reply
   pub failure : has_failed p h ≡ expects_failure p.tree reply

@@ -1,6 +1,6 @@
 //! What a run prints that does not fail fast is decided by its tree and the replies of its jobs:
-//! every complete legal history, of any number of workers, gives the same tree, counts, tests and
-//! failure. There is no code here, only definitions and the theorem.
+//! every complete legal history, of any number of workers, gives the same tree, XML, counts, tests
+//! and failure. There is no code here, only definitions and the theorem.
 #![tactic(auto)]
 
 ghost use Rattle.std.specs.Prelude.{◌≡◌, ◌<◌, ℕ, List, false};

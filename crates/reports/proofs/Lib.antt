@@ -1,8 +1,14 @@
--- Lemmas on how texts grow, on what is told of nodes, on class names and on suites.
+-- Lemmas on how texts grow, on JSON, on what is told of nodes, on class names, on suites and on whole reports.
 pub mod Children
+pub mod Escapes
 pub mod Growing
+pub mod JsonEvents
+pub mod JsonLines
+pub mod JsonWritten
 pub mod Naming
+pub mod PlanTold
 mod Pushing
+pub mod SameReports
 pub mod Suites
 pub mod ToldMore
 pub mod Upward

@@ -5,3 +5,8 @@ use Rattle.std.specs.Result.{is_ok}
 pub pushed : {T E : Type 0} (r : Result T E) (new old piece : List ℕ) → new ≡ (if is_ok r then old ++ piece else old) → OnOk r (new ≡ old ++ piece)
 pushed (Ok x) new old piece is = is
 pushed (Err e) new old piece is = tt
+
+-- what holds anyway
+pub if_ok : {T E : Type 0} {P : Type 0} (r : Result T E) → P → OnOk r P
+if_ok (Ok x) p = p
+if_ok (Err e) p = tt

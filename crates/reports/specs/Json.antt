@@ -1,9 +1,15 @@
--- The JSON of a run: an object for each event, in their order, each on a line of its own.
-use Rattle.std.specs.Prelude.{ℕ, ◌==◌, cond, List, [], ◌∷◌, ◌++◌, codes, Option, Some}
+-- The JSON of a run: an object for each event, in their order, each on a line of its own. What an object is, what text is written for
+-- it and what a text is read as are the kit's own words, those of its crate `json`.
+use Rattle.std.specs.Prelude.{◌≡◌, ℕ, ◌==◌, cond, List, ◌++◌, map, codes, Option, Some}
+use Rattle.std.specs.Fmt.{decimal}
 use Rattle.std.specs.List.{flat_map}
+use Rattle.std.specs.Str.Lines.{lines}
 use Rattle.descriptor.specs.Nodes.{kind_of}
 use Rattle.descriptor.specs.declared.kind.Kind.{Kind}
 use Rattle.descriptor.specs.declared.kind.Kind.TheVariants.{Container, Test, ContainerAndTest}
+use Rattle.json.specs.Json.{Json, string, number, object, Members, no_members, member, document}
+use Rattle.json.specs.Print.{print}
+use Rattle.json.specs.Tree.{json_tokens}
 use Rattle.resource_locks.specs.Plans.{PlanParts}
 use Rattle.plan_events.specs.Statuses.{status_text}
 use Rattle.plan_events.specs.Texts.{TextParts, text_at}
@@ -14,7 +20,22 @@ use Rattle.plan_events.specs.declared.status.Status.{Status}
 use Rattle.plan_events.specs.declared.status.Status.TheVariants.{Successful}
 use Rattle.listeners.specs.Feed.{kind_word, id_at, text_or}
 use Rattle.listeners.specs.TreeTexts.{name_at}
-use Rattle.reports.specs.JsonStrings.{text_member, number_member, object}
+
+-- the text of a value: no space, and the shortest escapes
+abbrev pub written : Json → List ℕ
+written value = print (json_tokens value)
+
+-- the lines of the text, read as JSON, are these values, in their order
+abbrev pub ReadsAs : List ℕ → List Json → Type 0
+ReadsAs text values = map document (lines text) ≡ map Some values
+
+-- a member whose value is a text, before others
+abbrev pub text_member : List ℕ → List ℕ → Members → Members
+text_member name text more = member name (string text) more
+
+-- a member whose value is a number, before others
+abbrev pub number_member : List ℕ → ℕ → Members → Members
+number_member name n more = member name (number (decimal n)) more
 
 -- the type of a node, in a word
 abbrev pub type_word : Kind → List ℕ
@@ -23,34 +44,50 @@ type_word Test = codes "TEST"
 type_word ContainerAndTest = codes "CONTAINER_AND_TEST"
 
 -- how a node ended: its status, and the text with any status but SUCCESSFUL
-abbrev pub status_members : Status → List ℕ → List (List ℕ)
-status_members Successful text = text_member (codes "status") (codes "SUCCESSFUL") ∷ []
-status_members status text = text_member (codes "status") (status_text status) ∷ text_member (codes "text") text ∷ []
+abbrev pub status_members : Status → List ℕ → Members
+status_members Successful text = text_member (codes "status") (codes "SUCCESSFUL") no_members
+status_members status text = text_member (codes "status") (status_text status) (text_member (codes "text") text no_members)
 
 -- what stands behind the name: of a skipped node the text, of a finished one how it ended
-abbrev pub ending_members : EventKind → Option Status → List ℕ → List (List ℕ)
-ending_members Skipped status text = text_member (codes "text") text ∷ []
+abbrev pub ending_members : EventKind → Option Status → List ℕ → Members
+ending_members Skipped status text = text_member (codes "text") text no_members
 ending_members Finished (Some status) text = status_members status text
-ending_members _ _ text = []
+ending_members _ _ text = no_members
 
--- of which node an event tells, and what stands behind its name; of node 0 no more is said than that it is the plan
-abbrev pub node_members : PlanParts → TextParts → Event → List (List ℕ)
-node_members plan texts e =
+-- of which node an event tells, and what stands behind its name, with this text; of node 0 no more is said than that it is the plan
+abbrev pub node_members : PlanParts → Event → List ℕ → Members
+node_members plan e text =
     cond (e.node == 0)
-    (text_member (codes "type") (codes "PLAN") ∷ [])
+    (text_member (codes "type") (codes "PLAN") no_members)
     (text_member (codes "type") (type_word (kind_of plan.tree e.node))
-    ∷ text_member (codes "id") (id_at plan e.node)
-    ∷ text_member (codes "name") (name_at plan.tree e.node)
-    ∷ ending_members e.kind e.status (text_or (text_at texts e.node)))
+    (text_member (codes "id") (id_at plan e.node)
+    (text_member (codes "name") (name_at plan.tree e.node)
+    (ending_members e.kind e.status text))))
 
--- the line of an event: what happened, which worker saw to it, and to which node
+-- the object of an event with this text: what happened, which worker saw to it, and to which node
+abbrev pub event_json : PlanParts → Event → List ℕ → Json
+event_json plan e text =
+    object (text_member (codes "event") (kind_word e.kind) (number_member (codes "worker") e.worker (node_members plan e text)))
+
+-- its text
+abbrev pub object_with : PlanParts → Event → List ℕ → List ℕ
+object_with plan e text = written (event_json plan e text)
+
+-- the object of an event with the text of its node
+abbrev pub object_told : PlanParts → TextParts → Event → Json
+object_told plan texts e = event_json plan e (text_or (text_at texts e.node))
+
+-- its text
 abbrev pub event_object : PlanParts → TextParts → Event → List ℕ
-event_object plan texts e =
-    object (text_member (codes "event") (kind_word e.kind) ∷ number_member (codes "worker") e.worker ∷ node_members plan texts e)
+event_object plan texts e = object_with plan e (text_or (text_at texts e.node))
 
--- a line that tells of no node: what it is, and one member besides
+-- the object of a line that tells of no node: what it is, and one member besides
+abbrev pub note_json : List ℕ → List ℕ → List ℕ → Json
+note_json what name text = object (text_member (codes "event") what (text_member name text no_members))
+
+-- its line
 abbrev pub note_line : List ℕ → List ℕ → List ℕ → List ℕ
-note_line what name text = object (text_member (codes "event") what ∷ text_member name text ∷ []) ++ codes "\n"
+note_line what name text = written (note_json what name text) ++ codes "\n"
 
 -- the whole text: the objects of the events, in their order
 abbrev pub json_of : PlanParts → TextParts → List Event → List ℕ

@@ -2,8 +2,11 @@
 pub mod Cases
 pub mod ClassNames
 pub mod Json
+pub mod JsonPieces
 pub mod JsonStrings
 pub mod Junit
+pub mod JunitBy
 pub mod Lists
+pub mod PlanNodes
 pub mod Told
 pub mod XmlStrings

@@ -2,9 +2,9 @@
 
 ghost use Rattle.std.specs.Prelude.{◌≡◌, ◌<◌, ◌++◌, OnOk, codes, string_bytes, encode_utf8};
 ghost use Rattle.std.specs.Char.{digit_char};
-ghost use Rattle.std.specs.List.{flat_map};
-ghost use Rattle.std.specs.Str.{chars};
-ghost use Rattle.reports.specs.JsonStrings.{code_escape, json_char, quoted, text_member, number_member};
+ghost use Rattle.std.specs.Fmt.{decimal};
+ghost use Rattle.json.specs.Print.{escape, quoted};
+ghost use Rattle.reports.specs.JsonStrings.{code_escape, json_char};
 
 use std::alloc::AllocError;
 
@@ -49,7 +49,7 @@ fn push_char(json: &mut String, c: char) -> Result<(), AllocError>
 
 /// Appends the characters of a text as they stand in a string.
 fn push_escaped(json: &mut String, text: &str) -> Result<(), AllocError>
-    ensures { OnOk result (string_bytes json.new ≡ string_bytes json.old ++ flat_map json_char (chars text.now)) }
+    ensures { OnOk result (string_bytes json.new ≡ string_bytes json.old ++ escape text.now) }
 {
     for c in text.chars() {
         push_char(json, c)?;
@@ -58,7 +58,7 @@ fn push_escaped(json: &mut String, text: &str) -> Result<(), AllocError>
 }
 
 /// Appends a text as a string.
-fn push_quoted(json: &mut String, text: &str) -> Result<(), AllocError>
+pub(crate) fn push_quoted(json: &mut String, text: &str) -> Result<(), AllocError>
     ensures { OnOk result (string_bytes json.new ≡ string_bytes json.old ++ quoted text.now) }
 {
     json.push_str("\"")?;
@@ -68,7 +68,8 @@ fn push_quoted(json: &mut String, text: &str) -> Result<(), AllocError>
 
 /// Appends a member whose value is a text.
 pub(crate) fn push_member(json: &mut String, name: &str, text: &str) -> Result<(), AllocError>
-    ensures { OnOk result (string_bytes json.new ≡ string_bytes json.old ++ text_member name.now text.now) }
+    ensures { OnOk result (string_bytes json.new ≡ string_bytes json.old
+        ++ (quoted name.now ++ (codes ":" ++ quoted text.now))) }
 {
     push_quoted(json, name)?;
     json.push_str(":")?;
@@ -78,7 +79,7 @@ pub(crate) fn push_member(json: &mut String, name: &str, text: &str) -> Result<(
 /// Appends a member whose value is a text, behind another one.
 pub(crate) fn push_further(json: &mut String, name: &str, text: &str) -> Result<(), AllocError>
     ensures { OnOk result (string_bytes json.new ≡ string_bytes json.old
-        ++ (codes "," ++ text_member name.now text.now)) }
+        ++ (codes "," ++ (quoted name.now ++ (codes ":" ++ quoted text.now)))) }
 {
     json.push_str(",")?;
     push_member(json, name, text)
@@ -87,7 +88,7 @@ pub(crate) fn push_further(json: &mut String, name: &str, text: &str) -> Result<
 /// Appends a member whose value is a number, behind another one.
 pub(crate) fn push_number(json: &mut String, name: &str, number: u8) -> Result<(), AllocError>
     ensures { OnOk result (string_bytes json.new ≡ string_bytes json.old
-        ++ (codes "," ++ number_member name.now number)) }
+        ++ (codes "," ++ (quoted name.now ++ (codes ":" ++ decimal number)))) }
 {
     json.push_str(",")?;
     push_quoted(json, name)?;

@@ -1,17 +1,19 @@
-//! What a run tells in forms that other programs read: JSON lines, JUnit's XML, and the list of what would be run.
+//! What a run tells in forms that other programs read: JSON lines, JUnit's XML, and the nodes and the list of what would be run.
 #![tactic(auto)]
 
 mod cases;
 mod class_names;
-mod json;
+mod json_lines;
 mod json_strings;
 mod junit;
 mod junit_case;
 mod list;
 mod nodes;
+mod plan_nodes;
 mod told;
 mod xml_strings;
 
-pub use json::{json_text, push_note};
+pub use json_lines::{json_text, push_note};
 pub use junit::junit_text;
 pub use list::list_text;
+pub use plan_nodes::plan_text;

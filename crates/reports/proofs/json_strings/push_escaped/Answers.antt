@@ -4,6 +4,7 @@ use Rattle.std.specs.List.{flat_map}
 use Rattle.std.proofs.lemmas.Iterator.{YieldsList-from_chars}
 use Rattle.std.proofs.lemmas.Iterator.Consumers.{YieldsList-end}
 use Rattle.reports.specs.JsonStrings.{json_char}
+use Rattle.reports.proofs.Escapes.{escaped_chars}
 use Rattle.reports.proofs.Growing.{yielded_more}
 use Rattle.reports.proofs.json_strings.push_escaped.Goals as goal
 
@@ -13,4 +14,6 @@ loop-c-preserved c = yielded_more json_char c.loop-c.yielded c.in-Some.c (string
 pub returns : goal.returns
 returns c =
     let end = YieldsList-end (YieldsList-from_chars c.args.text.now c.utf8.text cc) c.loop-c.yielded _ c.loop-c.yielded_by _ _ c.in-None.is c.next.ensures.steps in
-    c.loop-c.invariant ∙ ap (λ (cs : List ℕ). string_bytes c.args.json.now ++ flat_map json_char cs) (sym (map-id c.loop-c.yielded) ∙ end.0)
+    c.loop-c.invariant
+    ∙ ap (λ (cs : List ℕ). string_bytes c.args.json.now ++ flat_map json_char cs) (sym (map-id c.loop-c.yielded) ∙ end.0)
+    ∙ ap (λ (l : List ℕ). string_bytes c.args.json.now ++ l) (escaped_chars c.args.text.now c.utf8.text)

@@ -1,10 +1,11 @@
 //! The JSON of a run: an object for each event.
 
-ghost use Rattle.std.specs.Prelude.{◌≡◌, ◌++◌, OnOk, IfOk, codes, string_bytes};
-ghost use Rattle.listeners.specs.Feed.{kind_word};
+ghost use Rattle.std.specs.Prelude.{◌≡◌, ◌<◌, ◌∷◌, ◌++◌, [], OnOk, IfOk, codes, map, string_bytes};
+ghost use Rattle.listeners.specs.Feed.{kind_word, text_or};
+ghost use Rattle.plan_events.specs.Texts.{text_at};
 ghost use Rattle.reports.specs.Json.{type_word, status_members, ending_members, node_members, event_object, json_of};
-ghost use Rattle.reports.specs.Json.{note_line};
-ghost use Rattle.reports.specs.JsonStrings.{behind_commas};
+ghost use Rattle.reports.specs.Json.{note_line, note_json, object_told, ReadsAs};
+ghost use Rattle.reports.specs.JsonPieces.{members_behind};
 
 use crate::json_strings::{push_further, push_member, push_number};
 use crate::nodes::{id_of, kind_of, name_of, text_of};
@@ -24,7 +25,7 @@ fn event_word(kind: EventKind) -> &'static str
     }
 }
 
-fn type_word(kind: Kind) -> &'static str
+pub(crate) fn type_word(kind: Kind) -> &'static str
     ensures { result.now ≡ type_word kind }
 {
     match kind {
@@ -37,7 +38,7 @@ fn type_word(kind: Kind) -> &'static str
 /// Appends how a node ended.
 fn push_status(json: &mut String, status: Status, text: &str) -> Result<(), AllocError>
     ensures { OnOk result (string_bytes json.new ≡ string_bytes json.old
-        ++ behind_commas (status_members status text.now)) }
+        ++ members_behind (status_members status text.now)) }
 {
     match status {
         Status::Successful => push_further(json, "status", "SUCCESSFUL"),
@@ -55,7 +56,7 @@ fn push_status(json: &mut String, status: Status, text: &str) -> Result<(), Allo
 /// Appends what stands behind the name.
 fn push_ending(json: &mut String, event: Event, text: &str) -> Result<(), AllocError>
     ensures { OnOk result (string_bytes json.new ≡ string_bytes json.old
-        ++ behind_commas (ending_members event.kind event.status text.now)) }
+        ++ members_behind (ending_members event.kind event.status text.now)) }
 {
     match (event.kind, event.status) {
         (EventKind::Skipped, _) => push_further(json, "text", text),
@@ -67,7 +68,7 @@ fn push_ending(json: &mut String, event: Event, text: &str) -> Result<(), AllocE
 /// Appends of which node an event tells, and what stands behind its name.
 fn push_node(json: &mut String, plan: &Plan, texts: &Texts, event: Event) -> Result<(), AllocError>
     ensures { OnOk result (string_bytes json.new ≡ string_bytes json.old
-        ++ behind_commas (node_members plan.now texts.now event)) }
+        ++ members_behind (node_members plan.now event (text_or (text_at texts.now event.node)))) }
 {
     let node = event.node;
     if node == NodeId::ROOT {
@@ -81,7 +82,8 @@ fn push_node(json: &mut String, plan: &Plan, texts: &Texts, event: Event) -> Res
 
 /// Appends the line of an event.
 fn push_event(json: &mut String, plan: &Plan, texts: &Texts, event: Event) -> Result<(), AllocError>
-    ensures { OnOk result (string_bytes json.new ≡ string_bytes json.old
+    ensures byte { event.worker < 256 }
+    ensures text { OnOk result (string_bytes json.new ≡ string_bytes json.old
         ++ (event_object plan.now texts.now event ++ codes "\n")) }
 {
     json.push_str("{")?;
@@ -93,7 +95,11 @@ fn push_event(json: &mut String, plan: &Plan, texts: &Texts, event: Event) -> Re
 
 /// Appends a line that tells of no node: what it is, and one member besides.
 pub fn push_note(json: &mut String, what: &str, name: &str, text: &str) -> Result<(), AllocError>
-    ensures { OnOk result (string_bytes json.new ≡ string_bytes json.old ++ note_line what.now name.now text.now) }
+    ensures text { OnOk result (string_bytes json.new ≡ string_bytes json.old
+        ++ note_line what.now name.now text.now) }
+    // The line, read as JSON, is the object with these two members.
+    ensures reads_back { OnOk result (ReadsAs (note_line what.now name.now text.now)
+        (note_json what.now name.now text.now ∷ [])) }
 {
     json.push_str("{")?;
     push_member(json, "event", what)?;
@@ -109,7 +115,10 @@ pub fn json_text(
     events: &[Event],
     texts: &Texts,
 ) -> Result<String, AllocError>
-    ensures { IfOk result (λ json. string_bytes json ≡ json_of plan.now texts.now events.now) }
+    ensures text { IfOk result (λ json. string_bytes json ≡ json_of plan.now texts.now events.now) }
+    // Each line, read as JSON, is the object of its event.
+    ensures reads_back { IfOk result (λ json. ReadsAs (string_bytes json)
+        (map (object_told plan.now texts.now) events.now)) }
 {
     let mut json = String::new(alloc);
     for event in events {

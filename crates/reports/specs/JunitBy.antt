@@ -1,0 +1,17 @@
+-- The report in XML by what is told of each node, whatever told it.
+use Rattle.std.specs.Prelude.{ℕ, List, map}
+use Rattle.std.specs.List.{range_with_len}
+use Rattle.descriptor.specs.Nodes.{size}
+use Rattle.listeners.specs.declared.told.NodeEvents.{NodeEvents}
+use Rattle.plan_events.specs.Texts.{TextParts}
+use Rattle.reports.specs.Junit.{suites_element}
+use Rattle.reports.specs.declared.told.NodeTold.{NodeTold}
+use Rattle.resource_locks.specs.Plans.{PlanParts}
+
+-- what a report is told of a node, of all that is: not whether it started
+abbrev pub reported : NodeEvents → NodeTold
+reported told = record { skipped = told.skipped; registered = told.registered; status = told.status }
+
+-- the whole text
+abbrev pub junit_by : PlanParts → TextParts → (ℕ → NodeEvents) → List ℕ
+junit_by plan texts told = suites_element plan texts (map (λ n. reported (told n)) (range_with_len 0 (size plan.tree)))
