@@ -1,5 +1,5 @@
 -- What is asked for by `--workers` is asked for by its long words.
-use Rattle.std.proofs.Common.{◌≡◌, ℕ, List, [], ◌++◌, Option, Some, None, refl, sym, ap, ◌∙◌}
+use Rattle.std.proofs.Common.{◌≡◌, ℕ, List, [], ◌++◌, Some, None, refl, sym, ap, ◌∙◌}
 use Rattle.std.proofs.lemmas.List.{append-nil}
 use Rattle.config_params.specs.Parameters.{Parameters}
 use Rattle.config_params.specs.Tables.{table_of}
@@ -23,6 +23,8 @@ in_other_words given asked are number is = record {
   schedule = are.schedule;
   replay = are.replay;
   selectors = are.selectors;
+  names = are.names;
+  exclusions = are.exclusions;
   include = are.include;
   exclude = are.exclude;
   params =

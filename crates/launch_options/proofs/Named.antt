@@ -16,6 +16,7 @@ each_details details.Testfeed = (3, omega arith, refl)
 each_details details.Json = (4, omega arith, refl)
 each_details details.Xml = (5, omega arith, refl)
 each_details details.List = (6, omega arith, refl)
+each_details details.Plan = (7, omega arith, refl)
 
 pub each_theme : (theme : Theme) → Contains (map theme_text all_themes) (theme_text theme)
 each_theme themes.Unicode = (0, omega arith, refl)

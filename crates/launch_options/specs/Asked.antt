@@ -1,5 +1,5 @@
 -- What the values of the options ask for, and why they ask for nothing.
-use Rattle.std.specs.Prelude.{◌≡◌, ℕ, ◌+◌, Bool, List, [], ◌∷◌, codes, map, if◌then◌else◌, Option, Some, None, option_map, Result, Ok, Err}
+use Rattle.std.specs.Prelude.{◌≡◌, ℕ, ◌+◌, Bool, true, false, List, [], ◌∷◌, length, codes, map, if◌then◌else◌, Option, Some, None, option_map, Result, Ok, Err}
 use Rattle.std.specs.List.{filter_map}
 use Rattle.std.specs.Option.{option_or}
 use Rattle.std.specs.Str.{bytes_eq}
@@ -10,7 +10,7 @@ use Rattle.scheduling.specs.declared.step.Step.{Step}
 use Rattle.selectors.specs.declared.request.Request.{Request}
 use Rattle.selectors.specs.declared.selector.Selector.{Selector}
 use Rattle.selectors.specs.declared.selector.SelectorKind.{SelectorKind}
-use Rattle.selectors.specs.Selectors.{selector_of}
+use Rattle.selectors.specs.Selectors.{fault_of, selector_of}
 use Rattle.tag_expr.specs.Expressions.{Expression}
 use Rattle.tag_expr.specs.Grammar.{or_phrase, Spells}
 use Rattle.tag_expr.specs.Tokens.{tokens, token_of}
@@ -58,7 +58,7 @@ asked_by options = record {
   replay = option_map (λ steps. steps.items) options.replay;
 }
 
--- what `--details` asks for: there are seven, and it is the tree where it is not given
+-- what `--details` asks for: there are eight, and it is the tree where it is not given
 abbrev pub details_named : Option Text → Option Details
 details_named None = Some details.Tree
 details_named (Some name) =
@@ -68,7 +68,8 @@ details_named (Some name) =
     else (if bytes_eq name (codes "testfeed") then Some details.Testfeed
     else (if bytes_eq name (codes "json") then Some details.Json
     else (if bytes_eq name (codes "xml") then Some details.Xml
-    else (if bytes_eq name (codes "list") then Some details.List else None))))))
+    else (if bytes_eq name (codes "list") then Some details.List
+    else (if bytes_eq name (codes "plan") then Some details.Plan else None)))))))
 
 -- the name of what is printed
 abbrev pub details_text : Details → Text
@@ -79,11 +80,23 @@ details_text details.Testfeed = codes "testfeed"
 details_text details.Json = codes "json"
 details_text details.Xml = codes "xml"
 details_text details.List = codes "list"
+details_text details.Plan = codes "plan"
 
 -- all that may be printed
 abbrev pub all_details : List Details
 all_details =
-    details.None ∷ details.Summary ∷ details.Tree ∷ details.Testfeed ∷ details.Json ∷ details.Xml ∷ details.List ∷ []
+    details.None ∷ details.Summary ∷ details.Tree ∷ details.Testfeed ∷ details.Json ∷ details.Xml ∷ details.List ∷ details.Plan ∷ []
+
+-- whether they are lines of events, so that each can be printed when its event is told
+abbrev pub prints_live : Details → Bool
+prints_live details.None = false
+prints_live details.Summary = false
+prints_live details.Tree = false
+prints_live details.Testfeed = true
+prints_live details.Json = true
+prints_live details.Xml = false
+prints_live details.List = false
+prints_live details.Plan = false
 
 -- what `--details-theme` asks for: there are two, and it is Unicode where it is not given
 abbrev pub theme_named : Option Text → Option Theme
@@ -126,15 +139,19 @@ IsReplay (Some text) (Some steps) = steps_of text ≡ Ok steps
 abbrev pub spelled : SelectorKind × Text → Option Selector
 spelled text = selector_of text.0 text.1
 
--- refused where a text of this number spells no selector, and else where another is
-abbrev pub unless_spelled : ℕ → Option Selector → Option LaunchFault → Option LaunchFault
-unless_spelled number None others = Some (BadSelector number)
-unless_spelled number (Some selector) others = others
+-- the refusal of a text of this kind and number that spells none
+abbrev pub bad_selector : SelectorKind → ℕ → LaunchFault
+bad_selector kind number = BadSelector (record { number = number; fault = fault_of kind })
+
+-- refused so where a text spells no selector, and else where another is
+abbrev pub unless_spelled : LaunchFault → Option Selector → Option LaunchFault → Option LaunchFault
+unless_spelled fault None others = Some fault
+unless_spelled fault (Some selector) others = others
 
 -- why texts of selectors, of which the first has this number, are refused: the number of the first that spells none
 abbrev pub selectors_refusal : ℕ → List (SelectorKind × Text) → Option LaunchFault
 selectors_refusal number [] = None
-selectors_refusal number (text ∷ texts) = unless_spelled number (spelled text) (selectors_refusal (number + 1) texts)
+selectors_refusal number (text ∷ texts) = unless_spelled (bad_selector text.0 number) (spelled text) (selectors_refusal (number + 1) texts)
 
 -- why texts of tag expressions are refused: what is the matter with the first that is none
 abbrev pub tags_refusal : List Text → Option LaunchFault
@@ -151,12 +168,19 @@ AreExpressions [] [] = Unit {0}
 AreExpressions (text ∷ texts) (e ∷ expressions) = IsExpression text e × AreExpressions texts expressions
 AreExpressions texts expressions = ⊥
 
+-- why texts of selectors are refused: those that select are counted before names, and both before exclusions
+abbrev pub asked_refusal : Values → Option LaunchFault
+asked_refusal given =
+    option_or (selectors_refusal 1 given.selectors) (
+    option_or (selectors_refusal (length given.selectors + 1) given.names) (
+    selectors_refusal (length given.selectors + length given.names + 1) given.exclusions))
+
 -- why the texts that are read are refused: what names no step, what spells no selector, and what is the matter with a tag
 -- expression
 abbrev pub texts_refusal : Values → Option LaunchFault
 texts_refusal given =
     option_or (replay_refusal given.replay) (
-    option_or (selectors_refusal 1 given.selectors) (
+    option_or (asked_refusal given) (
     option_or (tags_refusal given.include_tags) (
     tags_refusal given.exclude_tags)))
 
@@ -194,6 +218,8 @@ pub record AreAsked (given : Values) (asked : Asked) : Type 0 where
   pub schedule : asked.schedule ≡ given.schedule
   pub replay : IsReplay given.replay asked.replay
   pub selectors : asked.request.selectors.items ≡ filter_map spelled given.selectors
+  pub names : asked.request.names.items ≡ filter_map spelled given.names
+  pub exclusions : asked.request.exclusions.items ≡ filter_map spelled given.exclusions
   pub include : AreExpressions given.include_tags asked.request.include.items
   pub exclude : AreExpressions given.exclude_tags asked.request.exclude.items
   pub params : asked.params ≡ params_said asked.workers given

@@ -5,6 +5,7 @@ use Rattle.config_params.specs.Faults as params_faults
 use Rattle.config_params.specs.SettingsFaults as settings_faults
 use Rattle.resource_locks.specs.declared.fault.PlanFault.{PlanFault}
 use Rattle.resource_locks.specs.declared.fault.PlanFault.TheVariants as plans
+use Rattle.selectors.specs.Faults.{selector_number}
 use Rattle.selectors.specs.declared.select_fault.SelectFault.{SelectFault}
 use Rattle.selectors.specs.declared.select_fault.SelectFault.TheVariants as selections
 use Rattle.suite_text.specs.Reading.Faults as suite_faults
@@ -26,7 +27,7 @@ number_of NoMemory = 0
 number_of (Suite fault) = suite_faults.number_of fault
 number_of BadWords = 105
 number_of (BadStep number) = 104
-number_of (BadSelector number) = 40
+number_of (BadSelector refused) = selector_number refused.fault
 number_of (BadTags fault) = tag_faults.number fault
 number_of (BadPair fault) = params_faults.number fault
 number_of (BadSettings fault) = settings_faults.number fault
@@ -41,7 +42,7 @@ number_of (Writing cut) = 81
 abbrev pub place_of : LaunchFault → Option ℕ
 place_of (Suite fault) = suite_faults.place_of fault
 place_of (BadStep number) = Some number
-place_of (BadSelector number) = Some number
+place_of (BadSelector refused) = Some refused.number
 place_of (BadTags fault) = tag_faults.place fault
 place_of (BadPair fault) = params_faults.place fault
 place_of (NothingMatches number) = Some number

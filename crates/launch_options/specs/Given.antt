@@ -7,10 +7,12 @@ use Rattle.launch_options.specs.declared.given.Given.{Given}
 abbrev pub Text : Type 0
 Text = List ℕ
 
--- what is given to the options: the texts of selectors with their kinds, in the order of their numbers; all values of
+-- what is given to the options: the texts of selectors, of names and of exclusions with their kinds, in the order of their numbers; all values of
 -- another option that may be given again, in their order; and the value of any other, if it is given
 pub record Values : Type 0 where
   pub selectors : List (SelectorKind × Text)
+  pub names : List (SelectorKind × Text)
+  pub exclusions : List (SelectorKind × Text)
   pub include_tags : List Text
   pub exclude_tags : List Text
   pub config : List Text
@@ -41,6 +43,8 @@ texts_of texts = map (λ text. (text.0, text.1.now)) texts
 abbrev pub values_of : Given → Values
 values_of given = record {
   selectors = texts_of given.selectors.items;
+  names = texts_of given.names.items;
+  exclusions = texts_of given.exclusions.items;
   include_tags = behind given.include_tags.items;
   exclude_tags = behind given.exclude_tags.items;
   config = behind given.config.items;

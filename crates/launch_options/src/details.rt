@@ -3,7 +3,7 @@
 ghost use Rattle.std.specs.Prelude.{◌≡◌, Some, map};
 ghost use Rattle.std.specs.List.{Contains};
 ghost use Rattle.unique_id.specs.Answers.{texts};
-ghost use Rattle.launch_options.specs.Asked.{all_details, details_text, details_named};
+ghost use Rattle.launch_options.specs.Asked.{all_details, details_text, details_named, prints_live};
 ghost use Rattle.launch_options.specs.declared.details.Details.{Details};
 
 const NONE: &str = "none";
@@ -19,6 +19,8 @@ const JSON: &str = "json";
 const XML: &str = "xml";
 
 const LIST: &str = "list";
+
+const PLAN: &str = "plan";
 
 /// What is printed of a run.
 #[derive(Clone, Copy, Debug, PartialEq, Eq)]
@@ -36,11 +38,13 @@ pub enum Details {
     Xml,
     /// The tests and factories that would be run; nothing is run.
     List,
+    /// The nodes as they would be run, as JSON: an object for each; nothing is run.
+    Plan,
 }
 
 impl Details {
     /// All of them.
-    pub fn all() -> [Details; 7]
+    pub fn all() -> [Details; 8]
         ensures exact { result ≡ all_details }
         ensures every { (details : Details) → Contains result details }
     {
@@ -52,6 +56,7 @@ impl Details {
             Details::Json,
             Details::Xml,
             Details::List,
+            Details::Plan,
         ]
     }
 
@@ -68,14 +73,15 @@ impl Details {
             Details::Json => JSON,
             Details::Xml => XML,
             Details::List => LIST,
+            Details::Plan => PLAN,
         }
     }
 
     /// All names.
-    pub fn names() -> [&'static str; 7]
+    pub fn names() -> [&'static str; 8]
         ensures { texts result ≡ map details_text all_details }
     {
-        let [none, summary, tree, testfeed, json, xml, list] = Details::all();
+        let [none, summary, tree, testfeed, json, xml, list, plan] = Details::all();
         [
             none.name(),
             summary.name(),
@@ -84,7 +90,23 @@ impl Details {
             json.name(),
             xml.name(),
             list.name(),
+            plan.name(),
         ]
+    }
+
+    /// Whether they are lines of events, each of which is printed when its event is told.
+    pub fn prints_live(self) -> bool
+        ensures { result ≡ prints_live self }
+    {
+        match self {
+            Details::Testfeed | Details::Json => true,
+            Details::None
+            | Details::Summary
+            | Details::Tree
+            | Details::Xml
+            | Details::List
+            | Details::Plan => false,
+        }
     }
 
     /// The details of this name.
@@ -99,6 +121,7 @@ impl Details {
             JSON => Some(Details::Json),
             XML => Some(Details::Xml),
             LIST => Some(Details::List),
+            PLAN => Some(Details::Plan),
             _ => None,
         }
     }

@@ -8,7 +8,7 @@ ghost use Rattle.launch_options.specs.declared.fault.LaunchFault.TheVariants.{No
 use config_params::{ParamsFault, SettingsFault};
 use listeners::WriteFault;
 use resource_locks::PlanFault;
-use selectors::SelectFault;
+use selectors::{SelectFault, SelectorFault};
 use std::alloc::{AllocError, AllocFailed};
 use std::error::Error;
 use std::fmt;
@@ -32,6 +32,13 @@ pub struct CutOutput {
     pub cause: CutCause,
 }
 
+/// A text that spells no selector: its number, from 1, and why.
+#[derive(Clone, Copy, Debug, PartialEq, Eq)]
+pub struct RefusedSelector {
+    pub number: usize,
+    pub fault: SelectorFault,
+}
+
 /// Why a launch was refused, or broke off. `{}` writes `error`, the number, and behind `at`
 /// the place where there is one.
 #[derive(Clone, Copy, Debug, PartialEq, Eq)]
@@ -44,8 +51,8 @@ pub enum LaunchFault {
     BadWords,
     /// Refusal 104: the word of this number, from 1, in the text of a replay names no step.
     BadStep(usize),
-    /// Refusal 40: the selector of this number, from 1, is none of its kind.
-    BadSelector(usize),
+    /// Refusals 40 and 43, at the number of the selector that is none of its kind.
+    BadSelector(RefusedSelector),
     /// Refusals 20 to 26, at a place in the tag expression.
     BadTags(TagFault),
     /// Refusals 30 and 31: the word of this number, from 1, among those of `--config` and then of
@@ -53,7 +60,7 @@ pub enum LaunchFault {
     BadPair(ParamsFault),
     /// Refusals 32 to 34: what the configuration asks for is none.
     BadSettings(SettingsFault),
-    /// Refusal 41: the selector of this number, from 1, covers nothing of the suite.
+    /// Refusal 41: the selector or the included name of this number, from 1, covers nothing of the suite.
     NothingMatches(usize),
     /// Refusal 50: the nodes that are run declare more than 256 keys, the global one included.
     TooManyKeys,
@@ -184,7 +191,7 @@ impl LaunchFault {
             LaunchFault::Suite(fault) => fault.number(),
             LaunchFault::BadWords => 105,
             LaunchFault::BadStep(_) => 104,
-            LaunchFault::BadSelector(_) => 40,
+            LaunchFault::BadSelector(refused) => refused.fault.number(),
             LaunchFault::BadTags(fault) => fault.number(),
             LaunchFault::BadPair(fault) => fault.number(),
             LaunchFault::BadSettings(fault) => fault.number(),
@@ -204,9 +211,10 @@ impl LaunchFault {
     {
         match self {
             LaunchFault::Suite(fault) => fault.place(),
-            LaunchFault::BadStep(number)
-            | LaunchFault::BadSelector(number)
-            | LaunchFault::NothingMatches(number) => Some(*number as u64),
+            LaunchFault::BadStep(number) | LaunchFault::NothingMatches(number) => {
+                Some(*number as u64)
+            }
+            LaunchFault::BadSelector(refused) => Some(refused.number as u64),
             LaunchFault::BadTags(fault) => fault.place().map(|place| place as u64),
             LaunchFault::BadPair(fault) => fault.place(),
             LaunchFault::Writing(cut) => Some(cut.sent as u64),

@@ -3,12 +3,17 @@
 use selectors::SelectorKind;
 
 /// The values of the options, as texts that mean nothing yet: one field for each option, but for
-/// those that select, which share one numbering.
+/// those that select or leave out, which share one numbering.
 #[derive(Debug, Drop)]
 pub struct Given<'a> {
     /// `--select-unique-id`, `--select-class`, `--select-method` and `--select-package`: all of the
     /// first, then all of the next, each option's in the order of the words.
     pub selectors: Vec<(SelectorKind, &'a str)>,
+    /// `--include-name`, numbered behind these.
+    pub names: Vec<(SelectorKind, &'a str)>,
+    /// `--exclude-name`, `--exclude-unique-id`, `--exclude-class`, `--exclude-method` and
+    /// `--exclude-package`, numbered behind these.
+    pub exclusions: Vec<(SelectorKind, &'a str)>,
     /// `--include-tag`, in the order of the words, as with each that may be given again.
     pub include_tags: Vec<&'a str>,
     /// `--exclude-tag`.

@@ -2,14 +2,15 @@
 //! refusal: where memory runs out in reading one, its text is none that is refused, and the others
 //! are looked at.
 
-ghost use Rattle.std.specs.Prelude.{◌≡◌, ◌≢◌, None, Some, IfErr, OnOk, option_map};
+ghost use Rattle.std.specs.Prelude.{◌≡◌, ◌≢◌, ◌<◌, ◌+◌, ◌^◌, length, None, Some, IfErr, OnOk, option_map};
 ghost use Rattle.std.specs.Option.{is_some};
 ghost use Rattle.launch_options.specs.declared.fault.LaunchFault.TheVariants.{NoMemory, BadTags};
 ghost use Rattle.tag_expr.specs.ExpressionFaults.{expression_refusal};
 ghost use Rattle.launch_options.specs.Given.{behind, maybe_behind, texts_of, values_of};
-ghost use Rattle.launch_options.specs.Asked.{replay_refusal, spelled, selectors_refusal, tags_refusal, texts_refusal};
+ghost use Rattle.launch_options.specs.Asked.{asked_refusal, bad_selector, replay_refusal, spelled};
+ghost use Rattle.launch_options.specs.Asked.{selectors_refusal, tags_refusal, texts_refusal};
 
-use crate::fault::LaunchFault;
+use crate::fault::{LaunchFault, RefusedSelector};
 use crate::given::Given;
 use selectors::{Selector, SelectorFault, SelectorKind};
 use std::alloc::Global;
@@ -37,22 +38,52 @@ fn spells_selector(alloc: Global, kind: SelectorKind, text: &str) -> bool
 {
     match Selector::parse(alloc, kind, text) {
         Ok(_) | Err(SelectorFault::NoMemory) => true,
-        Err(SelectorFault::BadSelector) => false,
+        Err(_) => false,
     }
 }
 
-/// Judges the texts of selectors.
-fn judge_selectors(alloc: Global, texts: &[(SelectorKind, &str)]) -> Result<(), LaunchFault>
-    ensures accepted { OnOk result (selectors_refusal 1 (texts_of texts.now) ≡ None) }
-    ensures refused { IfErr result (λ fault. selectors_refusal 1 (texts_of texts.now) ≡ Some fault) }
+/// The refusal of a text of this kind and number.
+fn bad_selector(kind: SelectorKind, number: usize) -> LaunchFault
+    ensures { result ≡ bad_selector kind number }
+{
+    let fault = match kind {
+        SelectorKind::Name => SelectorFault::EmptyPattern,
+        _ => SelectorFault::BadSelector,
+    };
+    LaunchFault::BadSelector(RefusedSelector { number, fault })
+}
+
+/// Judges texts of selectors, which stand behind so many others.
+fn judge_selectors(
+    alloc: Global,
+    before: usize,
+    texts: &[(SelectorKind, &str)],
+) -> Result<(), LaunchFault>
+    requires few { before + length texts.now < 2 ^ 64 }
+    ensures accepted { OnOk result (selectors_refusal (before + 1) (texts_of texts.now) ≡ None) }
+    ensures refused { IfErr result (λ fault. selectors_refusal (before + 1) (texts_of texts.now) ≡ Some fault) }
     ensures real { IfErr result (λ fault. fault ≢ NoMemory) }
 {
     for (index, (kind, text)) in texts.iter().enumerate() {
         if !spells_selector(alloc, *kind, text) {
-            return Err(LaunchFault::BadSelector(index + 1));
+            return Err(bad_selector(*kind, before + index + 1));
         }
     }
     Ok(())
+}
+
+/// Judges the selectors, then the names, then the exclusions, which are numbered in this order.
+fn judge_all_selectors(alloc: Global, given: &Given<'_>) -> Result<(), LaunchFault>
+    ensures accepted { OnOk result (asked_refusal (values_of given.now) ≡ None) }
+    ensures refused { IfErr result (λ fault. asked_refusal (values_of given.now) ≡ Some fault) }
+    ensures real { IfErr result (λ fault. fault ≢ NoMemory) }
+{
+    let selectors = given.selectors.as_slice();
+    let names = given.names.as_slice();
+    judge_selectors(alloc, 0, selectors)?;
+    judge_selectors(alloc, selectors.len(), names)?;
+    let before = selectors.len() + names.len();
+    judge_selectors(alloc, before, given.exclusions.as_slice())
 }
 
 /// Judges the text of a tag expression.
@@ -86,7 +117,7 @@ pub(crate) fn judge_texts(alloc: Global, given: &Given<'_>) -> Result<(), Launch
     ensures real { IfErr result (λ fault. fault ≢ NoMemory) }
 {
     judge_replay(alloc, given.replay)?;
-    judge_selectors(alloc, given.selectors.as_slice())?;
+    judge_all_selectors(alloc, given)?;
     judge_expressions(alloc, given.include_tags.as_slice())?;
     judge_expressions(alloc, given.exclude_tags.as_slice())
 }

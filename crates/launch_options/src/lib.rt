@@ -15,7 +15,7 @@ mod workers;
 
 pub use asked::Options;
 pub use details::Details;
-pub use fault::{CutCause, CutOutput, LaunchFault};
+pub use fault::{CutCause, CutOutput, LaunchFault, RefusedSelector};
 pub use given::Given;
 pub use parameters::{processors_named, ring_named};
 pub use setting_keys::{key_judged, strategy_names};

@@ -8,6 +8,18 @@ pub const SELECT_METHOD: &str = "select-method";
 
 pub const SELECT_PACKAGE: &str = "select-package";
 
+pub const INCLUDE_NAME: &str = "include-name";
+
+pub const EXCLUDE_NAME: &str = "exclude-name";
+
+pub const EXCLUDE_UNIQUE_ID: &str = "exclude-unique-id";
+
+pub const EXCLUDE_CLASS: &str = "exclude-class";
+
+pub const EXCLUDE_METHOD: &str = "exclude-method";
+
+pub const EXCLUDE_PACKAGE: &str = "exclude-package";
+
 pub const INCLUDE_TAG: &str = "include-tag";
 
 pub const EXCLUDE_TAG: &str = "exclude-tag";

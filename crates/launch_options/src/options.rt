@@ -116,6 +116,10 @@ fn expressions_of(alloc: Global, texts: &[&str]) -> Result<Vec<TagExpr>, AllocEr
 fn request_of(alloc: Global, given: &Given<'_>) -> Result<Request, AllocError>
     ensures selectors { IfOk result
         (λ request. request.selectors.items ≡ filter_map spelled (texts_of given.now.selectors.items)) }
+    ensures names { IfOk result
+        (λ request. request.names.items ≡ filter_map spelled (texts_of given.now.names.items)) }
+    ensures exclusions { IfOk result
+        (λ request. request.exclusions.items ≡ filter_map spelled (texts_of given.now.exclusions.items)) }
     ensures include { IfOk result (λ request. AreExpressions (behind given.now.include_tags.items)
         request.include.items) }
     ensures exclude { IfOk result (λ request. AreExpressions (behind given.now.exclude_tags.items)
@@ -123,6 +127,8 @@ fn request_of(alloc: Global, given: &Given<'_>) -> Result<Request, AllocError>
 {
     Ok(Request {
         selectors: selectors_of(alloc, given.selectors.as_slice())?,
+        names: selectors_of(alloc, given.names.as_slice())?,
+        exclusions: selectors_of(alloc, given.exclusions.as_slice())?,
         include: expressions_of(alloc, given.include_tags.as_slice())?,
         exclude: expressions_of(alloc, given.exclude_tags.as_slice())?,
     })
@@ -210,11 +216,12 @@ impl Options {
     /// 105, and so is what is no number of processors from 1 to 1,024, what is no number of places of
     /// the ring from 1 to 16,384, and what is no number of workers from 1 to 64 and not `auto`, or
     /// stands beside one of its keys in `--config`; then a word in the text of `--replay` that names no
-    /// step is refusal 104, at its number; then a text that spells no selector is refusal 40, at
-    /// the selector's number; then an expression of `--include-tag`, and then of `--exclude-tag`,
+    /// step is refusal 104, at its number; then a text that spells no selector is refusal 40, and an
+    /// empty pattern of names refusal 43, at its number; then an expression of `--include-tag`, and then of `--exclude-tag`,
     /// is one of 20 to 26, at a place in it; then a word of `--config` or `--system` that has no
     /// equals sign or an empty key is refusal 30 or 31, at its number, those of `--config` counted
-    /// first. Selectors are numbered from 1 in the order of `Given`. All of these are judged before
+    /// first. Selectors, names and exclusions are numbered
+    /// from 1 in the order of `Given`. All of these are judged before
     /// any of them is kept, so want of memory stands in their place nowhere.
     pub fn of(alloc: Global, given: &Given<'_>) -> Result<Options, LaunchFault>
         ensures asked { IfOk result (λ options. AreAsked (values_of given.now) (asked_by options)) }

@@ -12,6 +12,8 @@ use Rattle.launch_options.specs.declared.fault.LaunchFault.{LaunchFault}
 use Rattle.launch_options.specs.declared.fault.LaunchFault.TheVariants as launches
 use Rattle.messages.specs.declared.subject.Subject.{Subject}
 use Rattle.messages.specs.declared.subject.Subject.TheVariants.{Suite, Tests}
+use Rattle.selectors.specs.declared.selector_fault.SelectorFault.{SelectorFault}
+use Rattle.selectors.specs.declared.selector_fault.SelectorFault.TheVariants as selectors
 use Rattle.suite_text.specs.declared.suite.fault.SuiteFault.{SuiteFault}
 use Rattle.suite_text.specs.declared.suite.fault.SuiteFault.TheVariants as suites
 use Rattle.tag_expr.specs.declared.fault.TagFault.{TagFault}
@@ -57,6 +59,12 @@ of_tags (tags.ParenOpen place) = codes "a parenthesis of a tag expression is nev
 of_tags (tags.ParenClose place) = codes "a parenthesis of a tag expression closes none"
 of_tags tags.TooDeep = codes "a tag expression is over a limit"
 
+-- of a text that is no selector
+abbrev pub of_selector : SelectorFault → List ℕ
+of_selector selectors.NoMemory = codes "there was not enough memory"
+of_selector selectors.BadSelector = codes "a selector cannot be read"
+of_selector selectors.EmptyPattern = codes "a pattern of names is empty"
+
 -- of a configuration that gives no settings
 abbrev pub of_settings : SettingsFault → List ℕ
 of_settings settings.BadStrategy = codes "the strategy of parallel execution is not known"
@@ -74,7 +82,7 @@ sentence_of launches.NoMemory = codes "there was not enough memory"
 sentence_of (launches.Suite fault) = of_suite fault
 sentence_of launches.BadWords = codes "nothing was run"
 sentence_of (launches.BadStep place) = codes "a word of the replay names no step"
-sentence_of (launches.BadSelector place) = codes "a selector cannot be read"
+sentence_of (launches.BadSelector refused) = of_selector refused.fault
 sentence_of (launches.BadTags fault) = of_tags fault
 sentence_of (launches.BadPair fault) = of_params fault
 sentence_of (launches.BadSettings fault) = of_settings fault

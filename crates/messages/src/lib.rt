@@ -9,6 +9,7 @@ mod line;
 mod lines;
 mod marked;
 mod message;
+mod near_names;
 mod nearest;
 mod options;
 mod sentence;

@@ -42,7 +42,7 @@ pub(crate) fn deepest(lines: &[&str], number: usize) -> usize {
 }
 
 /// The word and the name that a line begins with.
-fn named(line: &str) -> (&str, &str) {
+pub(crate) fn named(line: &str) -> (&str, &str) {
     let (word, rest) = cut(without_front(line));
     (word, cut(rest).0)
 }

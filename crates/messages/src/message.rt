@@ -114,7 +114,7 @@ fn push_details(
         LaunchFault::Suite(fault) => push_refused_suite(alloc, text, fault, subject),
         LaunchFault::BadWords => push_refused_words(alloc, text, given, subject),
         LaunchFault::BadStep(number) => push_step(alloc, text, number, given),
-        LaunchFault::BadSelector(number) => push_selector(alloc, text, number, given),
+        LaunchFault::BadSelector(refused) => push_selector(alloc, text, refused.number, given),
         LaunchFault::BadTags(fault) => push_tags(alloc, text, fault, given),
         LaunchFault::BadPair(fault) => push_pair(alloc, text, fault, given),
         LaunchFault::BadSettings(fault) => {

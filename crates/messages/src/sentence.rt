@@ -1,13 +1,14 @@
 //! The sentence that a refusal's message begins with.
 
 ghost use Rattle.std.specs.Prelude.{◌≡◌};
-ghost use Rattle.messages.specs.Sentences.{of_cut, of_params, of_settings, of_suite, of_tags, of_tree, sentence_by, sentence_of};
-ghost use Rattle.messages.specs.Sentences.{tests_sentence_of};
+ghost use Rattle.messages.specs.Sentences.{of_cut, of_params, of_selector, of_settings, of_suite, of_tags, of_tree};
+ghost use Rattle.messages.specs.Sentences.{sentence_by, sentence_of, tests_sentence_of};
 
 use crate::subject::Subject;
 use config_params::{ParamsFault, SettingsFault};
 use descriptor::TreeFault;
 use launch_options::{CutCause, LaunchFault};
+use selectors::SelectorFault;
 use suite_text::SuiteFault;
 use tag_expr::TagFault;
 
@@ -87,6 +88,16 @@ fn of_cut(cause: CutCause) -> &'static str
     }
 }
 
+fn of_selector(fault: SelectorFault) -> &'static str
+    ensures { result.now ≡ of_selector fault }
+{
+    match fault {
+        SelectorFault::NoMemory => "there was not enough memory",
+        SelectorFault::BadSelector => "a selector cannot be read",
+        SelectorFault::EmptyPattern => "a pattern of names is empty",
+    }
+}
+
 /// The sentence that says which refusal of a suite this is.
 fn sentence_of(fault: LaunchFault) -> &'static str
     ensures { result.now ≡ sentence_of fault }
@@ -96,7 +107,7 @@ fn sentence_of(fault: LaunchFault) -> &'static str
         LaunchFault::Suite(fault) => of_suite(fault),
         LaunchFault::BadWords => "nothing was run",
         LaunchFault::BadStep(_) => "a word of the replay names no step",
-        LaunchFault::BadSelector(_) => "a selector cannot be read",
+        LaunchFault::BadSelector(refused) => of_selector(refused.fault),
         LaunchFault::BadTags(fault) => of_tags(fault),
         LaunchFault::BadPair(fault) => of_params(fault),
         LaunchFault::BadSettings(fault) => of_settings(fault),

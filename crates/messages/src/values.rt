@@ -4,16 +4,15 @@ ghost use Rattle.std.specs.Prelude.{◌≡◌};
 ghost use Rattle.std.specs.Option.{is_some};
 ghost use Rattle.tag_expr.specs.ExpressionFaults.{expression_refusal};
 
-use crate::bytes::text_of;
-use crate::lines::class_names;
 use crate::marked::push_marked;
+use crate::near_names::push_nearest_name;
 use crate::nearest::push_nearest;
-use crate::options::{form_of, option_of, pair_option};
+use crate::options::{exclusion_of, form_of, option_of, pair_option};
 use crate::subject::Subject;
 use config_params::ParamsFault;
 use launch_options::option_names::{
     CONFIG, DETAILS, DETAILS_THEME, EXCLUDE_TAG, INCLUDE_TAG, PROCESSORS, REPLAY, RING, SCHEDULE,
-    SELECT_UNIQUE_ID, WORKERS,
+    WORKERS,
 };
 use launch_options::{
     Details, Given, has_long_key, processors_named, ring_named, theme_names, theme_of,
@@ -166,11 +165,40 @@ fn push_nearest_step(alloc: Global, text: &mut String, word: &str) -> Result<(),
     push_nearest(alloc, text, step_forms().as_slice(), step)
 }
 
-/// The selector of this number, from 1.
-fn selector_at<'a>(given: &Given<'a>, number: usize) -> Option<(SelectorKind, &'a str)> {
-    match given.selectors.as_slice().get(number.saturating_sub(1)) {
-        Some((kind, text)) => Some((*kind, *text)),
-        None => None,
+/// A text of a selector, with its kind and its option.
+#[derive(Clone, Copy)]
+struct Text<'a> {
+    option: &'static str,
+    kind: SelectorKind,
+    value: &'a str,
+}
+
+/// The exclusion at this place, from 0.
+fn exclusion_at<'a>(given: &Given<'a>, place: usize) -> Option<Text<'a>> {
+    let (kind, value) = given.exclusions.as_slice().get(place)?;
+    Some(Text {
+        option: exclusion_of(*kind),
+        kind: *kind,
+        value: *value,
+    })
+}
+
+/// The selector of this number, from 1; behind those that select come names, and then exclusions.
+fn selector_at<'a>(given: &Given<'a>, number: usize) -> Option<Text<'a>> {
+    let (selectors, names) = (given.selectors.as_slice(), given.names.as_slice());
+    let place = number.saturating_sub(1);
+    let behind = place.saturating_sub(selectors.len());
+    let found = match selectors.get(place) {
+        Some(text) => Some(text),
+        None => names.get(behind),
+    };
+    match found {
+        Some((kind, value)) => Some(Text {
+            option: option_of(*kind),
+            kind: *kind,
+            value: *value,
+        }),
+        None => exclusion_at(given, behind.saturating_sub(names.len())),
     }
 }
 
@@ -189,14 +217,14 @@ fn said_of_id(fault: UidFault) -> &'static str {
 }
 
 /// Appends what is wrong in a unique id.
-fn push_id(alloc: Global, text: &mut String, id: &str) -> Result<(), AllocError> {
+fn push_id(alloc: Global, text: &mut String, option: &str, id: &str) -> Result<(), AllocError> {
     let Err(fault) = UniqueId::parse(alloc, id) else {
         return Ok(());
     };
     let said = said_of_id(fault);
     write!(text, "{said}\n")?;
     let at = fault.place().unwrap_or(0);
-    push_option(alloc, text, SELECT_UNIQUE_ID, id, at)
+    push_option(alloc, text, option, id, at)
 }
 
 /// Appends which selector cannot be read.
@@ -206,32 +234,20 @@ pub(crate) fn push_selector(
     number: usize,
     given: &Given<'_>,
 ) -> Result<(), AllocError> {
-    let Some((kind, value)) = selector_at(given, number) else {
+    let Some(selector) = selector_at(given, number) else {
         return Ok(());
     };
-    let form = form_of(kind);
+    let form = form_of(selector.kind);
     write!(text, "Selector {number} is {form}")?;
-    if let SelectorKind::UniqueId = kind {
+    if let SelectorKind::UniqueId = selector.kind {
         text.push_str(": ")?;
-        return push_id(alloc, text, value);
+        return push_id(alloc, text, selector.option, selector.value);
     }
     text.push_str("\n")?;
-    push_option(alloc, text, option_of(kind), value, 0)
+    push_option(alloc, text, selector.option, selector.value, 0)
 }
 
-/// Appends the class of the suite whose name is nearest.
-fn push_nearest_class(
-    alloc: Global,
-    text: &mut String,
-    name: &str,
-    suite: &[u8],
-) -> Result<(), AllocError> {
-    let lines: Vec<&str> = text_of(suite).0.lines().collect(alloc)?;
-    let names = class_names(alloc, lines.as_slice())?;
-    push_nearest(alloc, text, names.as_slice(), name)
-}
-
-/// Appends that no node has this name, and of a suite the class whose name is nearest.
+/// Appends that no node has this name, and of a suite the name that is nearest.
 fn push_no_node(
     alloc: Global,
     text: &mut String,
@@ -239,15 +255,16 @@ fn push_no_node(
     value: &str,
     subject: Subject<'_>,
 ) -> Result<(), AllocError> {
+    let name = match kind {
+        SelectorKind::Name => "such a name",
+        _ => "that name",
+    };
     match subject {
         Subject::Suite(bytes) => {
-            text.push_str("no node of the suite has that name")?;
-            match kind {
-                SelectorKind::Class => push_nearest_class(alloc, text, value, bytes),
-                _ => Ok(()),
-            }
+            write!(text, "no node of the suite has {name}")?;
+            push_nearest_name(alloc, text, kind, value, bytes)
         }
-        Subject::Tests(_) => text.push_str("no node of these tests has that name"),
+        Subject::Tests(_) => write!(text, "no node of these tests has {name}"),
     }
 }
 
@@ -259,10 +276,16 @@ pub(crate) fn push_covering(
     given: &Given<'_>,
     subject: Subject<'_>,
 ) -> Result<(), AllocError> {
-    let Some((kind, value)) = selector_at(given, number) else {
+    let Some(
+        Text {
+            option,
+            kind,
+            value,
+        },
+    ) = selector_at(given, number)
+    else {
         return Ok(());
     };
-    let option = option_of(kind);
     write!(text, "Selector {number} is --{option} {value:?}, and ")?;
     push_no_node(alloc, text, kind, value, subject)?;
     text.push_str(

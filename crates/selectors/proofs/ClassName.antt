@@ -23,7 +23,7 @@ pub name_nested : (above : Option (List ℕ)) (s : Segment) → s.kind ≡ codes
 name_nested above s e = rw e refl
 
 module _ (t : Nodes) (tree : IsTree t) (n p : ℕ) (s : Segment) (e : IsChild t p n) (last : last_segment t n ≡ Some s) where
-  up_to : class_name t n ≡ name_below (class_name t p) (Some s)
+  pub up_to : class_name t n ≡ name_below (class_name t p) (Some s)
   up_to = class_name_up t tree n e.above_zero e.inside ∙ ap (λ m. name_below (class_name t m) (last_segment t n)) e.parent ∙ ap (name_below (class_name t p)) last
 
   pub parent_inside : p < size t

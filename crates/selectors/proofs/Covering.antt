@@ -1,10 +1,12 @@
 -- What a selector covers, from parent to child.
-use Rattle.std.proofs.Common.{◌≡◌, ℕ, zero, suc, ◌<◌, Bool, true, false, List, length, refl, sym, ap, ◌∙◌, arith}
+use Rattle.std.proofs.Common.{◌≡◌, ℕ, zero, suc, ◌<◌, Bool, true, false, List, [], ◌∷◌, ◌++◌, ◌+◌, length, refl, sym, ap, ◌∙◌, arith}
+use Rattle.std.proofs.lemmas.Grind.{common_steps}
+use Rattle.std.specs.Option.{option_or}
 use Rattle.std.specs.Prelude.{◌||◌, ◌==◌}
 use Rattle.std.specs.List.{list_any}
 use Rattle.descriptor.specs.Nodes.{Nodes, IsTree, IsChild, size, parent_of}
 use Rattle.selectors.specs.declared.selector.Selector.{Selector}
-use Rattle.selectors.specs.Covered.{is_covered, matches}
+use Rattle.selectors.specs.Covered.{is_covered, matches, unmatched_from}
 use Rattle.selectors.specs.Names.{names, covers}
 use Rattle.selectors.proofs.Lineage.{lineage_up}
 use Rattle.selectors.proofs.Truths.{or_left, or_false, any_at, any_none, list_any_same, list_any_or}
@@ -61,3 +63,21 @@ module _ (t : Nodes) (tree : IsTree t) where
   -- a child of a node that is not covered
   pub covered_by_name : (ss : List Selector) (p n : ℕ) (above : Bool) → IsChild t p n → above ≡ is_covered t ss p → above ≡ false → list_any (λ (s : Selector). names t s n) ss ≡ is_covered t ss n
   covered_by_name ss p n above e is not_covered = sym (up_of_child ss p n e ∙ ap (λ x. x || list_any (λ (s : Selector). names t s n) ss) (sym is ∙ not_covered))
+
+-- the first that covers none of two lists in a row
+unmatched_append : (t : Nodes) (before : ℕ) (ss others : List Selector) → unmatched_from t before (ss ++ others) ≡ option_or (unmatched_from t before ss) (unmatched_from t (before + length ss) others)
+unmatched_append t before [] others = let none : before + length {A = Selector} [] ≡ before = omega arith in ap (λ n. unmatched_from t n others) (sym none)
+unmatched_append t before (s ∷ ss) others = by (matches t s) refl (unmatched_append t (before + 1) ss others)
+  where
+    by : (b : Bool) → matches t s ≡ b
+        → unmatched_from t (before + 1) (ss ++ others) ≡ option_or (unmatched_from t (before + 1) ss) (unmatched_from t (before + 1 + length ss) others)
+        → unmatched_from t before (s ∷ (ss ++ others)) ≡ option_or (unmatched_from t before (s ∷ ss)) (unmatched_from t (before + length (s ∷ ss)) others)
+    by true is rest =
+        let one : before + 1 + length ss ≡ before + length (s ∷ ss) = grind (arith, common_steps) in
+        rw is (rest ∙ ap (λ n. option_or (unmatched_from t (before + 1) ss) (unmatched_from t n others)) one)
+    by false is rest = rw is refl
+
+pub unmatched_both : (t : Nodes) (ss others : List Selector) → unmatched_from t 0 (ss ++ others) ≡ option_or (unmatched_from t 0 ss) (unmatched_from t (length ss) others)
+unmatched_both t ss others =
+    let none : 0 + length ss ≡ length ss = omega arith in
+    unmatched_append t 0 ss others ∙ ap (λ n. option_or (unmatched_from t 0 ss) (unmatched_from t n others)) none

@@ -5,8 +5,11 @@ pub mod ClassName
 pub mod Covering
 pub mod Marks
 pub mod Lineage
+pub mod NameEnds
 pub mod Outers
 pub mod Packages
+pub mod Patterns
+pub mod Reading
 pub mod SparesTaken
 pub mod Staying
 pub mod Tags

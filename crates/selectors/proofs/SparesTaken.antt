@@ -8,10 +8,9 @@ use Rattle.descriptor.specs.Kinds.{is_test}
 use Rattle.descriptor.specs.Nodes.{Nodes, IsTree, IsChild, parent_of, kind_of, role_of, is_spare_at}
 use Rattle.descriptor.specs.Roles.{is_factory, is_spare}
 use Rattle.selectors.specs.declared.request.Request.{Request}
-use Rattle.selectors.specs.Covered.{is_covered}
 use Rattle.selectors.specs.Filters.{keeps, tags_together}
 use Rattle.selectors.specs.Keeping.{is_taken}
-use Rattle.selectors.specs.Selections.{is_selectable, is_selected}
+use Rattle.selectors.specs.Selections.{is_asked_for, is_selectable, is_selected}
 
 or_none : (a : Bool) → (a || false) ≡ a
 or_none true = refl
@@ -41,7 +40,7 @@ plain_taken_ok t q n (Err e) plain is = is
 pub spare_taken : (t : Nodes) → IsTree t → (request : Request) (f n : ℕ) → IsChild t f n → is_spare_at t n ≡ true → is_taken t (is_selected t request) f ≡ is_taken t (is_selected t request) n
 spare_taken t tree request f n e spare =
     let q = is_selected t request in
-    let rest = is_covered t request.selectors.items n && keeps request.include.items request.exclude.items (tags_together t n) in
+    let rest = is_asked_for t request n && keeps request.include.items request.exclude.items (tags_together t n) in
     let factory : is_spare_at t f ≡ false = factory_no_spare (role_of t f) (sym (tree.spares f n e) ∙ spare) in
     let own : q n ≡ false = ap (λ b. b && rest) (spare_unselectable (kind_of t n) (role_of t n) spare) in
     sym (plain_taken t q f factory) ∙ ap q (sym e.parent) ∙ sym (ap (λ b. b || (is_spare_at t n && q (parent_of t n))) own ∙ ap (λ b. b && q (parent_of t n)) spare)

@@ -1,9 +1,9 @@
--- The class name of a node.
-use Rattle.std.specs.Prelude.{ℕ, ◌-◌, List, [], ◌∷◌, ◌++◌, length, slice_get, codes, Bool, false, if◌then◌else◌, Option, Some, None}
+-- The class name of a node, and the name of a method.
+use Rattle.std.specs.Prelude.{ℕ, ◌-◌, ◌||◌, List, [], ◌∷◌, ◌++◌, length, slice_get, codes, Bool, false, if◌then◌else◌, Option, Some, None}
 use Rattle.std.specs.Str.{bytes_eq}
 use Rattle.unique_id.specs.declared.unique_id.Segment.{Segment}
 use Rattle.descriptor.specs.declared.node.Node.{Node}
-use Rattle.descriptor.specs.Nodes.{Nodes, node_at}
+use Rattle.descriptor.specs.Nodes.{Nodes, node_at, parent_of}
 use Rattle.selectors.specs.Lineages.{lineage}
 
 -- what a unique id ends in
@@ -44,3 +44,17 @@ class_name t n = name_along t (lineage t n)
 abbrev pub is_text : Option (List ℕ) → List ℕ → Bool
 is_text None text = false
 is_text (Some other) text = bytes_eq other text
+
+-- a segment of a method or of a test factory
+abbrev pub is_of_method : Segment → Bool
+is_of_method segment = bytes_eq segment.kind (codes "method") || bytes_eq segment.kind (codes "test-factory")
+
+-- the name of a method whose id ends in this segment, right below a node of that class name: the class name, a hash (35) and the segment's value
+abbrev pub method_below : Option (List ℕ) → Option Segment → Option (List ℕ)
+method_below above None = None
+method_below None (Some segment) = None
+method_below (Some class) (Some segment) = if is_of_method segment then Some (class ++ 35 ∷ segment.value) else None
+
+-- the name of node n, `CLASS#METHOD`: only methods and test factories right below a node with a class name have one
+abbrev pub method_name : Nodes → ℕ → Option (List ℕ)
+method_name t n = method_below (class_name t (parent_of t n)) (last_segment t n)

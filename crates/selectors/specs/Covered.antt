@@ -19,6 +19,10 @@ truths q (suc n) = truths q n ++ q n ∷ []
 abbrev pub is_covered : Nodes → List Selector → ℕ → Bool
 is_covered t selectors n = length selectors == 0 || list_any (λ selector. covers t selector n) selectors
 
+-- whether one of these selectors covers a node
+abbrev pub is_excluded : Nodes → List Selector → ℕ → Bool
+is_excluded t exclusions n = list_any (λ selector. covers t selector n) exclusions
+
 -- whether a selector covers a node of the tree
 abbrev pub matches : Nodes → Selector → Bool
 matches t selector = any_below (covers t selector) (size t)

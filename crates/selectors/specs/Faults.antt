@@ -9,6 +9,7 @@ use Rattle.selectors.specs.declared.select_fault.SelectFault.TheVariants as sele
 abbrev pub selector_number : SelectorFault → ℕ
 selector_number selector.NoMemory = 0
 selector_number selector.BadSelector = 40
+selector_number selector.EmptyPattern = 43
 
 -- the number of a request's refusal, and 0 for want of memory
 abbrev pub select_number : SelectFault → ℕ

@@ -5,6 +5,8 @@ pub mod Faults
 pub mod Filters
 pub mod Keeping
 pub mod Lineages
+pub mod NameEnds
 pub mod Names
+pub mod Patterns
 pub mod Selections
 pub mod Selectors

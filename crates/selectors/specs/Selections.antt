@@ -1,5 +1,5 @@
 -- The tests and factories that are selected, and the tree of those.
-use Rattle.std.specs.Prelude.{ℕ, ◌&&◌, ◌||◌, not, Bool, Option}
+use Rattle.std.specs.Prelude.{ℕ, ◌&&◌, ◌||◌, ◌++◌, not, Bool, Option}
 use Rattle.std.specs.Option.{option_map}
 use Rattle.descriptor.specs.declared.kind.Kind.{Kind}
 use Rattle.descriptor.specs.declared.role.Role.{Role}
@@ -10,7 +10,7 @@ use Rattle.descriptor.specs.Roles.{is_factory, is_spare}
 use Rattle.selectors.specs.declared.request.Request.{Request}
 use Rattle.selectors.specs.declared.select_fault.SelectFault.{SelectFault}
 use Rattle.selectors.specs.declared.select_fault.SelectFault.TheVariants.{NothingMatches}
-use Rattle.selectors.specs.Covered.{truths, is_covered, first_unmatched}
+use Rattle.selectors.specs.Covered.{truths, is_covered, is_excluded, first_unmatched}
 use Rattle.selectors.specs.Filters.{keeps, tags_together}
 use Rattle.selectors.specs.Keeping.{stays}
 
@@ -18,16 +18,21 @@ use Rattle.selectors.specs.Keeping.{stays}
 abbrev pub is_selectable : Kind → Role → Bool
 is_selectable kind role = is_factory role || (is_test kind && not (is_spare role))
 
--- whether node n is selected: it is a factory or a test that is no spare, one of the selectors covers it or there are none, and the tag filter keeps
+-- whether a request takes node n by its place and its name: one of the selectors covers it or there are none, one of the names covers it or there
+-- are none, and none of the exclusions covers it
+abbrev pub is_asked_for : Nodes → Request → ℕ → Bool
+is_asked_for t request n = is_covered t request.selectors.items n && (is_covered t request.names.items n && not (is_excluded t request.exclusions.items n))
+
+-- whether node n is selected: it is a factory or a test that is no spare, the request takes it by its place and its name, and the tag filter keeps
 -- its tags together with all above it
 abbrev pub is_selected : Nodes → Request → ℕ → Bool
-is_selected t request n = is_selectable (kind_of t n) (role_of t n) && (is_covered t request.selectors.items n && keeps request.include.items request.exclude.items (tags_together t n))
+is_selected t request n = is_selectable (kind_of t n) (role_of t n) && (is_asked_for t request n && keeps request.include.items request.exclude.items (tags_together t n))
 
 -- what discovery finds: the tree of the nodes that stay, which are node 0, each node that a selected node is at or below, and the spares of a selected
 -- factory, in their order
 abbrev pub answer : Nodes → Request → Nodes
 answer t request = pruned t (truths (stays t (is_selected t request)) (size t))
 
--- the refusal of a request: the first selector that covers no node, whatever the tag filter keeps
+-- the refusal of a request: the first of its selectors, and then of its names, that covers no node of the whole tree, whatever else is asked for
 abbrev pub refusal : Nodes → Request → Option SelectFault
-refusal t request = option_map NothingMatches (first_unmatched t request.selectors.items)
+refusal t request = option_map NothingMatches (first_unmatched t (request.selectors.items ++ request.names.items))

@@ -3,10 +3,13 @@
 ghost use Rattle.std.specs.Prelude.{◌≡◌, ◌<◌, IfOk};
 ghost use Rattle.std.specs.List.{list_any};
 ghost use Rattle.descriptor.specs.Nodes.{size, IsTree};
-ghost use Rattle.selectors.specs.Names.{names};
-ghost use Rattle.selectors.specs.Covered.{truths, is_covered};
+ghost use Rattle.selectors.specs.declared.request.Request.{Request};
+ghost use Rattle.selectors.specs.Names.{covers, names};
+ghost use Rattle.selectors.specs.Covered.{truths, is_covered, is_excluded};
+ghost use Rattle.selectors.specs.Selections.{is_asked_for};
 
 use crate::names::names;
+use crate::request::Request;
 use crate::selector::Selector;
 use descriptor::{NodeId, Tree};
 use std::alloc::{AllocError, Global};
@@ -54,4 +57,49 @@ pub(crate) fn covered(
         covered.push(here)?;
     }
     Ok(covered)
+}
+
+/// Whether the selector covers the node. Takes no memory.
+fn covers(tree: &Tree, selector: &Selector, node: NodeId) -> bool
+    requires tree { IsTree tree.now }
+    requires inside { node < size tree.now }
+    ensures { result ≡ covers tree.now selector.now node }
+{
+    let mut current = node;
+    while let Some(parent) = tree.parent(current) {
+        if names(tree, selector, current) {
+            return true;
+        }
+        current = parent;
+    }
+    names(tree, selector, current)
+}
+
+/// Whether one of these selectors covers the node.
+fn is_excluded(tree: &Tree, exclusions: &[Selector], node: NodeId) -> bool
+    requires tree { IsTree tree.now }
+    requires inside { node < size tree.now }
+    ensures { result ≡ is_excluded tree.now exclusions.now node }
+{
+    for exclusion in exclusions {
+        if covers(tree, exclusion, node) {
+            return true;
+        }
+    }
+    false
+}
+
+/// Whether the request takes the node by its place and its name, where it is known whether one of
+/// its selectors covers it.
+pub(crate) fn is_asked_for(tree: &Tree, request: &Request, covered: bool, node: NodeId) -> bool
+    requires tree { IsTree tree.now }
+    requires inside { node < size tree.now }
+    requires covered { covered ≡ is_covered tree.now request.now.selectors.items node }
+    ensures { result ≡ is_asked_for tree.now request.now node }
+{
+    let names = request.names.as_slice();
+    if !covered || !names.is_empty() && !is_excluded(tree, names, node) {
+        return false;
+    }
+    !is_excluded(tree, request.exclusions.as_slice(), node)
 }

@@ -7,10 +7,10 @@ ghost use Rattle.tag_expr.specs.TagSets.{has_tag};
 ghost use Rattle.selectors.specs.ClassNames.{class_name, last_segment, name_below};
 ghost use Rattle.selectors.specs.Filters.{tags_together, IsTagged};
 ghost use Rattle.selectors.specs.Keeping.{stays, Stays};
-ghost use Rattle.selectors.specs.Names.{covers, names, Covers, HasIdOrSpare};
+ghost use Rattle.selectors.specs.Names.{covers, names, Covers, HasIdOrSpare, HasMatchingName};
 ghost use Rattle.selectors.specs.Selections.{answer, is_selected, refusal};
 ghost use Rattle.selectors.specs.declared.selector.Selector.{Selector};
-ghost use Rattle.selectors.specs.declared.selector.Selector.TheVariants.{Uid};
+ghost use Rattle.selectors.specs.declared.selector.Selector.TheVariants.{Uid, Name};
 ghost use Rattle.unique_id.specs.declared.unique_id.Segment.{Segment};
 
 use crate::kept::kept;
@@ -25,7 +25,9 @@ use std::alloc::Global;
 /// and of what they are below, its nodes numbered anew, in their order and with their bodies. Where
 /// all nodes are that, it is the same tree, and nothing is copied.
 ///
-/// Errors: refusal 41 for the first selector that covers no node, and else want of memory.
+/// Errors: refusal 41 for the first selector, and then for the first name, that covers no node of
+/// the whole tree, at its number, names counted behind selectors; and else want of memory. An
+/// exclusion that covers no node is none.
 pub fn discover(alloc: Global, tree: Tree, request: &Request) -> Result<Tree, SelectFault>
     ensures ok { IfOk result (λ found. found ≡ answer tree request.now) }
     ensures tree { IfOk result (λ found. IsTree found) }
@@ -33,11 +35,13 @@ pub fn discover(alloc: Global, tree: Tree, request: &Request) -> Result<Tree, Se
     ensures accepted { IfOk result (λ _. refusal tree request.now ≡ None) }
     ensures refused { IfErr result (λ fault. fault ≢ SelectFault.NoMemory → refusal tree request.now ≡ Some fault) }
     ensures no_memory { IfErr result (λ fault. fault ≡ SelectFault.NoMemory → refusal tree request.now ≡ None) }
-    // What covering, ids, class names, tags and staying come to.
+    // What covering, ids, patterns, class names, tags and staying come to.
     ensures covered { (selector : Selector) (n : ℕ) → n < size tree → (covers tree selector n ≡ true)
         ↔ Covers tree selector n }
     ensures ids { (id : List Segment) (n : ℕ) → n < size tree → (names tree (Uid id) n ≡ true)
         ↔ HasIdOrSpare tree id n }
+    ensures patterns { (pattern : List ℕ) (n : ℕ) → n < size tree → (names tree (Name pattern) n ≡ true)
+        ↔ HasMatchingName tree pattern n }
     ensures class_names { (n : ℕ) → 0 < n → n < size tree →
         class_name tree n ≡ name_below (class_name tree (parent_of tree n)) (last_segment tree n) }
     ensures tags { (tag : List ℕ) (n : ℕ) → n < size tree → (has_tag (tags_together tree n) tag ≡ true)
@@ -60,7 +64,7 @@ fn found(alloc: Global, tree: Tree, request: &Request) -> Result<Tree, SelectFau
     ensures refused { IfErr result (λ fault. fault ≢ SelectFault.NoMemory → refusal tree request.now ≡ Some fault) }
     ensures no_memory { IfErr result (λ fault. fault ≡ SelectFault.NoMemory → refusal tree request.now ≡ None) }
 {
-    if let Some(number) = first_unmatched(&tree, request.selectors.as_slice()) {
+    if let Some(number) = first_unmatched(&tree, request) {
         return Err(SelectFault::NothingMatches(number));
     }
     let taken = taken(alloc, &tree, request)?;

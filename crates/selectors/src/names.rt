@@ -2,14 +2,17 @@
 
 ghost use Rattle.std.specs.Prelude.{◌≡◌, ◌<◌, Some};
 ghost use Rattle.descriptor.specs.Nodes.{size, IsTree};
-ghost use Rattle.selectors.specs.Names.{names, has_spare, is_method, is_class_in};
+ghost use Rattle.selectors.specs.ClassNames.{method_name};
+ghost use Rattle.selectors.specs.Names.{names, has_spare, is_match_of, is_method, is_class_in};
 
 use crate::class_names::{has_class_name, last_segment};
+use crate::name_end::{is_of_method, method_name};
+use crate::pattern::matches;
 use crate::selector::Selector;
 use descriptor::{NodeId, Tree};
 use unique_id::Segment;
 
-/// Whether the selector names the node. Takes no memory, and at most 64 steps up the tree.
+/// Whether the selector names the node. Takes no memory.
 pub(crate) fn names(tree: &Tree, selector: &Selector, node: NodeId) -> bool
     requires tree { IsTree tree.now }
     requires inside { node < size tree.now }
@@ -27,6 +30,19 @@ pub(crate) fn names(tree: &Tree, selector: &Selector, node: NodeId) -> bool
                 && has_class_name(tree, parent, class.as_str().as_bytes())
         }
         Selector::Package(name) => is_class_in(last_segment(subject), name.as_str()),
+        Selector::Name(pattern) => has_name_like(tree, node, pattern.as_str()),
+    }
+}
+
+/// Whether the node has a name, and the pattern matches it.
+fn has_name_like(tree: &Tree, node: NodeId, pattern: &str) -> bool
+    requires tree { IsTree tree.now }
+    requires inside { node < size tree.now }
+    ensures { result ≡ is_match_of pattern.now (method_name tree.now node) }
+{
+    match method_name(tree, node) {
+        Some(name) => matches(tree, pattern.as_bytes(), name),
+        None => false,
     }
 }
 
@@ -51,10 +67,7 @@ fn has_spare(tree: &Tree, node: NodeId, id: &str) -> bool
 fn is_method(segment: &Segment, method: &str) -> bool
     ensures { result ≡ is_method method.now (Some segment.now) }
 {
-    match segment.kind() {
-        "method" | "test-factory" => segment.value() == method,
-        _ => false,
-    }
+    is_of_method(segment) && segment.value() == method
 }
 
 /// Whether the segment is a class whose value begins with the name of a package and a dot.

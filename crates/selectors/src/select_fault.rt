@@ -12,7 +12,8 @@ pub enum SelectFault {
     /// The memory ran out.
     #[error("no memory")]
     NoMemory,
-    /// The selector with this number, counted from 1, covers no node (refusal 41).
+    /// The selector with this number, counted from 1, covers no node (refusal 41); names are counted
+    /// behind selectors.
     #[error("selector {0} covers no node")]
     NothingMatches(usize),
 }

@@ -15,6 +15,9 @@ pub enum SelectorFault {
     /// The text is no selector of the kind (refusal 40).
     #[error("a text that is no selector")]
     BadSelector,
+    /// A pattern of names that is empty (refusal 43).
+    #[error("an empty pattern of names")]
+    EmptyPattern,
 }
 
 impl SelectorFault {
@@ -27,6 +30,7 @@ impl SelectorFault {
         match self {
             SelectorFault::NoMemory => 0,
             SelectorFault::BadSelector => 40,
+            SelectorFault::EmptyPattern => 43,
         }
     }
 }

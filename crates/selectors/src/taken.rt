@@ -6,7 +6,7 @@ ghost use Rattle.selectors.specs.Covered.{truths, is_covered};
 ghost use Rattle.selectors.specs.Keeping.{is_taken};
 ghost use Rattle.selectors.specs.Selections.{is_selectable, is_selected};
 
-use crate::covered::covered;
+use crate::covered::{covered, is_asked_for};
 use crate::filter::keeps;
 use crate::request::Request;
 use descriptor::{Kind, NodeId, Role, Tree};
@@ -32,7 +32,10 @@ fn is_selected(
     requires covered { covered ≡ is_covered tree.now request.now.selectors.items node }
     ensures { IfOk result (λ selected. selected ≡ is_selected tree.now request.now node) }
 {
-    if !is_selectable(tree.kind(node), tree.role(node)) || !covered {
+    if !is_selectable(tree.kind(node), tree.role(node)) {
+        return Ok(false);
+    }
+    if !is_asked_for(tree, request, covered, node) {
         return Ok(false);
     }
     keeps(

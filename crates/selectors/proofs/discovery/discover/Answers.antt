@@ -1,7 +1,9 @@
--- The laws of covering, ids, class names, tags and staying.
+-- The laws of covering, ids, patterns, class names, tags and staying.
+use Rattle.selectors.specs.ClassNames.{method_name}
 use Rattle.selectors.specs.Selections.{is_selected}
 use Rattle.selectors.proofs.Answer.{covers_is, tagged_is}
 use Rattle.selectors.proofs.ClassName.{class_name_up}
+use Rattle.selectors.proofs.Patterns.{like}
 use Rattle.selectors.proofs.Staying.{stays_is}
 use Rattle.selectors.proofs.Uids.{names_id}
 use Rattle.selectors.proofs.discovery.discover.Goals as goal
@@ -11,6 +13,9 @@ returns-clause-covered c = λ selector n inside. covers_is c.args.tree c.len.ens
 
 pub returns-clause-ids : goal.returns-clause-ids
 returns-clause-ids c = λ id n inside. names_id c.args.tree c.len.ensures.tree id n
+
+pub returns-clause-patterns : goal.returns-clause-patterns
+returns-clause-patterns c = λ pattern n inside. like pattern (method_name c.args.tree n)
 
 pub returns-clause-class_names : goal.returns-clause-class_names
 returns-clause-class_names c = λ n above inside. class_name_up c.args.tree c.len.ensures.tree n above inside

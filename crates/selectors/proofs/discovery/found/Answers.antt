@@ -14,16 +14,16 @@ kept-keep-requires-clause-len c = len_is c.args.tree (is_taken c.args.tree (is_s
 pub into_pruned-requires-clause-one_each : goal.into_pruned-requires-clause-one_each
 into_pruned-requires-clause-one_each c =
     let q = is_taken c.args.tree (is_selected c.args.tree c.args.request.now) in
-    len_is c.args.tree (is_above c.args.tree q) c.as_slice-2.result.now (c.as_slice-2.ensures.value ∙ above_of c.args.tree q c.in_ok-taken.taken.items c.kept-keep.result.items c.in_ok-taken.ensures c.kept-keep.ensures)
+    len_is c.args.tree (is_above c.args.tree q) c.as_slice.result.now (c.as_slice.ensures.value ∙ above_of c.args.tree q c.in_ok-taken.taken.items c.kept-keep.result.items c.in_ok-taken.ensures c.kept-keep.ensures)
 
 pub into_pruned-requires-clause-closed : goal.into_pruned-requires-clause-closed
 into_pruned-requires-clause-closed c =
     let q = is_taken c.args.tree (is_selected c.args.tree c.args.request.now) in
-    closed c.args.tree c.requires q c.as_slice-2.result.now (c.as_slice-2.ensures.value ∙ above_of c.args.tree q c.in_ok-taken.taken.items c.kept-keep.result.items c.in_ok-taken.ensures c.kept-keep.ensures)
+    closed c.args.tree c.requires q c.as_slice.result.now (c.as_slice.ensures.value ∙ above_of c.args.tree q c.in_ok-taken.taken.items c.kept-keep.result.items c.in_ok-taken.ensures c.kept-keep.ensures)
 
 pub returns-clause-ok : goal.returns-clause-ok
 returns-clause-ok c =
     let q = is_selected c.args.tree c.args.request.now in
-    let above : c.as_slice-2.result.now ≡ truths (is_above c.args.tree (is_taken c.args.tree q)) (size c.args.tree) =
-    c.as_slice-2.ensures.value ∙ above_of c.args.tree (is_taken c.args.tree q) c.in_ok-taken.taken.items c.kept-keep.result.items c.in_ok-taken.ensures c.kept-keep.ensures in
-    c.in_ok-found.ensures.same ∙ ap (pruned c.args.tree) (kept_of c.args.tree c.requires q c.as_slice-2.result.now above)
+    let above : c.as_slice.result.now ≡ truths (is_above c.args.tree (is_taken c.args.tree q)) (size c.args.tree) =
+    c.as_slice.ensures.value ∙ above_of c.args.tree (is_taken c.args.tree q) c.in_ok-taken.taken.items c.kept-keep.result.items c.in_ok-taken.ensures c.kept-keep.ensures in
+    c.in_ok-found.ensures.same ∙ ap (pruned c.args.tree) (kept_of c.args.tree c.requires q c.as_slice.result.now above)
