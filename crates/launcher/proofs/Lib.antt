@@ -2,6 +2,7 @@ pub mod Answered
 pub mod BrokenOff
 pub mod JobsRan
 pub mod Launching
+pub mod Noting
 pub mod Planning
 pub mod ProgramRuns
 pub mod ProgramShown

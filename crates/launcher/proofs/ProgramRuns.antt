@@ -29,7 +29,7 @@ use Rattle.launcher.specs.Reports.{IsBehindDetails}
 use Rattle.launcher.specs.Runs.{FailsSuite, IsReady, TakesMemory, crowd_refusal, plan_refusal, run_refusal, settings_in, settings_refusal}
 use Rattle.launcher.specs.Watched.{HasLiveFeed, IsAnswered, LacksBy, SeesRefusal, cut_in, is_run}
 use Rattle.launcher.proofs.BrokenOff.{answered_as, refused}
-use Rattle.launcher.proofs.Showing.{IsTextOf}
+use Rattle.launcher.proofs.Showing.{IsTextOf, lines_run}
 use Rattle.launcher.proofs.Planning.{ready_takes}
 use Rattle.launcher.proofs.Selected.{selected_jobs, all_jobs}
 
@@ -49,6 +49,7 @@ module _ {B : Type 0} (answers : B → List Reply) (Behind : List Event → List
   jobs_ran details.Json runs text status output = output
   jobs_ran details.Xml runs text status output = output
   jobs_ran details.List runs text status output = absurd (true≢false (sym runs))
+  jobs_ran details.Plan runs text status output = absurd (true≢false (sym runs))
 
   pub program_output_of : is_run None asked.details ≡ true → (text : List ℕ) (status : ExitStatus) → IsJobsOutput answers Behind asked settings p jobs text status → IsProgramOutput answers Behind asked.details asked settings p jobs text status
   program_output_of runs text status output = jobs_ran asked.details runs text status output
@@ -58,7 +59,7 @@ module _ {B : Type 0} (answers : B → List Reply) (Behind : List Event → List
 
 -- a plan whose feed is printed while it goes on is run
 pub jobs_feed_runs : (asked : Asked) → HasLiveFeed asked → is_run None asked.details ≡ true
-jobs_feed_runs asked feed = ap (is_run None) feed.0
+jobs_feed_runs asked lines = lines_run asked.details lines.0
 
 no_replay : (schedule : Bool) (replay : Option (List Step)) → steps_refusal schedule replay ≡ None → replay ≡ None
 no_replay true replay none = absurd (none-some BadWords (sym none))

@@ -1,4 +1,4 @@
--- What is printed of a program's jobs where no list is asked for.
+-- What is printed of a program's jobs where neither the list nor the nodes are asked for.
 use Rattle.std.proofs.Common.{◌≡◌, ℕ, Bool, true, false, List, None, Result, Ok, Err, IfOk, refl, inl, inr}
 use Rattle.std.specs.Prelude.{◌⊎◌, string_bytes}
 use Rattle.config_params.specs.declared.settings.Settings.{Settings}
@@ -14,7 +14,7 @@ use Rattle.launcher.specs.declared.report.Output.{Output}
 use Rattle.launcher.specs.Programs.{IsJobsOutput, IsProgramOutput}
 use Rattle.launcher.specs.Watched.{is_run}
 
--- any details but the list
+-- any details but the list and the nodes
 abbrev Runs : Details → Type 0
 Runs kind = (kind ≡ details.None) ⊎ ((kind ≡ details.Summary) ⊎ ((kind ≡ details.Tree) ⊎ ((kind ≡ details.Testfeed) ⊎ ((kind ≡ details.Json) ⊎ (kind ≡ details.Xml)))))
 
@@ -27,6 +27,7 @@ runs details.Testfeed some = refl
 runs details.Json some = refl
 runs details.Xml some = refl
 runs details.List some = elim some [ inl q ↦ cc | inr a ↦ elim a [ inl q ↦ cc | inr b ↦ elim b [ inl q ↦ cc | inr d ↦ elim d [ inl q ↦ cc | inr e ↦ elim e [ inl q ↦ cc | inr q ↦ cc ] ] ] ] ]
+runs details.Plan some = elim some [ inl q ↦ cc | inr a ↦ elim a [ inl q ↦ cc | inr b ↦ elim b [ inl q ↦ cc | inr d ↦ elim d [ inl q ↦ cc | inr e ↦ elim e [ inl q ↦ cc | inr q ↦ cc ] ] ] ] ]
 
 module _ {B : Type 0} (answers : B → List Reply) (Behind : List Event → List ℕ → Type 0) (asked : Asked) (settings : Settings) (p : PlanParts) (jobs : List (ℕ × B)) where
   jobs_shown : (kind : Details) (text : List ℕ) (status : ExitStatus) → Runs kind → IsJobsOutput answers Behind asked settings p jobs text status → IsProgramOutput answers Behind kind asked settings p jobs text status
@@ -37,6 +38,7 @@ module _ {B : Type 0} (answers : B → List Reply) (Behind : List Event → List
   jobs_shown details.Json text status some is = is
   jobs_shown details.Xml text status some is = is
   jobs_shown details.List text status some is = elim some [ inl q ↦ cc | inr a ↦ elim a [ inl q ↦ cc | inr b ↦ elim b [ inl q ↦ cc | inr d ↦ elim d [ inl q ↦ cc | inr e ↦ elim e [ inl q ↦ cc | inr q ↦ cc ] ] ] ] ]
+  jobs_shown details.Plan text status some is = elim some [ inl q ↦ cc | inr a ↦ elim a [ inl q ↦ cc | inr b ↦ elim b [ inl q ↦ cc | inr d ↦ elim d [ inl q ↦ cc | inr e ↦ elim e [ inl q ↦ cc | inr q ↦ cc ] ] ] ] ]
 
   pub program_shown : (kind : Details) (result : Result Output LaunchFault) → Runs kind → IfOk result (λ report. IsJobsOutput answers Behind asked settings p jobs (string_bytes report.text) report.status)
       → IfOk result (λ report. IsProgramOutput answers Behind kind asked settings p jobs (string_bytes report.text) report.status)

@@ -106,8 +106,9 @@ module _ (asked : Asked) (settings : Settings) (p : PlanParts) (reply : ℕ → 
   expected_text details.Tree text so = ap₂ (λ a b. a ++ b) (is.tree asked.theme) (ap summary_of is.counts) ∙ same_Some _ _ so
   expected_text details.Testfeed text so = absurd (none-some text so)
   expected_text details.Json text so = absurd (none-some text so)
-  expected_text details.Xml text so = absurd (none-some text so)
+  expected_text details.Xml text so = is.xml ∙ same_Some _ _ so
   expected_text details.List text so = absurd (none-some text so)
+  expected_text details.Plan text so = absurd (none-some text so)
 
   pub expected_output : (behind text : List ℕ) (status : ExitStatus) → text ≡ head_of asked.details settings.warnings ++ (details_of asked.details asked.theme p texts history ++ behind)
       → status ≡ status_of_run asked.fail_if_no_tests (tests_found p history) (has_failed p history) → IsExpectedOutput asked settings p.tree reply behind text status

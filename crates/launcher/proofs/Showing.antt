@@ -1,6 +1,6 @@
--- What a feed has printed of a run is a front of its output.
+-- What is printed of a run while it goes on is a front of its output.
 use Rattle.std.proofs.Common.{◌≡◌, ◌≢◌, ◌∙◌, ℕ, ◌<◌, Bool, true, false, List, [], ◌++◌, length, take, Option, Some, None, Result, Ok, Err, IfOk, IfErr, refl, sym, ap, ap₂, subst, append-nil, inl, inr, arith}
-use Rattle.std.specs.Prelude.{◌⊎◌, string_bytes}
+use Rattle.std.specs.Prelude.{◌⊎◌, if◌then◌else◌, string_bytes}
 use Rattle.std.specs.Io.KnownBytes.{Appends}
 use Rattle.std.specs.Result.{IsErrAnd}
 use Rattle.std.proofs.KnownBytes.{Appends-nil}
@@ -13,15 +13,16 @@ use Rattle.resource_locks.specs.Plans.{PlanParts}
 use Rattle.event_history.specs.Parts.{EndsInPlan}
 use Rattle.scheduling.specs.declared.step.Step.{Step}
 use Rattle.listeners.specs.Listeners.{Telling, tellings_of}
-use Rattle.listeners.specs.Feed.{feed_of}
+use Rattle.listeners.specs.declared.theme.Theme.{Theme}
 use Rattle.listeners.specs.declared.to_writer.WriteFault.{WriteFault}
-use Rattle.live_feed.specs.LiveFeeds.{output_of, IsSoFar, IsPrinted, IsFront}
+use Rattle.live_feed.specs.LiveFeeds.{lines_of, output_of, IsSoFar, IsPrinted, IsFront, is_stopped}
+use Rattle.live_feed.specs.declared.line_form.LineForm.{LineForm}
 use Rattle.live_feed.specs.declared.live_feed.LiveFeed.{LiveFeed}
 use Rattle.live_feed.specs.declared.live_feed.Outlet.{Outlet}
 use Rattle.live_feed.specs.declared.live_feed.Outlet.TheVariants.{Waiting, Open, Closed, Failed}
 use Rattle.live_feed.proofs.Fronts.{IsShort, front, front_short}
 use Rattle.suite_text.specs.Reading.Parts.{SuiteParts}
-use Rattle.launch_options.specs.Asked.{Asked}
+use Rattle.launch_options.specs.Asked.{Asked, prints_live}
 use Rattle.launch_options.specs.Faults.{cut_by_memory, cut_by_writer}
 use Rattle.launch_options.specs.declared.details.Details.{Details}
 use Rattle.launch_options.specs.declared.details.Details.TheVariants as details
@@ -34,31 +35,49 @@ use Rattle.launcher.specs.Beside.{SeesBeside}
 use Rattle.launcher.specs.Reports.{details_of, HasHistory, IsOutput, IsOutputWith, IsPlanOutput, IsPrintedRun, IsRunOutput}
 use Rattle.launcher.specs.Runs.{FailsSuite, IsReady, IsSeenOutput, IsSeenSuiteOutput, IsSeenSuiteRun, IsSuiteOutput, IsSuiteRun, IsUnrun, TakesMemory}
 use Rattle.launcher.specs.WarningTexts.{head_of}
-use Rattle.launcher.specs.Watched.{HasLiveFeed, HasSeenPrinted, IsAllOf, IsBrokenOff, SeesRefusal, SeesTextBy, SomeOutput, WatchesBy, cut_in, is_run, outlet_by}
+use Rattle.launcher.specs.Watched.{HasLiveFeed, HasSeenPrinted, IsAllOf, IsBrokenOff, SeesRefusal, SeesTextBy, SomeOutput, WatchesBy, cut_in, form_by, is_run, outlet_by}
 use Rattle.launcher.proofs.BrokenOff.{answered_as, broken as broken_run, cut_short, refused, uncut_by, whole as whole_of}
 use Rattle.launcher.proofs.Planning.{ready_output, ready_takes, ready_unrun}
 
--- a feed is open at first only if the feed is asked for, and no replay
-feed_asked : (kind : Details) (replay : Option (List Step)) → outlet_by kind replay ≡ Waiting → (kind ≡ details.Testfeed) × (replay ≡ None)
-feed_asked details.None replay is = cc
-feed_asked details.Summary replay is = cc
-feed_asked details.Tree replay is = cc
-feed_asked details.Testfeed None is = (refl, refl)
-feed_asked details.Testfeed (Some steps) is = cc
-feed_asked details.Json replay is = cc
-feed_asked details.Xml replay is = cc
-feed_asked details.List replay is = cc
+-- lines are printed from the first only if they are asked for, and no replay
+lines_asked : (kind : Details) (replay : Option (List Step)) → outlet_by kind replay ≡ Waiting → (prints_live kind ≡ true) × (replay ≡ None)
+lines_asked kind (Some steps) is = cc
+lines_asked kind None is = (open_by (prints_live kind) is, refl)
+  where
+    open_by : (b : Bool) → (if b then Waiting else Closed) ≡ Waiting → b ≡ true
+    open_by true is = refl
+    open_by false is = cc
 
--- and else it is closed
+-- and else none is
 open_or_closed : (kind : Details) (replay : Option (List Step)) → (outlet_by kind replay ≡ Waiting) ⊎ (outlet_by kind replay ≡ Closed)
-open_or_closed details.None replay = inr refl
-open_or_closed details.Summary replay = inr refl
-open_or_closed details.Tree replay = inr refl
-open_or_closed details.Testfeed None = inl refl
-open_or_closed details.Testfeed (Some steps) = inr refl
-open_or_closed details.Json replay = inr refl
-open_or_closed details.Xml replay = inr refl
-open_or_closed details.List replay = inr refl
+open_or_closed kind (Some steps) = inr refl
+open_or_closed kind None = either_by (prints_live kind)
+  where
+    either_by : (b : Bool) → ((if b then Waiting else Closed) ≡ Waiting) ⊎ ((if b then Waiting else Closed) ≡ Closed)
+    either_by true = inl refl
+    either_by false = inr refl
+
+-- what is printed of a history is its lines in the form that is asked for
+lines_printed : (kind : Details) (theme : Theme) (p : PlanParts) (texts : TextParts) (h : List Event) → prints_live kind ≡ true → details_of kind theme p texts h ≡ lines_of (form_by kind) p texts h
+lines_printed details.None theme p texts h is = absurd (true≢false (sym is))
+lines_printed details.Summary theme p texts h is = absurd (true≢false (sym is))
+lines_printed details.Tree theme p texts h is = absurd (true≢false (sym is))
+lines_printed details.Testfeed theme p texts h is = refl
+lines_printed details.Json theme p texts h is = refl
+lines_printed details.Xml theme p texts h is = absurd (true≢false (sym is))
+lines_printed details.List theme p texts h is = absurd (true≢false (sym is))
+lines_printed details.Plan theme p texts h is = absurd (true≢false (sym is))
+
+-- and then the plan is run
+pub lines_run : (kind : Details) → prints_live kind ≡ true → is_run None kind ≡ true
+lines_run details.None is = refl
+lines_run details.Summary is = refl
+lines_run details.Tree is = refl
+lines_run details.Testfeed is = refl
+lines_run details.Json is = refl
+lines_run details.Xml is = refl
+lines_run details.List is = absurd (true≢false (sym is))
+lines_run details.Plan is = absurd (true≢false (sym is))
 
 -- nothing was handed to the writer
 record IsUnsent {W : Type 0} (contents : W → Option (List ℕ)) (first now : LiveFeed W) : Type 0 where
@@ -90,7 +109,7 @@ module _ {W V : Type 0} (contents : W → Option (List ℕ)) (saw : PlanParts �
     (runs : Bool) (as_output : runs ≡ true → (text : List ℕ) (status : ExitStatus) → HasHistory Prints text status → Printed text status)
     (as_text : (history : List Event) (texts : TextParts) (text : List ℕ) (status : ExitStatus) → Prints history texts text status → IsTextOf asked settings p history texts text)
     (live : HasLiveFeed asked → runs ≡ true) (at_first_both both : WatchedFeed W V)
-    (head : at_first_both.feed.head.now ≡ head_of asked.details settings.warnings) (outlet : at_first_both.feed.outlet ≡ outlet_by asked.details asked.replay) (none : at_first_both.feed.sent ≡ 0) where
+    (head : at_first_both.feed.head.now ≡ head_of asked.details settings.warnings) (form : at_first_both.feed.form ≡ form_by asked.details) (outlet : at_first_both.feed.outlet ≡ outlet_by asked.details asked.replay) (none : at_first_both.feed.sent ≡ 0) where
   abbrev first : LiveFeed W
   first = at_first_both.feed
 
@@ -129,9 +148,10 @@ module _ {W V : Type 0} (contents : W → Option (List ℕ)) (saw : PlanParts �
   nothing_yet = record {
     same = refl;
     head = refl;
-    closed = λ shut. (shut, refl);
-    so_far = at_first first.outlet either first.sent none (output_of first.head.now p []);
-    printed = subst (λ (n : ℕ). Appends was was (take n (output_of first.head.now p []))) (sym none) (Appends-nil was);
+    form = refl;
+    stopped = λ shut. record { outlet = refl; sent = refl; writer = refl };
+    so_far = λ live. at_first first.outlet either first.sent none (output_of first.form first.head.now p []);
+    printed = λ live. subst (λ (n : ℕ). Appends was was (take n (output_of first.form first.head.now p []))) (sym none) (Appends-nil was);
   }
 
   beside_nothing : SeesBeside contents saw p at_first_both at_first_both []
@@ -139,12 +159,12 @@ module _ {W V : Type 0} (contents : W → Option (List ℕ)) (saw : PlanParts �
 
   shut_unsent : first.outlet ≡ Closed → (ts : List Telling) → IsPrinted contents p first now ts → IsUnsent contents first now
   shut_unsent shut ts is =
-      let still = is.closed shut in
+      let still = is.stopped (ap is_stopped shut) in
       record {
         same = is.same;
-        sent = still.1 ∙ none;
-        whole = not_failed now.outlet (inr still.0);
-        kept = subst (λ (n : ℕ). Appends was is_now (take n (output_of first.head.now p ts))) (still.1 ∙ none) is.printed;
+        sent = still.sent ∙ none;
+        whole = not_failed now.outlet (inr (still.outlet ∙ shut));
+        kept = subst (λ (w : W). Appends was (contents w) []) (sym still.writer) (Appends-nil was);
       }
 
   unsent_front : (text : List ℕ) → IsUnsent contents first now → IsFront was is_now now.outlet now.sent text
@@ -170,15 +190,15 @@ module _ {W V : Type 0} (contents : W → Option (List ℕ)) (saw : PlanParts �
     other_sees : OtherSees text status
     other_sees = record { history = watched.history; texts = watched.texts; prints = watched.prints; seen = seen_both.seen }
 
-    whole_text : asked.details ≡ details.Testfeed → text ≡ first.head.now ++ (feed_of p watched.texts watched.history ++ is_text.behind)
-    whole_text kind =
+    whole_text : prints_live asked.details ≡ true → text ≡ first.head.now ++ (lines_of first.form p watched.texts watched.history ++ is_text.behind)
+    whole_text live =
         is_text.printed
-        ∙ ap (λ (k : Details). head_of asked.details settings.warnings ++ (details_of k asked.theme p watched.texts watched.history ++ is_text.behind)) kind
-        ∙ ap (λ (xs : List ℕ). xs ++ (feed_of p watched.texts watched.history ++ is_text.behind)) (sym head)
+        ∙ ap (λ (lines : List ℕ). head_of asked.details settings.warnings ++ (lines ++ is_text.behind)) (lines_printed asked.details asked.theme p watched.texts watched.history live)
+        ∙ ap₂ (λ (xs : List ℕ) (f : LineForm). xs ++ (lines_of f p watched.texts watched.history ++ is_text.behind)) (sym head) (sym form)
 
     watched_front : IsFront was is_now now.outlet now.sent text
     watched_front = elim (open_or_closed asked.details asked.replay) [
-      | inl opens ↦ front watched.texts watched.history is_text.ends contents p first now seen is_text.behind text (whole_text (feed_asked asked.details asked.replay opens).0)
+      | inl opens ↦ front watched.texts watched.history is_text.ends contents p first now seen (ap is_stopped (outlet ∙ opens)) is_text.behind text (whole_text (lines_asked asked.details asked.replay opens).0)
       | inr shut ↦ unsent_front text (shut_unsent (outlet ∙ shut) _ seen)
     ]
 
@@ -200,8 +220,8 @@ module _ {W V : Type 0} (contents : W → Option (List ℕ)) (saw : PlanParts �
     watched_broken : IsBrokenOff asked Shown now.outlet was is_now now.sent
     watched_broken = elim (open_or_closed asked.details asked.replay) [
       | inl opens ↦
-          (let feed = feed_asked asked.details asked.replay opens in
-          part_of feed (front_short watched.texts watched.history is_text.ends contents p first now seen is_text.behind text (whole_text feed.0)))
+          (let feed = lines_asked asked.details asked.replay opens in
+          part_of feed (front_short watched.texts watched.history is_text.ends contents p first now seen (ap is_stopped (outlet ∙ opens)) is_text.behind text (whole_text feed.0)))
       | inr shut ↦ unsent_broken (shut_unsent (outlet ∙ shut) _ seen)
     ]
 
@@ -283,6 +303,7 @@ module _ (asked : Asked) (settings : Settings) (p : PlanParts) (answers : List (
   plan_ran details.Json runs = output
   plan_ran details.Xml runs = output
   plan_ran details.List runs = absurd (true≢false (sym runs))
+  plan_ran details.Plan runs = absurd (true≢false (sym runs))
 
   suite_ran : (replay : Option (List Step)) → is_run replay asked.details ≡ true → IsOutputWith replay asked settings p answers text status
   suite_ran None runs = plan_ran asked.details runs
@@ -295,9 +316,9 @@ pub suite_text_of : (asked : Asked) (settings : Settings) (p : PlanParts) (answe
     → IsTextOf asked settings p history texts text
 suite_text_of asked settings p answers history texts text status prints = record { ends = prints.published.ends; behind = prints.schedule; printed = prints.printed }
 
--- a plan whose feed is printed while it goes on is run
+-- a plan whose lines are printed while it goes on is run
 pub feed_runs : (asked : Asked) → HasLiveFeed asked → is_run asked.replay asked.details ≡ true
-feed_runs asked feed = ap₂ is_run feed.1 feed.0
+feed_runs asked lines = ap (λ (replay : Option (List Step)). is_run replay asked.details) lines.1 ∙ lines_run asked.details lines.0
 
 -- a refusal of a suite tells of no output
 suite_uncut : (asked : Asked) (suite : SuiteParts) (fault : LaunchFault) → FailsSuite asked suite fault → cut_in fault ≡ None

@@ -33,7 +33,7 @@ use Rattle.launch_options.specs.declared.fault.LaunchFault.{LaunchFault}
 use Rattle.launch_options.specs.declared.fault.LaunchFault.TheVariants.{BadSettings, BadWords, NoMemory, NothingMatches, NoWorker, TooManyKeys, TooManyWorkers}
 use Rattle.launcher.specs.declared.exit_status.ExitStatus.{ExitStatus}
 use Rattle.launcher.specs.ExitStatuses.{status_of_run}
-use Rattle.launcher.specs.Reports.{details_of, HasHistory, IsExpectedOutput, IsListing}
+use Rattle.launcher.specs.Reports.{details_of, HasHistory, IsExpectedOutput, IsListing, IsPlanned}
 use Rattle.launcher.specs.Runs.{TakesMemory, plan_of, run_refusal, settings_in}
 use Rattle.launcher.specs.WarningTexts.{head_of}
 use Rattle.launcher.specs.Watched.{IsAnswered, LacksBy, SeesRefusal, SeesTextBy, is_run}
@@ -94,7 +94,7 @@ module _ {B : Type 0} (answers : B → List Reply) (Behind : List Event → List
   abbrev pub IsJobsOutput : Asked → Settings → PlanParts → List (ℕ × B) → List ℕ → ExitStatus → Type 0
   IsJobsOutput asked settings p jobs = HasHistory (IsPrintedJobs asked settings p jobs)
 
-  -- what is printed of a plan with these jobs: they are run, unless the list is asked for
+  -- what is printed of a plan with these jobs: they are run, unless the list or the nodes are asked for
   abbrev pub IsProgramOutput : Details → Asked → Settings → PlanParts → List (ℕ × B) → List ℕ → ExitStatus → Type 0
   IsProgramOutput details.None asked settings p jobs text status = IsJobsOutput asked settings p jobs text status
   IsProgramOutput details.Summary asked settings p jobs text status = IsJobsOutput asked settings p jobs text status
@@ -103,6 +103,7 @@ module _ {B : Type 0} (answers : B → List Reply) (Behind : List Event → List
   IsProgramOutput details.Json asked settings p jobs text status = IsJobsOutput asked settings p jobs text status
   IsProgramOutput details.Xml asked settings p jobs text status = IsJobsOutput asked settings p jobs text status
   IsProgramOutput details.List asked settings p jobs text status = IsListing asked.fail_if_no_tests p text status
+  IsProgramOutput details.Plan asked settings p jobs text status = IsPlanned asked.fail_if_no_tests settings.warnings p text status
 
 module _ {B : Type 0} (answers : B → List Reply) (Behind : List Event → List ℕ → Type 0) {L : Type 0} (saw : PlanParts → L → L → List Telling → Type 0) (first now : L) (asked : Asked) (settings : Settings) (p : PlanParts) (jobs : List (ℕ × B)) where
   -- what is printed of a plan; and whoever watches has seen the very history that is printed, or, where nothing is run, nothing

@@ -1,6 +1,7 @@
 -- What is printed of a run or of a replay, and its status.
 use Rattle.std.specs.Prelude.{◌≡◌, ℕ, ◌<◌, Bool, true, false, List, [], ◌++◌, length, Option, Some, None, IfSome}
 use Rattle.config_params.specs.declared.settings.Settings.{Settings}
+use Rattle.config_params.specs.declared.warnings.Warnings.{Warnings}
 use Rattle.descriptor.specs.Nodes.{Nodes, size}
 use Rattle.plan_events.specs.declared.event.Event.{Event}
 use Rattle.plan_events.specs.declared.outcome.Reply.{Reply}
@@ -31,11 +32,12 @@ use Rattle.listeners.specs.TreeTexts.{tree_of}
 use Rattle.reports.specs.Json.{json_of}
 use Rattle.reports.specs.Junit.{junit_of}
 use Rattle.reports.specs.Lists.{list_of}
+use Rattle.reports.specs.PlanNodes.{plan_lines}
 use Rattle.launch_options.specs.declared.details.Details.{Details}
 use Rattle.launcher.specs.declared.exit_status.ExitStatus.{ExitStatus}
 use Rattle.launcher.specs.declared.exit_status.ExitStatus.TheVariants.{Success}
 use Rattle.launcher.specs.ExitStatuses.{status_of_run}
-use Rattle.expected_output.specs.Expectations.{expected_tree, expected_counts, expected_tests, expects_failure}
+use Rattle.expected_output.specs.Expectations.{expected_tree, expected_xml, expected_counts, expected_tests, expects_failure}
 use Rattle.launch_options.specs.declared.details.Details.TheVariants as details
 use Rattle.launcher.specs.declared.replay.ReplayCounts.{ReplayCounts}
 use Rattle.launcher.specs.ReplayTexts.{replay_line}
@@ -59,7 +61,7 @@ pub record IsHistory (workers : ℕ) (p : PlanParts) (answers : List (ℕ × Rep
   pub as_expected : p.fail_fast ≡ false → (n : ℕ) → n < size p.tree → IsAsExpected p (replies_of answers) history n (expected p (reply_of answers) n)
 
 -- what is printed of these events with these texts: nothing; the summary; the tree, and then the summary; the feed; the same as
--- JSON; the report in XML; or, whatever they are, the list of what would be run
+-- JSON; the report in XML; or, whatever they are, the list of what would be run, or the plan's nodes
 abbrev pub details_of : Details → Theme → PlanParts → TextParts → List Event → List ℕ
 details_of details.None theme p texts events = []
 details_of details.Summary theme p texts events = summary_of (node_counts p events)
@@ -68,17 +70,19 @@ details_of details.Testfeed theme p texts events = feed_of p texts events
 details_of details.Json theme p texts events = json_of p texts events
 details_of details.Xml theme p texts events = junit_of p texts events
 details_of details.List theme p texts events = list_of p
+details_of details.Plan theme p texts events = plan_lines p
 
 -- what is expected to be printed of a tree whose bodies answer so, where nothing fails fast; of a feed and of JSON nothing is, since
--- they tell in which order things happened; of the report in XML, and of the list, for which nothing is run, nothing is said here
+-- they tell in which order things happened; of the list and the nodes, for which nothing is run, nothing is said here
 abbrev pub expected_details : Details → Theme → Nodes → (ℕ → Reply) → Option (List ℕ)
 expected_details details.None theme t reply = Some []
 expected_details details.Summary theme t reply = Some (summary_of (expected_counts t reply))
 expected_details details.Tree theme t reply = Some (expected_tree theme t reply ++ summary_of (expected_counts t reply))
 expected_details details.Testfeed theme t reply = None
 expected_details details.Json theme t reply = None
-expected_details details.Xml theme t reply = None
+expected_details details.Xml theme t reply = Some (expected_xml t reply)
 expected_details details.List theme t reply = None
+expected_details details.Plan theme t reply = None
 
 -- the status that is expected
 abbrev pub expected_status : Bool → Nodes → (ℕ → Reply) → ExitStatus
@@ -150,7 +154,12 @@ pub record IsListing (needs_tests : Bool) (p : PlanParts) (text : List ℕ) (sta
   pub listed : text ≡ list_of p
   pub exits : status ≡ status_of_run needs_tests (length text) false
 
--- what is printed of a plan where there are no steps to be replayed, and the status: it is run, unless its list is asked for
+-- nothing is run: a line for each warning, and the nodes of the plan; and the status is that of its list
+pub record IsPlanned (needs_tests : Bool) (warnings : Warnings) (p : PlanParts) (text : List ℕ) (status : ExitStatus) : Type 0 where
+  pub told : text ≡ head_of details.Plan warnings ++ plan_lines p
+  pub exits : status ≡ status_of_run needs_tests (length (list_of p)) false
+
+-- what is printed of a plan where there are no steps to be replayed, and the status: it is run, unless its list or its nodes are asked for
 abbrev pub IsPlanOutput : Details → Asked → Settings → PlanParts → List (ℕ × Reply) → List ℕ → ExitStatus → Type 0
 IsPlanOutput details.None asked settings p answers text status = IsRunOutput asked settings p answers text status
 IsPlanOutput details.Summary asked settings p answers text status = IsRunOutput asked settings p answers text status
@@ -159,6 +168,7 @@ IsPlanOutput details.Testfeed asked settings p answers text status = IsRunOutput
 IsPlanOutput details.Json asked settings p answers text status = IsRunOutput asked settings p answers text status
 IsPlanOutput details.Xml asked settings p answers text status = IsRunOutput asked settings p answers text status
 IsPlanOutput details.List asked settings p answers text status = IsListing asked.fail_if_no_tests p text status
+IsPlanOutput details.Plan asked settings p answers text status = IsPlanned asked.fail_if_no_tests settings.warnings p text status
 
 -- what is printed of a plan, and the status: where there are steps to be replayed the settings' workers take them, and
 -- nothing else counts

@@ -26,6 +26,7 @@ line_by details.Testfeed name text = text ++ codes "\n"
 line_by details.Json name text = note_line (codes "schedule") name text
 line_by details.Xml name text = comment_line text
 line_by details.List name text = text ++ codes "\n"
+line_by details.Plan name text = note_line (codes "schedule") name text
 
 -- the line of a schedule
 abbrev pub schedule_line : Details → Option (List Step) → List ℕ

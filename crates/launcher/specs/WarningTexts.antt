@@ -17,6 +17,7 @@ warning_line details.Testfeed key = codes "WARNING " ++ (key ++ codes "\n")
 warning_line details.Json key = note_line (codes "warning") (codes "key") key
 warning_line details.Xml key = comment_line (codes "WARNING " ++ key)
 warning_line details.List key = codes "WARNING " ++ (key ++ codes "\n")
+warning_line details.Plan key = note_line (codes "warning") (codes "key") key
 
 -- what an output begins with, whatever is warned of: a document of XML with its declaration
 abbrev pub beginning : Details → List ℕ
@@ -27,6 +28,7 @@ beginning details.Testfeed = []
 beginning details.Json = []
 beginning details.Xml = declaration
 beginning details.List = []
+beginning details.Plan = []
 
 -- that, and a line for each key whose value is no mode
 abbrev pub head_of : Details → Warnings → List ℕ

@@ -1,11 +1,13 @@
 -- What is shown of a run that goes on, and what was written of one that broke off.
-use Rattle.std.specs.Prelude.{◌≡◌, ◌≢◌, ℕ, ◌<◌, ◌⊎◌, Bool, true, false, List, [], length, take, Option, Some, None, Result, Ok, Err, string_bytes}
+use Rattle.std.specs.Prelude.{◌≡◌, ◌≢◌, ℕ, ◌<◌, ◌⊎◌, Bool, true, false, if◌then◌else◌, List, [], length, take, Option, Some, None, Result, Ok, Err, string_bytes}
 use Rattle.std.specs.Io.KnownBytes.{Appends}
 use Rattle.plan_events.specs.declared.event.Event.{Event}
 use Rattle.plan_events.specs.Texts.{TextParts}
 use Rattle.resource_locks.specs.Plans.{PlanParts}
 use Rattle.scheduling.specs.declared.step.Step.{Step}
 use Rattle.listeners.specs.Listeners.{Telling, tellings_of}
+use Rattle.live_feed.specs.declared.line_form.LineForm.{LineForm}
+use Rattle.live_feed.specs.declared.line_form.LineForm.TheVariants.{Feed, Json}
 use Rattle.live_feed.specs.declared.live_feed.Outlet.{Outlet}
 use Rattle.live_feed.specs.declared.live_feed.Outlet.TheVariants.{Waiting, Closed, Failed}
 use Rattle.worker_pool.specs.Watching.{HasSeenMore}
@@ -18,20 +20,25 @@ use Rattle.launch_options.specs.declared.fault.CutOutput.{CutOutput}
 use Rattle.launch_options.specs.declared.fault.LaunchFault.{LaunchFault}
 use Rattle.launch_options.specs.declared.fault.LaunchFault.TheVariants.{NoMemory, NoWorker, Writing}
 use Rattle.launcher.specs.declared.report.Output.{Output}
-use Rattle.launch_options.specs.Asked.{Asked}
+use Rattle.launch_options.specs.Asked.{Asked, prints_live}
 
--- whether lines are printed while a run goes on: those of a feed are, unless steps are replayed
+-- whether lines are printed while a run goes on: those of events are, unless steps are replayed
 abbrev pub outlet_by : Details → Option (List Step) → Outlet
-outlet_by details.None replay = Closed
-outlet_by details.Summary replay = Closed
-outlet_by details.Tree replay = Closed
-outlet_by details.Testfeed None = Waiting
-outlet_by details.Testfeed (Some steps) = Closed
-outlet_by details.Json replay = Closed
-outlet_by details.Xml replay = Closed
-outlet_by details.List replay = Closed
+outlet_by kind None = if prints_live kind then Waiting else Closed
+outlet_by kind (Some steps) = Closed
 
--- whether the plan is run: no steps are replayed, and more is asked for than its list
+-- the form of these lines
+abbrev pub form_by : Details → LineForm
+form_by details.None = Feed
+form_by details.Summary = Feed
+form_by details.Tree = Feed
+form_by details.Testfeed = Feed
+form_by details.Json = Json
+form_by details.Xml = Feed
+form_by details.List = Feed
+form_by details.Plan = Feed
+
+-- whether the plan is run: no steps are replayed, and more is asked for than its list or its nodes
 abbrev pub is_run : Option (List Step) → Details → Bool
 is_run (Some steps) kind = false
 is_run None details.None = true
@@ -41,6 +48,7 @@ is_run None details.Testfeed = true
 is_run None details.Json = true
 is_run None details.Xml = true
 is_run None details.List = false
+is_run None details.Plan = false
 
 -- some output of this kind
 pub record SomeOutput (Output : List ℕ → ExitStatus → Type 0) : Type 0 where
@@ -76,11 +84,12 @@ module _ {L : Type 0} (saw : PlanParts → L → L → List Telling → Type 0) 
 abbrev pub SeesRefusal : {L : Type 0} → (first now : L) → (Output : List ℕ → ExitStatus → Type 0) → LaunchFault → Type 0
 SeesRefusal first now Output fault = (now ≡ first) ⊎ ((fault ≡ NoMemory) × SomeOutput Output)
 
--- the lines of a feed are asked for, and no replay: so they are printed while the run goes on
+-- lines of events are asked for, and no replay: so they are printed while the run goes on
 abbrev pub HasLiveFeed : Asked → Type 0
-HasLiveFeed asked = (asked.details ≡ details.Testfeed) × (asked.replay ≡ None)
+HasLiveFeed asked = (prints_live asked.details ≡ true) × (asked.replay ≡ None)
 
--- why the writer has a part of an output alone: it failed; or of a feed so many bytes were printed, and memory for the rest was wanting
+-- why the writer has a part of an output alone: it failed; or of lines of events so many bytes were printed, and memory for the rest was
+-- wanting
 abbrev pub IsCutBy : CutCause → Asked → ℕ → Type 0
 IsCutBy Writer asked sent = Unit {0}
 IsCutBy Memory asked sent = (0 < sent) × HasLiveFeed asked
@@ -116,8 +125,8 @@ module _ (asked : Asked) (Output : List ℕ → ExitStatus → Type 0) (Fails : 
   IsAnswered old new (Ok status) = IsAllOf Output old new status
   IsAnswered old new (Err fault) = IsRefusedBy (cut_in fault) fault old new
 
--- What was written of a run that broke off: nothing, and no writer failed; or a part of an output, of a feed that is printed while
--- its run goes on.
+-- What was written of a run that broke off: nothing, and no writer failed; or a part of an output, of lines of events that are
+-- printed while their run goes on.
 abbrev pub IsBrokenOff : Asked → (List ℕ → ExitStatus → Type 0) → Outlet → (old new : Option (List ℕ)) → ℕ → Type 0
 IsBrokenOff asked Output outlet old new sent = ((outlet ≢ Failed) × (sent ≡ 0) × Appends old new []) ⊎ (IsPartOf Output old new sent × HasLiveFeed asked)
 

@@ -9,7 +9,7 @@ ghost use Rattle.launcher.specs.Programs.{IsSeenPlanRun, IsSeenProgram, IsSeenPr
 ghost use Rattle.launcher.specs.Programs.{program_parts, steps_refusal};
 ghost use Rattle.launcher.specs.Reports.{IsBehindDetails};
 ghost use Rattle.launcher.specs.Runs.{IsReady, TakesMemory, is_writing};
-ghost use Rattle.launcher.specs.Watched.{IsBrokenOff, LacksBy, SeesRefusal, is_run, outlet_by};
+ghost use Rattle.launcher.specs.Watched.{IsBrokenOff, LacksBy, SeesRefusal, form_by, is_run, outlet_by};
 ghost use Rattle.launcher.specs.WarningTexts.{head_of};
 ghost use Rattle.live_feed.specs.LiveFeeds.{IsFront};
 ghost use Rattle.resource_locks.specs.Declarations.{declared_of};
@@ -21,7 +21,7 @@ ghost use Rattle.worker_pool.specs.Reports.{run_of};
 
 use crate::exit_status::ExitStatus;
 use crate::report::{Output, program_report};
-use crate::run::{broken_off, crewed_plan, outlet_for, settings_over};
+use crate::run::{broken_off, crewed_plan, form_for, outlet_for, settings_over};
 use crate::warning_lines::head_text;
 use crate::watched_feed::WatchedFeed;
 use config_params::{Params, Settings};
@@ -110,6 +110,7 @@ fn shown_program<B: Job + Send, T: Threads + Wait + Sync, W: Write, V: Watcher>(
     requires jobs { JobsMayAnswer B.answers (run_of plan settings.now.workers options.now.ring jobs.items) }
     requires all { HasAllJobs plan jobs.items }
     requires head { live.old.feed.head.now ≡ head_of options.now.details settings.now.warnings }
+    requires form { live.old.feed.form ≡ form_by options.now.details }
     requires outlet { live.old.feed.outlet ≡ outlet_by options.now.details (asked_by options.now).replay }
     requires none { live.old.feed.sent ≡ 0 }
     ensures same { live.new.feed.writer.ghost_name ≡ live.old.feed.writer.ghost_name }
@@ -157,7 +158,8 @@ fn run_planned<B: Job + Send, T: Threads + Wait + Sync, W: Write, V: Watcher>(
     ensures quiet { IfErr result (λ fault. is_writing fault ≡ false →
         Keeps (W.contents writer.old) (W.contents writer.new)) }
 {
-    let feed = LiveFeed::new(alloc, writer, head, outlet_for(options));
+    let form = form_for(options.details);
+    let feed = LiveFeed::new(alloc, writer, head, form, outlet_for(options));
     let mut live = WatchedFeed { feed, watcher };
     match shown_program(rt, alloc, options, settings, plan, jobs, &mut live) {
         Ok(report) => {

@@ -11,7 +11,7 @@ ghost use Rattle.launcher.specs.ExitStatuses.{status_of_run};
 ghost use Rattle.launcher.specs.Faults.{unrun_fault};
 ghost use Rattle.launcher.specs.Reports.{details_of, IsBehindDetails, IsPrintedRun, IsRunOutput, IsReplayOutput};
 ghost use Rattle.launcher.specs.Programs.{IsJobsOutput, IsPrintedJobs, IsProgramOutput};
-ghost use Rattle.launcher.specs.Reports.{IsListing, IsPlanOutput, IsOutput};
+ghost use Rattle.launcher.specs.Reports.{IsListing, IsPlanned, IsPlanOutput, IsOutput};
 ghost use Rattle.launcher.specs.Runs.{IsUnrun};
 ghost use Rattle.launcher.specs.Watched.{LacksBy, LacksMeans, Watches, WatchesBy, is_run};
 ghost use Rattle.launcher.specs.WarningTexts.{head_of};
@@ -30,7 +30,7 @@ use config_params::{Settings, Warnings};
 use launch_options::{Details, LaunchFault, Options};
 use listeners::{Audience, Results, Theme, feed_text};
 use plan_events::{Event, Job, Texts};
-use reports::{json_text, junit_text, list_text};
+use reports::{json_text, junit_text, list_text, plan_text};
 use resource_locks::Plan;
 use run_table::{Jobs, TableFault};
 use sched_core::{Answers, run_steps, texts_of};
@@ -85,6 +85,7 @@ fn details_text(
         Details::Json => json_text(alloc, plan, history, texts),
         Details::Xml => junit_text(alloc, plan, history, texts),
         Details::List => list_text(alloc, plan),
+        Details::Plan => plan_text(alloc, plan),
     }
 }
 
@@ -330,7 +331,25 @@ fn listing(alloc: Global, needs_tests: bool, plan: &Plan) -> Result<Output, Allo
     Ok(Output { text, status })
 }
 
-/// What the options print of a plan where there are no steps to be replayed: it is run, unless its list is asked for.
+/// The nodes of a plan, behind what its configuration is warned of, and whether there had to be something to run.
+fn planned(
+    alloc: Global,
+    options: &Options,
+    settings: &Settings,
+    plan: &Plan,
+) -> Result<Output, AllocError>
+    ensures { IfOk result (λ report. IsPlanned options.now.fail_if_no_tests settings.now.warnings plan.now
+        (string_bytes report.text) report.status) }
+{
+    let status = listing(alloc, options.fail_if_no_tests, plan)?.status;
+    let mut text = head_text(alloc, Details::Plan, settings.warnings)?;
+    let nodes = plan_text(alloc, plan)?;
+    text.push_str(nodes.as_str())?;
+    Ok(Output { text, status })
+}
+
+/// What the options print of a plan where there are no steps to be replayed: it is run, unless its list or its nodes
+/// are asked for.
 fn plan_report<T: Threads + Wait + Sync, V: Watcher>(
     rt: &T,
     alloc: Global,
@@ -352,6 +371,7 @@ fn plan_report<T: Threads + Wait + Sync, V: Watcher>(
 {
     match options.details {
         Details::List => Ok(listing(alloc, options.fail_if_no_tests, &plan)?),
+        Details::Plan => Ok(planned(alloc, options, settings, &plan)?),
         Details::None
         | Details::Summary
         | Details::Tree
@@ -393,7 +413,7 @@ pub(crate) fn report_of<T: Threads + Wait + Sync, V: Watcher>(
 }
 
 /// What the options print of a plan with these jobs, of which nobody knows what they answer: they are run, unless
-/// the list is asked for.
+/// the list or the nodes are asked for.
 pub(crate) fn program_report<B: Job + Send, T: Threads + Wait + Sync, V: Watcher>(
     rt: &T,
     alloc: Global,
@@ -420,6 +440,7 @@ pub(crate) fn program_report<B: Job + Send, T: Threads + Wait + Sync, V: Watcher
     let nothing_known = Answers::of(Vec::new(alloc));
     match options.details {
         Details::List => Ok(listing(alloc, options.fail_if_no_tests, &plan)?),
+        Details::Plan => Ok(planned(alloc, options, settings, &plan)?),
         Details::None
         | Details::Summary
         | Details::Tree

@@ -19,7 +19,7 @@ ghost use Rattle.selectors.specs.Selections.{answer};
 ghost use Rattle.launch_options.specs.Asked.{asked_by};
 ghost use Rattle.launch_options.specs.Faults.{cut_by_memory, cut_by_writer};
 ghost use Rattle.launch_options.specs.Workers.{answer_with};
-ghost use Rattle.launcher.specs.Watched.{IsBrokenOff, SeesRefusal, outlet_by};
+ghost use Rattle.launcher.specs.Watched.{IsBrokenOff, SeesRefusal, form_by, outlet_by};
 ghost use Rattle.launcher.specs.WarningTexts.{head_of};
 ghost use Rattle.live_feed.specs.LiveFeeds.{IsFront};
 
@@ -33,7 +33,7 @@ use config_params::{Params, Settings, SettingsFault};
 use descriptor::Tree;
 use exec_mode::modes;
 use launch_options::{CutCause, CutOutput, Details, LaunchFault, Options};
-use live_feed::{LiveFeed, Outlet};
+use live_feed::{LineForm, LiveFeed, Outlet};
 use plan_events::MOST_WORKERS;
 use resource_locks::Plan;
 use sched_core::Answers;
@@ -201,17 +201,39 @@ fn ready_run(alloc: Global, options: &Options, suite: Suite) -> Result<ReadyRun,
     Ok(with_scripts(alloc, settings, plan, scripts)?)
 }
 
-/// Whether lines are printed while the run goes on: those of the feed are.
+/// Whether lines are printed while the run goes on: those of events are.
 pub(crate) fn outlet_for(options: &Options) -> Outlet
     ensures { result ≡ outlet_by options.now.details (asked_by options.now).replay }
 {
-    match (options.details, &options.replay) {
-        (Details::Testfeed, None) => Outlet::Waiting,
-        _ => Outlet::Closed,
+    match &options.replay {
+        Some(_) => Outlet::Closed,
+        None => {
+            if options.details.prints_live() {
+                Outlet::Waiting
+            } else {
+                Outlet::Closed
+            }
+        }
     }
 }
 
-/// What the options print of a suite, and the program's status, of which a feed may have printed a part.
+/// The form of these lines.
+pub(crate) fn form_for(details: Details) -> LineForm
+    ensures { result ≡ form_by details }
+{
+    match details {
+        Details::Json => LineForm::Json,
+        Details::None
+        | Details::Summary
+        | Details::Tree
+        | Details::Testfeed
+        | Details::Xml
+        | Details::List
+        | Details::Plan => LineForm::Feed,
+    }
+}
+
+/// What the options print of a suite, and the program's status, of which a part may be printed before.
 fn shown_report<T: Threads + Wait + Sync, W: Write, V: Watcher>(
     rt: &T,
     alloc: Global,
@@ -223,6 +245,7 @@ fn shown_report<T: Threads + Wait + Sync, W: Write, V: Watcher>(
     requires few { ready.settings.workers ≤ 64 }
     requires guarded { IsGuarded (declared_of ready.plan.tree) ready.plan }
     requires head { live.old.feed.head.now ≡ head_of options.now.details ready.settings.warnings }
+    requires form { live.old.feed.form ≡ form_by options.now.details }
     requires outlet { live.old.feed.outlet ≡ outlet_by options.now.details (asked_by options.now).replay }
     requires none { live.old.feed.sent ≡ 0 }
     ensures same { live.new.feed.writer.ghost_name ≡ live.old.feed.writer.ghost_name }
@@ -302,7 +325,8 @@ fn run_ready<T: Threads + Wait + Sync, W: Write, V: Watcher>(
     ensures quiet { IfErr result (λ fault. is_writing fault ≡ false →
         Keeps (W.contents writer.old) (W.contents writer.new)) }
 {
-    let feed = LiveFeed::new(alloc, writer, head, outlet_for(options));
+    let form = form_for(options.details);
+    let feed = LiveFeed::new(alloc, writer, head, form, outlet_for(options));
     let mut live = WatchedFeed { feed, watcher };
     match shown_report(rt, alloc, options, ready, &mut live) {
         Ok(report) => {
@@ -314,7 +338,7 @@ fn run_ready<T: Threads + Wait + Sync, W: Write, V: Watcher>(
 }
 
 /// Runs what the request selects of a suite with its settings, on as many threads as these have
-/// workers, or by the steps of a replay, and writes what the options ask for: the lines of a feed
+/// workers, or by the steps of a replay, and writes what the options ask for: the lines of events
 /// while the run goes on, and all else when it is over. Refused are, in this order, what gives no
 /// settings (34, 32, 33) and a selector that covers nothing (41), which are judged before any
 /// memory is taken; more than 256 keys (50), more than 64 workers (61), that no thread could be

@@ -71,7 +71,7 @@ fn push_line(
     ensures { OnOk result (string_bytes line.new ≡ string_bytes line.old ++ line_by details member.now text.now) }
 {
     match details {
-        Details::Json => push_note(line, "schedule", member, text),
+        Details::Json | Details::Plan => push_note(line, "schedule", member, text),
         Details::Xml => writeln!(line, "<!-- {text} -->"),
         Details::None | Details::Summary | Details::Tree | Details::Testfeed | Details::List =>
             writeln!(line, "{text}"),

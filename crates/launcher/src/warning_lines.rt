@@ -25,7 +25,7 @@ fn push_warning(text: &mut String, details: Details, key: &str) -> Result<(), Al
     ensures { OnOk result (string_bytes text.new ≡ string_bytes text.old ++ warning_line details key.now) }
 {
     match details {
-        Details::Json => push_note(text, "warning", "key", key),
+        Details::Json | Details::Plan => push_note(text, "warning", "key", key),
         Details::Xml => writeln!(text, "<!-- WARNING {key} -->"),
         Details::None | Details::Summary | Details::Tree | Details::Testfeed | Details::List =>
             writeln!(text, "WARNING {key}"),

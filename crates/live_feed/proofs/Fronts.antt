@@ -1,4 +1,4 @@
--- Of a run that is over the feed has printed a front of the whole output, and not all.
+-- Of a run that is over there was printed a front of the whole output, and not all.
 use Rattle.std.proofs.Common.{◌≡◌, ◌≢◌, ◌∙◌, ℕ, zero, suc, ◌<◌, ◌≤◌, ◌⊎◌, inl, inr, Bool, true, false, ◌||◌, ◌&&◌, ◌==◌, List, [], ◌∷◌, ◌++◌, length, take, Option, Some, slice_get, refl, sym, ap, ap₂, subst, arith, append_assoc, length-append}
 use Rattle.std.specs.List.{flat_map}
 use Rattle.std.specs.Io.KnownBytes.{Appends}
@@ -10,14 +10,13 @@ use Rattle.plan_events.specs.declared.event.EventKind.TheVariants.{Finished}
 use Rattle.plan_events.specs.Texts.{TextParts}
 use Rattle.resource_locks.specs.Plans.{PlanParts}
 use Rattle.event_history.specs.Parts.{EndsInPlan}
-use Rattle.listeners.specs.Feed.{feed_of}
 use Rattle.listeners.specs.Listeners.{tellings_of}
 use Rattle.worker_pool.specs.Endings.{ends_plan, is_finish}
-use Rattle.live_feed.specs.LiveFeeds.{telling_line, output_of, has_end, IsSoFar, IsPrinted, IsFront}
+use Rattle.live_feed.specs.LiveFeeds.{lines_of, telling_line, output_of, has_end, IsSoFar, IsPrinted, IsFront, is_stopped}
 use Rattle.live_feed.specs.declared.live_feed.LiveFeed.{LiveFeed}
 use Rattle.live_feed.specs.declared.live_feed.Outlet.{Outlet}
 use Rattle.live_feed.specs.declared.live_feed.Outlet.TheVariants.{Waiting, Open, Closed, Failed}
-use Rattle.live_feed.proofs.Lines.{feed_is}
+use Rattle.live_feed.proofs.Lines.{lines_are}
 
 or_true : (b c : Bool) → c ≡ true → (b || c) ≡ true
 or_true true c is = refl
@@ -55,30 +54,30 @@ module _ (texts : TextParts) (h : List Event) (ends : EndsInPlan h) where
   short Closed sent output so = elim so [ inl none ↦ inl (closed_whole, none) | inr few ↦ inr few ]
   short Failed sent output so = inr so
 
-  module _ {W : Type 0} (contents : W → Option (List ℕ)) (p : PlanParts) (first now : LiveFeed W) (is : IsPrinted contents p first now (tellings_of texts h)) (rest text : List ℕ) (whole : text ≡ first.head.now ++ (feed_of p texts h ++ rest)) where
+  module _ {W : Type 0} (contents : W → Option (List ℕ)) (p : PlanParts) (first now : LiveFeed W) (is : IsPrinted contents p first now (tellings_of texts h)) (live : is_stopped first.outlet ≡ false) (rest text : List ℕ) (whole : text ≡ first.head.now ++ (lines_of first.form p texts h ++ rest)) where
     abbrev output : List ℕ
-    output = output_of first.head.now p (tellings_of texts h)
+    output = output_of first.form first.head.now p (tellings_of texts h)
 
     begins : text ≡ output ++ rest
-    begins = whole ∙ ap (λ (feed : List ℕ). first.head.now ++ (feed ++ rest)) (feed_is p texts h) ∙ sym (append_assoc first.head.now (flat_map (telling_line p) (tellings_of texts h)) rest)
+    begins = whole ∙ ap (λ (lines : List ℕ). first.head.now ++ (lines ++ rest)) (lines_are p first.form texts h) ∙ sym (append_assoc first.head.now (flat_map (telling_line first.form p) (tellings_of texts h)) rest)
 
     longer : length output ≤ length text
     longer = omega (arith, ap length begins, length-append output rest)
 
     so_short : IsShort now.outlet now.sent output
-    so_short = short now.outlet now.sent output is.so_far
+    so_short = short now.outlet now.sent output (is.so_far live)
 
     low : now.sent ≤ length output
     low = elim so_short [ inl none ↦ omega (arith, none.1) | inr few ↦ omega (arith, few) ]
 
     not_all : now.outlet ≡ Failed → now.sent < length text
-    not_all failed = (let few = subst (λ (o : Outlet). IsSoFar o now.sent output (tellings_of texts h)) failed is.so_far in omega (arith, few, longer))
+    not_all failed = (let few = subst (λ (o : Outlet). IsSoFar o now.sent output (tellings_of texts h)) failed (is.so_far live) in omega (arith, few, longer))
 
     pub front : IsFront (contents first.writer.now) (contents now.writer.now) now.outlet now.sent text
     front = record {
       fits = omega (arith, low, longer);
       failed = not_all;
-      printed = subst (Appends (contents first.writer.now) (contents now.writer.now)) (sym (ap (take now.sent) begins ∙ take-append-le now.sent output rest low)) is.printed;
+      printed = subst (Appends (contents first.writer.now) (contents now.writer.now)) (sym (ap (take now.sent) begins ∙ take-append-le now.sent output rest low)) (is.printed live);
     }
 
     pub front_short : IsShort now.outlet now.sent text

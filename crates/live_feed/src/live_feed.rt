@@ -1,13 +1,15 @@
 //! A feed that goes to a writer line by line, when its events are told.
 
-ghost use Rattle.std.specs.Prelude.{◌≡◌, ◌≤◌, ◌<◌, ◌++◌, ℕ, List, Option, IfOk, length, take, string_bytes};
+ghost use Rattle.std.specs.Prelude.{◌≡◌, ◌≤◌, ◌<◌, ◌++◌, [], ◌∷◌, ℕ, false, List, Option, IfOk, length, take, string_bytes};
 ghost use Rattle.std.specs.Io.KnownBytes.{Appends};
 ghost use Rattle.listeners.specs.Listeners.{telling};
 ghost use Rattle.listeners.specs.Sending.{SendsExactly};
-ghost use Rattle.live_feed.specs.LiveFeeds.{front_of, telling_line};
+ghost use Rattle.live_feed.specs.LiveFeeds.{front_of, is_stopped, lines_of, telling_line};
 
+use crate::line_form::LineForm;
 use listeners::{WriteFault, feed_text, print_to};
 use plan_events::{Event, Texts};
+use reports::json_text;
 use resource_locks::Plan;
 use std::alloc::{AllocError, Global};
 use std::io::Write;
@@ -26,14 +28,15 @@ pub enum Outlet {
     Failed,
 }
 
-/// The feed of a run, on its way to a writer: the line of each event but the plan's finish is
-/// handed to the writer when the event is told. The rest is printed by `finish`, when all is known
-/// to go well.
+/// The lines of a run's events, on their way to a writer: the line of each event but the plan's
+/// finish is handed to the writer when the event is told. The rest is printed by `finish`, when all
+/// is known to go well.
 #[derive(Drop)]
 pub struct LiveFeed<'w, W: Write> {
     alloc: Global,
     writer: &'w mut W,
     head: &'w str,
+    form: LineForm,
     outlet: Outlet,
     sent: usize,
 }
@@ -41,11 +44,19 @@ pub struct LiveFeed<'w, W: Write> {
 impl<'w, W: Write> LiveFeed<'w, W> {
     ghost use Rattle.live_feed.specs.LiveFeeds.{IsHandedOn};
 
-    /// A feed behind this text, of which nothing was printed. One that is closed prints nothing before `finish`.
-    pub fn new(alloc: Global, writer: &'w mut W, head: &'w str, outlet: Outlet) -> LiveFeed<'w, W>
+    /// Lines of this form behind this text, of which nothing was printed. Closed at first, it prints
+    /// nothing before `finish`.
+    pub fn new(
+        alloc: Global,
+        writer: &'w mut W,
+        head: &'w str,
+        form: LineForm,
+        outlet: Outlet,
+    ) -> LiveFeed<'w, W>
         ensures same { result.writer.ghost_name ≡ writer.entry.ghost_name }
         ensures writer { result.writer.now ≡ writer.old }
         ensures head { result.head.now ≡ head.now }
+        ensures form { result.form ≡ form }
         ensures outlet { result.outlet ≡ outlet }
         ensures none { result.sent ≡ 0 }
     {
@@ -53,6 +64,7 @@ impl<'w, W: Write> LiveFeed<'w, W> {
             alloc,
             writer,
             head,
+            form,
             outlet,
             sent: 0,
         }
@@ -72,12 +84,22 @@ impl<'w, W: Write> LiveFeed<'w, W> {
         self.outlet
     }
 
+    /// The line of an event.
+    fn line_of(&self, plan: &Plan, texts: &Texts, event: Event) -> Result<String, AllocError>
+        ensures { IfOk result (λ line. string_bytes line ≡ lines_of self.now.form plan.now texts.now (event ∷ [])) }
+    {
+        match self.form {
+            LineForm::Feed => feed_text(self.alloc, plan, &[event], texts),
+            LineForm::Json => json_text(self.alloc, plan, &[event], texts),
+        }
+    }
+
     /// The line of an event, behind what stands in front of the first.
     fn next_lines(&self, plan: &Plan, texts: &Texts, event: Event) -> Result<String, AllocError>
         ensures { IfOk result (λ text. string_bytes text ≡ front_of self.now.outlet self.now.head.now
-            ++ telling_line plan.now (telling texts.now event)) }
+            ++ telling_line self.now.form plan.now (telling texts.now event)) }
     {
-        let line = feed_text(self.alloc, plan, &[event], texts)?;
+        let line = self.line_of(plan, texts, event)?;
         match self.outlet {
             Outlet::Waiting => {
                 let mut text = String::from_str(self.alloc, self.head)?;
@@ -90,8 +112,10 @@ impl<'w, W: Write> LiveFeed<'w, W> {
 
     /// Hands these bytes to the writer.
     fn hand_on(&mut self, bytes: &[u8])
+        requires going { is_stopped self.old.outlet ≡ false }
         ensures same { self.new.writer.ghost_name ≡ self.old.writer.ghost_name }
         ensures head { self.new.head ≡ self.old.head }
+        ensures form { self.new.form ≡ self.old.form }
         ensures handed { IsHandedOn self.new.outlet (W.contents self.old.writer.now) (W.contents self.new.writer.now)
             self.old.sent self.new.sent bytes.now }
     {
@@ -119,6 +143,7 @@ impl<'w, W: Write> LiveFeed<'w, W> {
         ensures same { self.new.writer.ghost_name ≡ self.old.writer.ghost_name }
         ensures whole { (first : Option (List ℕ)) → Appends first (W.contents self.old.writer.now)
             (take self.old.sent whole.now) → SendsExactly first (W.contents self.new.writer.now) whole.now result }
+        ensures failed { self.old.outlet ≡ Outlet.Failed → self.new.writer ≡ self.old.writer }
     {
         if self.outlet == Outlet::Failed {
             return Err(WriteFault { sent: self.sent });

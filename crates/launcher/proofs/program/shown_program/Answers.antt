@@ -17,7 +17,7 @@ returns-clause-same g c =
     let behind = IsBehindDetails asked.details asked.schedule settings.workers p [] in
     let answers = g.B.Job.answers in
     still_same g.W.Write.contents g.V.Watcher.saw asked settings p (IsPrintedJobs answers behind asked settings p jobs) (IsProgramOutput answers behind asked.details asked settings p jobs) (is_run None asked.details) (program_output_of answers behind asked settings p jobs)
-    (jobs_text_of answers behind asked settings p jobs) (jobs_feed_runs asked) c.args.live.now c.program_report.new.watcher c.requires.head c.requires.outlet c.requires.none c.program_report.result c.program_report.ensures.watched
+    (jobs_text_of answers behind asked settings p jobs) (jobs_feed_runs asked) c.args.live.now c.program_report.new.watcher c.requires.head c.requires.form c.requires.outlet c.requires.none c.program_report.result c.program_report.ensures.watched
 
 pub returns-clause-same_watcher : goal.returns-clause-same_watcher
 returns-clause-same_watcher g c =
@@ -28,7 +28,7 @@ returns-clause-same_watcher g c =
     let behind = IsBehindDetails asked.details asked.schedule settings.workers p [] in
     let answers = g.B.Job.answers in
     same_watcher g.W.Write.contents g.V.Watcher.saw asked settings p (IsPrintedJobs answers behind asked settings p jobs) (IsProgramOutput answers behind asked.details asked settings p jobs) (is_run None asked.details) (program_output_of answers behind asked settings p jobs)
-    (jobs_text_of answers behind asked settings p jobs) (jobs_feed_runs asked) c.args.live.now c.program_report.new.watcher c.requires.head c.requires.outlet c.requires.none c.program_report.result c.program_report.ensures.watched
+    (jobs_text_of answers behind asked settings p jobs) (jobs_feed_runs asked) c.args.live.now c.program_report.new.watcher c.requires.head c.requires.form c.requires.outlet c.requires.none c.program_report.result c.program_report.ensures.watched
 
 pub returns-clause-output : goal.returns-clause-output
 returns-clause-output g c =
@@ -39,7 +39,7 @@ returns-clause-output g c =
     let behind = IsBehindDetails asked.details asked.schedule settings.workers p [] in
     let answers = g.B.Job.answers in
     shown_output g.W.Write.contents g.V.Watcher.saw asked settings p (IsPrintedJobs answers behind asked settings p jobs) (IsProgramOutput answers behind asked.details asked settings p jobs) (is_run None asked.details) (program_output_of answers behind asked settings p jobs)
-    (jobs_text_of answers behind asked settings p jobs) (jobs_feed_runs asked) c.args.live.now c.program_report.new.watcher c.requires.head c.requires.outlet c.requires.none c.program_report.result c.program_report.ensures.watched c.program_report.ensures.output
+    (jobs_text_of answers behind asked settings p jobs) (jobs_feed_runs asked) c.args.live.now c.program_report.new.watcher c.requires.head c.requires.form c.requires.outlet c.requires.none c.program_report.result c.program_report.ensures.watched c.program_report.ensures.output
 
 pub returns-clause-front : goal.returns-clause-front
 returns-clause-front g c =
@@ -50,7 +50,7 @@ returns-clause-front g c =
     let behind = IsBehindDetails asked.details asked.schedule settings.workers p [] in
     let answers = g.B.Job.answers in
     shown_front g.W.Write.contents g.V.Watcher.saw asked settings p (IsPrintedJobs answers behind asked settings p jobs) (IsProgramOutput answers behind asked.details asked settings p jobs) (is_run None asked.details) (program_output_of answers behind asked settings p jobs)
-    (jobs_text_of answers behind asked settings p jobs) (jobs_feed_runs asked) c.args.live.now c.program_report.new.watcher c.requires.head c.requires.outlet c.requires.none c.program_report.result c.program_report.ensures.watched
+    (jobs_text_of answers behind asked settings p jobs) (jobs_feed_runs asked) c.args.live.now c.program_report.new.watcher c.requires.head c.requires.form c.requires.outlet c.requires.none c.program_report.result c.program_report.ensures.watched
 
 pub returns-clause-seen : goal.returns-clause-seen
 returns-clause-seen g c =
@@ -61,7 +61,7 @@ returns-clause-seen g c =
     let behind = IsBehindDetails asked.details asked.schedule settings.workers p [] in
     let answers = g.B.Job.answers in
     shown_refusal g.W.Write.contents g.V.Watcher.saw asked settings p (IsPrintedJobs answers behind asked settings p jobs) (IsProgramOutput answers behind asked.details asked settings p jobs) (is_run None asked.details) (program_output_of answers behind asked settings p jobs)
-    (jobs_text_of answers behind asked settings p jobs) (jobs_feed_runs asked) c.args.live.now c.program_report.new.watcher c.requires.head c.requires.outlet c.requires.none c.program_report.result c.program_report.ensures.watched
+    (jobs_text_of answers behind asked settings p jobs) (jobs_feed_runs asked) c.args.live.now c.program_report.new.watcher c.requires.head c.requires.form c.requires.outlet c.requires.none c.program_report.result c.program_report.ensures.watched
 
 pub returns-clause-broken_off : goal.returns-clause-broken_off
 returns-clause-broken_off g c =
@@ -72,4 +72,4 @@ returns-clause-broken_off g c =
     let behind = IsBehindDetails asked.details asked.schedule settings.workers p [] in
     let answers = g.B.Job.answers in
     shown_broken g.W.Write.contents g.V.Watcher.saw asked settings p (IsPrintedJobs answers behind asked settings p jobs) (IsProgramOutput answers behind asked.details asked settings p jobs) (is_run None asked.details) (program_output_of answers behind asked settings p jobs)
-    (jobs_text_of answers behind asked settings p jobs) (jobs_feed_runs asked) c.args.live.now c.program_report.new.watcher c.requires.head c.requires.outlet c.requires.none c.program_report.result c.program_report.ensures.watched
+    (jobs_text_of answers behind asked settings p jobs) (jobs_feed_runs asked) c.args.live.now c.program_report.new.watcher c.requires.head c.requires.form c.requires.outlet c.requires.none c.program_report.result c.program_report.ensures.watched

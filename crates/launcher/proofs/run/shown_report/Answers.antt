@@ -12,7 +12,7 @@ returns-clause-same g c =
     let p = c.args.ready.plan in
     let answers = c.args.ready.answers in
     still_same g.W.Write.contents g.V.Watcher.saw asked settings p (IsPrintedRun asked settings p answers) (IsOutput asked settings p answers) (is_run asked.replay asked.details) (suite_output_of asked settings p answers) (suite_text_of asked settings p answers) (feed_runs asked)
-    c.args.live.now c.report_of.new.watcher c.requires.head c.requires.outlet c.requires.none c.report_of.result c.report_of.ensures.watched
+    c.args.live.now c.report_of.new.watcher c.requires.head c.requires.form c.requires.outlet c.requires.none c.report_of.result c.report_of.ensures.watched
 
 pub returns-clause-same_watcher : goal.returns-clause-same_watcher
 returns-clause-same_watcher g c =
@@ -21,7 +21,7 @@ returns-clause-same_watcher g c =
     let p = c.args.ready.plan in
     let answers = c.args.ready.answers in
     same_watcher g.W.Write.contents g.V.Watcher.saw asked settings p (IsPrintedRun asked settings p answers) (IsOutput asked settings p answers) (is_run asked.replay asked.details) (suite_output_of asked settings p answers) (suite_text_of asked settings p answers) (feed_runs asked)
-    c.args.live.now c.report_of.new.watcher c.requires.head c.requires.outlet c.requires.none c.report_of.result c.report_of.ensures.watched
+    c.args.live.now c.report_of.new.watcher c.requires.head c.requires.form c.requires.outlet c.requires.none c.report_of.result c.report_of.ensures.watched
 
 pub returns-clause-output : goal.returns-clause-output
 returns-clause-output g c =
@@ -30,7 +30,7 @@ returns-clause-output g c =
     let p = c.args.ready.plan in
     let answers = c.args.ready.answers in
     shown_output g.W.Write.contents g.V.Watcher.saw asked settings p (IsPrintedRun asked settings p answers) (IsOutput asked settings p answers) (is_run asked.replay asked.details) (suite_output_of asked settings p answers) (suite_text_of asked settings p answers) (feed_runs asked)
-    c.args.live.now c.report_of.new.watcher c.requires.head c.requires.outlet c.requires.none c.report_of.result c.report_of.ensures.watched c.report_of.ensures.output
+    c.args.live.now c.report_of.new.watcher c.requires.head c.requires.form c.requires.outlet c.requires.none c.report_of.result c.report_of.ensures.watched c.report_of.ensures.output
 
 pub returns-clause-front : goal.returns-clause-front
 returns-clause-front g c =
@@ -39,7 +39,7 @@ returns-clause-front g c =
     let p = c.args.ready.plan in
     let answers = c.args.ready.answers in
     shown_front g.W.Write.contents g.V.Watcher.saw asked settings p (IsPrintedRun asked settings p answers) (IsOutput asked settings p answers) (is_run asked.replay asked.details) (suite_output_of asked settings p answers) (suite_text_of asked settings p answers) (feed_runs asked)
-    c.args.live.now c.report_of.new.watcher c.requires.head c.requires.outlet c.requires.none c.report_of.result c.report_of.ensures.watched
+    c.args.live.now c.report_of.new.watcher c.requires.head c.requires.form c.requires.outlet c.requires.none c.report_of.result c.report_of.ensures.watched
 
 pub returns-clause-seen : goal.returns-clause-seen
 returns-clause-seen g c =
@@ -48,7 +48,7 @@ returns-clause-seen g c =
     let p = c.args.ready.plan in
     let answers = c.args.ready.answers in
     shown_refusal g.W.Write.contents g.V.Watcher.saw asked settings p (IsPrintedRun asked settings p answers) (IsOutput asked settings p answers) (is_run asked.replay asked.details) (suite_output_of asked settings p answers) (suite_text_of asked settings p answers) (feed_runs asked)
-    c.args.live.now c.report_of.new.watcher c.requires.head c.requires.outlet c.requires.none c.report_of.result c.report_of.ensures.watched
+    c.args.live.now c.report_of.new.watcher c.requires.head c.requires.form c.requires.outlet c.requires.none c.report_of.result c.report_of.ensures.watched
 
 pub returns-clause-broken_off : goal.returns-clause-broken_off
 returns-clause-broken_off g c =
@@ -57,4 +57,4 @@ returns-clause-broken_off g c =
     let p = c.args.ready.plan in
     let answers = c.args.ready.answers in
     shown_broken g.W.Write.contents g.V.Watcher.saw asked settings p (IsPrintedRun asked settings p answers) (IsOutput asked settings p answers) (is_run asked.replay asked.details) (suite_output_of asked settings p answers) (suite_text_of asked settings p answers) (feed_runs asked)
-    c.args.live.now c.report_of.new.watcher c.requires.head c.requires.outlet c.requires.none c.report_of.result c.report_of.ensures.watched
+    c.args.live.now c.report_of.new.watcher c.requires.head c.requires.form c.requires.outlet c.requires.none c.report_of.result c.report_of.ensures.watched

@@ -1,0 +1,10 @@
+//! The forms of the lines of events.
+
+/// The form of the line of an event.
+#[derive(Clone, Copy, PartialEq, Eq, Debug)]
+pub enum LineForm {
+    /// A line of a feed.
+    Feed,
+    /// An object of JSON.
+    Json,
+}
