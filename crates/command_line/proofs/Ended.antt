@@ -12,7 +12,7 @@ use Rattle.launch_options.specs.declared.fault.LaunchFault.{LaunchFault}
 use Rattle.messages.specs.Messages.{message_text}
 use Rattle.messages.specs.Sentences.{Sentences}
 use Rattle.messages.specs.declared.message.Message.{Message}
-use Rattle.command_line.specs.Runs.{HasMessage, PrintsMessage, SaysFailures, SaysOfRun, SaysWhy}
+use Rattle.command_line.specs.Runs.{HasMessage, PrintsMessage, SaysFailures, SaysOfRun, SaysWhy, WentOut}
 
 module _ {E : Type 0} (sentence : Sentences) (said : E → Option (List ℕ)) (quiet told : E) (all : Bool) where
   -- the message that is printed is the answer's
@@ -20,7 +20,7 @@ module _ {E : Type 0} (sentence : Sentences) (said : E → Option (List ℕ)) (q
   says_why (Ok status) message none prints = inl (subst (λ (m : Option Message). PrintsMessage said m quiet told all) none prints)
   says_why (Err fault) None has prints = absurd has
   says_why (Err fault) (Some m) has prints =
-      (string_bytes m.details, λ whole. subst (λ (text : List ℕ). Appends (said quiet) (said told) (message_text text (string_bytes m.details))) has (prints whole))
+      (string_bytes m.details, subst (λ (text : List ℕ). WentOut all (said quiet) (said told) (message_text text (string_bytes m.details))) has prints)
 
   -- and where nothing was refused there is none, so nothing is said
   pub says_nothing : (answer : Result ExitStatus LaunchFault) (message : Option Message) → HasMessage sentence answer message → PrintsMessage said message quiet told all → IfOk answer (λ status. told ≡ quiet)

@@ -1,7 +1,9 @@
 pub mod ByClap
 pub mod Ended
+pub mod GoneOut
 pub mod Growing
 pub mod Listing
 pub mod Running
 pub mod TestsTold
 pub mod Told
+pub mod Watched

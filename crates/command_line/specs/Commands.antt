@@ -3,13 +3,13 @@ use Rattle.std.specs.Prelude.{ℕ, List, [], ◌∷◌, codes, fold, Some}
 use Rattle.clap.specs.Words.{App, Rule, new_app, new_rule, with_rule}
 use Rattle.clap.specs.declared.builder.action.ArgAction.TheVariants.{Append, SetTrue}
 
--- an option with one value, that is given once
+-- an option with one value, for which help has a name, that is given once
 abbrev pub single : List ℕ → Rule
-single name = record (new_rule name) { long = Some name }
+single name = record (new_rule name) { long = Some name; value_names = 1 }
 
--- an option with one value, that may be given again
+-- an option with one value, in the same way, that may be given again
 abbrev pub repeated : List ℕ → Rule
-repeated name = record (new_rule name) { long = Some name; action = Some Append }
+repeated name = record (new_rule name) { long = Some name; action = Some Append; value_names = 1 }
 
 -- an option without a value, that is given once
 abbrev pub flag : List ℕ → Rule
@@ -24,9 +24,25 @@ selecting = fold with_rule (new_app (codes "console")) (
     ∷ repeated (codes "select-package")
     ∷ [])
 
+-- and those that look at the names of tests
+abbrev pub naming : App
+naming = fold with_rule selecting (
+    repeated (codes "include-name")
+    ∷ repeated (codes "exclude-name")
+    ∷ [])
+
+-- and those that leave nodes out
+abbrev pub excluding : App
+excluding = fold with_rule naming (
+    repeated (codes "exclude-unique-id")
+    ∷ repeated (codes "exclude-class")
+    ∷ repeated (codes "exclude-method")
+    ∷ repeated (codes "exclude-package")
+    ∷ [])
+
 -- and those that say which tags run
 abbrev pub filtering : App
-filtering = fold with_rule selecting (
+filtering = fold with_rule excluding (
     repeated (codes "include-tag")
     ∷ repeated (codes "exclude-tag")
     ∷ [])

@@ -36,10 +36,25 @@ selectors_found rows =
     ++ of_kind kinds.Method (codes "select-method") rows
     ++ of_kind kinds.Package (codes "select-package") rows
 
+-- the patterns of names, numbered behind these
+abbrev pub names_found : List Row → List (SelectorKind × Text)
+names_found rows = of_kind kinds.Name (codes "include-name") rows
+
+-- the texts of what is left out, each with its kind, numbered behind these
+abbrev pub exclusions_found : List Row → List (SelectorKind × Text)
+exclusions_found rows =
+    of_kind kinds.Name (codes "exclude-name") rows
+    ++ of_kind kinds.UniqueId (codes "exclude-unique-id") rows
+    ++ of_kind kinds.Class (codes "exclude-class") rows
+    ++ of_kind kinds.Method (codes "exclude-method") rows
+    ++ of_kind kinds.Package (codes "exclude-package") rows
+
 -- what clap finds for the options
 abbrev pub values_in : List Row → Values
 values_in rows = record {
   selectors = selectors_found rows;
+  names = names_found rows;
+  exclusions = exclusions_found rows;
   include_tags = all_found (codes "include-tag") rows;
   exclude_tags = all_found (codes "exclude-tag") rows;
   config = all_found (codes "config") rows;
@@ -59,6 +74,8 @@ values_in rows = record {
 abbrev pub nothing_given : Values
 nothing_given = record {
   selectors = [];
+  names = [];
+  exclusions = [];
   include_tags = [];
   exclude_tags = [];
   config = [];

@@ -1,5 +1,5 @@
 -- What the program reads and writes by the words of its command line.
-use Rattle.std.specs.Prelude.{◌≡◌, ◌⊎◌, ◌++◌, ℕ, Bool, true, false, List, codes, take, string_bytes, Option, Some, None, IfErr, IfSome, IsSomeAnd, Result, Ok, Err}
+use Rattle.std.specs.Prelude.{◌≡◌, ◌<◌, ◌⊎◌, ◌++◌, ℕ, Bool, true, false, List, codes, length, take, string_bytes, Option, Some, None, IfErr, IfSome, IsSomeAnd, Result, Ok, Err}
 use Rattle.std.specs.Io.KnownBytes.{Appends, Keeps}
 use Rattle.clap.specs.Words.{Text}
 use Rattle.launch_options.specs.Asked.{Asked, asked_by}
@@ -14,6 +14,7 @@ use Rattle.messages.specs.Messages.{message_text}
 use Rattle.messages.specs.Sentences.{Sentences, sentence_of}
 use Rattle.messages.specs.declared.message.Message.{Message}
 use Rattle.progress.specs.FailedTexts.{failed_of}
+use Rattle.progress.specs.Terminals.{IsDrawnBehind}
 use Rattle.progress.specs.declared.failures.Failures.{Failures}
 use Rattle.suite_text.specs.Reading.Bytes.{suite_read}
 use Rattle.command_line.specs.Words.{ReadsWords}
@@ -49,9 +50,10 @@ HasMessage sentence (Err fault) message = IsSomeAnd message (λ said. said.sente
 abbrev pub refusal_line : LaunchFault → List ℕ
 refusal_line fault = refusal_text fault ++ codes "\n"
 
--- where all of it went out a text stands behind what the writer held
+-- a text stands behind what the writer held: all of it went out; or the first so many bytes, and not all
 abbrev pub WentOut : Bool → (old new : Option (List ℕ)) → List ℕ → Type 0
-WentOut all old new text = all ≡ true → Appends old new text
+WentOut true old new text = Appends old new text
+WentOut false old new text = (sent : ℕ) × (sent < length text) × Appends old new (take sent text)
 
 module _ {W : Type 0} (contents : W → Option (List ℕ)) where
   -- a line is printed, or the writer is left alone
@@ -96,6 +98,9 @@ module _ {R W E : Type 0} (remaining : R → Option (List ℕ)) (contents : W �
     pub run : IsConsoleRun remaining contents words before after left old between answer
     pub closed : Closes sentence_of contents said answer between new quiet told ending
 
-  -- the same on a terminal, on which more is said: how far the run has come
-  abbrev pub IsTerminalRun : (words : List Text) (before after : R) (old new : W) (ending : Ending) → Type 0
-  IsTerminalRun words before after old new ending = (quiet : E) × (told : E) × IsProgramRun words before after old new quiet told ending
+  -- the same on a terminal: behind what it held stands what was drawn of how far the run has come, and behind that what is said of
+  -- the answer
+  pub record IsTerminalRun (words : List Text) (before after : R) (old new : W) (first last : E) (ending : Ending) : Type 0 where
+    pub drawn : E
+    pub draws : IsDrawnBehind (said first) (said drawn)
+    pub run : IsProgramRun words before after old new drawn last ending

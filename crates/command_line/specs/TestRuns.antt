@@ -11,19 +11,20 @@ use Rattle.launcher.specs.Programs.{IsProgramRun}
 use Rattle.launcher.specs.Runs.{is_writing}
 use Rattle.launcher.specs.declared.exit_status.ExitStatus.{ExitStatus}
 use Rattle.messages.specs.Sentences.{tests_sentence_of}
+use Rattle.progress.specs.Terminals.{IsDrawnBehind}
 use Rattle.command_line.specs.Runs.{Closes}
 use Rattle.command_line.specs.Words.{ReadsWords}
 use Rattle.command_line.specs.declared.closing.Ending.{Ending}
 
-module _ {B W E : Type 0} (answers : B → List Reply) (contents : W → Option (List ℕ)) (said : E → Option (List ℕ)) (parts : SuiteParts) (jobs : List (ℕ × B)) where
-  -- what is asked for is run with these jobs; and nothing is written on a refusal but that the writer failed
-  pub record RunsJobs (asked : Asked) (old new : Option (List ℕ)) (result : Result ExitStatus LaunchFault) : Type 0 where
-    pub exact : IsProgramRun answers asked parts jobs old new result
-    pub quiet : IfErr result (λ fault. is_writing fault ≡ false → Keeps old new)
+-- what is asked for is run with these jobs; and nothing is written on a refusal but that the writer failed
+pub record RunsJobs {B : Type 0} (answers : B → List Reply) (parts : SuiteParts) (jobs : List (ℕ × B)) (asked : Asked) (old new : Option (List ℕ)) (result : Result ExitStatus LaunchFault) : Type 0 where
+  pub exact : IsProgramRun answers asked parts jobs old new result
+  pub quiet : IfErr result (λ fault. is_writing fault ≡ false → Keeps old new)
 
+module _ {B W E : Type 0} (answers : B → List Reply) (contents : W → Option (List ℕ)) (said : E → Option (List ℕ)) (parts : SuiteParts) (jobs : List (ℕ × B)) where
   -- what is done with what the words gave: the jobs are run by the options; a refusal is answered, and the writer is not touched
   abbrev pub RunsTests : Result Options LaunchFault → (old new : W) → Result ExitStatus LaunchFault → Type 0
-  RunsTests (Ok options) old new result = RunsJobs (asked_by options) (contents old) (contents new) result
+  RunsTests (Ok options) old new result = RunsJobs answers parts jobs (asked_by options) (contents old) (contents new) result
   RunsTests (Err fault) old new result = (result ≡ Err fault) × (new ≡ old)
 
   -- the program: the words are read, what that gave is run, which leaves the writer like this, and then that is said of the answer
@@ -36,6 +37,9 @@ module _ {B W E : Type 0} (answers : B → List Reply) (contents : W → Option 
     pub runs : RunsTests options old between answer
     pub closed : Closes tests_sentence_of contents said answer between new quiet told ending
 
-  -- the same on a terminal, on which more is said: how far the run has come
-  abbrev pub IsTestRunOnTerminal : (words : List Text) (old new : W) (ending : Ending) → Type 0
-  IsTestRunOnTerminal words old new ending = (quiet : E) × (told : E) × IsTestRun words old new quiet told ending
+  -- the same on a terminal: behind what it held stands what was drawn of how far the run has come, and behind that what is said of
+  -- the answer
+  pub record IsTestRunOnTerminal (words : List Text) (old new : W) (first last : E) (ending : Ending) : Type 0 where
+    pub drawn : E
+    pub draws : IsDrawnBehind (said first) (said drawn)
+    pub run : IsTestRun words old new drawn last ending

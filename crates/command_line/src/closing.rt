@@ -1,18 +1,21 @@
 //! What is said once a run is over.
 
-ghost use Rattle.std.specs.Prelude.{◌≡◌, None, Err, IfOk, IsTrue, is_ok, true};
+ghost use Rattle.std.specs.Prelude.{◌≡◌, ◌++◌, None, Err, IfOk, IfSome, IsTrue, is_ok, true};
 ghost use Rattle.launcher.specs.Closings.{line_after};
 ghost use Rattle.launcher.specs.ExitStatuses.{number_of, status_after};
 ghost use Rattle.messages.specs.Sentences.{sentence_by};
-ghost use Rattle.command_line.specs.Runs.{Closes, PrintsLine, PrintsMessage, SaysFailures, SaysOfRun};
+ghost use Rattle.command_line.specs.Runs.{Closes, PrintsLine, PrintsMessage, SaysFailures, SaysOfRun, WentOut};
+ghost use Rattle.command_line.specs.Runs.{refusal_line};
 
 use crate::said::message_after;
+use arrayvec::ArrayString;
 use launcher::option_names::SELECT_UNIQUE_ID;
 use launcher::{Closing, Details, ExitStatus, LaunchFault, Options};
 use listeners::print_to;
 use messages::{Message, Subject};
 use progress::{Failures, failed_text};
 use std::alloc::Global;
+use std::fmt;
 use std::io::Write;
 
 /// How the program ended.
@@ -20,28 +23,72 @@ use std::io::Write;
 pub struct Ending {
     /// The exit status.
     pub status: u8,
-    /// Whether the line of a refusal went out, if there was one to be printed.
+    /// Whether all of the line of a refusal went out, if there was one to be printed.
     pub is_printed: bool,
-    /// Whether the message of a refusal went out, if there was one.
+    /// Whether all of the message of a refusal went out, if there was one.
     pub is_told: bool,
 }
 
-/// Prints the line of a refusal, if there is one; tells whether it went out.
+/// Room for the line of a refusal: its words, a number, and a place of twenty digits.
+const LONGEST_LINE: usize = 48;
+
+/// Hands a text to a writer; tells whether all of it went out.
+fn goes_out<W: Write>(writer: &mut W, text: &str) -> bool
+    ensures { WentOut result (W.contents writer.old) (W.contents writer.new) text.now }
+{
+    match print_to(writer, text.as_bytes()) {
+        Ok(()) => true,
+        Err(_) => false,
+    }
+}
+
+/// Hands two texts to a writer, the one behind the other; tells whether all of both went out.
+fn both_go_out<W: Write>(writer: &mut W, front: &str, behind: &str) -> bool
+    ensures { WentOut result (W.contents writer.old) (W.contents writer.new) (front.now ++ behind.now) }
+{
+    if goes_out(&mut *writer, front) {
+        goes_out(writer, behind)
+    } else {
+        false
+    }
+}
+
+/// The line of a refusal. It takes no memory.
+fn line_text(fault: LaunchFault) -> Option<ArrayString<LONGEST_LINE>>
+    ensures { IfSome result (λ line. line.bytes ≡ refusal_line fault) }
+{
+    let mut line = ArrayString::new();
+    match fmt::Write::writeln(&mut line, fault) {
+        Ok(()) => Some(line),
+        Err(_) => None,
+    }
+}
+
+/// Prints the line of a refusal, if there is one; tells whether all of it went out.
 fn print_line<W: Write>(writer: &mut W, line: Option<LaunchFault>) -> bool
     ensures { PrintsLine W.contents line writer.old writer.new result }
 {
     match line {
-        Some(fault) => writer.writeln(fault).is_ok(),
+        Some(fault) => match line_text(fault) {
+            Some(text) => goes_out(writer, text.as_str()),
+            None => false,
+        },
         None => true,
     }
 }
 
-/// Prints a message, if there is one; tells whether it went out.
+/// Prints a message, if there is one; tells whether all of it went out.
 fn print_message<W: Write>(writer: &mut W, message: Option<Message>) -> bool
     ensures { PrintsMessage W.contents message writer.old writer.new result }
 {
     match message {
-        Some(said) => writer.write_fmt(said).is_ok(),
+        Some(said) => {
+            if both_go_out(&mut *writer, said.sentence, "\n") {
+                goes_out(writer, said.details.as_str())
+            } else {
+                false
+            }
+        }
         None => true,
     }
 }

@@ -4,12 +4,13 @@ ghost use Rattle.std.specs.Prelude.{◌≡◌, ◌++◌, IfOk, OnOk, map, option
 ghost use Rattle.clap.specs.Words.{all_of, found_of, first_of, rows_of};
 ghost use Rattle.launch_options.specs.Given.{behind, texts_of, values_of};
 ghost use Rattle.command_line.specs.Found.{all_found as all_in, is_found, nothing_given, of_kind};
-ghost use Rattle.command_line.specs.Found.{selectors_found, values_in};
+ghost use Rattle.command_line.specs.Found.{exclusions_found, names_found, selectors_found, values_in};
 
 use clap::ArgMatches;
 use launcher::Given;
 use launcher::option_names::{
-    CONFIG, DETAILS, DETAILS_THEME, EXCLUDE_TAG, FAIL_FAST, FAIL_IF_NO_TESTS, INCLUDE_TAG,
+    CONFIG, DETAILS, DETAILS_THEME, EXCLUDE_CLASS, EXCLUDE_METHOD, EXCLUDE_NAME, EXCLUDE_PACKAGE,
+    EXCLUDE_TAG, EXCLUDE_UNIQUE_ID, FAIL_FAST, FAIL_IF_NO_TESTS, INCLUDE_NAME, INCLUDE_TAG,
     PROCESSORS, REPLAY, RING, SCHEDULE, SELECT_CLASS, SELECT_METHOD, SELECT_PACKAGE,
     SELECT_UNIQUE_ID, SYSTEM, WORKERS,
 };
@@ -78,6 +79,39 @@ fn selectors_found<'a>(
     Ok(texts)
 }
 
+/// The patterns of names, each with its kind.
+fn names_found<'a>(
+    alloc: Global,
+    matches: &ArgMatches<'a>,
+) -> Result<Vec<(SelectorKind, &'a str)>, AllocError>
+    ensures { IfOk result (λ texts. texts_of texts.items ≡ names_found (rows_of (found_of matches.now))) }
+{
+    let mut texts = Vec::new(alloc);
+    push_found(&mut texts, matches, SelectorKind::Name, INCLUDE_NAME)?;
+    Ok(texts)
+}
+
+/// The texts of what is left out, each with its kind, in the order of their numbers.
+fn exclusions_found<'a>(
+    alloc: Global,
+    matches: &ArgMatches<'a>,
+) -> Result<Vec<(SelectorKind, &'a str)>, AllocError>
+    ensures { IfOk result (λ texts. texts_of texts.items ≡ exclusions_found (rows_of (found_of matches.now))) }
+{
+    let mut texts = Vec::new(alloc);
+    push_found(&mut texts, matches, SelectorKind::Name, EXCLUDE_NAME)?;
+    push_found(
+        &mut texts,
+        matches,
+        SelectorKind::UniqueId,
+        EXCLUDE_UNIQUE_ID,
+    )?;
+    push_found(&mut texts, matches, SelectorKind::Class, EXCLUDE_CLASS)?;
+    push_found(&mut texts, matches, SelectorKind::Method, EXCLUDE_METHOD)?;
+    push_found(&mut texts, matches, SelectorKind::Package, EXCLUDE_PACKAGE)?;
+    Ok(texts)
+}
+
 /// The value of an option, if it is given.
 fn found<'a>(matches: &ArgMatches<'a>, name: &str) -> Option<&'a str>
     ensures { option_map (λ text. text.now) result ≡ first_of name.now (rows_of (found_of matches.now)) }
@@ -101,6 +135,8 @@ pub(crate) fn given_in<'a>(alloc: Global, matches: &ArgMatches<'a>) -> Result<Gi
 {
     Ok(Given {
         selectors: selectors_found(alloc, matches)?,
+        names: names_found(alloc, matches)?,
+        exclusions: exclusions_found(alloc, matches)?,
         include_tags: all_found(alloc, matches, INCLUDE_TAG)?,
         exclude_tags: all_found(alloc, matches, EXCLUDE_TAG)?,
         config: all_found(alloc, matches, CONFIG)?,
@@ -123,6 +159,8 @@ pub(crate) fn nothing_given<'a>(alloc: Global) -> Given<'a>
 {
     Given {
         selectors: Vec::new(alloc),
+        names: Vec::new(alloc),
+        exclusions: Vec::new(alloc),
         include_tags: Vec::new(alloc),
         exclude_tags: Vec::new(alloc),
         config: Vec::new(alloc),

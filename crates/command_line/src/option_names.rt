@@ -3,30 +3,39 @@
 ghost use Rattle.std.specs.Prelude.{◌≡◌, IfOk, false};
 ghost use Rattle.clap.specs.Words.{app_of, rule_of, with_rule};
 ghost use Rattle.command_line.specs.Commands.{program, printing, configuring, filtering, selecting, single, repeated};
-ghost use Rattle.command_line.specs.Commands.{flag};
+ghost use Rattle.command_line.specs.Commands.{excluding, flag, naming};
 
 use clap::{Arg, ArgAction, Command};
 use launcher::option_names::{
-    CONFIG, DETAILS, DETAILS_THEME, EXCLUDE_TAG, FAIL_FAST, FAIL_IF_NO_TESTS, INCLUDE_TAG,
+    CONFIG, DETAILS, DETAILS_THEME, EXCLUDE_CLASS, EXCLUDE_METHOD, EXCLUDE_NAME, EXCLUDE_PACKAGE,
+    EXCLUDE_TAG, EXCLUDE_UNIQUE_ID, FAIL_FAST, FAIL_IF_NO_TESTS, INCLUDE_NAME, INCLUDE_TAG,
     PROCESSORS, REPLAY, RING, SCHEDULE, SELECT_CLASS, SELECT_METHOD, SELECT_PACKAGE,
     SELECT_UNIQUE_ID, SYSTEM, WORKERS,
 };
 use messages::Subject;
 use std::alloc::{AllocError, Global};
 
-fn single<'a>(alloc: Global, name: &'a str, help: &'a str) -> Arg<'a>
+/// An option that is given once, with what help calls its value. Its help stands on the next line.
+fn single<'a>(alloc: Global, name: &'a str, value: &'a str, help: &'a str) -> Arg<'a>
     ensures rule { rule_of result ≡ single name.now }
     ensures local { result.global ≡ false }
 {
-    Arg::new(alloc, name).long(name).help(help)
+    Arg::new(alloc, name)
+        .long(name)
+        .value_name(value)
+        .next_line_help(true)
+        .help(help)
 }
 
-fn repeated<'a>(alloc: Global, name: &'a str, help: &'a str) -> Arg<'a>
+/// An option that may be given again, in the same way.
+fn repeated<'a>(alloc: Global, name: &'a str, value: &'a str, help: &'a str) -> Arg<'a>
     ensures rule { rule_of result ≡ repeated name.now }
     ensures local { result.global ≡ false }
 {
     Arg::new(alloc, name)
         .long(name)
+        .value_name(value)
+        .next_line_help(true)
         .action(ArgAction::Append)
         .help(help)
 }
@@ -59,7 +68,8 @@ fn selecting<'a>(alloc: Global) -> Result<Command<'a>, AllocError>
         repeated(
             alloc,
             SELECT_UNIQUE_ID,
-            "Runs the node with this unique id, as in [engine:e]/[class:a.B], and all below it",
+            "ID",
+            "Runs the node of this id, as in [engine:e]/[class:a.B], and all below",
         ),
     )?;
     let command = with(
@@ -67,6 +77,7 @@ fn selecting<'a>(alloc: Global) -> Result<Command<'a>, AllocError>
         repeated(
             alloc,
             SELECT_CLASS,
+            "CLASS",
             "Runs the classes of this name, as in a.B",
         ),
     )?;
@@ -75,7 +86,8 @@ fn selecting<'a>(alloc: Global) -> Result<Command<'a>, AllocError>
         repeated(
             alloc,
             SELECT_METHOD,
-            "Runs the test or factory CLASS#METHOD, as in a.B#t()",
+            "CLASS#METHOD",
+            "Runs the test or factory of this name, as in a.B#t()",
         ),
     )?;
     with(
@@ -83,7 +95,76 @@ fn selecting<'a>(alloc: Global) -> Result<Command<'a>, AllocError>
         repeated(
             alloc,
             SELECT_PACKAGE,
+            "PACKAGE",
             "Runs the classes of this package, as in a.b",
+        ),
+    )
+}
+
+/// The same, and the options that look at the names of tests.
+fn naming<'a>(alloc: Global) -> Result<Command<'a>, AllocError>
+    ensures { IfOk result (λ command. app_of command ≡ naming) }
+{
+    let command = selecting(alloc)?;
+    let command = with(
+        command,
+        repeated(
+            alloc,
+            INCLUDE_NAME,
+            "PATTERN",
+            "Runs only what has a CLASS#METHOD like this, as in *#order*",
+        ),
+    )?;
+    with(
+        command,
+        repeated(
+            alloc,
+            EXCLUDE_NAME,
+            "PATTERN",
+            "Runs nothing that has a CLASS#METHOD like this",
+        ),
+    )
+}
+
+/// The same, and the options that leave nodes out.
+fn excluding<'a>(alloc: Global) -> Result<Command<'a>, AllocError>
+    ensures { IfOk result (λ command. app_of command ≡ excluding) }
+{
+    let command = naming(alloc)?;
+    let command = with(
+        command,
+        repeated(
+            alloc,
+            EXCLUDE_UNIQUE_ID,
+            "ID",
+            "Leaves out the node of this id, and all below",
+        ),
+    )?;
+    let command = with(
+        command,
+        repeated(
+            alloc,
+            EXCLUDE_CLASS,
+            "CLASS",
+            "Leaves out the classes of this name",
+        ),
+    )?;
+    let command = with(
+        command,
+        repeated(
+            alloc,
+            EXCLUDE_METHOD,
+            "CLASS#METHOD",
+            "Leaves out the test or factory of this name",
+        ),
+    )?;
+    with(
+        command,
+        repeated(
+            alloc,
+            EXCLUDE_PACKAGE,
+            "PACKAGE",
+            "Leaves out the classes of this package",
         ),
     )
 }
@@ -92,13 +173,14 @@ fn selecting<'a>(alloc: Global) -> Result<Command<'a>, AllocError>
 fn filtering<'a>(alloc: Global) -> Result<Command<'a>, AllocError>
     ensures { IfOk result (λ command. app_of command ≡ filtering) }
 {
-    let command = selecting(alloc)?;
+    let command = excluding(alloc)?;
     let command = with(
         command,
         repeated(
             alloc,
             INCLUDE_TAG,
-            "Runs only what has tags that make this expression true, as in \"slow & !db\"",
+            "EXPRESSION",
+            "Runs only what has tags that make this true, as in \"slow & !db\"",
         ),
     )?;
     with(
@@ -106,7 +188,8 @@ fn filtering<'a>(alloc: Global) -> Result<Command<'a>, AllocError>
         repeated(
             alloc,
             EXCLUDE_TAG,
-            "Runs nothing that has tags that make this expression true",
+            "EXPRESSION",
+            "Runs nothing that has tags that make this true",
         ),
     )
 }
@@ -129,10 +212,11 @@ fn configuring<'a>(alloc: Global, subject: Subject<'_>) -> Result<Command<'a>, A
         repeated(
             alloc,
             CONFIG,
+            "KEY=VALUE",
             help_by(
                 subject,
-                "Sets a parameter, as KEY=VALUE, over the system and the suite",
-                "Sets a parameter, as KEY=VALUE, over the system and the tests",
+                "Sets a parameter over the system and the suite",
+                "Sets a parameter over the system and the tests",
             ),
         ),
     )?;
@@ -141,10 +225,11 @@ fn configuring<'a>(alloc: Global, subject: Subject<'_>) -> Result<Command<'a>, A
         repeated(
             alloc,
             SYSTEM,
+            "KEY=VALUE",
             help_by(
                 subject,
-                "Sets a parameter, as KEY=VALUE, over the suite",
-                "Sets a parameter, as KEY=VALUE, over the tests",
+                "Sets a parameter over the suite",
+                "Sets a parameter over the tests",
             ),
         ),
     )?;
@@ -153,6 +238,7 @@ fn configuring<'a>(alloc: Global, subject: Subject<'_>) -> Result<Command<'a>, A
         single(
             alloc,
             PROCESSORS,
+            "N",
             "How many processors there are, 1 to 1024 [default: 1]",
         ),
     )?;
@@ -161,6 +247,7 @@ fn configuring<'a>(alloc: Global, subject: Subject<'_>) -> Result<Command<'a>, A
         single(
             alloc,
             WORKERS,
+            "N|auto",
             "Runs side by side on so many workers, 1 to 64; auto: --processors",
         ),
     )?;
@@ -169,7 +256,8 @@ fn configuring<'a>(alloc: Global, subject: Subject<'_>) -> Result<Command<'a>, A
         single(
             alloc,
             RING,
-            "How many events may be shown before they are told, 1 to 16384 [default: 1024]",
+            "N",
+            "Most events shown before they are told, 1 to 16384 [default: 1024]",
         ),
     )
 }
@@ -184,7 +272,8 @@ fn printing<'a>(alloc: Global, subject: Subject<'_>) -> Result<Command<'a>, Allo
         single(
             alloc,
             DETAILS,
-            "What is printed: none, summary, tree, testfeed, json, xml or list [default: tree]",
+            "FORM",
+            "none, summary, tree, testfeed, json, xml, list or plan [default: tree]",
         ),
     )?;
     with(
@@ -192,6 +281,7 @@ fn printing<'a>(alloc: Global, subject: Subject<'_>) -> Result<Command<'a>, Allo
         single(
             alloc,
             DETAILS_THEME,
+            "THEME",
             "The signs of the tree: unicode or ascii [default: unicode]",
         ),
     )
@@ -235,6 +325,7 @@ pub(crate) fn command<'a>(alloc: Global, subject: Subject<'_>) -> Result<Command
         single(
             alloc,
             REPLAY,
+            "STEPS",
             help_by(
                 subject,
                 "Runs these steps in place of the schedule, as in \"w1:claim:0 w1:draw\"",

@@ -3,18 +3,21 @@
 ghost use Rattle.std.specs.Prelude.{◌≡◌, IfOk, IfErr, Ok, Err, map, string_bytes};
 ghost use Rattle.std.specs.IoError.{error_kind};
 ghost use Rattle.std.specs.Vec.Iter.{into_iter_items};
+ghost use Rattle.launch_options.specs.Asked.{asked_by};
 ghost use Rattle.messages.specs.Sentences.{sentence_of};
+ghost use Rattle.progress.specs.Terminals.{IsDrawnBehind};
 ghost use Rattle.command_line.specs.GivenWords.{IsGivenFault};
-ghost use Rattle.command_line.specs.Runs.{Closes, IsTerminalRun};
+ghost use Rattle.command_line.specs.Runs.{Closes, IsTerminalRun, RunsAsked};
 ghost use Rattle.command_line.specs.Words.{ReadsWords};
 
 use crate::closing::{Ending, close_run, close_with_failures, refuse};
 use crate::kept::{Kept, nothing_kept};
 use crate::system_words::given_words;
 use crate::words::read_options;
-use launcher::{Details, LaunchFault, Options, run_options_watched};
+use launcher::{ExitStatus, LaunchFault, Options, run_options_watched};
+use listeners::Summary;
 use messages::Subject;
-use progress::Progress;
+use progress::{Failures, Progress};
 use std::alloc::Global;
 use std::env::Args;
 use std::io::{self, Read, Write};
@@ -24,7 +27,52 @@ use std::time::Clock;
 
 /// Whether lines are printed while the run goes on.
 pub(crate) fn prints_lines(options: &Options) -> bool {
-    options.replay.is_none() && matches!(options.details, Details::Testfeed)
+    options.replay.is_none() && options.details.prints_live()
+}
+
+/// Runs what these options ask for; this one draws how far the run has come.
+fn run_followed<T: Threads + Wait + Sync, C: Clock + Drop, R: Read, W: Write, E: Write>(
+    rt: &T,
+    alloc: Global,
+    options: &Options,
+    reader: &mut R,
+    writer: &mut W,
+    progress: &mut Progress<'_, '_, '_, '_, E, C>,
+) -> Result<ExitStatus, LaunchFault>
+    ensures same { progress.new.terminal.ghost_name ≡ progress.old.terminal.ghost_name }
+    ensures draws { IsDrawnBehind (E.contents progress.old.terminal.now) (E.contents progress.new.terminal.now) }
+    ensures runs { RunsAsked (asked_by options.now) (R.remaining reader.old) (R.remaining reader.new)
+        (W.contents writer.old) (W.contents writer.new) result }
+{
+    run_options_watched(rt, alloc, options, reader, writer, progress)
+}
+
+/// Runs what these options ask for, and draws on a terminal how far the run has come. The nodes
+/// that failed are kept in this list.
+fn run_shown<T: Threads + Wait + Sync, C: Clock + Drop, R: Read, W: Write, E: Write>(
+    rt: &T,
+    clock: C,
+    alloc: Global,
+    options: &Options,
+    reader: &mut R,
+    writer: &mut W,
+    errors: &mut E,
+    failures: &mut Failures,
+) -> Result<ExitStatus, LaunchFault>
+    ensures draws { IsDrawnBehind (E.contents errors.old) (E.contents errors.new) }
+    ensures runs { RunsAsked (asked_by options.now) (R.remaining reader.old) (R.remaining reader.new)
+        (W.contents writer.old) (W.contents writer.new) result }
+{
+    let mut summary = Summary::new(alloc);
+    let mut progress = Progress::new(
+        alloc,
+        errors,
+        &clock,
+        prints_lines(options),
+        &mut summary,
+        failures,
+    );
+    run_followed(rt, alloc, options, reader, writer, &mut progress)
 }
 
 /// Runs what these words asked for, draws how far it has come, and says what there is to say of the
@@ -40,15 +88,24 @@ fn run_drawn<T: Threads + Wait + Sync, C: Clock + Drop, R: Read, W: Write, E: Wr
     errors: &mut E,
 ) -> Ending
     ensures { ReadsWords (map string_bytes words.now) (Ok options) → IsTerminalRun R.remaining W.contents
-        E.contents (map string_bytes words.now) reader.old reader.new writer.old writer.new result }
+        E.contents (map string_bytes words.now) reader.old reader.new writer.old writer.new errors.old errors.new
+        result }
 {
     let mut kept = Kept {
         reader,
         bytes: nothing_kept(alloc),
     };
-    let mut progress = Progress::new(alloc, &mut *errors, clock, prints_lines(&options));
-    let answer = run_options_watched(rt, alloc, &options, &mut kept, writer, &mut progress);
-    let failures = progress.into_failures();
+    let mut failures = Failures::new(alloc);
+    let answer = run_shown(
+        rt,
+        clock,
+        alloc,
+        &options,
+        &mut kept,
+        &mut *writer,
+        &mut *errors,
+        &mut failures,
+    );
     let suite = Subject::Suite(kept.bytes.as_slice());
     let ending = close_with_failures(
         alloc, answer, &options, words, suite, &failures, writer, errors,
@@ -76,7 +133,7 @@ pub fn run_words_on_terminal<
     errors: &mut E,
 ) -> Ending
     ensures { IsTerminalRun R.remaining W.contents E.contents (map string_bytes words.now) reader.old reader.new
-        writer.old writer.new result }
+        writer.old writer.new errors.old errors.new result }
 {
     match read_options(alloc, words) {
         Ok(options) => run_drawn(rt, clock, alloc, options, words, reader, writer, errors),
@@ -103,7 +160,8 @@ pub fn run_on_terminal<T: Threads + Wait + Sync, C: Clock + Drop, R: Read, W: Wr
     errors: &mut E,
 ) -> Ending
     ensures run { IfOk words (λ given. IsTerminalRun R.remaining W.contents E.contents
-        (map string_bytes (into_iter_items given)) reader.old reader.new writer.old writer.new result) }
+        (map string_bytes (into_iter_items given)) reader.old reader.new writer.old writer.new errors.old errors.new
+        result) }
     ensures refused { IfErr words (λ error. (fault : LaunchFault) × IsGivenFault (error_kind error) fault
         × (reader.new ≡ reader.old) × Closes sentence_of W.contents E.contents (Err fault) writer.old writer.new errors.old
         errors.new result) }

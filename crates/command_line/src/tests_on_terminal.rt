@@ -7,26 +7,80 @@ ghost use Rattle.resource_locks.specs.Plans.{PlanParts};
 ghost use Rattle.worker_pool.specs.Premises.{JobsMayAnswer};
 ghost use Rattle.worker_pool.specs.Reports.{run_of};
 ghost use Rattle.launcher.specs.Programs.{HasJobs, program_parts};
+ghost use Rattle.launch_options.specs.Asked.{asked_by};
 ghost use Rattle.messages.specs.Sentences.{tests_sentence_of};
+ghost use Rattle.progress.specs.Terminals.{IsDrawnBehind};
 ghost use Rattle.command_line.specs.GivenWords.{IsGivenFault};
 ghost use Rattle.command_line.specs.Runs.{Closes};
-ghost use Rattle.command_line.specs.TestRuns.{IsTestRunOnTerminal};
+ghost use Rattle.command_line.specs.TestRuns.{IsTestRunOnTerminal, RunsJobs};
 ghost use Rattle.command_line.specs.Words.{ReadsWords};
 
 use crate::closing::{Ending, close_run, close_with_failures, refuse};
 use crate::system_words::given_words;
 use crate::terminal::prints_lines;
 use crate::words::read_options;
-use launcher::{LaunchFault, Options, Program, run_jobs_watched};
+use launcher::{ExitStatus, LaunchFault, Options, Program, run_jobs_watched};
+use listeners::Summary;
 use messages::{Subject, said_of_settings};
 use plan_events::Job;
-use progress::Progress;
+use progress::{Failures, Progress};
 use std::alloc::Global;
 use std::env::Args;
 use std::io::{self, Write};
 use std::sync::Wait;
 use std::thread::Threads;
 use std::time::Clock;
+
+/// Runs these jobs as the options say; this one draws how far the run has come.
+fn run_jobs_followed<B: Job + Send, T: Threads + Wait + Sync, C: Clock + Drop, W: Write, E: Write>(
+    rt: &T,
+    alloc: Global,
+    options: &Options,
+    program: Program<B>,
+    writer: &mut W,
+    progress: &mut Progress<'_, '_, '_, '_, E, C>,
+) -> Result<ExitStatus, LaunchFault>
+    requires jobs { (plan : PlanParts) (workers ring : ℕ) → JobsMayAnswer B.answers
+        (run_of plan workers ring program.jobs.items) }
+    requires all { HasJobs program.tree program.jobs.items }
+    ensures same { progress.new.terminal.ghost_name ≡ progress.old.terminal.ghost_name }
+    ensures draws { IsDrawnBehind (E.contents progress.old.terminal.now) (E.contents progress.new.terminal.now) }
+    ensures runs { RunsJobs B.answers (program_parts program.tree program.properties) program.jobs.items
+        (asked_by options.now) (W.contents writer.old) (W.contents writer.new) result }
+{
+    run_jobs_watched(rt, alloc, options, program, writer, progress)
+}
+
+/// Runs these jobs as the options say, and draws on a terminal how far the run has come. The nodes
+/// that failed are kept in this list.
+fn run_jobs_shown<B: Job + Send, T: Threads + Wait + Sync, C: Clock + Drop, W: Write, E: Write>(
+    rt: &T,
+    clock: C,
+    alloc: Global,
+    options: &Options,
+    program: Program<B>,
+    writer: &mut W,
+    errors: &mut E,
+    failures: &mut Failures,
+) -> Result<ExitStatus, LaunchFault>
+    requires jobs { (plan : PlanParts) (workers ring : ℕ) → JobsMayAnswer B.answers
+        (run_of plan workers ring program.jobs.items) }
+    requires all { HasJobs program.tree program.jobs.items }
+    ensures draws { IsDrawnBehind (E.contents errors.old) (E.contents errors.new) }
+    ensures runs { RunsJobs B.answers (program_parts program.tree program.properties) program.jobs.items
+        (asked_by options.now) (W.contents writer.old) (W.contents writer.new) result }
+{
+    let mut summary = Summary::new(alloc);
+    let mut progress = Progress::new(
+        alloc,
+        errors,
+        &clock,
+        prints_lines(options),
+        &mut summary,
+        failures,
+    );
+    run_jobs_followed(rt, alloc, options, program, writer, &mut progress)
+}
 
 /// Runs these jobs as the options say, draws how far the run has come, and says what there is to say
 /// of the answer and of what failed.
@@ -45,12 +99,20 @@ fn run_tests_drawn<B: Job + Send, T: Threads + Wait + Sync, C: Clock + Drop, W: 
     requires all { HasJobs program.tree program.jobs.items }
     ensures { ReadsWords (map string_bytes words.now) (Ok options) → IsTestRunOnTerminal B.answers W.contents
         E.contents (program_parts program.tree program.properties) program.jobs.items (map string_bytes words.now)
-        writer.old writer.new result }
+        writer.old writer.new errors.old errors.new result }
 {
     let said = said_of_settings(alloc, &options, &program.properties);
-    let mut progress = Progress::new(alloc, &mut *errors, clock, prints_lines(&options));
-    let answer = run_jobs_watched(rt, alloc, &options, program, writer, &mut progress);
-    let failures = progress.into_failures();
+    let mut failures = Failures::new(alloc);
+    let answer = run_jobs_shown(
+        rt,
+        clock,
+        alloc,
+        &options,
+        program,
+        &mut *writer,
+        &mut *errors,
+        &mut failures,
+    );
     let tests = Subject::Tests(said.as_str());
     let ending = close_with_failures(
         alloc, answer, &options, words, tests, &failures, writer, errors,
@@ -80,7 +142,7 @@ pub fn run_test_words_on_terminal<
         (run_of plan workers ring program.jobs.items) }
     requires all { HasJobs program.tree program.jobs.items }
     ensures { IsTestRunOnTerminal B.answers W.contents E.contents (program_parts program.tree program.properties)
-        program.jobs.items (map string_bytes words.now) writer.old writer.new result }
+        program.jobs.items (map string_bytes words.now) writer.old writer.new errors.old errors.new result }
 {
     match read_options(alloc, words) {
         Ok(options) => run_tests_drawn(rt, clock, alloc, options, words, program, writer, errors),
@@ -113,7 +175,7 @@ pub fn run_test_program_on_terminal<
     requires all { HasJobs program.tree program.jobs.items }
     ensures run { IfOk words (λ given. IsTestRunOnTerminal B.answers W.contents E.contents (program_parts program.tree
         program.properties) program.jobs.items (map string_bytes (into_iter_items given)) writer.old writer.new
-        result) }
+        errors.old errors.new result) }
     ensures refused { IfErr words (λ error. (fault : LaunchFault) × IsGivenFault (error_kind error) fault
         × Closes tests_sentence_of W.contents E.contents (Err fault) writer.old writer.new errors.old errors.new
         result) }

@@ -135,7 +135,7 @@ pub fn run_tests_on_terminal<T: Threads + Wait + Sync, C: Clock + Drop, W: Write
     ensures run { IfOk result (λ ending. IfOk words (λ given. IsTestRunOnTerminal
         replies_left W.contents E.contents
         (program_parts (held tests.value).tree (properties_of tests.value)) (jobs_by (held tests.value).jobs)
-        (map string_bytes (into_iter_items given)) writer.old writer.new ending)) }
+        (map string_bytes (into_iter_items given)) writer.old writer.new errors.old errors.new ending)) }
     ensures refused { IfOk result (λ ending. IfErr words (λ error. (fault : LaunchFault)
         × IsGivenFault (error_kind error) fault × Closes tests_sentence_of W.contents E.contents (Err fault) writer.old
         writer.new errors.old errors.new ending)) }

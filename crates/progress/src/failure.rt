@@ -62,6 +62,7 @@ impl Failure {
     ) -> Result<Failure, AllocError>
         requires above_zero { 0 < node }
         requires inside { node < size plan.now.tree }
+        ensures node { IfOk result (λ failure. failure.node ≡ node) }
         ensures id { IfOk result (λ failure. string_bytes failure.id ≡ id_at plan.now node) }
         ensures name { IfOk result (λ failure. string_bytes failure.name ≡ name_at plan.now.tree node) }
         ensures text { IfOk result (λ failure. string_bytes failure.text ≡ text_or (text_at texts.now node)) }

@@ -1,13 +1,16 @@
 //! The nodes of a run that failed.
 
-ghost use Rattle.std.specs.Prelude.{◌≡◌, ◌≤◌, []};
+ghost use Rattle.std.specs.Prelude.{◌≡◌, ◌<◌, []};
 ghost use Rattle.std.specs.List.{list_any};
+ghost use Rattle.listeners.specs.Told.{ended};
+ghost use Rattle.plan_events.specs.Statuses.{is_failed};
+ghost use Rattle.plan_events.specs.Texts.{text_at};
 ghost use Rattle.progress.specs.FailedTexts.{are_some, is_left_out};
-ghost use Rattle.progress.specs.Failing.{Keeps};
+ghost use Rattle.progress.specs.Failing.{Keeps, KeepsNode, Misses, tells_failure};
 
 use crate::failure::{Failure, Naming};
 use descriptor::NodeId;
-use plan_events::{Event, Status, Texts};
+use plan_events::{Event, EventKind, Status, Texts};
 use resource_locks::Plan;
 use std::alloc::Global;
 use worker_pool::Watcher;
@@ -17,6 +20,23 @@ const MOST_KEPT: usize = 20;
 
 /// How many of them the words name.
 const MOST_NAMED: usize = 10;
+
+/// Whether a node ended so that it failed.
+fn has_failed(status: Option<Status>) -> bool
+    ensures { result ≡ ended is_failed status }
+{
+    matches!(status, Some(Status::Failed))
+}
+
+/// Whether an event tells that a node failed, which is not the plan.
+fn tells_failure(event: Event) -> bool
+    ensures { result ≡ tells_failure event }
+{
+    match event.kind {
+        EventKind::Finished => event.node != NodeId::ROOT && has_failed(event.status),
+        EventKind::Started | EventKind::Skipped | EventKind::Registered => false,
+    }
+}
 
 /// Whether the words had no room for one of them.
 fn any_left_out(failures: &[Failure]) -> bool
@@ -62,8 +82,7 @@ impl Failures {
 
     /// Counts a node that failed and is not kept.
     fn miss(&mut self)
-        ensures kept { self.new.kept ≡ self.old.kept }
-        ensures more { self.old.more ≤ self.new.more }
+        ensures { Misses self.old self.new }
     {
         self.more = self.more.saturating_add(1);
     }
@@ -113,11 +132,11 @@ impl Failures {
     }
 
     /// Takes note of a node that failed.
-    fn note(&mut self, plan: &Plan, texts: &Texts, node: NodeId) {
-        if self.kept.len() >= MOST_KEPT
-            || node == NodeId::ROOT
-            || node.index() >= plan.tree().len()
-        {
+    fn note(&mut self, plan: &Plan, texts: &Texts, node: NodeId)
+        requires above_zero { 0 < node }
+        ensures { KeepsNode plan.now node (text_at texts.now node) self.old self.new }
+    {
+        if self.kept.len() >= MOST_KEPT || node.index() >= plan.tree().len() {
             self.miss();
             return;
         }
@@ -130,11 +149,13 @@ impl Failures {
 }
 
 impl Watcher for Failures {
-    ghost saw = { λ _ _ _ _. Unit {0} };
+    ghost use Rattle.progress.specs.Failing.{HasKept};
+
+    ghost saw = { HasKept };
 
     fn watch(&mut self, plan: &Plan, texts: &Texts, event: Event) {
         let event = &event;
-        if event.status == Some(Status::Failed) && event.node != NodeId::ROOT {
+        if tells_failure(*event) {
             self.note(plan, texts, event.node);
         }
     }

@@ -1,7 +1,11 @@
 //! A watcher that draws how far a run has come.
 
-ghost use Rattle.std.specs.Prelude.{◌≡◌};
-ghost use Rattle.progress.specs.Terminals.{Extends};
+ghost use Rattle.std.specs.Prelude.{◌≡◌, ◌∷◌, [], ℕ, true, false, IfOk, IfSome, Option, Some, string_bytes};
+ghost use Rattle.listeners.specs.Listeners.{telling};
+ghost use Rattle.worker_pool.specs.Watching.{HasSeenMore};
+ghost use Rattle.progress.specs.Failing.{HasKept};
+ghost use Rattle.progress.specs.Terminals.{IsDrawnOn, IsSent, drawing_of, is_done};
+ghost use Rattle.progress.specs.declared.test_counts.TestCounts.{TestCounts as Counts};
 
 use crate::failures::Failures;
 use crate::test_counts::{TestCounts, progress_line};
@@ -21,7 +25,7 @@ const ERASING: &str = "\r\x1b[K";
 
 /// Hands this text to a terminal; tells whether all of it stands there.
 fn hand_on<E: Write>(terminal: &mut E, text: &str) -> bool
-    ensures { Extends (E.contents terminal.old) (E.contents terminal.new) }
+    ensures { IsSent result (E.contents terminal.old) (E.contents terminal.new) text.now }
 {
     match print_to(&mut *terminal, text.as_bytes()) {
         Ok(()) => terminal.flush().is_ok(),
@@ -30,36 +34,39 @@ fn hand_on<E: Write>(terminal: &mut E, text: &str) -> bool
 }
 
 /// Draws how far a run has come on a line of a terminal, at most ten times a second, and erases it
-/// when the plan is finished. It keeps the nodes that failed.
+/// when the plan is finished. The tests are counted in a summary that it was lent, and the nodes that
+/// failed are kept in a list that it was lent.
 #[derive(Drop)]
-pub struct Progress<'e, E: Write, C: Clock + Drop> {
+pub struct Progress<'e, 'c, 's, 'f, E: Write, C: Clock> {
     alloc: Global,
     terminal: &'e mut E,
-    clock: C,
+    clock: &'c C,
     begun: Option<Instant>,
     drawn: Option<Instant>,
     is_drawn: bool,
-    // whether nothing more is drawn
+    // whether the line is drawn no more
     is_over: bool,
     // whether others print lines on the terminal, so that none may stand there when they do
     among_lines: bool,
-    summary: Summary,
-    failures: Failures,
+    summary: &'s mut Summary,
+    failures: &'f mut Failures,
 }
 
-impl<'e, E: Write, C: Clock + Drop> Progress<'e, E, C> {
+impl<'e, 'c, 's, 'f, E: Write, C: Clock> Progress<'e, 'c, 's, 'f, E, C> {
     /// Nothing has happened yet, and nothing is drawn. Where lines are printed on the terminal by
-    /// others, each event erases the line.
+    /// others, each event erases the line. It is lent an empty summary, and a list for what fails.
     pub fn new(
         alloc: Global,
         terminal: &'e mut E,
-        clock: C,
+        clock: &'c C,
         among_lines: bool,
-    ) -> Progress<'e, E, C>
+        summary: &'s mut Summary,
+        failures: &'f mut Failures,
+    ) -> Progress<'e, 'c, 's, 'f, E, C>
         ensures same { result.terminal.ghost_name ≡ terminal.entry.ghost_name }
         ensures terminal { result.terminal.now ≡ terminal.old }
     {
-        let begun = Instant::now(&clock).ok();
+        let begun = Instant::now(clock).ok();
         Progress {
             alloc,
             terminal,
@@ -69,42 +76,39 @@ impl<'e, E: Write, C: Clock + Drop> Progress<'e, E, C> {
             is_drawn: false,
             is_over: false,
             among_lines,
-            summary: Summary::new(alloc),
-            failures: Failures::new(alloc),
+            summary,
+            failures,
         }
-    }
-
-    /// The nodes that failed so far.
-    pub fn into_failures(self) -> Failures
-        ensures { result ≡ self.entry.failures }
-    {
-        let Progress { failures, .. } = self;
-        failures
     }
 
     /// Hands this to the terminal; one that fails is left alone from then on.
     fn show(&mut self, text: &str)
-        ensures same { self.new.terminal.ghost_name ≡ self.old.terminal.ghost_name }
-        ensures extends { Extends (E.contents self.old.terminal.now) (E.contents self.new.terminal.now) }
+        requires going { is_done self.old ≡ false }
+        ensures drawn { (line : Option (Counts × ℕ)) → text.now ≡ drawing_of line →
+            IsDrawnOn E.contents self.old self.new }
+        ensures failures { self.new.failures ≡ self.old.failures }
     {
         if !hand_on(&mut *self.terminal, text) {
             self.is_over = true;
+            self.is_drawn = false;
         }
     }
 
     /// Erases the line, if it is drawn.
     fn erase(&mut self)
-        ensures same { self.new.terminal.ghost_name ≡ self.old.terminal.ghost_name }
-        ensures extends { Extends (E.contents self.old.terminal.now) (E.contents self.new.terminal.now) }
+        ensures drawn { IsDrawnOn E.contents self.old self.new }
+        ensures failures { self.new.failures ≡ self.old.failures }
     {
         if self.is_drawn {
-            self.is_drawn = false;
             self.show(ERASING);
+            self.is_drawn = false;
         }
     }
 
     /// The line as it is to be drawn.
-    fn line(&self, seconds: u64) -> Result<String, AllocError> {
+    fn line(&self, seconds: u64) -> Result<String, AllocError>
+        ensures { IfOk result (λ text. (tests : Counts) × (string_bytes text ≡ drawing_of (Some (tests, seconds)))) }
+    {
         let tests = TestCounts::of(self.summary.counts());
         let line = progress_line(self.alloc, tests, seconds)?;
         let mut text = String::from_str(self.alloc, ERASING)?;
@@ -114,12 +118,16 @@ impl<'e, E: Write, C: Clock + Drop> Progress<'e, E, C> {
 
     /// The line, if it is to be drawn anew: unless it was drawn a moment ago.
     fn next_line(&mut self) -> Option<String>
-        ensures { self.new.terminal ≡ self.old.terminal }
+        ensures terminal { self.new.terminal ≡ self.old.terminal }
+        ensures drawn { self.new.is_drawn ≡ self.old.is_drawn }
+        ensures over { self.new.is_over ≡ self.old.is_over }
+        ensures failures { self.new.failures ≡ self.old.failures }
+        ensures line { IfSome result (λ text. (line : Counts × ℕ) × (string_bytes text ≡ drawing_of (Some line))) }
     {
         let (Some(begun), Some(drawn)) = (self.begun, self.drawn) else {
             return None;
         };
-        let Ok(now) = Instant::now(&self.clock) else {
+        let Ok(now) = Instant::now(self.clock) else {
             return None;
         };
         if now.duration_since(drawn) < Duration::from_millis(SHORTEST) {
@@ -131,8 +139,9 @@ impl<'e, E: Write, C: Clock + Drop> Progress<'e, E, C> {
 
     /// Draws the line anew, unless it was drawn a moment ago.
     fn draw(&mut self)
-        ensures same { self.new.terminal.ghost_name ≡ self.old.terminal.ghost_name }
-        ensures extends { Extends (E.contents self.old.terminal.now) (E.contents self.new.terminal.now) }
+        requires going { self.old.is_over ≡ false }
+        ensures drawn { IsDrawnOn E.contents self.old self.new }
+        ensures failures { self.new.failures ≡ self.old.failures }
     {
         if let Some(text) = self.next_line() {
             self.is_drawn = true;
@@ -142,8 +151,8 @@ impl<'e, E: Write, C: Clock + Drop> Progress<'e, E, C> {
 
     /// Erases the line where others print lines, and draws it anew where not.
     fn redraw(&mut self)
-        ensures same { self.new.terminal.ghost_name ≡ self.old.terminal.ghost_name }
-        ensures extends { Extends (E.contents self.old.terminal.now) (E.contents self.new.terminal.now) }
+        ensures drawn { IsDrawnOn E.contents self.old self.new }
+        ensures failures { self.new.failures ≡ self.old.failures }
     {
         if self.among_lines {
             self.erase();
@@ -154,8 +163,8 @@ impl<'e, E: Write, C: Clock + Drop> Progress<'e, E, C> {
 
     /// Erases the line for good where the plan is finished.
     fn close(&mut self, is_finished: bool)
-        ensures same { self.new.terminal.ghost_name ≡ self.old.terminal.ghost_name }
-        ensures extends { Extends (E.contents self.old.terminal.now) (E.contents self.new.terminal.now) }
+        ensures drawn { IsDrawnOn E.contents self.old self.new }
+        ensures failures { self.new.failures ≡ self.old.failures }
     {
         if is_finished {
             self.erase();
@@ -165,7 +174,10 @@ impl<'e, E: Write, C: Clock + Drop> Progress<'e, E, C> {
 
     /// Counts an event. Where there is no memory for the counts nothing is drawn.
     fn count(&mut self, plan: &Plan, event: Event)
-        ensures { self.new.terminal ≡ self.old.terminal }
+        ensures terminal { self.new.terminal ≡ self.old.terminal }
+        ensures drawn { self.new.is_drawn ≡ self.old.is_drawn }
+        ensures over { self.old.is_over ≡ true → self.new.is_over ≡ true }
+        ensures failures { self.new.failures ≡ self.old.failures }
     {
         if self.summary.got().is_empty() && self.summary.prepare(plan).is_err() {
             self.is_over = true;
@@ -177,16 +189,20 @@ impl<'e, E: Write, C: Clock + Drop> Progress<'e, E, C> {
 
     /// Takes note of a node that failed.
     fn note(&mut self, plan: &Plan, texts: &Texts, event: Event)
-        ensures { self.new.terminal ≡ self.old.terminal }
+        ensures terminal { self.new.terminal ≡ self.old.terminal }
+        ensures drawn { self.new.is_drawn ≡ self.old.is_drawn }
+        ensures over { self.new.is_over ≡ self.old.is_over }
+        ensures kept { HasSeenMore HasKept plan.now (telling texts.now event ∷ []) self.old.failures.now
+            self.new.failures.now }
     {
         self.failures.watch(plan, texts, event);
     }
 }
 
-impl<'e, E: Write, C: Clock + Drop> Watcher for Progress<'e, E, C> {
-    ghost use Rattle.progress.specs.Terminals.{IsDrawnOn};
+impl<'e, 'c, 's, 'f, E: Write, C: Clock> Watcher for Progress<'e, 'c, 's, 'f, E, C> {
+    ghost use Rattle.progress.specs.Terminals.{HasFollowed};
 
-    ghost saw = { λ _ first now _. IsDrawnOn E.contents first now };
+    ghost saw = { HasFollowed E.contents };
 
     fn watch(&mut self, plan: &Plan, texts: &Texts, event: Event) {
         let event = &event;

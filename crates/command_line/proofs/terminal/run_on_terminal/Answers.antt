@@ -6,7 +6,7 @@ use Rattle.command_line.proofs.terminal.run_on_terminal.Goals as goal
 
 pub returns-in-Ok-clause-run : goal.returns-in-Ok-clause-run
 returns-in-Ok-clause-run g c =
-    told_terminal_words (g.R.Read.remaining) (g.W.Write.contents) (g.E.Write.contents) into_iter_items string_bytes c.args.words c.in-Ok.words.items c.as_slice.result.now _ _ _ _ c.run_words_on_terminal.result c.in-Ok.ensures.all c.as_slice.ensures.value c.run_words_on_terminal.ensures
+    told_terminal_words (g.R.Read.remaining) (g.W.Write.contents) (g.E.Write.contents) into_iter_items string_bytes c.args.words c.in-Ok.words.items c.as_slice.result.now _ _ _ _ _ _ c.run_words_on_terminal.result c.in-Ok.ensures.all c.as_slice.ensures.value c.run_words_on_terminal.ensures
 
 pub returns-in-Err-clause-run : goal.returns-in-Err-clause-run
 returns-in-Err-clause-run g c =

@@ -1,20 +1,21 @@
 -- Where the words are refused nothing is read and nothing is written; else what they ask for is run.
-use Rattle.std.proofs.Common.{Err, map, refl, string_bytes}
+use Rattle.std.proofs.Common.{Err, map, refl, string_bytes, true}
 use Rattle.command_line.proofs.Running.{words_refused}
+use Rattle.progress.proofs.Drawing.{none_drawn}
 use Rattle.command_line.proofs.terminal.run_words_on_terminal.Goals as goal
 
 pub returns-in-Ok : goal.returns-in-Ok
 returns-in-Ok g c = c.run_drawn.ensures c.in-Ok.ensures.read
 
 pub returns-in-Err : goal.returns-in-Err
-returns-in-Err g c = (
-  _,
-  _,
-  record {
+returns-in-Err g c = record {
+  drawn = c.args.errors.now;
+  draws = none_drawn (g.E.Write.contents c.args.errors.now) true;
+  run = record {
     answer = Err c.in-Err.fault;
     left = g.R.Read.remaining c.args.reader.now;
     between = _;
     run = words_refused (g.R.Read.remaining) (g.W.Write.contents) (map string_bytes c.args.words.now) c.in-Err.fault (Err c.in-Err.fault) _ _ _ refl c.in-Err.ensures.read;
     closed = c.close_run.ensures.closed;
-  },
-)
+  };
+}

@@ -7,7 +7,7 @@ use Rattle.command_line.proofs.tests_on_terminal.run_test_program_on_terminal.Go
 
 pub returns-in-Ok-clause-run : goal.returns-in-Ok-clause-run
 returns-in-Ok-clause-run g c =
-    told_drawn_words (g.B.Job.answers) (g.W.Write.contents) (g.E.Write.contents) into_iter_items string_bytes _ _ c.args.words c.in-Ok.words.items c.as_slice.result.now _ _ c.run_test_words_on_terminal.result c.in-Ok.ensures.all c.as_slice.ensures.value c.run_test_words_on_terminal.ensures
+    told_drawn_words (g.B.Job.answers) (g.W.Write.contents) (g.E.Write.contents) into_iter_items string_bytes _ _ c.args.words c.in-Ok.words.items c.as_slice.result.now _ _ _ _ c.run_test_words_on_terminal.result c.in-Ok.ensures.all c.as_slice.ensures.value c.run_test_words_on_terminal.ensures
 
 pub returns-in-Err-clause-run : goal.returns-in-Err-clause-run
 returns-in-Err-clause-run g c =

@@ -1,6 +1,4 @@
 -- What holds of the program holds of the tests that gave it.
-use Rattle.std.proofs.Common.{◌∙◌, ap}
-use Rattle.harness.specs.Jobs.{jobs_by}
 use Rattle.harness.proofs.run.run_tests_watched.Goals as goal
 
 pub returns-clause-run : goal.returns-clause-run
