@@ -64,6 +64,8 @@ fn push_answered(alloc: Global, answer: &mut String, tree: &Tree, request: &Requ
 pub(crate) fn push_found(alloc: Global, answer: &mut String, tree: &Tree, words: &str) {
     let mut request = Request {
         selectors: Vec::new(alloc),
+        names: Vec::new(alloc),
+        exclusions: Vec::new(alloc),
         include: Vec::new(alloc),
         exclude: Vec::new(alloc),
     };

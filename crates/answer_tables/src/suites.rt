@@ -41,6 +41,7 @@ fn push_named(answer: &mut String, selector: &Selector) {
             quote(answer, " of ", class.as_str())
         }
         Selector::Package(name) => quote(answer, " => package ", name.as_str()),
+        Selector::Name(pattern) => quote(answer, " => name ", pattern.as_str()),
     }
 }
 

@@ -34,6 +34,7 @@ pub(crate) fn selector_kind(word: &str) -> SelectorKind {
         "id" => SelectorKind::UniqueId,
         "method" => SelectorKind::Method,
         "package" => SelectorKind::Package,
+        "name" => SelectorKind::Name,
         _ => SelectorKind::Class,
     }
 }

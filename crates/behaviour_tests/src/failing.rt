@@ -9,6 +9,8 @@ use std::io::{Error, ErrorKind, Result as IoResult, Write};
 pub(crate) enum Full {
     IsInterrupted,
     Fails,
+    /// It fails, and takes all that is written afterwards.
+    FailsOnce,
     TakesNothing,
 }
 
@@ -29,6 +31,10 @@ impl Write for Failing {
             return match self.full {
                 Full::IsInterrupted => Err(Error::from(ErrorKind::Interrupted)),
                 Full::Fails => Err(Error::from(ErrorKind::Other)),
+                Full::FailsOnce => {
+                    self.room = usize::MAX;
+                    Err(Error::from(ErrorKind::Other))
+                }
                 Full::TakesNothing => Ok(0),
             };
         }

@@ -50,6 +50,8 @@ fn feed_options(alloc: Global) -> Options {
     Options {
         request: Request {
             selectors: Vec::new(alloc),
+            names: Vec::new(alloc),
+            exclusions: Vec::new(alloc),
             include: Vec::new(alloc),
             exclude: Vec::new(alloc),
         },
@@ -158,14 +160,48 @@ fn tree_options(alloc: Global) -> Options {
     options
 }
 
-/// How a run ends that writes the tree to this writer.
+/// What is printed: the feed of one test while it is run, or the tree of two behind their run.
+#[derive(Clone, Copy)]
+enum Printed {
+    Feed,
+    Tree,
+}
+
+impl Printed {
+    /// All of it.
+    fn text(self) -> &'static str {
+        match self {
+            Printed::Feed => FEED,
+            Printed::Tree => TREE,
+        }
+    }
+
+    /// The suite that is run.
+    fn suite(self) -> &'static str {
+        match self {
+            Printed::Feed => SUITE,
+            Printed::Tree => TWO_TESTS,
+        }
+    }
+
+    /// The options that print it.
+    fn options(self, alloc: Global) -> Options {
+        match self {
+            Printed::Feed => feed_options(alloc),
+            Printed::Tree => tree_options(alloc),
+        }
+    }
+}
+
+/// How a run ends that prints this to this writer.
 fn ends_before<T: Threads + Wait + Sync>(
     rt: &T,
     alloc: Global,
+    printed: Printed,
     writer: &mut Failing,
 ) -> Result<ExitStatus, LaunchFault> {
-    let mut reader = TWO_TESTS.as_bytes();
-    run_options(rt, alloc, &tree_options(alloc), &mut reader, writer)
+    let mut reader = printed.suite().as_bytes();
+    run_options(rt, alloc, &printed.options(alloc), &mut reader, writer)
 }
 
 /// A writer that takes so many bytes, at most so many at a time, and then does this.
@@ -182,58 +218,73 @@ fn writer_of(alloc: Global, room: usize, step: usize, full: Full) -> Failing {
 fn is_cut<T: Threads + Wait + Sync>(
     rt: &T,
     alloc: Global,
+    printed: Printed,
     room: usize,
     step: usize,
     full: Full,
 ) -> bool {
     let mut writer = writer_of(alloc, room, step, full);
-    match ends_before(rt, alloc, &mut writer) {
+    match ends_before(rt, alloc, printed, &mut writer) {
         Ok(_) => false,
         Err(fault) => {
             fault.number() == 81
                 && fault.place() == Some(room as u64)
                 && writer.taken.len() == room
-                && TREE.as_bytes().starts_with(writer.taken.as_slice())
+                && printed
+                    .text()
+                    .as_bytes()
+                    .starts_with(writer.taken.as_slice())
         }
     }
 }
 
-/// Whether the output is cut at each of its bytes, where a writer that takes one byte a write
-/// fails, or one that takes all at once is interrupted.
-fn is_cut_anywhere<T: Threads + Wait + Sync>(rt: &T, alloc: Global) -> bool {
-    for room in 0..TREE.len() {
-        if !is_cut(rt, alloc, room, 1, Full::Fails) {
+/// Whether the output is cut at each of its bytes, where a writer that takes one byte a write fails
+/// once, or one that takes all at once is interrupted: neither is written to again.
+fn is_cut_anywhere<T: Threads + Wait + Sync>(rt: &T, alloc: Global, printed: Printed) -> bool {
+    let length = printed.text().len();
+    for room in 0..length {
+        if !is_cut(rt, alloc, printed, room, 1, Full::FailsOnce) {
             return false;
         }
-        if !is_cut(rt, alloc, room, TREE.len(), Full::IsInterrupted) {
+        if !is_cut(rt, alloc, printed, room, length, Full::IsInterrupted) {
             return false;
         }
     }
-    TREE.len() == 522
+    true
 }
 
 #[test]
 fn an_output_that_is_cut_at_any_byte_is_refused_there(rt: HostRuntime) {
-    assert!(rt; is_cut_anywhere(&rt, rt.alloc()));
+    assert!(rt; is_cut_anywhere(&rt, rt.alloc(), Printed::Tree) && TREE.len() == 522);
+    assert!(rt; is_cut_anywhere(&rt, rt.alloc(), Printed::Feed));
 }
 
 /// Whether a writer that takes so many bytes, and then nothing of the rest, cuts the output there.
-fn is_left<T: Threads + Wait + Sync>(rt: &T, alloc: Global, room: usize) -> bool {
-    is_cut(rt, alloc, room, 1, Full::TakesNothing)
-        && is_cut(rt, alloc, room, TREE.len(), Full::TakesNothing)
+fn is_left<T: Threads + Wait + Sync>(rt: &T, alloc: Global, printed: Printed, room: usize) -> bool {
+    is_cut(rt, alloc, printed, room, 1, Full::TakesNothing)
+        && is_cut(
+            rt,
+            alloc,
+            printed,
+            room,
+            printed.text().len(),
+            Full::TakesNothing,
+        )
 }
 
 #[test]
 fn an_output_of_which_a_rest_is_not_taken_is_refused_there(rt: HostRuntime) {
-    assert!(rt;
-        is_left(&rt, rt.alloc(), 0) && is_left(&rt, rt.alloc(), 11) && is_left(&rt, rt.alloc(), 521)
-    );
+    assert!(rt; is_left(&rt, rt.alloc(), Printed::Tree, 0));
+    assert!(rt; is_left(&rt, rt.alloc(), Printed::Tree, 11));
+    assert!(rt; is_left(&rt, rt.alloc(), Printed::Tree, 521));
+    assert!(rt; is_left(&rt, rt.alloc(), Printed::Feed, 0));
+    assert!(rt; is_left(&rt, rt.alloc(), Printed::Feed, 16));
 }
 
 /// Whether the output is taken as a whole by a writer that has room for it and takes so many bytes at a time.
 fn is_taken<T: Threads + Wait + Sync>(rt: &T, alloc: Global, step: usize) -> bool {
     let mut writer = writer_of(alloc, TREE.len(), step, Full::Fails);
-    let end = ends_before(rt, alloc, &mut writer);
+    let end = ends_before(rt, alloc, Printed::Tree, &mut writer);
     end == Ok(ExitStatus::TestsFailed) && writer.taken.as_slice() == TREE.as_bytes()
 }
 
@@ -242,22 +293,14 @@ fn an_output_that_is_taken_as_a_whole_is_no_refusal(rt: HostRuntime) {
     assert!(rt; is_taken(&rt, rt.alloc(), 1) && is_taken(&rt, rt.alloc(), TREE.len()));
 }
 
-/// Whether a run is refused where its writer, which has so much room, takes no more of the feed of one test.
-fn feed_is_cut<T: Threads + Wait + Sync>(rt: &T, alloc: Global, room: usize) -> bool {
-    let mut reader = SUITE.as_bytes();
-    let mut writer = writer_of(alloc, room, 7, Full::Fails);
-    let end = run_options(rt, alloc, &feed_options(alloc), &mut reader, &mut writer);
-    match end {
-        Ok(_) => false,
-        Err(fault) => {
-            fault.place() == Some(room as u64)
-                && writer.taken.len() == room
-                && FEED.as_bytes().starts_with(writer.taken.as_slice())
-        }
-    }
+/// Whether the feed is taken as a whole by a writer that has room for it and takes seven bytes at a time.
+fn feed_is_taken<T: Threads + Wait + Sync>(rt: &T, alloc: Global) -> bool {
+    let mut writer = writer_of(alloc, FEED.len(), 7, Full::Fails);
+    let end = ends_before(rt, alloc, Printed::Feed, &mut writer);
+    end == Ok(ExitStatus::Success) && writer.taken.as_slice() == FEED.as_bytes()
 }
 
 #[test]
-fn a_feed_that_is_cut_behind_its_first_line_is_refused(rt: HostRuntime) {
-    assert!(rt; feed_is_cut(&rt, rt.alloc(), 16) && !feed_is_cut(&rt, rt.alloc(), FEED.len()));
+fn a_feed_that_is_taken_as_a_whole_is_no_refusal(rt: HostRuntime) {
+    assert!(rt; feed_is_taken(&rt, rt.alloc()));
 }

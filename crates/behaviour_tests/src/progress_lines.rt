@@ -1,7 +1,8 @@
 //! When the line is drawn that says how far a run has come.
 
 use crate::failing::{Failing, Full};
-use progress::Progress;
+use listeners::Summary;
+use progress::{Failures, Progress};
 use std::alloc::Global;
 use std::cell::Cell;
 use std::io::{Result as IoResult, Write};
@@ -35,7 +36,9 @@ fn leave_moments<E: Write>(alloc: Global, terminal: &mut E, step: u64) {
         now: Cell::new(0),
         step,
     };
-    let mut progress = Progress::new(alloc, terminal, clock, false);
+    let mut summary = Summary::new(alloc);
+    let mut failures = Failures::new(alloc);
+    let mut progress = Progress::new(alloc, terminal, &clock, false, &mut summary, &mut failures);
     for _ in 0..6 {
         progress.idle();
     }

@@ -1,13 +1,11 @@
 //! Calls that read texts, or find what is to run.
 
 use crate::calls::{Call, note};
-use crate::inputs::{SHOP, STEPS, tree_of};
+use crate::inputs::{SHOP, tree_of};
 use crate::printer::Printer;
 use crate::said::Said;
-use crate::values::{push_options, push_suite};
-use command_line::read_options;
+use crate::values::push_suite;
 use descriptor::Tree;
-use launcher::{LaunchFault, Options};
 use selectors::{Request, SelectFault, Selector, SelectorKind, discover};
 use std::alloc::{AllocError, Global};
 use std::io::Write;
@@ -38,73 +36,6 @@ impl Call for Parses {
 /// `Suite::parse`.
 pub(crate) fn parse<W: Write>(alloc: Global, out: &mut Printer<W>) {
     note(alloc, out, &(), Parses);
-}
-
-/// The words of a command line, a line each, the program's name before them.
-const WORDS: &str = "console
---select-class
-shop.Orders
---select-unique-id
-[engine:shop]/[class:shop.Mail]
---select-method
-shop.Mail#sends()
---include-tag
-!slow & (a | b)
---exclude-tag
-quick
---config
-junit.jupiter.execution.parallel.mode.classes.default=same_thread
---system
-junit.jupiter.execution.parallel.mode.default=concurrent
---workers
-2
---details
-testfeed
---fail-fast
---schedule
---replay";
-
-/// Adds a word.
-fn push_word(alloc: Global, words: &mut Vec<String>, word: &str) -> Result<(), AllocError> {
-    words.push(String::from_str(alloc, word)?)?;
-    Ok(())
-}
-
-/// Adds the words, and behind them the steps of a replay.
-fn push_words(alloc: Global, words: &mut Vec<String>) -> Result<(), AllocError> {
-    for word in WORDS.split('\n') {
-        push_word(alloc, words, word)?;
-    }
-    push_word(alloc, words, STEPS)
-}
-
-/// `read_options`.
-#[derive(Drop)]
-struct Reads;
-
-impl Call for Reads {
-    type Input = Vec<String>;
-
-    type Answer = Result<Options, LaunchFault>;
-
-    fn make(self, alloc: Global, words: &Vec<String>) -> Result<Options, LaunchFault> {
-        read_options(alloc, words.as_slice())
-    }
-
-    fn push(said: &mut Said, options: &Result<Options, LaunchFault>) {
-        match options {
-            Ok(options) => push_options(said, options),
-            Err(fault) => said.refuse(fault.number()),
-        }
-    }
-}
-
-/// `read_options`.
-pub(crate) fn options<W: Write>(alloc: Global, out: &mut Printer<W>) -> Result<(), AllocError> {
-    let mut words = Vec::new(alloc);
-    push_words(alloc, &mut words)?;
-    note(alloc, out, &words, Reads);
-    Ok(())
 }
 
 /// Adds the selector of a class.
@@ -150,6 +81,8 @@ impl Call for Finds {
 pub(crate) fn find<W: Write>(alloc: Global, out: &mut Printer<W>) -> Result<(), AllocError> {
     let mut request = Request {
         selectors: Vec::new(alloc),
+        names: Vec::new(alloc),
+        exclusions: Vec::new(alloc),
         include: Vec::new(alloc),
         exclude: Vec::new(alloc),
     };

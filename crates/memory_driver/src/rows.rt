@@ -5,7 +5,7 @@ use crate::lists::{of_two, prepares, prepares_two};
 use crate::plans::{copy, drives, hoists, mode, takes_steps};
 use crate::printer::Printer;
 use crate::printing::{Print, Schedules, looks_back};
-use crate::reading::{find, options, parse};
+use crate::reading::{find, parse};
 use crate::runs::run_twice;
 use crate::tables::table;
 use listeners::{Recorder, Summary};
@@ -35,7 +35,6 @@ fn once<W: Write>(alloc: Global, out: &mut Printer<W>, name: &str) -> Result<(),
             parse(alloc, out);
             Ok(())
         }
-        "read_options" => options(alloc, out),
         "discover" => find(alloc, out),
         "modes" => mode(alloc, out),
         "hoist" => hoists(alloc, out),

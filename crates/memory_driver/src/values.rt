@@ -3,7 +3,6 @@
 use crate::said::Said;
 use config_params::Params;
 use descriptor::NodeId;
-use launcher::Options;
 use resource_locks::Plan;
 use sched_core::Trace;
 use suite_text::Suite;
@@ -32,26 +31,6 @@ pub(crate) fn push_suite(said: &mut Said, suite: &Suite) {
     said.quote("\n", &suite.scripts);
     said.add("\n");
     push_params(said, &suite.properties)
-}
-
-/// Adds what options have.
-pub(crate) fn push_options(said: &mut Said, options: &Options) {
-    said.quote("", &options.request);
-    said.quote("\n", &options.replay);
-    said.add("\n");
-    push_params(said, &options.params);
-    if let Some(spread) = &options.spread {
-        push_params(said, spread);
-    }
-    said.quote("", &options.details);
-    said.quote(" ", &options.theme);
-    said.show("\n", options.processors);
-    said.quote(" ", &options.workers);
-    said.show(" ", options.ring);
-    said.show("\n", options.fail_if_no_tests);
-    said.show(" ", options.fail_fast);
-    said.show("\n", options.schedule);
-    said.add("\n")
 }
 
 /// Adds how a plan executes its nodes.

@@ -1,10 +1,10 @@
 //! Runs the program over memory, by rows from standard input: a line `== ` with the words of a
-//! command line, and below it the lines of a suite. Each line of words is printed again, with what
-//! the program writes and how it ends below it; where it begins with `=? `, what stands on standard
-//! error follows; below `=! ` too, where that is a terminal; below `=< N ` too, with an output that
-//! takes N bytes and then fails. Below `=2 ` stands instead whether a second worker does something. A
-//! row that begins with `=t ` has no suite: tests of the table's own are run, and what stands on
-//! standard error follows.
+//! command line, and below it the lines of a suite. A line `=== ` is the title of the rows below it.
+//! Both are printed again, and below the words what the program writes and how it ends; where they
+//! begin with `=? `, what stands on standard error follows; below `=! ` too, where that is a terminal;
+//! below `=< N ` too, with an output that takes N bytes and then fails. Below `=2 ` stands instead
+//! whether a second worker does something. A row that begins with `=t ` has no suite: tests of the
+//! table's own are run, and what stands on standard error follows.
 #![tactic(auto)]
 
 mod answers;

@@ -47,13 +47,28 @@ impl Table {
         self.row.push_str(line)
     }
 
-    /// Reads a line: that of the next row, or one of the row's suite.
+    /// Answers the row that was read, and a title with itself.
+    fn take_title<T: Threads + Wait + Sync>(
+        &mut self,
+        rt: &T,
+        alloc: Global,
+        title: &str,
+    ) -> Result<(), AllocError> {
+        self.begin(rt, alloc, "")?;
+        self.answers.extend_from_slice(title.as_bytes())?;
+        self.answers.extend_from_slice(b"\n")
+    }
+
+    /// Reads a line: a title, that of the next row, or one of the row's suite.
     pub(crate) fn take<T: Threads + Wait + Sync>(
         &mut self,
         rt: &T,
         alloc: Global,
         line: &str,
     ) -> Result<(), AllocError> {
+        if line.starts_with("=== ") {
+            return self.take_title(rt, alloc, line);
+        }
         if begins_row(line) {
             return self.begin(rt, alloc, line);
         }

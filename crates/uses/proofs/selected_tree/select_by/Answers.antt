@@ -6,5 +6,5 @@ use Rattle.uses.proofs.selected_tree.select_by.Goals as goal
 pub returns : goal.returns
 returns c =
     if_ok c.discover.result
-    (λ found same. (record { selectors = c.push.new.self; include = c.new.result; exclude = c.new-2.result }, c.in-Ok.ensures.items ∙ ap (λ l. l ++ c.args.selector ∷ []) c.new-selectors.ensures.items, c.new.ensures.items, c.new-2.ensures.items, same))
+    (λ found same. (record { selectors = c.push.new.self; names = c.new.result; exclusions = c.new-2.result; include = c.new-3.result; exclude = c.new-4.result }, c.in-Ok.ensures.items ∙ ap (λ l. l ++ c.args.selector ∷ []) c.new-selectors.ensures.items, c.new.ensures.items, c.new-2.ensures.items, c.new-3.ensures.items, c.new-4.ensures.items, same))
     c.discover.ensures.ok
