@@ -29,6 +29,8 @@ from programs import built_console
 from suites import Maker, text_of
 
 TESTS = 1_200
+# A run of so many takes more than two seconds.
+MANY_TESTS = 2_600
 # So far each of the slow suite's tests counts, which takes about a millisecond.
 SPIN = 1_000_000
 SECONDS_A_RUN = 120
@@ -44,9 +46,9 @@ class Wrong(Exception):
     """What is wrong with a run."""
 
 
-def slow_suite():
+def slow_suite(tests=TESTS):
     lines = ["engine e", "  class a.B"]
-    lines += [f"    test t{number}() spin={SPIN} pass" for number in range(TESTS)]
+    lines += [f"    test t{number}() spin={SPIN} pass" for number in range(tests)]
     return ("\n".join(lines) + "\n").encode()
 
 
@@ -152,6 +154,14 @@ def judge_drawn(program, details):
         raise Wrong(f"{drawn}")
 
 
+def judge_seconds(program):
+    """The seconds are those since the beginning, and not those since the line was drawn last."""
+    run = Run(program, slow_suite(MANY_TESTS), ["--details", "none"])
+    seconds = [int(numbers[4]) for numbers in DRAWN.findall(run.errors)]
+    if not run.seconds - 1.5 < seconds[-1] < run.seconds:
+        raise Wrong(f"{seconds[-1]} s in the end, of {run.seconds:.2f} s")
+
+
 def judge_together(program, details):
     """Where both go to one terminal, at the end it shows what is printed, and nothing else."""
     run = Run(program, slow_suite(), ["--details", details], both=True)
@@ -229,6 +239,7 @@ def main():
     given = words.parse_args()
     program = given.program or built_console()
     cases = [(f"drawn beside {details}", judge_drawn, (program, details)) for details in ("tree", "summary", "json")]
+    cases += [("the seconds of a long run", judge_seconds, (program,))]
     cases += [(f"{details} on the same terminal", judge_together, (program, details)) for details in ("tree", "testfeed", "none")]
     cases += [("a pipe", judge_silent, (program, "pipe", None)), ("a dumb terminal", judge_silent, (program, "terminal", {"TERM": "dumb"}))]
     cases += [("a terminal of no kind", judge_silent, (program, "terminal", {})), ("colours", judge_colours, (program,))]

@@ -6,7 +6,8 @@ checks/reports.py [SUITES] [SEED]     200 suites and the seed 1 where they are n
 Each suite is made at random, with names and texts that have to be escaped, some with settings that are
 warned of, and run by one worker, some with a schedule. The JSON has to say what the feed says, the XML
 what the definitions say of the suite, as many tests as the summary and a failure where the status is 1,
-and the list which tests and factories would be run. Each has to be that and nothing else. The last line
+the list which tests and factories would be run, and the nodes of the plan in which modes and with which locks
+they would be. Each has to be that and nothing else. The last line
 is 'N passed, M failed': the texts that were judged.
 """
 
@@ -30,6 +31,11 @@ TYPES = {"plan": "PLAN", "engine": "CONTAINER", "class": "CONTAINER", "factory":
 TYPES |= {"test": "TEST", "dyn": "TEST"}
 MODE = "junit.jupiter.execution.parallel.mode."
 KEYS = [f"{MODE}default", f"{MODE}classes.default"]
+LOCK_MODES = {"r": "READ", "rw": "READ_WRITE"}
+PARALLEL = ["--config", "junit.jupiter.execution.parallel.enabled=true"]
+# One worker, so that nothing else changes.
+PARALLEL += ["--config", "junit.jupiter.execution.parallel.config.strategy=fixed"]
+PARALLEL += ["--config", "junit.jupiter.execution.parallel.config.fixed.parallelism=1"]
 BADNESS = {"FAILED": 2, "SKIPPED": 1, "ABORTED": 1}
 # What one format or the other has to escape, and what it has to leave as it is.
 ODD = ['"', "\\", "&", "<", ">", "'", "\x00", "\x01", "\t", "\b", "\f", "a\rb", "\x1f", "\x7f", "\x85", "]]>"]
@@ -207,6 +213,28 @@ def judge_list(plan, text):
     same("the list", text, "".join(f"{node.id}\n" for node in run))
 
 
+def node_object(plan, node):
+    """What is said of a node before it is run."""
+    held = sorted(plan.held[node].items(), key=lambda lock: lock[0].encode())
+    said = {"type": TYPES[node.word], "id": node.id, "parent": node.parent.id if node.parent.parent else ""}
+    said |= {"name": node.name, "mode": plan.modes[node].upper()}
+    said["held"] = [{"key": key, "mode": LOCK_MODES[mode]} for key, mode in held]
+    return said | ({"disabled": node.verdict.text} if node.disabled else {})
+
+
+def judge_plan(plan, text, warnings):
+    """An object for each warning, and one for each node but the plan, with its members in their order."""
+    wanted = [{"event": "warning", "key": key} for key in warnings] + [node_object(plan, node) for node in plan.nodes[1:]]
+    same("the nodes", [json.loads(line, object_pairs_hook=list) for line in text.split("\n")[:-1]], [pairs(it) for it in wanted])
+
+
+def pairs(value):
+    """Objects as lists of their members, so that the order counts."""
+    if isinstance(value, dict):
+        return [(name, pairs(it)) for name, it in value.items()]
+    return [pairs(it) for it in value] if isinstance(value, list) else value
+
+
 class Told:
     """What a run tells people: its warnings, the lines of the feed, its schedule, the tests that it found, and its status."""
 
@@ -258,6 +286,9 @@ class Reports:
         self.judge(f"{name}, json", lambda: judge_json(plan, self.text("json", suite, *words), told))
         self.judge(f"{name}, xml", lambda: judge_xml(plan, self.text("xml", suite, *words), told))
         self.judge(f"{name}, list", lambda: judge_list(plan, self.text("list", suite, *words)))
+        is_parallel = random.random() < 0.7
+        nodes = Plan(root, is_parallel, "same_thread", "same_thread")
+        self.judge(f"{name}, plan", lambda: judge_plan(nodes, self.text("plan", suite, *PARALLEL * is_parallel), told.warnings))
 
 
 def main():

@@ -1,5 +1,5 @@
 #!/usr/bin/env python3
-"""Watches a run as a user would: what --details testfeed prints has to come while the run goes on.
+"""Watches a run as a user would: what --details testfeed and json print has to come while the run goes on.
 
 checks/watched.py [SUITES] [SEED]   20 suites and the seed 1 where they are not given
   --program PATH                    another program than crates/console/out/console
@@ -11,6 +11,7 @@ The last line is 'N passed, M failed': the runs.
 """
 
 import argparse
+import json
 import os
 import pty
 import subprocess
@@ -58,13 +59,13 @@ def wanted_feed():
 class Run:
     """A run of the program that goes on."""
 
-    def __init__(self, program, suite, output, words=()):
+    def __init__(self, program, suite, output, words=(), details="testfeed"):
         self.begin = time.monotonic()
         given = tempfile.TemporaryFile()
         given.write(suite)
         given.seek(0)
         self.process = subprocess.Popen(
-            [program, "--details", "testfeed", *words], stdin=given, stdout=output, stderr=subprocess.PIPE
+            [program, "--details", details, *words], stdin=given, stdout=output, stderr=subprocess.PIPE
         )
 
     def status(self):
@@ -93,27 +94,27 @@ def arrivals(run, reader):
         found.append((run.passed(), got))
 
 
-def through_pipe(program, suite, words=()):
+def through_pipe(program, suite, words=(), details="testfeed"):
     reader, writer = os.pipe()
-    run = Run(program, suite, writer, words)
+    run = Run(program, suite, writer, words, details)
     os.close(writer)
     found = arrivals(run, reader)
     os.close(reader)
     return run.status(), found
 
 
-def on_terminal(program, suite, words=()):
+def on_terminal(program, suite, words=(), details="testfeed"):
     reader, writer = pty.openpty()
-    run = Run(program, suite, writer, words)
+    run = Run(program, suite, writer, words, details)
     os.close(writer)
     found = [(at, got.replace(b"\r\n", b"\n")) for at, got in arrivals(run, reader)]
     os.close(reader)
     return run.status(), found
 
 
-def to_file(program, suite, words=()):
+def to_file(program, suite, words=(), details="testfeed"):
     with tempfile.TemporaryFile() as output:
-        run = Run(program, suite, output, words)
+        run = Run(program, suite, output, words, details)
         status = run.status()
         output.seek(0)
         return status, [(run.passed(), output.read())]
@@ -122,10 +123,29 @@ def to_file(program, suite, words=()):
 WAYS = {"pipe": through_pipe, "terminal": on_terminal, "file": to_file}
 
 
-def judge_watched(program, way):
+def wanted_json():
+    """The same as JSON."""
+    lines = []
+    for line in wanted_feed().decode().splitlines():
+        worker, *said = line.split(" ")
+        told = {"worker": int(worker[1:])}
+        if said[0] == "plan":
+            lines.append({"event": said[1], **told, "type": "PLAN"})
+            continue
+        name = said[1].rpartition(":")[2].rstrip("]")
+        kind = "TEST" if "method" in said[1] else "CONTAINER"
+        ending = {"status": said[2]} if len(said) > 2 else {}
+        lines.append({"event": said[0], **told, "type": kind, "id": said[1], "name": name, **ending})
+    return "".join(json.dumps(line, separators=(",", ":")) + "\n" for line in lines).encode()
+
+
+WANTED = {"testfeed": wanted_feed, "json": wanted_json}
+
+
+def judge_watched(program, details, way):
     """The lines of the slow suite come one after the other, and each time they are a beginning of the whole."""
-    status, found = WAYS[way](program, slow_suite())
-    wanted = wanted_feed()
+    status, found = WAYS[way](program, slow_suite(), details=details)
+    wanted = WANTED[details]()
     if status != 0 or found[-1][1] != wanted:
         raise Wrong(f"status {status}, printed {found[-1][1]!r}")
     if any(not wanted.startswith(got) for _, got in found):
@@ -133,7 +153,8 @@ def judge_watched(program, way):
     if way == "file":
         return
     begun = next(at for at, got in found if b"t0()" in got)
-    over = next(at for at, got in found if f"finished [engine:e]/[class:a.B]/[method:t{TESTS - 1}()]".encode() in got)
+    last = f"[method:t{TESTS - 1}()]".encode()
+    over = next(at for at, got in found if got.count(last) > 1)
     moments = len({got.count(b"SUCCESSFUL") for _, got in found})
     if moments < PARTS or over - begun < 0.5 * found[-1][0]:
         raise Wrong(f"its lines came in {moments} parts, from {begun:.2f} to {over:.2f} s of {found[-1][0]:.2f} s")
@@ -188,7 +209,7 @@ def main():
     words.add_argument("--program")
     given = words.parse_args()
     program = given.program or built_console()
-    cases = [(f"a slow suite by {way}", judge_watched, (program, way)) for way in WAYS]
+    cases = [(f"a slow suite's {what} by {way}", judge_watched, (program, what, way)) for what in WANTED for way in WAYS]
     cases += [("a device that is full", judge_full, (program,)), ("a reader that leaves", judge_closed, (program,))]
     cases += [(f"suite {n} of seed {given.seed}", judge_random, (program, given.seed, n)) for n in range(1, given.suites + 1)]
     passed = failed = 0

@@ -251,6 +251,9 @@ CASES = [
     Case("32 classes over all nodes", by_count("--select-class", "a.B"), 0),
     Case("32 methods over 4,095 nodes", by_nodes("--select-method", "a.B#t{0:04d}()"), 0),
     Case("32 methods over all nodes", by_count("--select-method", "a.B#t{0:04d}()"), 0),
+    Case("32 patterns over 4,095 nodes", by_nodes("--include-name", "*a*.*B*#*t{0:04d}*"), 0),
+    Case("32 patterns over all nodes", by_count("--include-name", "*a*.*B*#*t{0:04d}*"), 0),
+    Case("32 exclusions over 4,095 nodes", by_nodes("--exclude-name", "*a*.*B*#*x{0:04d}*"), 0),
     Case("32 packages over 4,095 nodes", by_nodes("--select-package", "a"), 0),
     Case("32 packages over all nodes", by_count("--select-package", "a"), 0),
     Case(
@@ -272,6 +275,7 @@ CASES = [
     Case("a long word of an id", in_word("--select-unique-id", lambda size: "[engine:" + "a" * size + "]")),
     Case("a long word of an expression", in_word("--include-tag", lambda size: "a" * size)),
     Case("a long word of a class", in_word("--select-class", lambda size: "a" * size)),
+    Case("a long word of a pattern", in_word("--include-name", lambda size: "*a" * (size // 2))),
     Case("a long word of a method", in_word("--select-method", lambda size: "a" * size + "#t")),
     Case("a long word of a configuration", in_word("--config", lambda size: "k=" + "a" * size)),
     Case("4,000 keys", many_words("--config", "k{0:04d}=v")),
