@@ -4,9 +4,8 @@ use crate::configuration::requested;
 use crate::histories::{cut_steps, fails_fast, push_history};
 use crate::lock_sets::{push_locks, push_locks_answer};
 use crate::words::{push_fault, say, show};
-use config_params::Settings;
+use config_params::{Settings, modes};
 use descriptor::{Mode, Node, NodeId, Tree};
-use exec_mode::modes;
 use resource_locks::{Plan, hoist};
 use std::alloc::Global;
 

@@ -2,7 +2,7 @@
 
 use crate::failing::{Failing, Full};
 use listeners::Summary;
-use progress::{Failures, Progress};
+use live::{Failures, Progress};
 use std::alloc::Global;
 use std::cell::Cell;
 use std::io::{Result as IoResult, Write};

@@ -5,8 +5,8 @@ use Rattle.std.specs.Result.{is_ok}
 use Rattle.std.proofs.Math.Seq.{take-length}
 use Rattle.listeners.specs.Sending.{SendsExactly}
 use Rattle.listeners.specs.declared.to_writer.WriteFault.{WriteFault}
-use Rattle.progress.specs.FailedTexts.{failed_of}
-use Rattle.progress.specs.declared.failures.Failures.{Failures}
+use Rattle.live.specs.FailedTexts.{failed_of}
+use Rattle.live.specs.declared.failures.Failures.{Failures}
 use Rattle.launcher.specs.declared.exit_status.ExitStatus.{ExitStatus}
 use Rattle.launch_options.specs.declared.fault.LaunchFault.{LaunchFault}
 use Rattle.messages.specs.Messages.{message_text}

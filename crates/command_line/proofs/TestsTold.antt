@@ -9,7 +9,7 @@ use Rattle.messages.specs.Sentences.{tests_sentence_of}
 use Rattle.command_line.specs.Runs.{Closes}
 use Rattle.command_line.specs.TestRuns.{IsTestRun, IsTestRunOnTerminal}
 use Rattle.command_line.specs.declared.closing.Ending.{Ending}
-use Rattle.progress.proofs.Drawing.{none_drawn}
+use Rattle.live.proofs.Drawing.{none_drawn}
 
 module _ {B W E G X F : Type 0} (answers : B → List Reply) (contents : W → Option (List ℕ)) (said : E → Option (List ℕ)) (given : G → List X) (text : X → Text) (parts : SuiteParts) (jobs : List (ℕ × B)) where
   -- the words that were listed are those that were given

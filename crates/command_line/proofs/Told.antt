@@ -7,7 +7,7 @@ use Rattle.command_line.specs.Runs.{Closes, IsProgramRun, IsTerminalRun}
 use Rattle.messages.specs.Sentences.{sentence_of}
 use Rattle.command_line.specs.declared.closing.Ending.{Ending}
 use Rattle.command_line.proofs.Running.{nothing_run}
-use Rattle.progress.proofs.Drawing.{none_drawn}
+use Rattle.live.proofs.Drawing.{none_drawn}
 
 module _ {R W E G X F : Type 0} (remaining : R → Option (List ℕ)) (contents : W → Option (List ℕ)) (said : E → Option (List ℕ)) (given : G → List X) (text : X → Text) where
   -- the words that were listed are those that were given

@@ -6,9 +6,9 @@ use Rattle.plan_events.specs.Texts.{TextParts}
 use Rattle.resource_locks.specs.Plans.{PlanParts}
 use Rattle.listeners.specs.Listeners.{Telling, tellings_of}
 use Rattle.worker_pool.specs.Watching.{HasSeenMore}
-use Rattle.progress.proofs.Drawing.{begun, drawn_still, left}
-use Rattle.progress.specs.Terminals.{HasFollowed, IsDrawnBehind, IsDrawnOn, is_done}
-use Rattle.progress.specs.declared.progress.Progress.{Progress}
+use Rattle.live.proofs.Drawing.{begun, drawn_still, left}
+use Rattle.live.specs.Terminals.{HasFollowed, IsDrawnBehind, IsDrawnOn, is_done}
+use Rattle.live.specs.declared.progress.Progress.{Progress}
 use Rattle.suite_text.specs.Reading.Parts.{SuiteParts}
 use Rattle.suite_text.specs.Suites.{suite_parts}
 use Rattle.suite_text.specs.declared.suite.Suite as suites

@@ -13,9 +13,9 @@ use Rattle.launch_options.specs.declared.fault.LaunchFault.{LaunchFault}
 use Rattle.messages.specs.Messages.{message_text}
 use Rattle.messages.specs.Sentences.{Sentences, sentence_of}
 use Rattle.messages.specs.declared.message.Message.{Message}
-use Rattle.progress.specs.FailedTexts.{failed_of}
-use Rattle.progress.specs.Terminals.{IsDrawnBehind}
-use Rattle.progress.specs.declared.failures.Failures.{Failures}
+use Rattle.live.specs.FailedTexts.{failed_of}
+use Rattle.live.specs.Terminals.{IsDrawnBehind}
+use Rattle.live.specs.declared.failures.Failures.{Failures}
 use Rattle.suite_text.specs.Reading.Bytes.{suite_read}
 use Rattle.command_line.specs.Words.{ReadsWords}
 use Rattle.command_line.specs.declared.closing.Ending.{Ending}

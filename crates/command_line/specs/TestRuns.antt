@@ -11,7 +11,7 @@ use Rattle.launcher.specs.Programs.{IsProgramRun}
 use Rattle.launcher.specs.Runs.{is_writing}
 use Rattle.launcher.specs.declared.exit_status.ExitStatus.{ExitStatus}
 use Rattle.messages.specs.Sentences.{tests_sentence_of}
-use Rattle.progress.specs.Terminals.{IsDrawnBehind}
+use Rattle.live.specs.Terminals.{IsDrawnBehind}
 use Rattle.command_line.specs.Runs.{Closes}
 use Rattle.command_line.specs.Words.{ReadsWords}
 use Rattle.command_line.specs.declared.closing.Ending.{Ending}

@@ -4,3 +4,8 @@ pub mod Digits
 pub mod Laws
 pub mod Lines
 pub mod Tables
+pub mod Belows
+pub mod Lists
+pub mod NearestModes
+pub mod GivenModes
+pub mod Worked

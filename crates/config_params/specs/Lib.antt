@@ -7,3 +7,5 @@ pub mod Properties
 pub mod Settings
 pub mod SettingsFaults
 pub mod Tables
+pub mod Nearest
+pub mod GivenModes

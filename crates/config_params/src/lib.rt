@@ -3,6 +3,8 @@
 
 mod blanks;
 mod fault;
+mod given;
+mod nearest;
 mod numbers;
 mod pair;
 mod params;
@@ -16,6 +18,7 @@ mod warnings;
 
 pub use descriptor::Mode;
 pub use fault::ParamsFault;
+pub use given::modes;
 pub use pair::{Pair, pair_of, property_of};
 pub use params::Params;
 pub use settings::Settings;

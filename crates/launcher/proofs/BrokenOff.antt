@@ -5,8 +5,8 @@ use Rattle.std.specs.Io.KnownBytes.{Appends, Keeps}
 use Rattle.std.proofs.lemmas.Bool.{true≢false}
 use Rattle.std.specs.Result.{IsErrAnd}
 use Rattle.listeners.specs.declared.to_writer.WriteFault.{WriteFault}
-use Rattle.live_feed.specs.declared.live_feed.Outlet.{Outlet}
-use Rattle.live_feed.specs.declared.live_feed.Outlet.TheVariants.{Waiting, Open, Closed, Failed}
+use Rattle.live.specs.declared.live_feed.Outlet.{Outlet}
+use Rattle.live.specs.declared.live_feed.Outlet.TheVariants.{Waiting, Open, Closed, Failed}
 use Rattle.launch_options.specs.Asked.{Asked}
 use Rattle.launch_options.specs.Faults.{cut_by_memory, cut_by_writer}
 use Rattle.launch_options.specs.declared.fault.CutOutput.{CutOutput}

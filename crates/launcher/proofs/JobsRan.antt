@@ -12,8 +12,8 @@ use Rattle.event_history.specs.History.{IsLegal}
 use Rattle.event_history.proofs.Apart.{apart}
 use Rattle.listeners.specs.Listeners.{Telling, tellings_of}
 use Rattle.listeners.specs.Results.{tests_found, has_failed}
-use Rattle.expected_output.specs.Expectations.{IsPrintedAsExpected}
-use Rattle.expected_output.proofs.PrintedAsExpected.{printed_as_expected}
+use Rattle.reports.specs.Expectations.{IsPrintedAsExpected}
+use Rattle.reports.proofs.PrintedAsExpected.{printed_as_expected}
 use Rattle.scheduling.proofs.OnlyHistory.{only_history, as_expected}
 use Rattle.run_table.specs.Balance.{IsBalanced}
 use Rattle.table_rule.specs.Picture.{replies_of}

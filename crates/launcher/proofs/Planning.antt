@@ -9,7 +9,7 @@ use Rattle.config_params.specs.declared.settings.Settings.{Settings}
 use Rattle.config_params.specs.declared.settings_fault.SettingsFault.{SettingsFault}
 use Rattle.descriptor.specs.Nodes.{Nodes}
 use Rattle.descriptor.specs.declared.mode.Mode.{Mode}
-use Rattle.exec_mode.specs.GivenModes.{given_modes}
+use Rattle.config_params.specs.GivenModes.{given_modes}
 use Rattle.plan_events.specs.declared.outcome.Reply.{Reply}
 use Rattle.resource_locks.specs.Declarations.{declared_of}
 use Rattle.resource_locks.specs.Held as hoisted

@@ -14,8 +14,8 @@ use Rattle.event_history.specs.History.{IsLegal}
 use Rattle.event_history.proofs.Apart.{apart}
 use Rattle.listeners.specs.Results.{tests_found, has_failed}
 use Rattle.listeners.specs.SummaryTexts.{summary_of}
-use Rattle.expected_output.specs.Expectations.{IsPrintedAsExpected}
-use Rattle.expected_output.proofs.PrintedAsExpected.{printed_as_expected}
+use Rattle.reports.specs.Expectations.{IsPrintedAsExpected}
+use Rattle.reports.proofs.PrintedAsExpected.{printed_as_expected}
 use Rattle.scheduling.proofs.OnlyHistory.{only_history, as_expected}
 use Rattle.sched_core.specs.Replies.{reply_of, replies_of as replies_by}
 use Rattle.table_rule.specs.Picture.{replies_in, replies_of}

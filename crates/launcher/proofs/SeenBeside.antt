@@ -2,8 +2,8 @@
 use Rattle.std.proofs.Common.{◌≡◌, ◌∙◌, ℕ, List, [], ◌∷◌, ◌++◌, Option, sym, subst, append_assoc}
 use Rattle.resource_locks.specs.Plans.{PlanParts}
 use Rattle.listeners.specs.Listeners.{Telling, HasHeardMore}
-use Rattle.live_feed.specs.LiveFeeds.{IsPrinted}
-use Rattle.live_feed.specs.declared.live_feed.LiveFeed.{LiveFeed}
+use Rattle.live.specs.LiveFeeds.{IsPrinted}
+use Rattle.live.specs.declared.live_feed.LiveFeed.{LiveFeed}
 use Rattle.worker_pool.specs.Watching.{HasSeenMore, KeepsSight}
 use Rattle.launcher.specs.Beside.{SeesBeside}
 use Rattle.launcher.specs.declared.watched_feed.WatchedFeed.{WatchedFeed}

@@ -15,12 +15,12 @@ use Rattle.scheduling.specs.declared.step.Step.{Step}
 use Rattle.listeners.specs.Listeners.{Telling, tellings_of}
 use Rattle.listeners.specs.declared.theme.Theme.{Theme}
 use Rattle.listeners.specs.declared.to_writer.WriteFault.{WriteFault}
-use Rattle.live_feed.specs.LiveFeeds.{lines_of, output_of, IsSoFar, IsPrinted, IsFront, is_stopped}
-use Rattle.live_feed.specs.declared.line_form.LineForm.{LineForm}
-use Rattle.live_feed.specs.declared.live_feed.LiveFeed.{LiveFeed}
-use Rattle.live_feed.specs.declared.live_feed.Outlet.{Outlet}
-use Rattle.live_feed.specs.declared.live_feed.Outlet.TheVariants.{Waiting, Open, Closed, Failed}
-use Rattle.live_feed.proofs.Fronts.{IsShort, front, front_short}
+use Rattle.live.specs.LiveFeeds.{lines_of, output_of, IsSoFar, IsPrinted, IsFront, is_stopped}
+use Rattle.live.specs.declared.line_form.LineForm.{LineForm}
+use Rattle.live.specs.declared.live_feed.LiveFeed.{LiveFeed}
+use Rattle.live.specs.declared.live_feed.Outlet.{Outlet}
+use Rattle.live.specs.declared.live_feed.Outlet.TheVariants.{Waiting, Open, Closed, Failed}
+use Rattle.live.proofs.Fronts.{IsShort, front, front_short}
 use Rattle.suite_text.specs.Reading.Parts.{SuiteParts}
 use Rattle.launch_options.specs.Asked.{Asked, prints_live}
 use Rattle.launch_options.specs.Faults.{cut_by_memory, cut_by_writer}

@@ -2,7 +2,7 @@
 use Rattle.std.specs.Prelude.{◌≡◌, ℕ, List, Option}
 use Rattle.resource_locks.specs.Plans.{PlanParts}
 use Rattle.listeners.specs.Listeners.{Telling}
-use Rattle.live_feed.specs.LiveFeeds.{IsPrinted}
+use Rattle.live.specs.LiveFeeds.{IsPrinted}
 use Rattle.worker_pool.specs.Watching.{HasSeenMore}
 use Rattle.launcher.specs.declared.watched_feed.WatchedFeed.{WatchedFeed}
 

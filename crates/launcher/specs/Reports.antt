@@ -37,7 +37,7 @@ use Rattle.launch_options.specs.declared.details.Details.{Details}
 use Rattle.launcher.specs.declared.exit_status.ExitStatus.{ExitStatus}
 use Rattle.launcher.specs.declared.exit_status.ExitStatus.TheVariants.{Success}
 use Rattle.launcher.specs.ExitStatuses.{status_of_run}
-use Rattle.expected_output.specs.Expectations.{expected_tree, expected_xml, expected_counts, expected_tests, expects_failure}
+use Rattle.reports.specs.Expectations.{expected_tree, expected_xml, expected_counts, expected_tests, expects_failure}
 use Rattle.launch_options.specs.declared.details.Details.TheVariants as details
 use Rattle.launcher.specs.declared.replay.ReplayCounts.{ReplayCounts}
 use Rattle.launcher.specs.ReplayTexts.{replay_line}

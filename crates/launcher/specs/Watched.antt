@@ -6,10 +6,10 @@ use Rattle.plan_events.specs.Texts.{TextParts}
 use Rattle.resource_locks.specs.Plans.{PlanParts}
 use Rattle.scheduling.specs.declared.step.Step.{Step}
 use Rattle.listeners.specs.Listeners.{Telling, tellings_of}
-use Rattle.live_feed.specs.declared.line_form.LineForm.{LineForm}
-use Rattle.live_feed.specs.declared.line_form.LineForm.TheVariants.{Feed, Json}
-use Rattle.live_feed.specs.declared.live_feed.Outlet.{Outlet}
-use Rattle.live_feed.specs.declared.live_feed.Outlet.TheVariants.{Waiting, Closed, Failed}
+use Rattle.live.specs.declared.line_form.LineForm.{LineForm}
+use Rattle.live.specs.declared.line_form.LineForm.TheVariants.{Feed, Json}
+use Rattle.live.specs.declared.live_feed.Outlet.{Outlet}
+use Rattle.live.specs.declared.live_feed.Outlet.TheVariants.{Waiting, Closed, Failed}
 use Rattle.worker_pool.specs.Watching.{HasSeenMore}
 use Rattle.launch_options.specs.declared.details.Details.{Details}
 use Rattle.launch_options.specs.declared.details.Details.TheVariants as details

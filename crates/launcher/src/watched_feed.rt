@@ -7,7 +7,7 @@ ghost use Rattle.listeners.specs.Sending.{SendsExactly};
 ghost use Rattle.worker_pool.specs.Watching.{HasSeenMore};
 
 use listeners::WriteFault;
-use live_feed::{LiveFeed, Outlet};
+use live::{LiveFeed, Outlet};
 use plan_events::{Event, Texts};
 use resource_locks::Plan;
 use std::io::Write;

@@ -3,9 +3,8 @@
 ghost use Rattle.std.specs.Prelude.{◌≡◌, IfOk, length};
 ghost use Rattle.descriptor.specs.Nodes.{size};
 
-use config_params::{Params, Settings};
+use config_params::{Params, Settings, modes};
 use descriptor::{BodyId, Mode, Tree};
-use exec_mode::modes;
 use plan_events::Reply;
 use resource_locks::Plan;
 use sched_core::Answers;

@@ -8,9 +8,8 @@ use crate::inputs::{PAIR, Run, SHOP, STEPS, modes_of, plan_of, run_of, settings_
 use crate::printer::Printer;
 use crate::said::Said;
 use crate::values::{push_plan, push_trace};
-use config_params::Settings;
+use config_params::{Settings, modes};
 use descriptor::{Mode, Tree};
-use exec_mode::modes;
 use resource_locks::{Plan, PlanFault, hoist};
 use sched_core::{CoreFault, Trace, drive, run_steps};
 use scheduling::Step;

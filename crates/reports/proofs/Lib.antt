@@ -12,3 +12,7 @@ pub mod SameReports
 pub mod Suites
 pub mod ToldMore
 pub mod Upward
+pub mod Alike
+pub mod ToldAsExpected
+pub mod PrintedAsExpected
+pub mod ExpectedRows

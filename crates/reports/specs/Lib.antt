@@ -10,3 +10,4 @@ pub mod Lists
 pub mod PlanNodes
 pub mod Told
 pub mod XmlStrings
+pub mod Expectations

@@ -3,6 +3,7 @@
 
 mod cases;
 mod class_names;
+mod expected;
 mod json_lines;
 mod json_strings;
 mod junit;
@@ -13,6 +14,7 @@ mod plan_nodes;
 mod told;
 mod xml_strings;
 
+pub use expected::printed_as_expected;
 pub use json_lines::{json_text, push_note};
 pub use junit::junit_text;
 pub use list::list_text;

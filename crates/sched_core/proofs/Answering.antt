@@ -7,8 +7,8 @@ use Rattle.scheduling.specs.declared.seat.Hand.{Hand}
 use Rattle.scheduling.specs.Choices.{key_at}
 use Rattle.scheduling.specs.Rows.{gives_key, give_row}
 use Rattle.scheduling.specs.State.{State}
-use Rattle.due_steps.specs.Due.{Back, back_due, given_seat}
-use Rattle.due_steps.proofs.DueRows.{give_key}
+use Rattle.scheduling.specs.Due.{Back, back_due, given_seat}
+use Rattle.scheduling.proofs.DueRows.{give_key}
 use Rattle.sched_core.specs.declared.fault.NotEnabled.{NotEnabled}
 use Rattle.sched_core.specs.declared.machine.Machine.{Machine}
 use Rattle.sched_core.specs.Inside.Fields.{state_of, seated, IsAnswered, KeepsRoom}

@@ -16,8 +16,8 @@ use Rattle.scheduling.specs.Inside.Ranges.{InRange}
 use Rattle.scheduling.specs.Rows.{decided_seat}
 use Rattle.scheduling.specs.State.{subject}
 use Rattle.scheduling.proofs.Ranges.{ranges, ranges_decided, draw_room}
-use Rattle.due_steps.specs.Due.{event_due, Back, back_at, back_due}
-use Rattle.due_steps.proofs.DueRows.{draw_is}
+use Rattle.scheduling.specs.Due.{event_due, Back, back_at, back_due}
+use Rattle.scheduling.proofs.DueRows.{draw_is}
 use Rattle.sched_core.specs.declared.machine.Machine.{Machine}
 use Rattle.sched_core.specs.Inside.Bounds.{HasKey, HasPlace, InBounds}
 use Rattle.sched_core.specs.Inside.Fields.{state_of, IsSound}

@@ -16,3 +16,5 @@ pub mod Endings
 pub mod Taken
 pub mod Finding
 pub mod Serving
+pub mod Choosing
+pub mod Progress

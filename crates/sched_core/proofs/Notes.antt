@@ -25,7 +25,7 @@ use Rattle.event_history.proofs.Spares.{plan_tree}
 use Rattle.event_history.proofs.Texts.{text_told, text_is}
 use Rattle.scheduling.proofs.Basics.{event_added, event_same}
 use Rattle.sched_core.specs.Replies.{reply_of, replies_of}
-use Rattle.due_steps.specs.Notes.{skip_note}
+use Rattle.scheduling.specs.Notes.{skip_note}
 use Rattle.sched_core.specs.Texts.{note_by, jobs_note, own_note, note_of, AreTexts}
 
 -- the text of a note that does not say that there were too many tests

@@ -20,7 +20,7 @@ use Rattle.scheduling.specs.Schedule.{IsNextBy, IsNext}
 use Rattle.scheduling.specs.State.{State, status_at}
 use Rattle.scheduling.proofs.DecidedInPlace.{after_direct}
 use Rattle.scheduling.proofs.Scheduled.{leads_work}
-use Rattle.one_worker.proofs.Progress.{goes_on}
+use Rattle.sched_core.proofs.Progress.{goes_on}
 use Rattle.sched_core.specs.declared.machine.Machine.{Machine}
 use Rattle.sched_core.specs.Drives.{reply_given, LeadsTo, IsOnSchedule}
 use Rattle.sched_core.specs.Inside.Fields.{state_of, seated, IsSound, IsAnswered}

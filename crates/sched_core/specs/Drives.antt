@@ -6,7 +6,7 @@ use Rattle.resource_locks.specs.Plans.{PlanParts}
 use Rattle.scheduling.specs.declared.seat.Seat.{Seat}
 use Rattle.scheduling.specs.Schedule.{Drives as DrivesBy, LeadsTo as LeadsBy}
 use Rattle.scheduling.specs.State.{State}
-use Rattle.one_worker.specs.Going.{IsOnSchedule as IsOnScheduleBy}
+use Rattle.sched_core.specs.Going.{IsOnSchedule as IsOnScheduleBy}
 use Rattle.sched_core.specs.Replies.{replies_of}
 use Rattle.sched_core.specs.Steps.{reply_for}
 

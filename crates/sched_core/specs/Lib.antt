@@ -10,3 +10,5 @@ pub mod Rounds
 pub mod Texts
 pub mod Inside
 pub mod Endings
+pub mod Statuses
+pub mod Going

@@ -11,7 +11,7 @@ use Rattle.resource_locks.specs.Plans.{PlanParts}
 use Rattle.event_history.specs.Places.{has}
 use Rattle.event_history.specs.Results.{Jobs, Pulled, jobs_of}
 use Rattle.event_history.specs.Expected.{Expected, Finishes, result_by}
-use Rattle.due_steps.specs.Notes.{skip_note}
+use Rattle.scheduling.specs.Notes.{skip_note}
 use Rattle.sched_core.specs.Replies.{reply_of}
 
 -- whether a factory's reply has more pulls than there are spares

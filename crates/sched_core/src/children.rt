@@ -19,11 +19,11 @@ ghost use Rattle.sched_core.specs.Inside.Fields.{state_of, seated, IsAnswered, K
 use crate::fault::NotEnabled;
 use crate::machine::Machine;
 use descriptor::NodeId;
-use due_steps::{after_offer, counted_off, due_child, due_guard, due_look, due_offer, due_settle};
 use plan_events::Status;
 use resource_locks::Plan;
 use scheduling::{
-    Answer, Closing, Hand, NodeStatus, Opening, Seat, Task, Turns, after_settle, ends_or_free,
+    Answer, Closing, Hand, NodeStatus, Opening, Seat, Task, Turns, after_offer, after_settle,
+    counted_off, due_child, due_guard, due_look, due_offer, due_settle, ends_or_free,
     waits_no_more,
 };
 

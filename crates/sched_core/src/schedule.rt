@@ -12,7 +12,7 @@ ghost use Rattle.sched_core.specs.Inside.Fields.{state_of, IsSound};
 
 use crate::answers::Answers;
 use crate::machine::Machine;
-use one_worker::{Next, is_over, next_step};
+use crate::{Next, is_over, next_step};
 use resource_locks::Plan;
 use scheduling::{Step, Turns, awaited, decided};
 

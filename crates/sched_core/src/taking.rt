@@ -10,18 +10,18 @@ ghost use Rattle.scheduling.specs.declared.lock_word.LockWord.TheVariants.{Reade
 ghost use Rattle.scheduling.specs.declared.task.Opening.{Opening as OpeningValue};
 ghost use Rattle.scheduling.specs.declared.task.Opening.TheVariants.{Locking, Weighed};
 ghost use Rattle.scheduling.specs.declared.task.Task.TheVariants.{Opens};
-ghost use Rattle.due_steps.specs.Due.{Back, back_due};
+ghost use Rattle.scheduling.specs.Due.{Back, back_due};
 ghost use Rattle.sched_core.specs.Inside.Bounds.{HasKey};
 ghost use Rattle.sched_core.specs.Inside.Fields.{state_of, seated, IsAnswered, KeepsRoom};
 
 use crate::fault::NotEnabled;
 use crate::machine::Machine;
 use descriptor::NodeId;
-use due_steps::{after_back, after_try, due_back, due_give_up, due_notice, due_take, due_weigh};
 use resource_locks::Plan;
 use scheduling::{
-    Hand, LockWord, NodeStatus, Task, back_to, begins, claims, given_back, is_of_hand,
-    is_same_word, key_at_place, mode_at_place, taken, weighed,
+    Hand, LockWord, NodeStatus, Task, after_back, after_try, back_to, begins, claims, due_back,
+    due_give_up, due_notice, due_take, due_weigh, given_back, is_of_hand, is_same_word,
+    key_at_place, mode_at_place, taken, weighed,
 };
 
 impl Machine {

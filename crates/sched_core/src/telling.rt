@@ -9,16 +9,17 @@ ghost use Rattle.scheduling.specs.declared.task.Opening.{Opening as OpeningValue
 ghost use Rattle.scheduling.specs.declared.task.Closing.{Closing as ClosingValue};
 ghost use Rattle.scheduling.specs.declared.task.Task.TheVariants.{Opens, Closes};
 ghost use Rattle.scheduling.specs.declared.seat.Hand.{Hand as HandValue};
-ghost use Rattle.due_steps.specs.Due.{event_due};
+ghost use Rattle.scheduling.specs.Due.{event_due};
 ghost use Rattle.sched_core.specs.Inside.Bounds.{HasPlace};
 ghost use Rattle.sched_core.specs.Inside.Fields.{state_of, seated, IsAnswered, KeepsRoom};
 
 use crate::fault::NotEnabled;
 use crate::machine::Machine;
-use due_steps::{after_draw, after_show, due_event, due_raise, named_by};
 use plan_events::Event;
 use resource_locks::Plan;
-use scheduling::{Hand, Seat, Task, giving};
+use scheduling::{
+    Hand, Seat, Task, after_draw, after_show, due_event, due_raise, giving, named_by,
+};
 
 impl Machine {
     /// Puts an event by the worker at this place at the next place of the history, not shown yet.

@@ -14,10 +14,9 @@ ghost use Rattle.sched_core.specs.Texts.{jobs_note as jobs_note_of, note_of, Are
 
 use crate::answers::Answers;
 use descriptor::BodyId;
-use due_steps::skip_note;
 use plan_events::{Event, EventKind, Note, Texts};
 use resource_locks::Plan;
-use scheduling::{NodeJobs, jobs_of};
+use scheduling::{NodeJobs, jobs_of, skip_note};
 use std::alloc::{AllocError, Global};
 use unique_id::Text;
 

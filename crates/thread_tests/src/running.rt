@@ -7,9 +7,8 @@ ghost use Rattle.worker_pool.specs.Premises.{JobsMayAnswer};
 ghost use Rattle.worker_pool.specs.Reports.{run_of};
 
 use crate::watching::{are_told_alike, audience_of_two, board_of, one_watcher};
-use config_params::{Params, Settings};
+use config_params::{Params, Settings, modes};
 use descriptor::{Mode, Tree};
-use exec_mode::modes;
 use listeners::{Audience, Listener};
 use plan_events::{Event, EventKind, Status};
 use resource_locks::Plan;

@@ -1,12 +1,11 @@
-//! Calls `exec_mode`: the mode of one node under the settings of a run.
+//! Calls `modes` of config_params: the mode of one node under the settings of a run.
 
 ghost use Rattle.std.specs.Prelude.{◌<◌, IfOk};
 ghost use Rattle.descriptor.specs.Nodes.{size};
-ghost use Rattle.exec_mode.specs.GivenModes.{IsGiven};
+ghost use Rattle.config_params.specs.GivenModes.{IsGiven};
 
-use config_params::Settings;
+use config_params::{Settings, modes};
 use descriptor::{Mode, NodeId, Tree};
-use exec_mode::modes;
 use std::alloc::{AllocError, Global};
 
 /// The mode that the rules give a node.

@@ -9,7 +9,7 @@ ghost use Rattle.scheduling.specs.declared.seat.Hand.{Hand as HandValue};
 ghost use Rattle.scheduling.specs.declared.task.Opening.TheVariants.{Registering};
 ghost use Rattle.scheduling.specs.declared.task.Closing.TheVariants.{AwaitingAfter, CountingOff};
 ghost use Rattle.scheduling.specs.declared.task.Task.TheVariants.{Free, Opens, Closes};
-ghost use Rattle.due_steps.specs.Due.{IsChildDue};
+ghost use Rattle.scheduling.specs.Due.{IsChildDue};
 ghost use Rattle.table_rule.specs.Plays.{worker, outstanding_in, result_in, ready_in, Guard, guard_due, ended_seat};
 ghost use Rattle.table_rule.specs.Slots.{after_slot, made_of};
 ghost use Rattle.table_rule.specs.declared.view.Shelf.TheVariants.{Unmoved};
@@ -22,9 +22,8 @@ use crate::table::RunTable;
 use crate::words::{outstanding_from_word, result_from_word};
 use crate::worker::WorkerSeat;
 use descriptor::NodeId;
-use due_steps::{counted_off, due_child, due_guard};
 use plan_events::{Job, Status};
-use scheduling::{Hand, Opening, Task, ends_or_free};
+use scheduling::{Hand, Opening, Task, counted_off, due_child, due_guard, ends_or_free};
 use table_rule::{AddsChild, CountsOff, GivesGuard};
 
 impl<B: Job> WorkerSeat<B> {

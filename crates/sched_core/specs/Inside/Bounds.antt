@@ -14,7 +14,7 @@ use Rattle.scheduling.specs.declared.seat.Hand.{Hand}
 use Rattle.scheduling.specs.declared.seat.Seat.{Seat}
 use Rattle.scheduling.specs.Choices.{keys_count}
 use Rattle.scheduling.specs.Shown.{named}
-use Rattle.due_steps.specs.Due.{event_due, Back, back_due}
+use Rattle.scheduling.specs.Due.{event_due, Back, back_due}
 use Rattle.sched_core.specs.declared.machine.Machine.{Machine}
 
 -- node n holds a key at this place

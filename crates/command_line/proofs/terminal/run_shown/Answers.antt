@@ -1,7 +1,7 @@
 -- What was drawn behind what the progress was given stands on the terminal.
 use Rattle.std.proofs.Common.{rules, subst}
 use Rattle.launcher.proofs.Showing.{carried}
-use Rattle.progress.specs.Terminals.{IsDrawnBehind}
+use Rattle.live.specs.Terminals.{IsDrawnBehind}
 use Rattle.command_line.proofs.terminal.run_shown.Goals as goal
 
 pub returns-clause-draws : goal.returns-clause-draws

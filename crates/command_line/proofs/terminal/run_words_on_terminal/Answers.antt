@@ -1,7 +1,7 @@
 -- Where the words are refused nothing is read and nothing is written; else what they ask for is run.
 use Rattle.std.proofs.Common.{Err, map, refl, string_bytes, true}
 use Rattle.command_line.proofs.Running.{words_refused}
-use Rattle.progress.proofs.Drawing.{none_drawn}
+use Rattle.live.proofs.Drawing.{none_drawn}
 use Rattle.command_line.proofs.terminal.run_words_on_terminal.Goals as goal
 
 pub returns-in-Ok : goal.returns-in-Ok

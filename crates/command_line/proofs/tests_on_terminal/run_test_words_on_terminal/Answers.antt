@@ -1,6 +1,6 @@
 -- Where the words are refused nothing is written; else what they ask for is run.
 use Rattle.std.proofs.Common.{Err, refl, true}
-use Rattle.progress.proofs.Drawing.{none_drawn}
+use Rattle.live.proofs.Drawing.{none_drawn}
 use Rattle.command_line.proofs.tests_on_terminal.run_test_words_on_terminal.Goals as goal
 
 pub returns-in-Ok : goal.returns-in-Ok

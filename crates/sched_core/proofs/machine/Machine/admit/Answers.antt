@@ -1,6 +1,6 @@
 -- The node that is offered is one of the tree's.
 use Rattle.std.proofs.Common.{arith}
-use Rattle.due_steps.proofs.DueInside.{offer_inside}
+use Rattle.scheduling.proofs.DueInside.{offer_inside}
 use Rattle.sched_core.proofs.machine.Machine.admit.Goals as goal
 
 pub offer-requires-clause-inside : goal.offer-requires-clause-inside

@@ -2,8 +2,8 @@
 use Rattle.std.proofs.Common.{◌∙◌, sym, subst, refl}
 use Rattle.scheduling.specs.declared.step.Action.TheVariants.{Look}
 use Rattle.scheduling.specs.declared.task.Task.{Task}
-use Rattle.one_worker.proofs.Progress.{finds_open}
-use Rattle.one_worker.specs.Statuses.{IsSomeOpen}
+use Rattle.sched_core.proofs.Progress.{finds_open}
+use Rattle.sched_core.specs.Statuses.{IsSomeOpen}
 use Rattle.sched_core.specs.Inside.Bounds.{InBounds}
 use Rattle.sched_core.specs.Inside.Fields.{state_of, seated}
 use Rattle.sched_core.specs.Replies.{reply_of, replies_of}

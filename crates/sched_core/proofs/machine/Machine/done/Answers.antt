@@ -1,11 +1,11 @@
 -- The guard that is given up is that of a node of the tree, and what it leaves is as the row of the step says.
 use Rattle.std.proofs.Common.{Some}
 use Rattle.scheduling.specs.Answers.{reply_by}
-use Rattle.due_steps.specs.Due.{guard_to}
-use Rattle.due_steps.proofs.DueRows.{guard_is}
+use Rattle.scheduling.specs.Due.{guard_to}
+use Rattle.scheduling.proofs.DueRows.{guard_is}
 use Rattle.sched_core.specs.Inside.Fields.{state_of, seated}
 use Rattle.sched_core.proofs.Answering.{answered_by}
-use Rattle.due_steps.proofs.DueInside.{guard_inside}
+use Rattle.scheduling.proofs.DueInside.{guard_inside}
 use Rattle.sched_core.proofs.machine.Machine.done.Goals as goal
 
 pub due_guard-requires-clause-inside : goal.due_guard-requires-clause-inside

@@ -2,8 +2,8 @@
 use Rattle.std.proofs.Common.{◌≡◌, ◌∙◌, sym, ap, length, arith}
 use Rattle.scheduling.specs.declared.seat.Seat.{Seat}
 use Rattle.scheduling.specs.Rows.{drawn}
-use Rattle.due_steps.specs.Due.{drawn_seat}
-use Rattle.due_steps.proofs.DueRows.{draw_is}
+use Rattle.scheduling.specs.Due.{drawn_seat}
+use Rattle.scheduling.proofs.DueRows.{draw_is}
 use Rattle.sched_core.specs.Inside.Fields.{state_of, seated}
 use Rattle.sched_core.proofs.Answering.{answered_by}
 use Rattle.sched_core.proofs.machine.Machine.draw.Goals as goal

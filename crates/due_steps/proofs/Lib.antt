@@ -1,3 +1,0 @@
--- Lemmas on what is due.
-pub mod DueInside
-pub mod DueRows

@@ -1,3 +1,0 @@
--- The definitions that contracts cite.
-pub mod Due
-pub mod Notes

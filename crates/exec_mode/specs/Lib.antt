@@ -1,3 +1,0 @@
--- The definitions that contracts cite.
-pub mod Nearest
-pub mod GivenModes

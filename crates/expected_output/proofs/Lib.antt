@@ -1,4 +1,0 @@
-pub mod Alike
-pub mod ToldAsExpected
-pub mod PrintedAsExpected
-pub mod ExpectedRows

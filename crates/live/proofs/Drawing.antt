@@ -1,0 +1,143 @@
+-- What is written to a terminal stands behind what was there.
+use Rattle.std.proofs.Common.{◌≡◌, ◌∙◌, ◌++◌, ◌+◌, ◌&&◌, not, ℕ, Bool, true, false, List, [], ◌∷◌, length, take, Option, Some, None, IfOk, IfSome, Result, Ok, Err, refl, sym, ap, ap₂, subst, append-nil}
+use Rattle.std.proofs.Math.Seq.{take-append-add, take-length}
+use Rattle.std.proofs.lemmas.List.{length-append}
+use Rattle.std.proofs.lemmas.Grind.{flat_map-append}
+use Rattle.std.proofs.lemmas.Option.{none-some, same_Some}
+use Rattle.std.specs.Result.{result_ok}
+use Rattle.std.specs.Io.KnownBytes.{Appends, Keeps}
+use Rattle.std.proofs.KnownBytes.{Appends-kept, Appends-nil, Appends-trans}
+use Rattle.listeners.specs.declared.to_writer.WriteFault.{WriteFault}
+use Rattle.resource_locks.specs.Plans.{PlanParts}
+use Rattle.listeners.specs.Listeners.{Telling}
+use Rattle.worker_pool.specs.Watching.{HasSeenMore}
+use Rattle.live.proofs.Keeping.{none_kept}
+use Rattle.live.specs.Failing.{HasKept}
+use Rattle.live.specs.Terminals.{AreDrawn, HasFollowed, IsDrawnOn, IsSent, drawing_of, drawings_of, is_done}
+use Rattle.live.specs.declared.progress.Progress.{Progress}
+use Rattle.live.specs.declared.test_counts.TestCounts.{TestCounts}
+
+-- all of a text was written, and then nothing more
+pub sent_whole : (a b c : Option (List ℕ)) (text bytes : List ℕ) (all : Bool) → bytes ≡ text → Appends a b bytes → Keeps b c → IsSent all a c text
+sent_whole a b c text bytes true same is keeps = Appends-kept a b c text (subst (Appends a b) same is) keeps
+sent_whole a b c text bytes false same is keeps = (length text, subst (Appends a c) (sym (take-length text)) (Appends-kept a b c text (subst (Appends a b) same is) keeps))
+
+-- a part was written
+pub sent_part : (a b : Option (List ℕ)) (text bytes : List ℕ) (fault : WriteFault) → bytes ≡ text → Appends a b (take fault.sent bytes) → IsSent false a b text
+sent_part a b text bytes fault same is = (fault.sent, subst (λ (l : List ℕ). Appends a b (take fault.sent l)) same is)
+
+-- nothing was drawn
+pub none_drawn : (a : Option (List ℕ)) (done : Bool) → AreDrawn a a done
+none_drawn a done = record { lines = []; sent = 0; whole = λ going. refl; written = Appends-nil a }
+
+-- one line was drawn
+pub one_drawn : (a b : Option (List ℕ)) (all done : Bool) (line : Option (TestCounts × ℕ)) (text : List ℕ) → text ≡ drawing_of line → (all ≡ false → done ≡ true) → IsSent all a b text → AreDrawn a b done
+one_drawn a b true done line text is ends sent = record {
+  lines = line ∷ [];
+  sent = length (drawings_of (line ∷ []));
+  whole = λ going. refl;
+  written = subst (Appends a b) (is ∙ sym (append-nil (drawing_of line)) ∙ sym (take-length (drawings_of (line ∷ [])))) sent;
+}
+one_drawn a b false done line text is ends sent = record {
+  lines = line ∷ [];
+  sent = sent.0;
+  whole = λ going. cc (ends refl, going);
+  written = subst (λ (l : List ℕ). Appends a b (take sent.0 l)) (is ∙ sym (append-nil (drawing_of line))) sent.1;
+}
+
+-- what was drawn is drawn, also where no more is drawn
+pub drawn_still : (a b : Option (List ℕ)) (was now : Bool) → (now ≡ false → was ≡ false) → AreDrawn a b was → AreDrawn a b now
+drawn_still a b was now back is = record { lines = is.lines; sent = is.sent; whole = λ going. is.whole (back going); written = is.written }
+
+-- first these, and then those
+pub drawn_behind : (a b c : Option (List ℕ)) (done : Bool) → AreDrawn a b false → AreDrawn b c done → AreDrawn a c done
+drawn_behind a b c done first then =
+    let xs = drawings_of first.lines in
+    let ys = drawings_of then.lines in
+    let joined : drawings_of (first.lines ++ then.lines) ≡ xs ++ ys = flat_map-append drawing_of first.lines then.lines in
+    let front : take first.sent xs ≡ xs = ap (λ (n : ℕ). take n xs) (first.whole refl) ∙ take-length xs in
+    record {
+      lines = first.lines ++ then.lines;
+      sent = length xs + then.sent;
+      whole = λ going. ap (λ (n : ℕ). length xs + n) (then.whole going) ∙ sym (length-append xs ys) ∙ sym (ap length joined);
+      written =
+          subst (Appends a c) (ap (λ (l : List ℕ). l ++ take then.sent ys) front ∙ sym (take-append-add xs ys then.sent) ∙ sym (ap (take (length xs + then.sent)) joined))
+          (Appends-trans a b c (take first.sent xs) (take then.sent ys) first.written then.written);
+    }
+
+true_false : {X : Type 0} (b : Bool) → b ≡ true → b ≡ false → X
+true_false b is other = cc
+
+-- one that is done stays so where no line stands there, or none is drawn any more
+pub still_done : (over drawn : Bool) → (over && not drawn) ≡ true → (over && not false) ≡ true
+still_done true drawn is = refl
+still_done false drawn is = is
+
+pub ended : (over drawn : Bool) → (over && not drawn) ≡ true → (true && not drawn) ≡ true
+ended true drawn is = is
+ended false drawn is = cc
+
+pub done_by : (over drawn over_now drawn_now : Bool) → drawn_now ≡ drawn → (over ≡ true → over_now ≡ true) → (over && not drawn) ≡ true → (over_now && not drawn_now) ≡ true
+done_by true drawn over_now drawn_now same stays is = ap₂ (λ (o d : Bool). o && not d) (stays refl) same ∙ is
+done_by false drawn over_now drawn_now same stays is = cc
+
+-- one on which a line may be drawn is not done
+pub still_going : {X : Type 0} (over drawn : Bool) → over ≡ false → (over && not drawn) ≡ true → X
+still_going true drawn going is = cc
+still_going false drawn going is = cc
+
+module _ {E C : Type 0} (contents : E → Option (List ℕ)) where
+  -- one line was handed to the terminal
+  pub shown : (old new : Progress E C) (all : Bool) (text : List ℕ) → new.terminal.ghost_name ≡ old.terminal.ghost_name → is_done old ≡ false → (all ≡ false → is_done new ≡ true) → IsSent all (contents old.terminal.now) (contents new.terminal.now) text
+      → (line : Option (TestCounts × ℕ)) → text ≡ drawing_of line → IsDrawnOn contents old new
+  shown old new all text same going ends sent line is = record {
+    same = same;
+    drawn = one_drawn (contents old.terminal.now) (contents new.terminal.now) all (is_done new) line text is ends sent;
+    done = λ done. true_false (is_done old) done going;
+    left_alone = λ done. true_false (is_done old) done going;
+  }
+
+  -- nothing was done with the terminal
+  pub left : (old new : Progress E C) → new.terminal ≡ old.terminal → (is_done old ≡ true → is_done new ≡ true) → IsDrawnOn contents old new
+  left old new same done = record {
+    same = ap (λ t. t.ghost_name) same;
+    drawn = subst (λ t. AreDrawn (contents old.terminal.now) (contents t.now) (is_done new)) (sym same) (none_drawn (contents old.terminal.now) (is_done new));
+    done = done;
+    left_alone = λ is. ap (λ t. t.now) same;
+  }
+
+  behind_by : (first old new : Progress E C) (done : Bool) → is_done old ≡ done → IsDrawnOn contents first old → IsDrawnOn contents old new → AreDrawn (contents first.terminal.now) (contents new.terminal.now) (is_done new)
+  behind_by first old new false is was now =
+      drawn_behind (contents first.terminal.now) (contents old.terminal.now) (contents new.terminal.now) (is_done new) (subst (AreDrawn (contents first.terminal.now) (contents old.terminal.now)) is was.drawn) now.drawn
+  behind_by first old new true is was now =
+      subst (λ (e : E). AreDrawn (contents first.terminal.now) (contents e) (is_done new)) (sym (now.left_alone is))
+      (drawn_still (contents first.terminal.now) (contents old.terminal.now) (is_done old) (is_done new) (λ going. true_false (is_done new) (now.done is) going) was.drawn)
+
+  -- one that was drawn on is drawn on once more
+  pub drawn_more : (first old new : Progress E C) → IsDrawnOn contents first old → IsDrawnOn contents old new → IsDrawnOn contents first new
+  drawn_more first old new was now = record {
+    same = now.same ∙ was.same;
+    drawn = behind_by first old new (is_done old) refl was now;
+    done = λ is. now.done (was.done is);
+    left_alone = λ is. now.left_alone (was.done is) ∙ was.left_alone is;
+  }
+
+  -- before anything was shown
+  pub begun : (p : PlanParts) (first : Progress E C) → HasFollowed contents p first first []
+  begun p first = record { drawn = left first first refl (λ done. done); kept = none_kept p first.failures.now }
+
+  module _ (p : PlanParts) (first old new : Progress E C) (ts : List Telling) (was : HasFollowed contents p first old ts) (drawn : IsDrawnOn contents old new) where
+    -- nothing more was shown
+    pub follows_as_much : new.failures ≡ old.failures → HasFollowed contents p first new ts
+    follows_as_much same = record { drawn = drawn_more first old new was.drawn drawn; kept = subst (λ fs. HasKept p first.failures.now fs.now ts) (sym same) was.kept }
+
+    -- one event more was
+    pub follows_more : (t : Telling) → HasSeenMore HasKept p (t ∷ []) old.failures.now new.failures.now → HasFollowed contents p first new (ts ++ t ∷ [])
+    follows_more t kept = record { drawn = drawn_more first old new was.drawn drawn; kept = kept first.failures.now ts was.kept }
+
+-- what there is of a result is as it was said to be
+pub some_if_ok : {A F : Type 0} {P Q : A → Type 0} (result : Result A F) (found : Option A) → found ≡ result_ok result → ((a : A) → P a → Q a) → IfOk result P → IfSome found Q
+some_if_ok {A} {F} {P} {Q} (Ok a) (Some b) same so is = so b (subst P (sym (same_Some b a same)) is)
+some_if_ok {A} {F} {P} {Q} (Ok a) None same so is = tt
+some_if_ok {A} {F} {P} {Q} (Err fault) (Some b) same so is = absurd (none-some b (sym same))
+some_if_ok {A} {F} {P} {Q} (Err fault) None same so is = tt

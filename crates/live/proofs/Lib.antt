@@ -1,0 +1,7 @@
+-- Why the lines so far, and the next, are what is printed.
+pub mod Lines
+pub mod Going
+pub mod Fronts
+pub mod Drawing
+pub mod Growing
+pub mod Keeping

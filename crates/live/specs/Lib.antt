@@ -1,0 +1,6 @@
+-- What is printed of a feed while its run goes on.
+pub mod LiveFeeds
+pub mod FailedTexts
+pub mod Failing
+pub mod Lines
+pub mod Terminals

@@ -1,0 +1,58 @@
+-- What a terminal holds on which the line is drawn.
+use Rattle.std.specs.Prelude.{◌≡◌, ℕ, Bool, true, false, ◌&&◌, not, List, ◌++◌, codes, length, take, Option, Some, None}
+use Rattle.std.specs.List.{flat_map}
+use Rattle.std.specs.Io.KnownBytes.{Appends}
+use Rattle.resource_locks.specs.Plans.{PlanParts}
+use Rattle.listeners.specs.Listeners.{Telling}
+use Rattle.live.specs.Failing.{HasKept}
+use Rattle.live.specs.Lines.{line_of}
+use Rattle.live.specs.declared.progress.Progress.{Progress}
+use Rattle.live.specs.declared.test_counts.TestCounts.{TestCounts}
+
+-- what a terminal takes as: go to the start of the line, and erase what stands behind
+abbrev pub erasing : List ℕ
+erasing = codes "\r\u{1b}[K"
+
+-- what is drawn at one time: the line is erased; and it is drawn anew of these tests, after so many seconds, or left empty
+abbrev pub drawing_of : Option (TestCounts × ℕ) → List ℕ
+drawing_of None = erasing
+drawing_of (Some line) = erasing ++ line_of line.0 line.1
+
+-- what is drawn in turn
+abbrev pub drawings_of : List (Option (TestCounts × ℕ)) → List ℕ
+drawings_of lines = flat_map drawing_of lines
+
+-- all of a text was handed to a terminal, or the first so many bytes
+abbrev pub IsSent : Bool → (old new : Option (List ℕ)) → List ℕ → Type 0
+IsSent true old new text = Appends old new text
+IsSent false old new text = (sent : ℕ) × Appends old new (take sent text)
+
+-- Behind what was held stand drawings, one behind the other; where nothing more is drawn perhaps the first so many bytes of them alone.
+pub record AreDrawn (old new : Option (List ℕ)) (is_done : Bool) : Type 0 where
+  pub lines : List (Option (TestCounts × ℕ))
+  pub sent : ℕ
+  pub whole : is_done ≡ false → sent ≡ length (drawings_of lines)
+  pub written : Appends old new (take sent (drawings_of lines))
+
+-- behind what was held stand drawings, one behind the other, or the first so many bytes of them
+abbrev pub IsDrawnBehind : (old new : Option (List ℕ)) → Type 0
+IsDrawnBehind old new = AreDrawn old new true
+
+module _ {E C : Type 0} where
+  -- whether nothing more is drawn, and nothing stands there that is to be erased: the plan is finished, or the terminal failed
+  abbrev pub is_done : Progress E C → Bool
+  is_done p = p.is_over && not p.is_drawn
+
+module _ {E C : Type 0} (contents : E → Option (List ℕ)) where
+  -- The terminal is still the same, and nothing was done with it but that drawings were written to it; and where nothing more was to be
+  -- drawn it was left alone.
+  pub record IsDrawnOn (first now : Progress E C) : Type 0 where
+    pub same : now.terminal.ghost_name ≡ first.terminal.ghost_name
+    pub drawn : AreDrawn (contents first.terminal.now) (contents now.terminal.now) (is_done now)
+    pub done : is_done first ≡ true → is_done now ≡ true
+    pub left_alone : is_done first ≡ true → now.terminal.now ≡ first.terminal.now
+
+  -- One that watches has been shown these events of the plan: it was drawn on its terminal, and the failures among them were kept.
+  pub record HasFollowed (p : PlanParts) (first now : Progress E C) (ts : List Telling) : Type 0 where
+    pub drawn : IsDrawnOn first now
+    pub kept : HasKept p first.failures.now now.failures.now ts

@@ -1,0 +1,220 @@
+//! A watcher that draws how far a run has come.
+
+ghost use Rattle.std.specs.Prelude.{◌≡◌, ◌∷◌, [], ℕ, true, false, IfOk, IfSome, Option, Some, string_bytes};
+ghost use Rattle.listeners.specs.Listeners.{telling};
+ghost use Rattle.worker_pool.specs.Watching.{HasSeenMore};
+ghost use Rattle.live.specs.Failing.{HasKept};
+ghost use Rattle.live.specs.Terminals.{IsDrawnOn, IsSent, drawing_of, is_done};
+ghost use Rattle.live.specs.declared.test_counts.TestCounts.{TestCounts as Counts};
+
+use crate::failures::Failures;
+use crate::test_counts::{TestCounts, progress_line};
+use listeners::{Listener, Summary, print_to};
+use plan_events::{Event, Texts};
+use resource_locks::Plan;
+use std::alloc::{AllocError, Global};
+use std::io::Write;
+use std::time::{Clock, Duration, Instant};
+use worker_pool::{Watcher, ends_plan};
+
+/// How long a line stands at least before it is drawn anew, in milliseconds.
+const SHORTEST: u64 = 100;
+
+/// What a terminal takes as: go to the start of the line, and erase what stands behind.
+const ERASING: &str = "\r\x1b[K";
+
+/// Hands this text to a terminal; tells whether all of it stands there.
+fn hand_on<E: Write>(terminal: &mut E, text: &str) -> bool
+    ensures { IsSent result (E.contents terminal.old) (E.contents terminal.new) text.now }
+{
+    match print_to(&mut *terminal, text.as_bytes()) {
+        Ok(()) => terminal.flush().is_ok(),
+        Err(_) => false,
+    }
+}
+
+/// Draws how far a run has come on a line of a terminal, at most ten times a second, and erases it
+/// when the plan is finished. The tests are counted in a summary that it was lent, and the nodes that
+/// failed are kept in a list that it was lent.
+#[derive(Drop)]
+pub struct Progress<'e, 'c, 's, 'f, E: Write, C: Clock> {
+    alloc: Global,
+    terminal: &'e mut E,
+    clock: &'c C,
+    begun: Option<Instant>,
+    drawn: Option<Instant>,
+    is_drawn: bool,
+    // whether the line is drawn no more
+    is_over: bool,
+    // whether others print lines on the terminal, so that none may stand there when they do
+    among_lines: bool,
+    summary: &'s mut Summary,
+    failures: &'f mut Failures,
+}
+
+impl<'e, 'c, 's, 'f, E: Write, C: Clock> Progress<'e, 'c, 's, 'f, E, C> {
+    /// Nothing has happened yet, and nothing is drawn. Where lines are printed on the terminal by
+    /// others, each event erases the line. It is lent an empty summary, and a list for what fails.
+    pub fn new(
+        alloc: Global,
+        terminal: &'e mut E,
+        clock: &'c C,
+        among_lines: bool,
+        summary: &'s mut Summary,
+        failures: &'f mut Failures,
+    ) -> Progress<'e, 'c, 's, 'f, E, C>
+        ensures same { result.terminal.ghost_name ≡ terminal.entry.ghost_name }
+        ensures terminal { result.terminal.now ≡ terminal.old }
+    {
+        let begun = Instant::now(clock).ok();
+        Progress {
+            alloc,
+            terminal,
+            clock,
+            begun,
+            drawn: begun,
+            is_drawn: false,
+            is_over: false,
+            among_lines,
+            summary,
+            failures,
+        }
+    }
+
+    /// Hands this to the terminal; one that fails is left alone from then on.
+    fn show(&mut self, text: &str)
+        requires going { is_done self.old ≡ false }
+        ensures drawn { (line : Option (Counts × ℕ)) → text.now ≡ drawing_of line →
+            IsDrawnOn E.contents self.old self.new }
+        ensures failures { self.new.failures ≡ self.old.failures }
+    {
+        if !hand_on(&mut *self.terminal, text) {
+            self.is_over = true;
+            self.is_drawn = false;
+        }
+    }
+
+    /// Erases the line, if it is drawn.
+    fn erase(&mut self)
+        ensures drawn { IsDrawnOn E.contents self.old self.new }
+        ensures failures { self.new.failures ≡ self.old.failures }
+    {
+        if self.is_drawn {
+            self.show(ERASING);
+            self.is_drawn = false;
+        }
+    }
+
+    /// The line as it is to be drawn.
+    fn line(&self, seconds: u64) -> Result<String, AllocError>
+        ensures { IfOk result (λ text. (tests : Counts) × (string_bytes text ≡ drawing_of (Some (tests, seconds)))) }
+    {
+        let tests = TestCounts::of(self.summary.counts());
+        let line = progress_line(self.alloc, tests, seconds)?;
+        let mut text = String::from_str(self.alloc, ERASING)?;
+        text.push_str(line.as_str())?;
+        Ok(text)
+    }
+
+    /// The line, if it is to be drawn anew: unless it was drawn a moment ago.
+    fn next_line(&mut self) -> Option<String>
+        ensures terminal { self.new.terminal ≡ self.old.terminal }
+        ensures drawn { self.new.is_drawn ≡ self.old.is_drawn }
+        ensures over { self.new.is_over ≡ self.old.is_over }
+        ensures failures { self.new.failures ≡ self.old.failures }
+        ensures line { IfSome result (λ text. (line : Counts × ℕ) × (string_bytes text ≡ drawing_of (Some line))) }
+    {
+        let (Some(begun), Some(drawn)) = (self.begun, self.drawn) else {
+            return None;
+        };
+        let Ok(now) = Instant::now(self.clock) else {
+            return None;
+        };
+        if now.duration_since(drawn) < Duration::from_millis(SHORTEST) {
+            return None;
+        }
+        self.drawn = Some(now);
+        self.line(now.duration_since(begun).as_secs()).ok()
+    }
+
+    /// Draws the line anew, unless it was drawn a moment ago.
+    fn draw(&mut self)
+        requires going { self.old.is_over ≡ false }
+        ensures drawn { IsDrawnOn E.contents self.old self.new }
+        ensures failures { self.new.failures ≡ self.old.failures }
+    {
+        if let Some(text) = self.next_line() {
+            self.is_drawn = true;
+            self.show(text.as_str());
+        }
+    }
+
+    /// Erases the line where others print lines, and draws it anew where not.
+    fn redraw(&mut self)
+        ensures drawn { IsDrawnOn E.contents self.old self.new }
+        ensures failures { self.new.failures ≡ self.old.failures }
+    {
+        if self.among_lines {
+            self.erase();
+        } else if !self.is_over {
+            self.draw();
+        }
+    }
+
+    /// Erases the line for good where the plan is finished.
+    fn close(&mut self, is_finished: bool)
+        ensures drawn { IsDrawnOn E.contents self.old self.new }
+        ensures failures { self.new.failures ≡ self.old.failures }
+    {
+        if is_finished {
+            self.erase();
+            self.is_over = true;
+        }
+    }
+
+    /// Counts an event. Where there is no memory for the counts nothing is drawn.
+    fn count(&mut self, plan: &Plan, event: Event)
+        ensures terminal { self.new.terminal ≡ self.old.terminal }
+        ensures drawn { self.new.is_drawn ≡ self.old.is_drawn }
+        ensures over { self.old.is_over ≡ true → self.new.is_over ≡ true }
+        ensures failures { self.new.failures ≡ self.old.failures }
+    {
+        if self.summary.got().is_empty() && self.summary.prepare(plan).is_err() {
+            self.is_over = true;
+        }
+        if self.summary.room() > 0 {
+            self.summary.told(event, None);
+        }
+    }
+
+    /// Takes note of a node that failed.
+    fn note(&mut self, plan: &Plan, texts: &Texts, event: Event)
+        ensures terminal { self.new.terminal ≡ self.old.terminal }
+        ensures drawn { self.new.is_drawn ≡ self.old.is_drawn }
+        ensures over { self.new.is_over ≡ self.old.is_over }
+        ensures kept { HasSeenMore HasKept plan.now (telling texts.now event ∷ []) self.old.failures.now
+            self.new.failures.now }
+    {
+        self.failures.watch(plan, texts, event);
+    }
+}
+
+impl<'e, 'c, 's, 'f, E: Write, C: Clock> Watcher for Progress<'e, 'c, 's, 'f, E, C> {
+    ghost use Rattle.live.specs.Terminals.{HasFollowed};
+
+    ghost saw = { HasFollowed E.contents };
+
+    fn watch(&mut self, plan: &Plan, texts: &Texts, event: Event) {
+        let event = &event;
+        self.count(plan, *event);
+        self.note(plan, texts, *event);
+        self.redraw();
+        self.close(ends_plan(*event));
+    }
+
+    fn idle(&mut self) {
+        if !self.is_over {
+            self.draw();
+        }
+    }
+}

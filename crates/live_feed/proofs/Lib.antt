@@ -1,4 +1,0 @@
--- Why the lines so far, and the next, are what is printed.
-pub mod Lines
-pub mod Going
-pub mod Fronts

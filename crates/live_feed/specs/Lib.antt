@@ -1,2 +1,0 @@
--- What is printed of a feed while its run goes on.
-pub mod LiveFeeds

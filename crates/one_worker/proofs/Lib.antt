@@ -1,3 +1,0 @@
--- The lemmas of this crate.
-pub mod Choosing
-pub mod Progress

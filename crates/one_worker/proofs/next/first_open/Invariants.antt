@@ -1,6 +1,0 @@
--- No node so far is open.
-use Rattle.one_worker.specs.Statuses.{NoneOpenIn}
-use Rattle.one_worker.proofs.next.first_open.Given as goal
-
-abbrev pub invariant-loop-index : goal.invariant-loop-index
-invariant-loop-index l = NoneOpenIn l.statuses l.index

@@ -1,8 +1,0 @@
--- The lines of the nodes so far.
-use Rattle.std.proofs.Common.{◌≡◌, ◌++◌, take, string_bytes}
-use Rattle.std.specs.List.{flat_map}
-use Rattle.progress.specs.FailedTexts.{failure_lines}
-use Rattle.progress.proofs.failed_lines.push_failures.Given as goal
-
-abbrev pub invariant-loop-failure : goal.invariant-loop-failure
-invariant-loop-failure l = string_bytes l.text ≡ string_bytes l.fn.text ++ flat_map failure_lines (take l.failure-index l.failures)
