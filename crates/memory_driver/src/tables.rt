@@ -62,8 +62,8 @@ fn push_closed(said: &mut Said, made: Prepared) -> Plan
     requires { IfOk made (λ t. IsSeatOf t.0.table t.1.seat) }
 {
     match made {
-        Ok((table, desk)) => {
-            let Closed { plan, jobs, notes } = table.close(desk);
+        Ok((table, dispatcher_seat)) => {
+            let Closed { plan, jobs, notes } = table.close(dispatcher_seat);
             drop(notes);
             push_handed(said, &plan, jobs);
             plan

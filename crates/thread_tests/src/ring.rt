@@ -19,10 +19,10 @@ const ENGINE: &str = "engine e\n";
 fn room_is_made(
     table: &RunTable<Actor>,
     worker: &mut WorkerSeat<Actor>,
-    desk: &mut DispatcherSeat<Actor>,
+    dispatcher_seat: &mut DispatcherSeat<Actor>,
 ) -> bool
     requires worker { IsSeatOf table.now.table worker.old.seat }
-    requires desk { IsSeatOf table.now.table desk.old.seat }
+    requires dispatcher_seat { IsSeatOf table.now.table dispatcher_seat.old.seat }
 {
     let came = worker.claim(table, NodeId::ROOT).is_ok()
         && worker.draw(table).is_ok()
@@ -30,23 +30,23 @@ fn room_is_made(
         && comes_to_the_engine(table, worker);
     let full = worker.room(table) == Ok(false);
     let early = worker.show(table).is_err();
-    let first = is_start(desk.read(table), 0);
+    let first = is_start(dispatcher_seat.read(table), 0);
     let untold = worker.room(table) == Ok(false);
-    let again = desk.read(table).is_none();
-    desk.advance(table);
+    let again = dispatcher_seat.read(table).is_none();
+    dispatcher_seat.advance(table);
     let free = worker.room(table) == Ok(true);
     let shown = worker.show(table).is_ok();
-    let second = is_start(desk.read(table), 1);
-    let last = desk.read(table).is_none();
+    let second = is_start(dispatcher_seat.read(table), 1);
+    let last = dispatcher_seat.read(table).is_none();
     came && full && early && first && untold && again && free && shown && second && last
 }
 
 /// Whether it is so at this table, which nobody has used.
-fn room_is_made_at(table: &RunTable<Actor>, desk: &mut DispatcherSeat<Actor>) -> bool
-    requires { IsSeatOf table.now.table desk.old.seat }
+fn room_is_made_at(table: &RunTable<Actor>, dispatcher_seat: &mut DispatcherSeat<Actor>) -> bool
+    requires { IsSeatOf table.now.table dispatcher_seat.old.seat }
 {
-    match desk.split(table) {
-        Some(mut worker) => room_is_made(table, &mut worker, desk),
+    match dispatcher_seat.split(table) {
+        Some(mut worker) => room_is_made(table, &mut worker, dispatcher_seat),
         None => false,
     }
 }
@@ -56,7 +56,7 @@ fn room_is_made_in_one_word(alloc: Global) -> Option<bool> {
     let (plan, scripts) = staged(alloc, ENGINE)?;
     drop(scripts);
     match RunTable::<Actor>::prepare(alloc, plan, Vec::new(alloc), 1, 1) {
-        Ok((table, mut desk)) => Some(room_is_made_at(&table, &mut desk)),
+        Ok((table, mut dispatcher_seat)) => Some(room_is_made_at(&table, &mut dispatcher_seat)),
         Err(_) => None,
     }
 }

@@ -24,7 +24,7 @@ use std::alloc::{AllocError, Global};
 use std::sync::{Arc, Wait};
 use suite_text::Script;
 use test_jobs::{Act, Actor, Board, cast};
-use worker_pool::{Beds, Sources, dispatch_one, work};
+use worker_pool::{Parkers, Sources, dispatch_one, work};
 
 /// One test.
 pub(crate) const ONE: &str = "engine e
@@ -81,25 +81,25 @@ pub(crate) fn comes_to_the_engine(table: &RunTable<Actor>, worker: &mut WorkerSe
 fn starts_are_told_when_shown(
     table: &RunTable<Actor>,
     worker: &mut WorkerSeat<Actor>,
-    desk: &mut DispatcherSeat<Actor>,
+    dispatcher_seat: &mut DispatcherSeat<Actor>,
     audience: &mut Audience,
     texts: &mut Texts,
 ) -> bool
     requires worker { IsSeatOf table.now.table worker.old.seat }
-    requires desk { IsSeatOf table.now.table desk.old.seat }
-    requires told { All (λ l. got (l.vtable, l.value) ≡ (dispatcher desk.old.seat.me.0).read)
+    requires dispatcher_seat { IsSeatOf table.now.table dispatcher_seat.old.seat }
+    requires told { All (λ l. got (l.vtable, l.value) ≡ (dispatcher dispatcher_seat.old.seat.me.0).read)
         audience.old.listeners.items }
-    requires room { All (λ l. left_to_read desk.old.seat.me.0 ≤ room (l.vtable, l.value)) audience.old.listeners.items }
-    requires texts { KeepsTexts replies_left desk.old.seat.me.0 texts.old }
+    requires room { All (λ l. left_to_read dispatcher_seat.old.seat.me.0 ≤ room (l.vtable, l.value)) audience.old.listeners.items }
+    requires texts { KeepsTexts replies_left dispatcher_seat.old.seat.me.0 texts.old }
 {
     let is_drawn = worker.claim(table, NodeId::ROOT).is_ok() && worker.draw(table).is_ok();
-    let early = dispatch_one(table, desk, audience, texts);
+    let early = dispatch_one(table, dispatcher_seat, audience, texts);
     let is_shown = worker.show(table).is_ok() && comes_to_the_engine(table, worker);
     let is_full = worker.room(table) == Ok(false);
-    let start = dispatch_one(table, desk, audience, texts);
-    let late = dispatch_one(table, desk, audience, texts);
+    let start = dispatch_one(table, dispatcher_seat, audience, texts);
+    let late = dispatch_one(table, dispatcher_seat, audience, texts);
     let is_free = worker.room(table) == Ok(true) && worker.show(table).is_ok();
-    let next = dispatch_one(table, desk, audience, texts);
+    let next = dispatch_one(table, dispatcher_seat, audience, texts);
     is_drawn
         && early.is_none()
         && is_shown
@@ -113,20 +113,20 @@ fn starts_are_told_when_shown(
 /// Calls the dispatcher so often, and says whether the last call told an event.
 fn tells_at_last(
     table: &RunTable<Actor>,
-    desk: &mut DispatcherSeat<Actor>,
+    dispatcher_seat: &mut DispatcherSeat<Actor>,
     audience: &mut Audience,
     texts: &mut Texts,
     calls: usize,
 ) -> bool
-    requires desk { IsSeatOf table.now.table desk.old.seat }
-    requires told { All (λ l. got (l.vtable, l.value) ≡ (dispatcher desk.old.seat.me.0).read)
+    requires dispatcher_seat { IsSeatOf table.now.table dispatcher_seat.old.seat }
+    requires told { All (λ l. got (l.vtable, l.value) ≡ (dispatcher dispatcher_seat.old.seat.me.0).read)
         audience.old.listeners.items }
-    requires room { All (λ l. left_to_read desk.old.seat.me.0 ≤ room (l.vtable, l.value)) audience.old.listeners.items }
-    requires texts { KeepsTexts replies_left desk.old.seat.me.0 texts.old }
+    requires room { All (λ l. left_to_read dispatcher_seat.old.seat.me.0 ≤ room (l.vtable, l.value)) audience.old.listeners.items }
+    requires texts { KeepsTexts replies_left dispatcher_seat.old.seat.me.0 texts.old }
 {
     let mut is_told = false;
     for _call in 0..calls {
-        is_told = dispatch_one(table, desk, audience, texts).is_some();
+        is_told = dispatch_one(table, dispatcher_seat, audience, texts).is_some();
     }
     is_told
 }
@@ -151,8 +151,8 @@ fn is_worked<R: Wait>(
     requires free { worker.old.task ≡ Free }
     requires empty { worker.old.hand ≡ None }
 {
-    let beds = Arc::new(alloc, Beds::new(alloc, 1).ok()?).ok()?;
-    let mut sources = Sources::new(alloc, &beds, 0).ok()?;
+    let parkers = Arc::new(alloc, Parkers::new(alloc, 1).ok()?).ok()?;
+    let mut sources = Sources::new(alloc, &parkers, 0).ok()?;
     work(rt, table, worker, &mut sources);
     Some(())
 }
@@ -163,7 +163,7 @@ fn is_told_at<R: Wait>(
     alloc: Global,
     table: &RunTable<Actor>,
     worker: &mut WorkerSeat<Actor>,
-    desk: &mut DispatcherSeat<Actor>,
+    dispatcher_seat: &mut DispatcherSeat<Actor>,
     audience: &mut Audience,
     texts: &mut Texts,
     course: Course,
@@ -172,17 +172,23 @@ fn is_told_at<R: Wait>(
     requires worker { IsSeatOf table.now.table worker.old.seat }
     requires free { worker.old.task ≡ Free }
     requires empty { worker.old.hand ≡ None }
-    requires desk { IsSeatOf table.now.table desk.old.seat }
-    requires told { All (λ l. got (l.vtable, l.value) ≡ (dispatcher desk.old.seat.me.0).read)
+    requires dispatcher_seat { IsSeatOf table.now.table dispatcher_seat.old.seat }
+    requires told { All (λ l. got (l.vtable, l.value) ≡ (dispatcher dispatcher_seat.old.seat.me.0).read)
         audience.old.listeners.items }
-    requires room { All (λ l. left_to_read desk.old.seat.me.0 ≤ room (l.vtable, l.value)) audience.old.listeners.items }
-    requires texts { KeepsTexts replies_left desk.old.seat.me.0 texts.old }
+    requires room { All (λ l. left_to_read dispatcher_seat.old.seat.me.0 ≤ room (l.vtable, l.value)) audience.old.listeners.items }
+    requires texts { KeepsTexts replies_left dispatcher_seat.old.seat.me.0 texts.old }
 {
     match course {
-        Course::Begins => starts_are_told_when_shown(table, worker, desk, audience, texts),
+        Course::Begins => starts_are_told_when_shown(
+            table,
+            worker,
+            dispatcher_seat,
+            audience,
+            texts,
+        ),
         Course::Works(calls) => {
             let is_worked = is_worked(rt, alloc, table, worker).is_some();
-            let is_told = tells_at_last(table, desk, audience, texts, calls);
+            let is_told = tells_at_last(table, dispatcher_seat, audience, texts, calls);
             is_worked && has_first(alloc, audience, calls, is_told)
         }
     }
@@ -213,10 +219,10 @@ fn is_told_of<R: Wait>(
     }
     audience.prepare(&plan)?;
     let mut texts = texts_at_first(alloc, &plan)?;
-    let Ok((table, mut desk)) = RunTable::prepare(alloc, plan, jobs, 1, ring) else {
+    let Ok((table, mut dispatcher_seat)) = RunTable::prepare(alloc, plan, jobs, 1, ring) else {
         return Ok(false);
     };
-    let Some(mut worker) = desk.split(&table) else {
+    let Some(mut worker) = dispatcher_seat.split(&table) else {
         return Ok(false);
     };
     Ok(is_told_at(
@@ -224,7 +230,7 @@ fn is_told_of<R: Wait>(
         alloc,
         &table,
         &mut worker,
-        &mut desk,
+        &mut dispatcher_seat,
         audience,
         &mut texts,
         course,

@@ -14,10 +14,10 @@ pub fn first_event<B: Job>(alloc: Global, plan: Plan, jobs: Jobs<B>) -> Option<E
     ensures lawful { IfSome result (λ event. is_lawful event ≡ true) }
 {
     // refused are 0, 60, 61, 70 and 71; plan and jobs stand in the error
-    let Ok((table, mut desk)) = RunTable::prepare(alloc, plan, jobs, 1, 1024) else {
+    let Ok((table, mut dispatcher_seat)) = RunTable::prepare(alloc, plan, jobs, 1, 1024) else {
         return None;
     };
-    let mut worker = desk.split(&table)?;
+    let mut worker = dispatcher_seat.split(&table)?;
     // node 0 is offered to any at the start
     let _ = worker.claim(&table, NodeId::ROOT);
     // of a plan that fails fast; it is refused (62) of another
@@ -25,7 +25,7 @@ pub fn first_event<B: Job>(alloc: Global, plan: Plan, jobs: Jobs<B>) -> Option<E
     let _ = worker.draw(&table);
     // the first 1,024 events have room
     let _ = worker.show(&table);
-    let start = desk.read(&table);
-    desk.advance(&table);
+    let start = dispatcher_seat.read(&table);
+    dispatcher_seat.advance(&table);
     start
 }

@@ -1,4 +1,4 @@
--- A desk at which seats were dealt is as ready as before, and of a run from there on the same is known as from before.
+-- A dispatcher's state whose seat dealt others is as ready as before, and of a run from there on the same is known as from before.
 use Rattle.std.proofs.Common.{◌≡◌, ◌∙◌, ◌≤◌, ◌-◌, ℕ, List, length, Result, IfOk, IfErr, Ok, Err, refl, sym, ap, subst, vec_capacity}
 use Rattle.std.proofs.lemmas.Result.{IfOk-weaker}
 use Rattle.std.specs.List.{All}
@@ -14,20 +14,20 @@ use Rattle.worker_pool.specs.Hearings.{HaveHeardSince}
 use Rattle.worker_pool.specs.Runs.{IsReady, HasRun}
 use Rattle.worker_pool.specs.Telling.{IsNoted, KeepsTexts, left_to_read}
 use Rattle.worker_pool.specs.Watching.{HasSeenSince}
-use Rattle.worker_pool.specs.declared.running.Desk.{Desk}
+use Rattle.worker_pool.specs.declared.running.DispatcherState.{DispatcherState}
 use Rattle.worker_pool.proofs.Reported.{carried}
 use Rattle.worker_pool.proofs.TextsRead.{read_alike}
 
--- what was read stays, and the desk's texts and its list
-pub record IsDealt {B : Type 0} (before dealt : Desk B) : Type 0 where
+-- what was read stays, and the dispatcher's texts and its list
+pub record IsDealt {B : Type 0} (before dealt : DispatcherState B) : Type 0 where
   pub same : IsOf before.seat.seat dealt.seat.seat
   pub read : (dispatcher dealt.seat.seat.me.0).read ≡ (dispatcher before.seat.seat.me.0).read
   pub texts : dealt.texts ≡ before.texts
   pub events : dealt.events ≡ before.events
 
--- the desk whose seat dealt others
-module _ {B : Type 0} (before : Desk B) (seat : DispatcherSeat B) where
-  abbrev pub at_seat : Desk B
+-- the state whose seat dealt others
+module _ {B : Type 0} (before : DispatcherState B) (seat : DispatcherSeat B) where
+  abbrev pub at_seat : DispatcherState B
   at_seat = record { seat = seat; texts = before.texts; events = before.events }
 
   pub is_dealt : IsOf before.seat.seat seat.seat → (dispatcher seat.seat.me.0).read ≡ (dispatcher before.seat.seat.me.0).read → IsDealt before at_seat
@@ -57,7 +57,7 @@ module _ {B : Type 0} (old new : View B) (about : new.about ≡ old.about) (read
     enough = carried about (λ a. most_events a.plan ≤ wide) noted.enough;
   }
 
-module _ {B L : Type 0} (answers : B → List Reply) (got : L → List Event) (before dealt : Desk B) (is : IsDealt before dealt) where
+module _ {B L : Type 0} (answers : B → List Reply) (got : L → List Event) (before dealt : DispatcherState B) (is : IsDealt before dealt) where
   pub ready_dealt : (room_of : L → ℕ) (listeners : List L) → IsReady answers got room_of before listeners → IsReady answers got room_of dealt listeners
   ready_dealt room_of listeners ready =
       let old = before.seat.seat.me.0 in
@@ -69,7 +69,7 @@ module _ {B L : Type 0} (answers : B → List Reply) (got : L → List Event) (b
         noted = carried is.events (λ e. IsNoted new e.items (vec_capacity e)) (noted_alike old new is.same.about is.read before.events.items (vec_capacity before.events) ready.noted);
       }
 
-  pub run_dealt : {W : Type 0} (heard_by : L → List Telling → Type 0) (saw : PlanParts → W → W → List Telling → Type 0) (after : Desk B) (first next : List L) (was now : W) → HasRun answers got heard_by saw dealt after first next was now → HasRun answers got heard_by saw before after first next was now
+  pub run_dealt : {W : Type 0} (heard_by : L → List Telling → Type 0) (saw : PlanParts → W → W → List Telling → Type 0) (after : DispatcherState B) (first next : List L) (was now : W) → HasRun answers got heard_by saw dealt after first next was now → HasRun answers got heard_by saw before after first next was now
   run_dealt heard_by saw after first next was now run =
       let last = (dispatcher after.seat.seat.me.0).read in
       record {
@@ -84,7 +84,7 @@ module _ {B L : Type 0} (answers : B → List Reply) (got : L → List Event) (b
         over = run.over;
       }
 
-  pub ran_dealt : {X E W : Type 0} (ran : Result X E) (heard_by : L → List Telling → Type 0) (saw : PlanParts → W → W → List Telling → Type 0) (after : Desk B) (first next : List L) (was now : W) → IfOk ran (λ _. HasRun answers got heard_by saw dealt after first next was now) → IfOk ran (λ _. HasRun answers got heard_by saw before after first next was now)
+  pub ran_dealt : {X E W : Type 0} (ran : Result X E) (heard_by : L → List Telling → Type 0) (saw : PlanParts → W → W → List Telling → Type 0) (after : DispatcherState B) (first next : List L) (was now : W) → IfOk ran (λ _. HasRun answers got heard_by saw dealt after first next was now) → IfOk ran (λ _. HasRun answers got heard_by saw before after first next was now)
   ran_dealt ran heard_by saw after first next was now run =
       IfOk-weaker ran (λ _. HasRun answers got heard_by saw dealt after first next was now) (λ _. HasRun answers got heard_by saw before after first next was now)
       (λ _. run_dealt heard_by saw after first next was now) run

@@ -1,4 +1,4 @@
--- A run at its desk: when it may begin, and what is known once it is over.
+-- A run as its dispatcher sees it: when it may begin, and what is known once it is over.
 use Rattle.std.specs.Prelude.{◌≡◌, ◌≤◌, ℕ, List, length, vec_capacity}
 use Rattle.std.specs.List.{All}
 use Rattle.plan_events.specs.declared.event.Event.{Event}
@@ -10,19 +10,19 @@ use Rattle.run_table.specs.Seats.{IsOf}
 use Rattle.worker_pool.specs.Hearings.{HaveHeardSince}
 use Rattle.worker_pool.specs.Telling.{IsNoted, IsOver, KeepsTexts, left_to_read}
 use Rattle.worker_pool.specs.Watching.{HasSeenSince}
-use Rattle.worker_pool.specs.declared.running.Desk.{Desk}
+use Rattle.worker_pool.specs.declared.running.DispatcherState.{DispatcherState}
 
 module _ {B L : Type 0} (answers : B → List Reply) (got : L → List Event) where
-  -- each listener got what was read, and has room for what is left; what was read is in the desk's list, and its texts are kept
-  pub record IsReady (room_of : L → ℕ) (desk : Desk B) (listeners : List L) : Type 0 where
-    pub told : All (λ l. got l ≡ (dispatcher desk.seat.seat.me.0).read) listeners
-    pub room : All (λ l. left_to_read desk.seat.seat.me.0 ≤ room_of l) listeners
-    pub texts : KeepsTexts answers desk.seat.seat.me.0 desk.texts
-    pub noted : IsNoted desk.seat.seat.me.0 desk.events.items (vec_capacity desk.events)
+  -- each listener got what was read, and has room for what is left; what was read is in the dispatcher's list, and its texts are kept
+  pub record IsReady (room_of : L → ℕ) (state : DispatcherState B) (listeners : List L) : Type 0 where
+    pub told : All (λ l. got l ≡ (dispatcher state.seat.seat.me.0).read) listeners
+    pub room : All (λ l. left_to_read state.seat.seat.me.0 ≤ room_of l) listeners
+    pub texts : KeepsTexts answers state.seat.seat.me.0 state.texts
+    pub noted : IsNoted state.seat.seat.me.0 state.events.items (vec_capacity state.events)
 
-  -- The plan's finish was read at the desk, and all that was read is in its list, with its texts. Each listener got it and has heard
+  -- The plan's finish was read, and all that was read is in its list, with its texts. Each listener got it and has heard
   -- what was read since, and the watcher has seen that.
-  pub record HasRun {W : Type 0} (heard_by : L → List Telling → Type 0) (saw : PlanParts → W → W → List Telling → Type 0) (before after : Desk B) (first next : List L) (was now : W) : Type 0 where
+  pub record HasRun {W : Type 0} (heard_by : L → List Telling → Type 0) (saw : PlanParts → W → W → List Telling → Type 0) (before after : DispatcherState B) (first next : List L) (was now : W) : Type 0 where
     pub same : IsOf before.seat.seat after.seat.seat
     pub noted : after.events.items ≡ (dispatcher after.seat.seat.me.0).read
     pub listeners : length next ≡ length first

@@ -7,7 +7,7 @@ ghost use Rattle.table_rule.specs.Plays.{dispatcher};
 ghost use Rattle.run_table.specs.Seats.{IsSeatOf, IsOf};
 ghost use Rattle.worker_pool.specs.Premises.{MayAnswer};
 
-use crate::gate::{Gate, Hall, Idle, Room, Worked};
+use crate::gate::{FinishedSeat, FreeSeat, Gate, SharedTable, TableBrand};
 use crate::idle::FEW;
 use crate::serving::serve;
 use plan_events::Job;
@@ -33,20 +33,20 @@ fn first_of<R: Threads>(rt: &R, workers: usize) -> usize
 
 /// Deals the thread that waits at this gate a seat, and opens the gate; or opens it for none, where
 /// there are no more seats.
-fn deal_seat<B: Job, M: Room<B>, R: Wait>(
+fn deal_seat<B: Job, M: TableBrand<B>, R: Wait>(
     rt: &R,
-    hall: &Hall<B, M>,
+    shared: &SharedTable<B, M>,
     gate: &Gate<B, M>,
     seat: &mut DispatcherSeat<B>,
 )
-    requires { IsSeatOf hall.now.table.table seat.old.seat }
+    requires { IsSeatOf shared.now.table.table seat.old.seat }
     ensures same { IsOf seat.old.seat seat.new.seat }
     ensures read { (dispatcher seat.new.seat.me.0).read ≡ (dispatcher seat.old.seat.me.0).read }
     ensures deals { (dispatcher seat.old.seat.me.0).dealt < seat.old.seat.me.0.about.workers
         → (dispatcher seat.new.seat.me.0).dealt ≡ (dispatcher seat.old.seat.me.0).dealt + 1 }
 {
-    let idle = match seat.split(&hall.table) {
-        Some(dealt) => Some(Idle::new(dealt)),
+    let idle = match seat.split(&shared.table) {
+        Some(dealt) => Some(FreeSeat::new(dealt)),
         None => None,
     };
     gate.open(rt, idle);
@@ -57,19 +57,19 @@ fn deal_seat<B: Job, M: Room<B>, R: Wait>(
 /// whenever the dispatcher has nothing to read while all of them are busy. A thread that could not be
 /// started is tried again when one more is wanted.
 #[derive(Drop)]
-pub struct Pool<'s, E, B: Job, M: Room<B>, R> {
+pub struct Pool<'s, E, B: Job, M: TableBrand<B>, R> {
     rt: &'s R,
     scope: &'s Scope<'s, E>,
-    hall: &'s Hall<B, M>,
+    shared: &'s SharedTable<B, M>,
     // one for each worker
     gates: &'s [Gate<B, M>],
     /// Those that were started, in order.
-    pub started: Vec<JoinHandle<Option<Worked<B, M>>>>,
-    ghost jobs: { MayAnswer B.answers (about_of hall.now.table.table.shared.key) },
+    pub started: Vec<JoinHandle<Option<FinishedSeat<B, M>>>>,
+    ghost jobs: { MayAnswer B.answers (about_of shared.now.table.table.shared.key) },
     ghost enough: { length gates.now ≤ vec_capacity started },
 }
 
-impl<'s, E, B: Job + Send, M: Room<B> + Send + Sync, R: Threads + Wait + Sync> Pool<
+impl<'s, E, B: Job + Send, M: TableBrand<B> + Send + Sync, R: Threads + Wait + Sync> Pool<
     's,
     E,
     B,
@@ -81,17 +81,17 @@ impl<'s, E, B: Job + Send, M: Room<B> + Send + Sync, R: Threads + Wait + Sync> P
         rt: &'s R,
         alloc: Global,
         scope: &'s Scope<'s, E>,
-        hall: &'s Hall<B, M>,
+        shared: &'s SharedTable<B, M>,
         gates: &'s [Gate<B, M>],
     ) -> Result<Pool<'s, E, B, M, R>, AllocError>
-        requires { MayAnswer B.answers (about_of hall.now.table.table.shared.key) }
+        requires { MayAnswer B.answers (about_of shared.now.table.table.shared.key) }
         ensures none { IfOk result (λ p. vec_len p.started ≡ 0) }
     {
         let started = Vec::with_capacity(alloc, gates.len())?;
         Ok(Pool {
             rt,
             scope,
-            hall,
+            shared,
             gates,
             started,
         })
@@ -99,8 +99,8 @@ impl<'s, E, B: Job + Send, M: Room<B> + Send + Sync, R: Threads + Wait + Sync> P
 
     /// Starts the thread of the next gate, if there is one, deals it a seat at once, and says whether
     /// it did. Where the thread could not be started its gate is the next one still.
-    pub fn start_next(&mut self, hall: &Hall<B, M>, seat: &mut DispatcherSeat<B>) -> bool
-        requires { IsSeatOf hall.now.table.table seat.old.seat }
+    pub fn start_next(&mut self, shared: &SharedTable<B, M>, seat: &mut DispatcherSeat<B>) -> bool
+        requires { IsSeatOf shared.now.table.table seat.old.seat }
         ensures same { IsOf seat.old.seat seat.new.seat }
         ensures read { (dispatcher seat.new.seat.me.0).read ≡ (dispatcher seat.old.seat.me.0).read }
         ensures more { vec_len self.old.started ≤ vec_len self.new.started }
@@ -115,9 +115,9 @@ impl<'s, E, B: Job + Send, M: Room<B> + Send + Sync, R: Threads + Wait + Sync> P
             return false;
         };
         let rt = self.rt;
-        let its = self.hall;
+        let its = self.shared;
         let Ok(handle) = self.scope.spawn(
-            move || -> Option<Worked<B, M>>
+            move || -> Option<FinishedSeat<B, M>>
                 requires { MayAnswer B.answers (about_of its.now.table.table.shared.key) }
             { serve(rt, its, gate) },
         )
@@ -125,14 +125,14 @@ impl<'s, E, B: Job + Send, M: Room<B> + Send + Sync, R: Threads + Wait + Sync> P
             return false;
         };
         self.started.push_reserved(handle);
-        deal_seat(rt, hall, gate, seat);
+        deal_seat(rt, shared, gate, seat);
         true
     }
 
     /// Starts the threads that are to be there from the beginning, and says how often that failed.
     /// It tries as often as there are gates at most; so often, where none could be started.
-    pub fn start_first(&mut self, hall: &Hall<B, M>, seat: &mut DispatcherSeat<B>) -> usize
-        requires { IsSeatOf hall.now.table.table seat.old.seat }
+    pub fn start_first(&mut self, shared: &SharedTable<B, M>, seat: &mut DispatcherSeat<B>) -> usize
+        requires { IsSeatOf shared.now.table.table seat.old.seat }
         ensures same { IsOf seat.old.seat seat.new.seat }
         ensures read { (dispatcher seat.new.seat.me.0).read ≡ (dispatcher seat.old.seat.me.0).read }
         ensures none { vec_len self.new.started ≡ 0 → seat.new ≡ seat.old }
@@ -145,7 +145,7 @@ impl<'s, E, B: Job + Send, M: Room<B> + Send + Sync, R: Threads + Wait + Sync> P
             if self.started.len() >= wanted {
                 return failed;
             }
-            if !self.start_next(hall, seat) {
+            if !self.start_next(shared, seat) {
                 failed += 1;
             }
         }
@@ -160,13 +160,13 @@ impl<'s, E, B: Job + Send, M: Room<B> + Send + Sync, R: Threads + Wait + Sync> P
     }
 
     /// The threads that were started.
-    pub fn into_started(self) -> Vec<JoinHandle<Option<Worked<B, M>>>>
+    pub fn into_started(self) -> Vec<JoinHandle<Option<FinishedSeat<B, M>>>>
         ensures { result ≡ self.entry.started }
     {
         let Pool {
             rt: _,
             scope: _,
-            hall: _,
+            shared: _,
             gates: _,
             started,
         } = self;

@@ -9,8 +9,8 @@ use Rattle.thread_tests.proofs.stepping.tells_at_last.Given as goal
 
 abbrev pub invariant-loop-call : goal.invariant-loop-call
 invariant-loop-call g l = record {
-  seat : IsSeatOf l.table.table l.desk.seat;
-  told : All (λ b. (goal.Listener-dyn g (b.vtable, b.value)).got b.value ≡ (dispatcher l.desk.seat.me.0).read) l.audience.listeners.items;
-  room : All (λ b. left_to_read l.desk.seat.me.0 ≤ (goal.Listener-dyn g (b.vtable, b.value)).room b.value) l.audience.listeners.items;
-  texts : KeepsTexts replies_left l.desk.seat.me.0 l.texts;
+  seat : IsSeatOf l.table.table l.dispatcher_seat.seat;
+  told : All (λ b. (goal.Listener-dyn g (b.vtable, b.value)).got b.value ≡ (dispatcher l.dispatcher_seat.seat.me.0).read) l.audience.listeners.items;
+  room : All (λ b. left_to_read l.dispatcher_seat.seat.me.0 ≤ (goal.Listener-dyn g (b.vtable, b.value)).room b.value) l.audience.listeners.items;
+  texts : KeepsTexts replies_left l.dispatcher_seat.seat.me.0 l.texts;
 }

@@ -27,20 +27,20 @@ pub returns-clause-report : goal.returns-clause-report
 returns-clause-report g c =
     let q = c.requires in
     let after = c.args.after in
-    let desk = dispatcher after.seat.seat.me.0 in
+    let state = dispatcher after.seat.seat.me.0 in
     let key = about_of c.args.table.table.shared.key in
     let replies = replies_of g.B.Job.answers key in
     let jobs = c.close-plan.result.jobs.items in
     let events = after.events.items in
-    let is = reported key replies desk jobs events q.noted q.over c.close-plan.ensures.ends in
+    let is = reported key replies state jobs events q.noted q.over c.close-plan.ensures.ends in
     record {
       plan = c.close-plan.ensures.plan;
       right = is;
       apart = kept_apart key replies events q.tree is;
-      replied = ended_so key replies desk jobs events q.noted q.over q.tree c.close-plan.ensures.ends;
+      replied = ended_so key replies state jobs events q.noted q.over q.tree c.close-plan.ensures.ends;
       mine = search rules;
-      texts = texts_reported key.plan replies key.workers desk.read events after.texts q.noted is.legal
-          (carried (sym q.seat.about) (λ a. AreTextsRead a.plan (replies_of g.B.Job.answers a) desk.read after.texts) q.texts);
-      left = record { desk = desk; read = sym q.noted; ended = c.close-plan.ensures.ends };
-      balanced = balance_reported key.plan key.jobs jobs desk.read events q.noted q.over c.close-plan.ensures.balanced;
+      texts = texts_reported key.plan replies key.workers state.read events after.texts q.noted is.legal
+          (carried (sym q.seat.about) (λ a. AreTextsRead a.plan (replies_of g.B.Job.answers a) state.read after.texts) q.texts);
+      left = record { state = state; read = sym q.noted; ended = c.close-plan.ensures.ends };
+      balanced = balance_reported key.plan key.jobs jobs state.read events q.noted q.over c.close-plan.ensures.balanced;
     }

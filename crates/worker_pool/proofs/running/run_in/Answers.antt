@@ -8,8 +8,8 @@ all_carried {A} {B} {C} same_a same_b same_c P p = subst (λ (z : A × B × C). 
 
 pub returns-in-Ok-clause-run : goal.returns-in-Ok-clause-run
 returns-in-Ok-clause-run g c =
-    let scene = c.run_scoped-ran.result in
+    let lent = c.run_scoped-ran.result in
     let first = c.args.audience.now.listeners.items in
-    let there = subst (λ r. IfOk r (λ _. HasRun g.B.Job.answers (λ l. (goal.Listener-dyn g (l.vtable, l.value)).got l.value) (λ l ts. (goal.Listener-dyn g (l.vtable, l.value)).heard l.value ts) g.V.Watcher.saw c.args.desk scene.desk.now first scene.audience.now.listeners.items c.args.watcher.now scene.watcher.now)) c.in-Ok.is c.run_scoped-ran.ensures.run in
-    all_carried {a = scene.desk.now} {b = scene.audience.now.listeners.items} {c = scene.watcher.now} (search rules) (search rules) (search rules)
-    (λ d a w. HasRun g.B.Job.answers (λ l. (goal.Listener-dyn g (l.vtable, l.value)).got l.value) (λ l ts. (goal.Listener-dyn g (l.vtable, l.value)).heard l.value ts) g.V.Watcher.saw c.args.desk d first a c.args.watcher.now w) there
+    let there = subst (λ r. IfOk r (λ _. HasRun g.B.Job.answers (λ l. (goal.Listener-dyn g (l.vtable, l.value)).got l.value) (λ l ts. (goal.Listener-dyn g (l.vtable, l.value)).heard l.value ts) g.V.Watcher.saw c.args.state lent.state.now first lent.audience.now.listeners.items c.args.watcher.now lent.watcher.now)) c.in-Ok.is c.run_scoped-ran.ensures.run in
+    all_carried {a = lent.state.now} {b = lent.audience.now.listeners.items} {c = lent.watcher.now} (search rules) (search rules) (search rules)
+    (λ d a w. HasRun g.B.Job.answers (λ l. (goal.Listener-dyn g (l.vtable, l.value)).got l.value) (λ l ts. (goal.Listener-dyn g (l.vtable, l.value)).heard l.value ts) g.V.Watcher.saw c.args.state d first a c.args.watcher.now w) there

@@ -6,7 +6,7 @@ use Rattle.worker_pool.proofs.pool.Pool.start_first.Given as goal
 
 abbrev pub invariant-loop-tried : goal.invariant-loop-tried
 invariant-loop-tried g l = record {
-  table : IsSeatOf l.hall.table.table l.seat.seat;
+  table : IsSeatOf l.shared.table.table l.seat.seat;
   same : IsOf l.fn.seat.seat l.seat.seat;
   read : (dispatcher l.seat.seat.me.0).read ≡ (dispatcher l.fn.seat.seat.me.0).read;
   none : vec_len l.self.started ≡ 0 → l.seat ≡ l.fn.seat;

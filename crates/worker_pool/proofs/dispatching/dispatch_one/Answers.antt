@@ -7,19 +7,19 @@ use Rattle.event_history.specs.History.{IsLegal}
 use Rattle.table_rule.specs.Picture.{replies_of}
 use Rattle.table_rule.specs.Plays.{dispatcher}
 use Rattle.worker_pool.specs.Telling.{AreTextsRead, KeepsTexts, left_to_read}
-use Rattle.worker_pool.proofs.Desks.{of_then, one_is_left, seat_then}
+use Rattle.worker_pool.proofs.DispatcherStates.{of_then, one_is_left, seat_then}
 use Rattle.worker_pool.proofs.Heard.{tellings_stay}
 use Rattle.worker_pool.proofs.Moments.{moment_alike}
 use Rattle.worker_pool.proofs.Reported.{at_most_that, carried, one_less_left}
 use Rattle.worker_pool.proofs.TextsRead.{read_alike}
-use Rattle.worker_pool.proofs.desk.dispatch_one.Goals as goal
+use Rattle.worker_pool.proofs.dispatching.dispatch_one.Goals as goal
 
 pub keep_text-requires-clause-seat : goal.keep_text-requires-clause-seat
 keep_text-requires-clause-seat g c = seat_then _ _ _ c.requires.seat c.read.ensures.same
 
 pub keep_text-requires-clause-last : goal.keep_text-requires-clause-last
 keep_text-requires-clause-last g c =
-    let v = c.args.desk.now.seat.me.0 in (
+    let v = c.args.dispatcher_seat.now.seat.me.0 in (
       (dispatcher v).read,
       ap (λ d. d.read) c.in_ok-read.ensures.read,
       carried c.read.ensures.same.about (λ a. AreTextsRead a.plan (replies_of g.B.Job.answers a) (dispatcher v).read c.args.texts.now) c.requires.texts,
@@ -27,7 +27,7 @@ keep_text-requires-clause-last g c =
 
 pub tell-requires : goal.tell-requires
 tell-requires g c =
-    let v = c.args.desk.now.seat.me.0 in
+    let v = c.args.dispatcher_seat.now.seat.me.0 in
     λ k d inside. at_most_that 1 (left_to_read v) _ (one_is_left (most_events v.about.plan) (length (dispatcher v).read) c.in_ok-read.ensures.inside) (c.requires.room k d inside)
 
 pub advance-requires : goal.advance-requires
@@ -38,14 +38,14 @@ returns-clause-same g c = of_then _ _ _ (of_then _ _ _ c.read.ensures.same c.kee
 
 pub returns-clause-told : goal.returns-clause-told
 returns-clause-told g c =
-    let v = c.args.desk.now.seat.me.0 in
+    let v = c.args.dispatcher_seat.now.seat.me.0 in
     let w = c.advance.new.self.seat.me.0 in
     let read : (dispatcher w).read ≡ (dispatcher v).read ++ c.in_ok-read.read ∷ [] = ap (λ d. d.read) c.advance.ensures.told ∙ (c.keep_text.ensures.read ∙ ap (λ d. d.read) c.in_ok-read.ensures.read) in
     carried read (λ (r : List Event). All (λ b. (goal.Listener-dyn g (b.vtable, b.value)).got b.value ≡ r) c.tell.new.self.listeners.items) (c.tell.ensures.all_got (dispatcher v).read c.requires.told)
 
 pub returns-clause-texts : goal.returns-clause-texts
 returns-clause-texts g c =
-    read_alike g.B.Job.answers c.keep_text.new.desk.seat.me.0 c.advance.new.self.seat.me.0 c.keep_text.new.texts c.advance.ensures.same.about (ap (λ d. d.read) c.advance.ensures.told) c.keep_text.ensures.texts
+    read_alike g.B.Job.answers c.keep_text.new.dispatcher_seat.seat.me.0 c.advance.new.self.seat.me.0 c.keep_text.new.texts c.advance.ensures.same.about (ap (λ d. d.read) c.advance.ensures.told) c.keep_text.ensures.texts
 
 pub returns-clause-some : goal.returns-clause-some
 returns-clause-some g c = ap (λ d. d.read) c.advance.ensures.told ∙ (c.keep_text.ensures.read ∙ ap (λ d. d.read) c.in_ok-read.ensures.read)
@@ -66,7 +66,7 @@ returns-clause-moment g c =
 
 pub returns-clause-room : goal.returns-clause-room
 returns-clause-room g c =
-    let v = c.args.desk.now.seat.me.0 in
+    let v = c.args.dispatcher_seat.now.seat.me.0 in
     let w = c.advance.new.self.seat.me.0 in
     let about = c.advance.ensures.same.about ∙ (c.keep_text.ensures.same.about ∙ c.read.ensures.same.about) in
     let read : (dispatcher w).read ≡ (dispatcher v).read ++ c.in_ok-read.read ∷ [] = ap (λ d. d.read) c.advance.ensures.told ∙ (c.keep_text.ensures.read ∙ ap (λ d. d.read) c.in_ok-read.ensures.read) in
@@ -75,7 +75,7 @@ returns-clause-room g c =
 
 pub returns-clause-kept : goal.returns-clause-kept
 returns-clause-kept g c =
-    let v = c.args.desk.now.seat.me.0 in
+    let v = c.args.dispatcher_seat.now.seat.me.0 in
     let w = c.read.new.self.seat.me.0 in
     let read : (dispatcher w).read ≡ (dispatcher v).read ++ c.in_ok-read.read ∷ [] = ap (λ d. d.read) c.in_ok-read.ensures.read in
     let replies = replies_of g.B.Job.answers w.about in
