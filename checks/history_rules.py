@@ -1,7 +1,7 @@
 """Which lists of events are legal histories of a plan, in its order, and how each node is expected to end.
 
 It is written a second time here, by looking at what stands before each event, and knows nothing of the definitions
-of event_history but what they mean: crates/event_history/DEFINITIONS.md says it in words.
+of event_history but what they mean: docs/HEADLINE.md and crates/event_history/DEFINITIONS.md say it in words.
 """
 
 from dataclasses import dataclass, field
