@@ -54,11 +54,6 @@ fn left_of_three<R: Threads>(rt: &R, alloc: Global) -> Option<usize> {
     is_so.then_some(left)
 }
 
-#[test]
-fn two_numbers_come_out_once(rt: HostRuntime) {
-    assert!(rt; left_of_three(&rt, rt.alloc()) == Some(0));
-}
-
 /// Puts the numbers from 1, and takes a third as often; the sum of what it took, or none where a number was refused.
 fn puts_and_takes(lane: &mut Lane) -> Option<u64> {
     let mut sum = 0;
@@ -106,6 +101,7 @@ fn got_by_three<R: Threads>(rt: &R, alloc: Global) -> Option<u64> {
 }
 
 #[test]
-fn three_threads_get_each_number_once(rt: HostRuntime) {
+fn numbers_come_out_once(rt: HostRuntime) {
+    assert!(rt; left_of_three(&rt, rt.alloc()) == Some(0));
     assert!(rt; got_by_three(&rt, rt.alloc()) == Some(4_501_500));
 }

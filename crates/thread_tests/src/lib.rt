@@ -11,6 +11,8 @@ mod lanes;
 #[cfg(test)]
 mod meeting;
 #[cfg(test)]
+mod moments;
+#[cfg(test)]
 mod ring;
 #[cfg(test)]
 mod rows;
