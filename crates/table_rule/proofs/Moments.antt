@@ -1,4 +1,5 @@
 -- Whenever the rule holds, the table stands so that what the dispatcher has read is legal and the run can still end; and what a worker finds there.
+use Rattle.std.specs.Prelude.{max}
 use Rattle.std.proofs.Common.{◌≡◌, ◌⊎◌, inl, inr, ℕ, ◌+◌, ◌<◌, ◌≤◌, ◌==◌, Bool, true, false, MatchBool, List, [], ◌∷◌, length, length-append, get_or, Some, refl, sym, ap, ◌∙◌, subst, arith}
 use mathlib.Core.Option.{some}
 use lib.ListN.{get_elem?}
@@ -40,20 +41,20 @@ use Rattle.table_rule.proofs.Owed.{found_as, sizes, word_same}
 use Rattle.table_rule.proofs.Words.{read_found, status_found}
 use Rattle.table_rule.proofs.Ready.{here_after}
 use Rattle.table_rule.proofs.Telling.{published_told}
-use Rattle.table_rule.proofs.RingEnds.{ends_within}
+use Rattle.table_rule.proofs.SeatedEnds.{ends_seated, idle_from}
 use Rattle.table_rule.proofs.Opening.{none_told, none_dealt, opening_picture}
 use Rattle.table_rule.proofs.MoreReplies.{wide_kept}
 
 module _ {B : Type 0} where
-  -- The state of which the table is the picture is one from which a run can end, with the table's ring.
-  pub picture_not_stuck : (told : ℕ → List Reply) (key : About B) (c : State) (dealt : Dealt) (s : TableState (Slot B) (View B)) → IsPictureOf told key c dealt s → IsNotStuckWithin key.plan key.ring told c
-  picture_not_stuck told key c dealt s r spares reply may = ends_within key.plan key.ring reply r.plan (subst (λ (n : ℕ). 0 < n) r.size r.ring.some) spares c (record {
+  -- The state of which the table is the picture is one from which a run can end, with the table's ring, and by workers that have a seat.
+  pub picture_not_stuck : (told : ℕ → List Reply) (key : About B) (c : State) (dealt : Dealt) (s : TableState (Slot B) (View B)) → IsPictureOf told key c dealt s → (seats : ℕ) → dealt.many ≡ seats → IsNotStuckWithin key.plan key.ring (max 1 seats) told c
+  picture_not_stuck told key c dealt s r seats many spares reply may = ends_seated key.plan key.ring (max 1 seats) reply r.plan (subst (λ (n : ℕ). 0 < n) r.size r.ring.some) (omega arith) spares c (record {
     kept = wide_kept told (only reply) (λ number i x q. (0, ap Some (may.told_is number i x q))) key.plan c r.kept;
     on = on_as_asked key.plan told c reply may r.on;
     placed = r.placed;
     locks = r.keys;
     some = subst (λ (n : ℕ). 0 < n) (sym r.workers) r.crew;
-  })
+  }) (idle_from told key c dealt s r (max 1 seats) (omega (arith, many)))
 
   pub picture_right : (replies told : ℕ → List Reply) (key : About B) (c : State) (dealt : Dealt) (s : TableState (Slot B) (View B)) → AreAmong told replies → IsPictureOf told key c dealt s → IsRight key.plan replies key.workers c
   picture_right replies told key c dealt s among r =
@@ -67,8 +68,8 @@ module _ {B : Type 0} where
 
   -- A moment, at which the table is this picture, of the dispatcher that has read so.
   abbrev pub moment_by : (replies told : ℕ → List Reply) (key : About B) (c : State) (dealt : Dealt) (s : TableState (Slot B) (View B)) → AreAmong told replies → AnswerOnce told → IsPictureOf told key c dealt s
-      → (read : List Event) → c.given ≡ read → IsTold key.plan key.ring c.seats s.words read c.published → IsMoment replies key read
-  moment_by replies told key c dealt s among once r read given shown = record {
+      → (seats : ℕ) → dealt.many ≡ seats → (read : List Event) → c.given ≡ read → IsTold key.plan key.ring c.seats s.words read c.published → IsMoment replies key seats read
+  moment_by replies told key c dealt s among once r seats many read given shown = record {
     table = s;
     core = c;
     dealt = dealt;
@@ -81,7 +82,8 @@ module _ {B : Type 0} where
     apart = picture_apart replies told key c dealt s r (picture_right replies told key c dealt s among r);
     shown = shown;
     legal = given_legal replies key c read (picture_right replies told key c dealt s among r) given;
-    not_stuck = picture_not_stuck told key c dealt s r;
+    many = many;
+    not_stuck = picture_not_stuck told key c dealt s r seats many;
   }
 
   -- A table that is made so is at its start.
@@ -89,17 +91,17 @@ module _ {B : Type 0} where
       → ((k : ℕ) → k < slot_count key.plan → get_elem? slots k ≡ some (fresh key k)) → IsStart replies key
   starts replies key words slots plan crew few above is many jobs = record {
     moment = moment_by replies none_told key (opening key.plan key.workers) (none_dealt key) (table_opening words slots (opener key)) (λ number i reply q. absurd (none-some reply q)) (λ number i reply q. absurd (none-some reply q))
-        (opening_picture key words slots plan crew few above is many jobs) [] refl
+        (opening_picture key words slots plan crew few above is many jobs) 0 refl [] refl
         (published_told none_told key (opening key.plan key.workers) (none_dealt key) (table_opening words slots (opener key)) (opening_picture key words slots plan crew few above is many jobs) 0 (dispatcher (opener key)) refl);
     opens = refl;
     jobs = λ k low. at_map (λ (y : Slot B). some y) slots k (fresh key k) (jobs k low);
   }
 
   -- What is read at a moment is no more than a run can have.
-  pub moment_few : (replies : ℕ → List Reply) (key : About B) (read : List Event) → IsMoment replies key read → length read ≤ most_events key.plan
+  pub moment_few : (replies : ℕ → List Reply) (key : About B) {seats : ℕ} (read : List Event) → IsMoment replies key seats read → length read ≤ most_events key.plan
   moment_few replies key read x = legal_few key.plan replies key.workers read x.legal
 
-  pub moment_small : (replies : ℕ → List Reply) (key : About B) (read : List Event) → IsMoment replies key read → length read ≤ 12288
+  pub moment_small : (replies : ℕ → List Reply) (key : About B) {seats : ℕ} (read : List Event) → IsMoment replies key seats read → length read ≤ 12288
   moment_small replies key read x =
       let few = moment_few replies key read x in
       let spares = count_most (is_spare_at key.plan.tree) (size key.plan.tree) in
@@ -137,8 +139,8 @@ module _ {B : Type 0} where
         let fits : DispatcherFits rule.picture.core rule.picture.dealt id d = subst (λ (place : Place). PlaceFits key.plan rule.told rule.picture.core rule.picture.dealt id place) is view.fits in
         let whole : v ≡ dispatcher_view key d = λ k. record { about = about k; place = is k } in
         let told = published_told rule.told key rule.picture.core rule.picture.dealt s rule.picture.is id d (subst (λ (u : View B). get_elem? s.views id ≡ some u) whole at) in
-        subst (λ (a : About B). IsMoment (replies_of answers a) a d.read) (sym about)
-        (moment_by (replies_of answers key) rule.told key rule.picture.core rule.picture.dealt s rule.among rule.once rule.picture.is d.read (sym fits.read) told)
+        subst (λ (a : About B). IsMoment (replies_of answers a) a d.dealt d.read) (sym about)
+        (moment_by (replies_of answers key) rule.told key rule.picture.core rule.picture.dealt s rule.among rule.once rule.picture.is d.dealt (sym fits.many) d.read (sym fits.read) told)
 
     -- So a step that the rule allows tells it besides.
     pub allows_moment : (slots id : ℕ) (m : Me (Slot B) (View B)) (i : ℕ) (f : ℕ → ℕ) (told : ℕ → Me (Slot B) (View B) → Type 0) → Allows (Ruled (replies_of answers key) key) slots id m i f told
@@ -175,5 +177,5 @@ module _ {B : Type 0} (replies : ℕ → List Reply) (key : About B) (v : View B
       let few = x.is.kept.1.workers_few in
       elim is [
         | inl a ↦ (let low = (x.is.on.offered n o a).0 in omega (arith, low, few))
-        | inr a ↦ (let low = x.is.on.claimed n o a in omega (arith, low, few))
+        | inr a ↦ x.is.on.claimed n o a
       ]

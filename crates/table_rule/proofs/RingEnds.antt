@@ -30,7 +30,7 @@ use Rattle.never_stuck.specs.Inside.Live.{IsLive}
 use Rattle.never_stuck.specs.Reaching.{AllGiven, IsEnded, IsGivenReply, answer, only}
 use Rattle.never_stuck.proofs.Reach.{goes_to_after, live_step, replied_all, row_live, run_append}
 use Rattle.never_stuck.proofs.Theorem.{reaches_end}
-use Rattle.table_rule.specs.Endings.{HasRoomFor, AllHaveRoom, CanEndWithin}
+use Rattle.table_rule.specs.Endings.{HasRoomFor, AllHaveRoom}
 
 -- all places of a list are shown, or there is a first one that is not
 abbrev AllShown : List Bool → Type 0
@@ -106,6 +106,13 @@ module _ (p : PlanParts) (ring : ℕ) (reply : ℕ → Reply) where
     room : AllHaveRoom p ring s steps
     is : run p s steps ≡ t
 
+  -- there are steps of any workers to the end that go with the ring
+  pub record Ends (s : State) : Type 0 where
+    pub steps : List Step
+    pub given : AllGiven p reply s steps
+    pub room : AllHaveRoom p ring s steps
+    pub ended : IsEnded p (run p s steps)
+
   given_on : (s : State) (xs ys : List Step) → AllGiven p reply s xs → AllGiven p reply (run p s xs) ys → AllGiven p reply s (xs ++ ys)
   given_on s [] ys a b = b
   given_on s (x ∷ xs) ys a b = (a.0, given_on (next p s x) xs ys a.1 b)
@@ -128,7 +135,7 @@ module _ (p : PlanParts) (ring : ℕ) (reply : ℕ → Reply) where
     is = run_append p s a.steps b.steps ∙ ap (λ (z : State). run p z b.steps) a.is ∙ b.is;
   }
 
-  ends_on : (s t : State) → Goes s t → CanEndWithin p ring reply t → CanEndWithin p ring reply s
+  ends_on : (s t : State) → Goes s t → Ends t → Ends s
   ends_on s t a e = record {
     steps = a.steps ++ e.steps;
     given = given_on s a.steps e.steps a.given (subst (λ (z : State). AllGiven p reply z e.steps) (sym a.is) e.given);
@@ -287,14 +294,14 @@ module _ (p : PlanParts) (ring : ℕ) (reply : ℕ → Reply) where
 
     -- Steps that lead to the end are taken, until one draws.
     abbrev Again : ℕ → Type 0
-    Again k = (s : State) → Live s → AllShown s.shown → length s.published ≡ suc k → CanEndWithin p ring reply s
+    Again k = (s : State) → Live s → AllShown s.shown → length s.published ≡ suc k → Ends s
 
     -- the way on from the state after a step
     abbrev Way : ℕ → List Step → State → Type 0
-    Way k steps s = Live s → AllShown s.shown → length s.published ≡ k → AllGiven p reply s steps → IsEnded p (run p s steps) → CanEndWithin p ring reply s
+    Way k steps s = Live s → AllShown s.shown → length s.published ≡ k → AllGiven p reply s steps → IsEnded p (run p s steps) → Ends s
 
     follow_one : (k : ℕ) → Again k → (a : Step) (steps : List Step) (s : State) → Live s → AllShown s.shown → length s.published ≡ k → IsGivenReply p reply s a → ((t : State) → Way k steps t)
-        → (found : Option State) → after p s a ≡ found → AllGiven p reply (or_stays s found) steps → IsEnded p (run p (or_stays s found) steps) → CanEndWithin p ring reply s
+        → (found : Option State) → after p s a ≡ found → AllGiven p reply (or_stays s found) steps → IsEnded p (run p (or_stays s found) steps) → Ends s
     follow_one k again a steps s live all long given way None q more over = way s live all long more over
     follow_one k again a steps s live all long given way (Some t) q more over =
         let next_live = lives s t a live given q in
@@ -307,18 +314,18 @@ module _ (p : PlanParts) (ring : ℕ) (reply : ℕ → Reply) where
     follows k again [] s live all long given ended = record { steps = []; given = tt; room = tt; ended = ended }
     follows k again (a ∷ steps) s live all long given ended = follow_one k again a steps s live all long given.0 (follows k again steps) (after p s a) refl given.1 ended
 
-    follows_end : HasFreeSpares p → (s : State) → Live s → AllShown s.shown → Again (length s.published) → CanEndWithin p ring reply s
+    follows_end : HasFreeSpares p → (s : State) → Live s → AllShown s.shown → Again (length s.published) → Ends s
     follows_end spares s live all again =
         let path = reaches_end p plan spares reply s live in
         follows (length s.published) again path.reach.steps s live all refl path.reach.given (subst (IsEnded p) (sym path.reach.is) path.ended)
 
-    ends_by : HasFreeSpares p → (fuel : ℕ) (s : State) → Live s → AllShown s.shown → most_events p - length s.published ≤ fuel → CanEndWithin p ring reply s
+    ends_by : HasFreeSpares p → (fuel : ℕ) (s : State) → Live s → AllShown s.shown → most_events p - length s.published ≤ fuel → Ends s
     ends_by spares zero s live all few = follows_end spares s live all
         (λ t live_t all_t one. absurd (let most = legal_few p (only reply) (length t.seats) t.published live_t.kept.1.published.legal in omega (arith, most, one, few)))
     ends_by spares (suc fuel) s live all few = follows_end spares s live all (λ t live_t all_t one. ends_by spares fuel t live_t all_t (omega (arith, one, few)))
 
     -- From every state that has what reached states have.
-    pub ends_within : HasFreeSpares p → (s : State) → Live s → CanEndWithin p ring reply s
+    pub ends_within : HasFreeSpares p → (s : State) → Live s → Ends s
     ends_within spares s live =
         let r = shows_all (hidden_in s.shown) s live (omega arith) in
         ends_on s r.last r.goes (ends_by spares (most_events p) r.last r.live r.all (omega arith))

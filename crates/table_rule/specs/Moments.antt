@@ -1,5 +1,5 @@
 -- A moment of a run, at which the dispatcher reads or a worker looks: how the table stands then, and what is known of it.
-use Rattle.std.specs.Prelude.{◌≡◌, ℕ, ◌+◌, ◌<◌, nat_lt, Bool, List, [], get_or}
+use Rattle.std.specs.Prelude.{◌≡◌, ℕ, ◌+◌, ◌<◌, max, nat_lt, Bool, List, [], get_or}
 use mathlib.Core.Option.{some}
 use lib.ListN.{get_elem?}
 use Rattle.atomic_table.specs.Table.{State as TableState, Me, Step}
@@ -33,8 +33,9 @@ KeepsApart p events = IsGuarded (declared_of p.tree) p → IsApart p events
 module _ {B : Type 0} where
   -- The table is the picture of a state of the core, in which just this is given. What is published there is right, by the replies that
   -- the jobs may give, and keeps declared locks and isolation apart; what is read is legal, and a beginning of it, and what comes behind
-  -- stands in the ring or with the worker that has drawn it; and from there the run can still end, with a ring of so many words.
-  pub record IsMoment (replies : ℕ → List Reply) (key : About B) (read : List Event) : Type 0 where
+  -- stands in the ring or with the worker that has drawn it; and from there the run can still end, with a ring of so many words, by
+  -- steps of the dispatcher and of the workers that have been dealt a seat, so many; of the first one, where none has.
+  pub record IsMoment (replies : ℕ → List Reply) (key : About B) (seats : ℕ) (read : List Event) : Type 0 where
     pub table : TableState (Slot B) (View B)
     pub core : State
     pub dealt : Dealt
@@ -48,20 +49,21 @@ module _ {B : Type 0} where
     pub apart : KeepsApart key.plan core.published
     pub shown : IsTold key.plan key.ring core.seats table.words read core.published
     pub legal : IsLegal key.plan replies key.workers read
-    pub not_stuck : IsNotStuckWithin key.plan key.ring told core
+    pub many : dealt.many ≡ seats
+    pub not_stuck : IsNotStuckWithin key.plan key.ring (max 1 seats) told core
 
   -- The start of a run: nothing is read, the state is the opening one, and each job stands in the slot of its body.
   pub record IsStart (replies : ℕ → List Reply) (key : About B) : Type 0 where
-    pub moment : IsMoment replies key []
+    pub moment : IsMoment replies key 0 []
     pub opens : moment.core ≡ opening key.plan key.workers
     pub jobs : (k : ℕ) → k < slot_count key.plan → get_elem? moment.table.homes k ≡ some (some (fresh key k))
 
   -- of what the dispatcher has read whose view this is
   abbrev pub IsMomentOf : (B → List Reply) → View B → Type 0
-  IsMomentOf answers v = (d : Dispatching) → v.place ≡ Dispatcher d → IsMoment (replies_of answers v.about) v.about d.read
+  IsMomentOf answers v = (d : Dispatching) → v.place ≡ Dispatcher d → IsMoment (replies_of answers v.about) v.about d.dealt d.read
 
   abbrev pub IsMomentAt : (B → List Reply) → View B → Type 0
-  IsMomentAt answers v = IsMoment (replies_of answers v.about) v.about (dispatcher v).read
+  IsMomentAt answers v = IsMoment (replies_of answers v.about) v.about (dispatcher v).dealt (dispatcher v).read
 
   -- a step that tells this, and how the table stands after it
   abbrev pub at_moment : (B → List Reply) → (Step (Slot B) → Me (Slot B) (View B) → ℕ → Me (Slot B) (View B) → Type 0) → Step (Slot B) → Me (Slot B) (View B) → ℕ → Me (Slot B) (View B) → Type 0

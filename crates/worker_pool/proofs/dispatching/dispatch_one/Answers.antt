@@ -62,7 +62,7 @@ returns-in_err-read-clause-texts g c = carried c.in_err-read.ensures.none (λ m.
 pub returns-clause-moment : goal.returns-clause-moment
 returns-clause-moment g c =
     moment_alike g.B.Job.answers c.read.new.self.seat.me.0 c.advance.new.self.seat.me.0 (c.advance.ensures.same.about ∙ c.keep_text.ensures.same.about)
-    (ap (λ d. d.read) c.advance.ensures.told ∙ c.keep_text.ensures.read) c.read.ensures.moment
+    (ap (λ d. d.dealt) c.advance.ensures.told ∙ c.keep_text.ensures.dealt) (ap (λ d. d.read) c.advance.ensures.told ∙ c.keep_text.ensures.read) c.read.ensures.moment
 
 pub returns-clause-room : goal.returns-clause-room
 returns-clause-room g c =
