@@ -19,7 +19,6 @@ use Rattle.scheduling.specs.declared.step.Step.TheVariants.{Worker, Read}
 use Rattle.scheduling.specs.declared.task.Task.TheVariants.{Free}
 use Rattle.scheduling.specs.Choices.{awaited, decided}
 use Rattle.scheduling.specs.Inside.Invariant.{IsCorePlan}
-use Rattle.scheduling.specs.Inside.Work.{work_left}
 use Rattle.scheduling.specs.Rows.{after_seat, after, Works, read_row}
 use Rattle.scheduling.specs.Runs.{opening}
 use Rattle.scheduling.specs.Shown.{IsShown}
@@ -28,14 +27,15 @@ use Rattle.scheduling.specs.declared.status.NodeStatus.TheVariants.{Settled}
 use Rattle.scheduling.specs.Inside.Start.{free_seat}
 use Rattle.scheduling.proofs.FirstState.{get_replicate}
 use Rattle.scheduling.proofs.Headline.{core_plan}
-use Rattle.scheduling.proofs.LessWorkSteps.{read_lessens}
 use Rattle.scheduling.proofs.PlanOver.{plan_over}
 use Rattle.never_stuck.specs.Reaching.{answer}
 use Rattle.never_stuck.specs.Reaching.{reply_by as reply_of_job}
+use Rattle.termination.specs.Inside.Accounts.{steps_left}
 use Rattle.termination.specs.Inside.Turns.{NextInTurn, takes_keys, IsTurnOf, IsBetweenTurns}
 use Rattle.termination.proofs.Acting.{read_same}
 use Rattle.termination.proofs.InTurn.{Goes, goes_on, is_free_then, turn_over}
-use Rattle.termination.proofs.Opening.{work_at_start}
+use Rattle.termination.proofs.Opening.{steps_at_start}
+use Rattle.termination.proofs.Payments.{read_pays}
 use Rattle.termination.proofs.TurnsEnd.{seat_there, all_settled}
 use Rattle.sched_core.specs.declared.machine.Machine.{Machine}
 use Rattle.sched_core.specs.declared.trace.Trace.{Trace}
@@ -58,7 +58,7 @@ module _ (p : PlanParts) (answers : List (ℕ × Reply)) where
   pub leads_here : (s : State) → Leads p answers s s
   leads_here s = record { steps = []; is = refl; all = refl; less = omega arith }
 
-  pub leads_one : (s t : State) (a : Step) → after_step p answers s a ≡ Some t → work_left p t < work_left p s → Leads p answers s t
+  pub leads_one : (s t : State) (a : Step) → after_step p answers s a ≡ Some t → steps_left p t < steps_left p s → Leads p answers s t
   leads_one s t a q less = record { steps = a ∷ []; is = ap (state_or s) q; all = (let one = ap missed q in omega (arith, one)); less = omega (arith, less) }
 
   run_on : (s : State) (xs ys : List Step) → run p answers s (xs ++ ys) ≡ run p answers (run p answers s xs) ys
@@ -85,14 +85,14 @@ module _ (p : PlanParts) (answers : List (ℕ × Reply)) where
         less = omega (arith, both, less, least);
       }
 
-  pub leads_less : (s t : State) → Leads p answers s t → work_left p t ≤ work_left p s
+  pub leads_less : (s t : State) → Leads p answers s t → steps_left p t ≤ steps_left p s
   leads_less s t a = (let less = a.less in omega (arith, less))
 
   -- What is left of a step of the worker at place w, in its turn.
   pub record IsWorked (old new : Machine) (w : ℕ) : Type 0 where
     pub turn : IsTurnOf p (state_of new) w
     pub leads : Leads p answers (state_of old) (state_of new)
-    pub less : work_left p (state_of new) < work_left p (state_of old)
+    pub less : steps_left p (state_of new) < steps_left p (state_of old)
 
   module _ (old : Machine) (sound : IsSound p answers old) (w : ℕ) (seat : Seat) (at : slice_get old.seats.items w ≡ Some seat) where
     core : IsCorePlan p
@@ -136,7 +136,7 @@ module _ (p : PlanParts) (answers : List (ℕ × Reply)) where
           record {
             turn = subst (λ (s : State). IsTurnOf p s w) to goes.turn;
             leads = subst (Leads p answers (state_of old)) to (leads_one (state_of old) goes.next (Worker (w + 1) a) leads goes.less);
-            less = subst (λ (s : State). work_left p s < work_left p (state_of old)) to goes.less;
+            less = subst (λ (s : State). steps_left p s < steps_left p (state_of old)) to goes.less;
           }
 
   module _ {T E : Type 0} (old new : Machine) (sound : IsSound p answers old) (w : ℕ) (inside : w < length old.seats.items) (turn : IsTurnOf p (state_of old) w) (a : Action)
@@ -156,7 +156,7 @@ module _ (p : PlanParts) (answers : List (ℕ × Reply)) where
   read_between s t q between v seat at = between v seat (ap (λ (l : List Seat). slice_get l v) (sym (read_same s t q).0) ∙ at)
 
   pub read_leads : (s t : State) → read_row s ≡ Some t → Leads p answers s t
-  read_leads s t q = leads_one s t Read q (read_lessens p s t q)
+  read_leads s t q = leads_one s t Read q (read_pays p s t q)
 
   -- At the opening nobody takes keys.
   pub opening_between : (workers : ℕ) → IsBetweenTurns (opening p workers)
@@ -190,7 +190,7 @@ module _ (p : PlanParts) (answers : List (ℕ × Reply)) where
     pub taken_whole : (workers : ℕ) (t : Trace) → m.workers ≡ workers → Leads p answers (opening p workers) (state_of m) → IsTraceOf (state_of m) 0 t → IsTakenWhole p answers workers t
     taken_whole workers t count leads is = record {
       steps = leads.steps;
-      few = (let less = leads.less in let most = work_at_start p sound.plan workers in omega (arith, less, most));
+      few = (let less = leads.less in let most = steps_at_start p sound.plan workers in omega (arith, less, most));
       all = leads.all;
       trace = subst (λ (s : State). IsTraceOf s 0 t) (sym leads.is) is;
       shown = subst (λ (s : State). IsShown s t.given.items) (sym leads.is) (shown_trace p answers m sound workers 0 count t is);

@@ -5,12 +5,12 @@ ghost use Rattle.descriptor.specs.Nodes.{size, is_factory_at};
 ghost use Rattle.plan_events.specs.declared.outcome.Reply.{Reply};
 ghost use Rattle.scheduling.specs.Answers.{answer_of};
 ghost use Rattle.scheduling.specs.Choices.{keys_count, key_at, mode_at, admits as admits_of};
-ghost use Rattle.scheduling.specs.Inside.Work.{work_left};
 ghost use Rattle.scheduling.specs.LinkLists.{AreTurns};
 ghost use Rattle.scheduling.specs.Rows.{read_row};
 ghost use Rattle.scheduling.specs.State.{status_at, lock_at};
 ghost use Rattle.scheduling.specs.declared.seat.Hand.{Hand as HandValue};
 ghost use Rattle.scheduling.specs.declared.seat.Seat.{Seat as SeatValue};
+ghost use Rattle.termination.specs.Inside.Accounts.{steps_left};
 ghost use Rattle.termination.specs.Inside.Turns.{is_offered_to as is_offered_to_of, takes_keys as takes_keys_of};
 ghost use Rattle.termination.specs.Inside.Turns.{AreFreeFrom, MayTake, NextNode, NextFree, NextInTurn};
 ghost use Rattle.termination.specs.Inside.Turns.{IsTurnOf, IsBetweenTurns};
@@ -191,7 +191,7 @@ impl Machine {
         ensures workers { self.new.workers ≡ self.old.workers }
         ensures turn { IsTurnOf plan.now (state_of self.new) place }
         ensures leads { Leads plan.now answers.now (state_of self.old) (state_of self.new) }
-        ensures less { result ≡ true → work_left plan.now (state_of self.new) < work_left plan.now
+        ensures less { result ≡ true → steps_left plan.now (state_of self.new) < steps_left plan.now
             (state_of self.old) }
         ensures idle { result ≡ false → (self.new ≡ self.old)
             × IsIdle plan.now answers.now (state_of self.old) place }
@@ -213,7 +213,7 @@ impl Machine {
         ensures workers { self.new.workers ≡ self.old.workers }
         ensures turn { IsTurnOf plan.now (state_of self.new) place }
         ensures leads { Leads plan.now answers.now (state_of self.old) (state_of self.new) }
-        ensures less { result ≡ true → work_left plan.now (state_of self.new) < work_left plan.now
+        ensures less { result ≡ true → steps_left plan.now (state_of self.new) < steps_left plan.now
             (state_of self.old) }
         ensures over { result ≡ false → IsBetweenTurns (state_of self.new) }
     {
@@ -233,7 +233,7 @@ impl Machine {
         ensures workers { self.new.workers ≡ self.old.workers }
         ensures between { IsBetweenTurns (state_of self.new) }
         ensures leads { Leads plan.now answers.now (state_of self.old) (state_of self.new) }
-        ensures less { result ≡ true → work_left plan.now (state_of self.new) < work_left plan.now
+        ensures less { result ≡ true → steps_left plan.now (state_of self.new) < steps_left plan.now
             (state_of self.old) }
         ensures idle { result ≡ false → (self.new ≡ self.old)
             × IsIdle plan.now answers.now (state_of self.old) place }
@@ -260,7 +260,7 @@ impl Machine {
         ensures workers { self.new.workers ≡ self.old.workers }
         ensures between { IsBetweenTurns (state_of self.new) }
         ensures leads { Leads plan.now answers.now (state_of self.old) (state_of self.new) }
-        ensures less { result ≡ true → work_left plan.now (state_of self.new) < work_left plan.now
+        ensures less { result ≡ true → steps_left plan.now (state_of self.new) < steps_left plan.now
             (state_of self.old) }
         ensures quiet { result ≡ false → (self.new ≡ self.old)
             × IsQuiet plan.now answers.now (state_of self.old) place }
@@ -279,7 +279,7 @@ impl Machine {
         ensures workers { self.new.workers ≡ self.old.workers }
         ensures between { IsBetweenTurns (state_of self.new) }
         ensures leads { Leads plan.now answers.now (state_of self.old) (state_of self.new) }
-        ensures less { result ≡ true → work_left plan.now (state_of self.new) < work_left plan.now
+        ensures less { result ≡ true → steps_left plan.now (state_of self.new) < steps_left plan.now
             (state_of self.old) }
         ensures quiet { result ≡ false → (v : ℕ) → v < self.old.workers →
             IsQuiet plan.now answers.now (state_of self.new) v }

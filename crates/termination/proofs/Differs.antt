@@ -16,15 +16,13 @@ use Rattle.scheduling.specs.Choices.{key_at, mode_at, admits, decided}
 use Rattle.scheduling.specs.Rows.{with_task, weighed, decided_seat, Step, Works, Dispatches, after}
 use Rattle.scheduling.specs.Runs.{IsReplied}
 use Rattle.scheduling.specs.Inside.Invariant.{IsCorePlan, IsKept}
-use Rattle.scheduling.specs.Inside.Work.{work_left}
 use Rattle.scheduling.proofs.Basics.{get_set_same}
 use Rattle.scheduling.proofs.RowsOne.{by_cond}
-use Rattle.scheduling.proofs.LessWork.{row_lessens}
-use Rattle.scheduling.proofs.LessWorkMoves.{goes_no_higher}
-use Rattle.scheduling.proofs.LessWorkSteps.{read_lessens}
-use Rattle.scheduling.proofs.TaskRanks.{decided_rank}
 use Rattle.scheduling.proofs.Steps.{decided_free}
-use Rattle.termination.proofs.Bounded.{back_rank}
+use Rattle.termination.specs.Inside.Accounts.{task_steps, steps_left}
+use Rattle.termination.proofs.Bounded.{decided_left}
+use Rattle.termination.proofs.Payments.{read_pays}
+use Rattle.termination.proofs.Paying.{row_pays}
 use Rattle.termination.proofs.StepKinds.{is_midway, Kind, AsFree, AsPlain, AsWeigh, AsMiss, AsBack, AsGivenUp}
 use Rattle.termination.proofs.Acting.{decides, Acts, acts_so, free_same, no_look}
 
@@ -44,8 +42,8 @@ pub record LooksFree (s : State) (w : ℕ) (a : Action) (t : State) : Type 0 whe
   pub free : seat.task ≡ Free
   pub same : t ≡ s
 
-less_other : (p : PlanParts) (s t : State) → work_left p t < work_left p s → t ≢ s
-less_other p s t less e = (let same = ap (work_left p) e in omega (arith, less, same))
+less_other : (p : PlanParts) (s t : State) → steps_left p t < steps_left p s → t ≢ s
+less_other p s t less e = (let same = ap (steps_left p) e in omega (arith, less, same))
 
 module _ (p : PlanParts) (core : IsCorePlan p) (replies : ℕ → List Reply) (s t : State) (w : ℕ) (a : Action) (reply : Reply) (x : Acts p replies s w a reply t) where
   -- in the same state the worker has the same task
@@ -62,8 +60,8 @@ module _ (p : PlanParts) (core : IsCorePlan p) (replies : ℕ → List Reply) (s
   kind_differs : Kind p (decides p s w reply x.seat) w (decided_seat p reply x.seat) (decided_seat p reply x.seat).task a t → LooksFree s w a t ⊎ (t ≢ s)
   kind_differs (AsFree look free same) = inl (record { seat = x.seat; is = x.is; look = look; free = decided_free p reply x.seat.task free; same = same ∙ free_same p s w reply x.seat x.is free })
   kind_differs (AsPlain k) =
-      let falls = row_lessens p core replies (decides p s w reply x.seat) x.kept.0 x.kept.1 w (decided_seat p reply x.seat) x.here reply a (no_look p (decides p s w reply x.seat) w (decided_seat p reply x.seat).task a t k) k.clear t x.makes in
-      let no_higher = goes_no_higher p s w x.seat x.is (decided_seat p reply x.seat) (decided_rank p reply x.seat.task) in
+      let falls = row_pays p core replies (decides p s w reply x.seat) x.kept.0 x.kept.1 w (decided_seat p reply x.seat) x.here reply a (no_look p (decides p s w reply x.seat) w (decided_seat p reply x.seat).task a t k) k.clear t x.makes in
+      let no_higher = decided_left p s w reply x.seat x.is in
       inr (less_other p s t (omega (arith, falls, no_higher)))
   kind_differs (AsWeigh k) = inr (λ e.
       let word : LockWord = lock_at s (key_at p k.node k.place) in
@@ -73,8 +71,8 @@ module _ (p : PlanParts) (core : IsCorePlan p) (replies : ℕ → List Reply) (s
   kind_differs (AsMiss k) = inr (λ e. not_midway (Opens k.node (Weighed k.place k.seen)) (Opens k.node (Locking k.place)) k.task refl (same_task (with_task (decided_seat p reply x.seat) (Opens k.node (Locking k.place))) (ap (λ (u : State). u.seats) k.is) e) refl refl)
   kind_differs (AsBack k) = inr (λ e.
       let is = same_task (with_task (decided_seat p reply x.seat) (Opens k.node (Backing k.place))) (ap (λ (u : State). u.seats) k.is) e in
-      let ranks = ap (back_rank p) (sym k.task ∙ ap (decided p reply) is) in
-      omega (arith, ranks))
+      let steps = ap (task_steps p) (sym k.task ∙ ap (decided p reply) is) in
+      omega (arith, steps))
   kind_differs (AsGivenUp k) = inr (λ e. not_midway (Opens k.node (Backing zero)) Free k.task refl (same_task (with_task (decided_seat p reply x.seat) Free) (ap (λ (u : State). u.seats) k.is) e) refl refl)
 
 -- A possible step of a worker makes another state, or it is a free worker's look.
@@ -83,7 +81,7 @@ work_differs p core replies s t w a reply kept replied q = (let x = acts_so p co
 
 -- and one of the dispatcher does
 pub read_differs : (p : PlanParts) (s t : State) → after p s Dispatches ≡ Some t → t ≢ s
-read_differs p s t q = less_other p s t (read_lessens p s t q)
+read_differs p s t q = less_other p s t (read_pays p s t q)
 
 pub step_differs : (p : PlanParts) → IsCorePlan p → (replies : ℕ → List Reply) (s t : State) (a : Step) → IsKept p replies s → IsReplied p replies s a → after p s a ≡ Some t → (t ≡ s) ⊎ (t ≢ s)
 step_differs p core replies s t Dispatches kept replied q = inr (read_differs p s t q)

@@ -1,7 +1,7 @@
 -- The step that a worker takes in its turn is possible, leaves less to do, and leaves it its turn.
 use Rattle.std.specs.Prelude.{cond}
 use Rattle.std.specs.Option.{is_some}
-use Rattle.std.proofs.Common.{◌≡◌, ◌∙◌, ◌<◌, ◌+◌, ℕ, suc, Bool, true, false, ◌&&◌, nat_lt, ◌==◌, List, set, Option, Some, None, slice_get, inl, inr, refl, sym, ap, subst, arith, get_or-set_other}
+use Rattle.std.proofs.Common.{◌≡◌, ◌∙◌, ◌<◌, ◌≤◌, ◌+◌, ℕ, suc, Bool, true, false, ◌&&◌, nat_lt, ◌==◌, List, set, Option, Some, None, slice_get, inl, inr, refl, sym, ap, subst, arith, get_or-set_other}
 use Rattle.std.proofs.lemmas.Option.{same_Some, none-some, slice_get-get_or}
 use Rattle.std.proofs.lemmas.Bool.{cases_Bool, cases_eq, false≢true, and_parts, and_from, eq-eqb, cond-true, cond-false}
 use Rattle.descriptor.specs.Nodes.{parent_of, is_disabled, body_of}
@@ -29,7 +29,7 @@ use Rattle.scheduling.specs.Rows.{with_task, goes_to, is_free, same_offer, is_em
 use Rattle.scheduling.specs.Schedule.{may_add, action_waiting, taking, hand_action, opening_action, closing_action}
 use Rattle.scheduling.specs.Inside.Stages.{Stage}
 use Rattle.scheduling.specs.Inside.Invariant.{IsCorePlan, OpeningOk, ShapeOk, IsInHand, Holds}
-use Rattle.scheduling.specs.Inside.Work.{work_left, IsClear}
+use Rattle.scheduling.specs.Inside.Work.{IsClear}
 use Rattle.scheduling.proofs.Basics.{get_set, set_twice}
 use Rattle.scheduling.proofs.Going.{decided_asks}
 use Rattle.scheduling.proofs.GoingFree.{pulled_whole, spare_above}
@@ -44,9 +44,12 @@ use Rattle.never_stuck.specs.Inside.Progress.{HandOn}
 use Rattle.never_stuck.specs.Reaching.{answer, reply_by}
 use Rattle.never_stuck.proofs.Able.{is_trying, clear_calm, Able, busy_able}
 use Rattle.never_stuck.proofs.Counts.{in_hand, free_hand}
-use Rattle.never_stuck.proofs.Reach.{here, holds_here, on_here, row_less}
+use Rattle.never_stuck.proofs.Reach.{here, holds_here, on_here}
 use Rattle.never_stuck.proofs.Rows.{opens}
+use Rattle.termination.specs.Inside.Accounts.{steps_left}
 use Rattle.termination.specs.Inside.Turns.{is_offered_to, AreFreeFrom, NextWaiting, NextFree, NextInTurn, takes_keys, IsAhead, IsTurnOf, IsBetweenTurns}
+use Rattle.termination.proofs.Bounded.{decided_left}
+use Rattle.termination.proofs.Paying.{row_pays}
 use Rattle.termination.proofs.StepKinds.{decided_or}
 use Rattle.termination.proofs.TaskSteps.{opens_so, closes_so}
 
@@ -111,7 +114,7 @@ module _ (p : PlanParts) (plan : IsPlan p) (core : IsCorePlan p) (replies : ℕ 
     pub next : State
     pub is_row : row p U w D R a ≡ Some next
     pub turn : IsTurnOf p next w
-    pub less : work_left p next < work_left p s
+    pub less : steps_left p next < steps_left p s
 
   k : (g : ℕ → Stage) × Holds p replies U g
   k = holds_here p core replies reply one s live w o is
@@ -146,12 +149,15 @@ module _ (p : PlanParts) (plan : IsPlan p) (core : IsCorePlan p) (replies : ℕ 
           | inr a ↦ (λ e. absurd (a.0 e), (turn v x a.1).1)
         ]
 
+    fewer : (a b c : ℕ) → a < b → b ≤ c → a < c
+    fewer a b c less le = omega (arith, less, le)
+
     goes_so : (a : Action) (t : State) (seat2 : Seat) → row p U w D R a ≡ Some t → t.seats ≡ set U.seats w seat2 → IsAhead p t seat2.task → IsClear p U D.task → (a ≡ Look → D.task ≡ Free → ⊥) → Goes a
     goes_so a t seat2 q seats is_ahead clear acts = record {
       next = t;
       is_row = q;
       turn = turn_stays t seat2 seats is_ahead;
-      less = row_less p core replies reply one s live w o is a t acts clear q;
+      less = (let falls = row_pays p core replies U k.0 k.1 w D at R a acts clear t q in let decides = decided_left p s w R o is in fewer _ _ _ falls decides);
     }
 
     -- who takes no keys

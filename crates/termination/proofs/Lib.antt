@@ -2,6 +2,9 @@
 pub mod Sums
 pub mod StepKinds
 pub mod Acting
+pub mod Payments
+pub mod Prices
+pub mod Paying
 pub mod Opening
 pub mod Bounded
 pub mod TakingTurns
@@ -12,6 +15,7 @@ pub mod Differs
 pub mod Ends
 pub mod Free
 pub mod Round
+pub mod LongRun
 pub mod TaskSteps
 pub mod InTurn
 pub mod TurnsEnd

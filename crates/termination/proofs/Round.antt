@@ -74,7 +74,7 @@ taken_append : (p : PlanParts) (s : State) (xs ys : List Step) → AllTaken p s 
 taken_append p s [] ys a b = b
 taken_append p s (x ∷ xs) ys a b = (a.0, taken_append p (next p s x) xs ys a.1 b)
 
-does_given : (p : PlanParts) (reply : ℕ → Reply) (w : ℕ) (s : State) (list : List Action) → AllGiven p reply s (does p reply w s list)
+pub does_given : (p : PlanParts) (reply : ℕ → Reply) (w : ℕ) (s : State) (list : List Action) → AllGiven p reply s (does p reply w s list)
 does_given p reply w s [] = tt
 does_given p reply w s (a ∷ more) = (
   λ seat at. ap (reply_at p reply) at,

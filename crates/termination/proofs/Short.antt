@@ -23,22 +23,22 @@ use Rattle.scheduling.specs.Runs.{opening, IsReplied, AllReplied, or_stays, next
 use Rattle.scheduling.specs.Inside.Stages.{Stage, OpenedBy}
 use Rattle.scheduling.specs.Inside.Invariant.{IsCorePlan, TaskOk, OpeningOk, ShapeOk, Holds, IsKept}
 use Rattle.scheduling.specs.Inside.Start.{free_seat}
-use Rattle.scheduling.specs.Inside.Work.{task_rank}
 use Rattle.scheduling.proofs.Headline.{core_plan}
 use Rattle.scheduling.proofs.FirstState.{opening_is}
 use Rattle.scheduling.proofs.GoingTurns.{word_is}
 use Rattle.scheduling.proofs.Steps.{after_keeps}
-use Rattle.scheduling.proofs.LessWorkSteps.{read_lessens}
 use Rattle.never_stuck.proofs.Able.{is_trying}
 use Rattle.termination.specs.Bounds.{most_steps}
 use Rattle.termination.specs.Conflicts.{IsFreeOfConflict}
 use Rattle.termination.specs.Endings.{IsShort}
+use Rattle.termination.specs.Inside.Accounts.{task_steps, steps_left}
 use Rattle.termination.specs.Steps.{IsTaken, AllTaken}
 use Rattle.termination.proofs.Apart.{never_busy}
-use Rattle.termination.proofs.Bounded.{back_rank, seat_back, left, decided_left, plain_lowers, back_lowers, given_up_lowers}
+use Rattle.termination.proofs.Bounded.{decided_left, plain_lowers, back_lowers, given_up_lowers}
+use Rattle.termination.proofs.Payments.{task_moves, read_pays}
 use Rattle.termination.proofs.StepKinds.{is_midway, decided_no_higher, Plain, Weighs, Misses, Backs, GivesUp, Kind, AsFree, AsPlain, AsWeigh, AsMiss, AsBack, AsGivenUp}
-use Rattle.termination.proofs.Opening.{work_at_start, sum_replicate}
-use Rattle.termination.proofs.Sums.{sum_moves, sum_no_higher, sum_few, times_lower, times_no_higher, work_goes}
+use Rattle.termination.proofs.Opening.{steps_at_start, sum_replicate}
+use Rattle.termination.proofs.Sums.{sum_moves, sum_no_higher, sum_few, times_lower, times_no_higher}
 use Rattle.termination.proofs.Acting.{decides, Acts, acts_so, free_same, read_same}
 
 -- A worker that has weighed a key has come no farther than one that is to weigh it.
@@ -60,7 +60,7 @@ seat_turn p locks seat = turn_rank p locks seat.task
 
 -- what is left to progress, and then the turns
 abbrev pub progress_left : PlanParts → State → ℕ
-progress_left p s = left p s + sum_by seat_weighed s.seats
+progress_left p s = steps_left p s + sum_by seat_weighed s.seats
 
 abbrev pub turns_left : PlanParts → State → ℕ
 turns_left p s = sum_by (seat_turn p s.locks) s.seats
@@ -112,7 +112,7 @@ decided_all p workers s w reply seat is =
     let sums = sum_no_higher seat_weighed s.seats w seat (decided_seat p reply seat) is (decided_no_higher p reply weighed_rank calm_weighed seat.task) in
     let turns = sum_no_higher (seat_turn p s.locks) s.seats w seat (decided_seat p reply seat) is (decided_no_higher p reply (turn_rank p s.locks) (calm_turn p s.locks) seat.task) in
     times_no_higher (2 * workers + 1) (progress_left p (decides p s w reply seat)) (progress_left p s) (turns_left p (decides p s w reply seat)) (turns_left p s)
-    (plain (left p (decides p s w reply seat)) (left p s) _ _ lower sums) turns
+    (plain (steps_left p (decides p s w reply seat)) (steps_left p s) _ _ lower sums) turns
   where
     plain : (after before sum2 sum : ℕ) → after ≤ before → sum2 ≤ sum → after + sum2 ≤ before + sum
     plain after before sum2 sum a b = omega (arith, a, b)
@@ -120,14 +120,14 @@ decided_all p workers s w reply seat is =
 module _ (p : PlanParts) (plan : IsPlan p) (apart : IsFreeOfConflict p) (core : IsCorePlan p) (replies : ℕ → List Reply) (workers : ℕ) where
   module _ (s : State) (g : ℕ → Stage) (h : Holds p replies s g) (w : ℕ) (seat : Seat) (is : slice_get s.seats w ≡ Some seat) (crew : length s.seats ≡ workers) where
     -- less is left, and nobody has weighed a key
-    lower_shortens : (t : State) (new : Seat) → t.seats ≡ set s.seats w new → left p t < left p s → weighed_rank new.task ≡ 0 → Shortens p workers s t
+    lower_shortens : (t : State) (new : Seat) → t.seats ≡ set s.seats w new → steps_left p t < steps_left p s → weighed_rank new.task ≡ 0 → Shortens p workers s t
     lower_shortens t new seats falls ahead =
         let sums = sum_no_higher seat_weighed s.seats w seat new is (omega (arith, ahead)) in
         let same = ap (sum_by seat_weighed) seats in
         let count : length t.seats ≡ workers = ap length seats ∙ length-set s.seats w new ∙ crew in
         let few = sum_few (seat_turn p t.locks) 2 (λ o. turn_few p t.locks o.task) t.seats in
         record {
-          less = times_lower (2 * workers + 1) (progress_left p t) (progress_left p s) (turns_left p t) (turns_left p s) (plain (left p t) (left p s) _ _ _ falls sums same) (omega (arith, few, count));
+          less = times_lower (2 * workers + 1) (progress_left p t) (progress_left p s) (turns_left p t) (turns_left p s) (plain (steps_left p t) (steps_left p s) _ _ _ falls sums same) (omega (arith, few, count));
           crew = count;
         }
       where
@@ -144,23 +144,22 @@ module _ (p : PlanParts) (plan : IsPlan p) (apart : IsFreeOfConflict p) (core : 
     given_up_shortens a t k = lower_shortens t (with_task seat Free) (ap (λ (x : State). x.seats) k.is) (given_up_lowers p core replies s g h w seat is a t k) refl
 
     -- no progress, but the worker's turn goes down
-    turned : (old new : Task) → seat.task ≡ old → task_rank p new + back_rank p new + weighed_rank new ≡ task_rank p old + back_rank p old + weighed_rank old → turn_rank p s.locks new < turn_rank p s.locks old → Shortens p workers s (goes s w seat new)
+    turned : (old new : Task) → seat.task ≡ old → task_steps p new + weighed_rank new ≡ task_steps p old + weighed_rank old → turn_rank p s.locks new < turn_rank p s.locks old → Shortens p workers s (goes s w seat new)
     turned old new e same less =
-        let work = work_goes p s w seat is s.locks (with_task seat new) in
-        let backs = sum_moves (seat_back p) s.seats w seat (with_task seat new) is in
+        let moves = task_moves p s w seat is s.locks s.cancel s.shown (with_task seat new) in
         let sums = sum_moves seat_weighed s.seats w seat (with_task seat new) is in
         let turn = sum_moves (seat_turn p s.locks) s.seats w seat (with_task seat new) is in
-        let ranks : task_rank p new + back_rank p new + weighed_rank new ≡ task_rank p seat.task + back_rank p seat.task + weighed_rank seat.task = same ∙ ap (λ (x : Task). task_rank p x + back_rank p x + weighed_rank x) (sym e) in
+        let ranks : task_steps p new + weighed_rank new ≡ task_steps p seat.task + weighed_rank seat.task = same ∙ ap (λ (x : Task). task_steps p x + weighed_rank x) (sym e) in
         let turn_is = ap (turn_rank p s.locks) e in
-        let progress : progress_left p (goes s w seat new) ≡ progress_left p s = plain _ _ _ _ _ _ (task_rank p seat.task) (task_rank p new) (back_rank p seat.task) (back_rank p new) (weighed_rank seat.task) (weighed_rank new) work backs sums ranks in
+        let progress : progress_left p (goes s w seat new) ≡ progress_left p s = plain _ _ _ _ (task_steps p seat.task) (task_steps p new) (weighed_rank seat.task) (weighed_rank new) moves sums ranks in
         let times = ap (λ (k : ℕ). k * (2 * workers + 1)) progress in
         record {
           less = least _ _ _ _ (turn_rank p s.locks seat.task) (turn_rank p s.locks old) (turn_rank p s.locks new) times turn turn_is less;
           crew = length-set s.seats w (with_task seat new) ∙ crew;
         }
       where
-        plain : (work2 work back2 back sum2 sum rank new_rank ways new_ways mark new_mark : ℕ) → work2 + rank ≡ work + new_rank → back2 + ways ≡ back + new_ways → sum2 + mark ≡ sum + new_mark → new_rank + new_ways + new_mark ≡ rank + ways + mark → work2 + back2 + sum2 ≡ work + back + sum
-        plain work2 work back2 back sum2 sum rank new_rank ways new_ways mark new_mark a b c d = omega (arith, a, b, c, d)
+        plain : (after before sum2 sum steps new_steps mark new_mark : ℕ) → after + steps ≡ before + new_steps → sum2 + mark ≡ sum + new_mark → new_steps + new_mark ≡ steps + mark → after + sum2 ≡ before + sum
+        plain after before sum2 sum steps new_steps mark new_mark a b c = omega (arith, a, b, c)
 
         least : (times2 times sum2 sum turn old_turn new_turn : ℕ) → times2 ≡ times → sum2 + turn ≡ sum + new_turn → turn ≡ old_turn → new_turn < old_turn → times2 + sum2 < times + sum
         least times2 times sum2 sum turn old_turn new_turn a b c d = omega (arith, a, b, c, d)
@@ -193,19 +192,18 @@ module _ (p : PlanParts) (plan : IsPlan p) (apart : IsFreeOfConflict p) (core : 
   -- A possible step leaves less, or it is a free worker's look.
   pub step_shortens : (s t : State) (a : Step) → IsUndisturbed p replies workers s → IsReplied p replies s a → after p s a ≡ Some t → (t ≡ s) ⊎ Goes p replies workers s t
   step_shortens s t Dispatches so replied q =
-      let falls = read_lessens p s t q in
+      let falls = read_pays p s t q in
       let same = read_same s t q in
       let sums = ap (sum_by seat_weighed) same.0 in
-      let backs = ap (sum_by (seat_back p)) same.0 in
       let count : length t.seats ≡ workers = ap length same.0 ∙ so.crew in
       let few = sum_few (seat_turn p t.locks) 2 (λ o. turn_few p t.locks o.task) t.seats in
       inr (record {
-        less = times_lower (2 * workers + 1) (progress_left p t) (progress_left p s) (turns_left p t) (turns_left p s) (plain _ _ _ _ _ _ falls backs sums) (omega (arith, few, count));
+        less = times_lower (2 * workers + 1) (progress_left p t) (progress_left p s) (turns_left p t) (turns_left p s) (plain _ _ _ _ falls sums) (omega (arith, few, count));
         then_so = record { kept = after_keeps p core replies s t Dispatches so.kept replied q; crew = count };
       })
     where
-      plain : (work2 work back2 back sum2 sum : ℕ) → work2 < work → back2 ≡ back → sum2 ≡ sum → work2 + back2 + sum2 < work + back + sum
-      plain work2 work back2 back sum2 sum a b c = omega (arith, a, b, c)
+      plain : (after before sum2 sum : ℕ) → after < before → sum2 ≡ sum → after + sum2 < before + sum
+      plain after before sum2 sum a b = omega (arith, a, b)
   step_shortens s t (Works w a reply) so replied q = go (acts_so p core replies s t w a reply so.kept replied q)
     where
       go : Acts p replies s w a reply t → (t ≡ s) ⊎ Goes p replies workers s t
@@ -241,15 +239,14 @@ short p plan apart replies workers few list replied taken =
     let core = core_plan p plan.tree in
     let so : IsUndisturbed p replies workers (opening p workers) = record { kept = opening_is p core replies workers few; crew = length-replicate workers free_seat } in
     let shortens = list_shortens p plan apart core replies workers (opening p workers) list so replied taken in
-    let work = work_at_start p plan workers in
-    let backs : sum_by (seat_back p) (opening p workers).seats ≡ workers * 0 = sum_replicate (seat_back p) free_seat workers in
+    let steps = steps_at_start p plan workers in
     let weighed : sum_by seat_weighed (opening p workers).seats ≡ workers * 0 = sum_replicate seat_weighed free_seat workers in
     let turns : sum_by (seat_turn p (opening p workers).locks) (opening p workers).seats ≡ workers * 0 = sum_replicate (seat_turn p (opening p workers).locks) free_seat workers in
-    let most : progress_left p (opening p workers) * (2 * workers + 1) ≤ most_steps p workers * (2 * workers + 1) = mul-le-mul_right (2 * workers + 1) (none _ _ _ _ work backs weighed) in
+    let most : progress_left p (opening p workers) * (2 * workers + 1) ≤ most_steps p workers * (2 * workers + 1) = mul-le-mul_right (2 * workers + 1) (none _ _ _ steps weighed) in
     plain _ _ _ _ shortens turns most
   where
-    none : (work back sum most : ℕ) → work ≤ most → back ≡ workers * 0 → sum ≡ workers * 0 → work + back + sum ≤ most
-    none work back sum most a b c = omega (arith, a, b, c)
+    none : (steps sum most : ℕ) → steps ≤ most → sum ≡ workers * 0 → steps + sum ≤ most
+    none steps sum most a b = omega (arith, a, b)
 
     plain : (len times turns most : ℕ) → len ≤ times + turns → turns ≡ workers * 0 → times ≤ most → len ≤ most
     plain len times turns most a b c = omega (arith, a, b, c)

@@ -4,4 +4,5 @@ pub mod Bounds
 pub mod Conflicts
 pub mod Endings
 pub mod Round
+pub mod LongRun
 pub mod Inside

@@ -38,10 +38,10 @@ pub record GetsRound (p : PlanParts) : Type 0 where
 abbrev pub HasNoBound : PlanParts → Type 0
 HasNoBound p = (reply : ℕ → Reply) × ((most : ℕ) → (list : List Step) × AllReplied p (only reply) (opening p 2) list × AllTaken p (opening p 2) list × (most < length list))
 
-abbrev segment : List ℕ → List ℕ → Segment
+abbrev pub segment : List ℕ → List ℕ → Segment
 segment kind value = record { kind = kind; value = value }
 
-abbrev engine_id : List Segment
+abbrev pub engine_id : List Segment
 engine_id = segment (codes "engine") (codes "e") ∷ []
 
 abbrev pub db : Lock

@@ -8,9 +8,11 @@ ghost use Rattle.descriptor.specs.Nodes.{size};
 ghost use Rattle.resource_locks.specs.Held.{plan_of};
 ghost use Rattle.resource_locks.specs.Plans.{PlanParts, IsPlan};
 ghost use Rattle.resource_locks.specs.Spares.{HasFreeSpares};
+ghost use Rattle.termination.specs.Bounds.{most_steps};
 ghost use Rattle.termination.specs.Conflicts.{IsFreeOfConflict, IsOnOneThread};
 ghost use Rattle.termination.specs.Endings.{IsBounded, IsShort, RestsAtItsEnd, EveryRunEnds};
 ghost use Rattle.termination.specs.Inside.Branches.{IsKeptApartFrom};
+ghost use Rattle.termination.specs.LongRun.{Takes, long_tree, long_modes, long_plan};
 ghost use Rattle.termination.specs.Round.{GetsRound, HasNoBound, disputed_tree, disputed_modes, disputed_plan};
 
 mod turns;
@@ -65,4 +67,13 @@ pub fn disputed_key()
     ensures endless { HasNoBound disputed_plan }
     // `Plan::of` gives this plan of its tree, with these modes.
     ensures made { plan_of disputed_tree disputed_modes ≡ disputed_plan }
+{}
+
+/// The bound is nearly reached: of a plan of three classes, each with two keys, one worker and the
+/// dispatcher take 73 steps, and never more than 82.
+pub fn long_run()
+    ensures taken { Takes long_plan 73 }
+    ensures at_most { most_steps long_plan 1 ≡ 82 }
+    // `Plan::of` gives this plan of its tree, with these modes.
+    ensures made { plan_of long_tree long_modes ≡ long_plan }
 {}

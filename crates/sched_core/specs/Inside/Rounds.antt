@@ -7,9 +7,9 @@ use Rattle.scheduling.specs.declared.seat.Seat.{Seat}
 use Rattle.scheduling.specs.declared.step.Action.{Action}
 use Rattle.scheduling.specs.declared.step.Step.{Step}
 use Rattle.scheduling.specs.Choices.{key_at, mode_at, admits, decided}
-use Rattle.scheduling.specs.Inside.Work.{work_left}
 use Rattle.scheduling.specs.Rows.{read_row}
 use Rattle.scheduling.specs.State.{State, lock_at}
+use Rattle.termination.specs.Inside.Accounts.{steps_left}
 use Rattle.termination.specs.Inside.Turns.{MayTake, NextInTurn}
 use Rattle.sched_core.specs.Runs.{run, passed_over}
 use Rattle.sched_core.specs.Steps.{reply_for}
@@ -44,4 +44,4 @@ pub record Leads (p : PlanParts) (answers : List (ℕ × Reply)) (s t : State) :
   pub steps : List Step
   pub is : run p answers s steps ≡ t
   pub all : passed_over p answers s steps ≡ 0
-  pub less : length steps + work_left p t ≤ work_left p s
+  pub less : length steps + steps_left p t ≤ steps_left p s

@@ -1,6 +1,6 @@
 -- What a read leaves, and then the turn.
 use Rattle.std.proofs.Common.{◌∙◌, subst, arith}
-use Rattle.scheduling.proofs.LessWorkSteps.{read_lessens}
+use Rattle.termination.proofs.Payments.{read_pays}
 use Rattle.sched_core.specs.declared.machine.Machine.{Machine}
 use Rattle.sched_core.specs.Inside.Fields.{state_of}
 use Rattle.sched_core.specs.Inside.Rounds.{IsIdle}
@@ -13,7 +13,7 @@ returns-then-read-clause-leads c =
 
 pub returns-then-read-clause-less : goal.returns-then-read-clause-less
 returns-then-read-clause-less c q =
-    let first = read_lessens c.args.plan.now (state_of c.args.self.now) (state_of c.reads-read.new.self) (c.reads-read.ensures.read c.if-read.true) in
+    let first = read_pays c.args.plan.now (state_of c.args.self.now) (state_of c.reads-read.new.self) (c.reads-read.ensures.read c.if-read.true) in
     let more = leads_less c.args.plan.now c.args.answers.now (state_of c.reads-read.new.self) (state_of c.turn-worked.new.self) c.turn-worked.ensures.leads in
     omega (arith, first, more)
 

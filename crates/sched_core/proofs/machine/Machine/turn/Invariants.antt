@@ -1,6 +1,6 @@
 -- It is still the worker's turn, and less is left to do than at first.
 use Rattle.std.proofs.Common.{◌≡◌, ◌<◌, length}
-use Rattle.scheduling.specs.Inside.Work.{work_left}
+use Rattle.termination.specs.Inside.Accounts.{steps_left}
 use Rattle.termination.specs.Inside.Turns.{IsTurnOf}
 use Rattle.sched_core.specs.Inside.Fields.{state_of, IsSound}
 use Rattle.sched_core.specs.Inside.Rounds.{Leads}
@@ -10,4 +10,4 @@ abbrev pub invariant-keys : goal.invariant-keys
 invariant-keys l = IsSound l.plan l.answers l.self × (l.self.workers ≡ l.initial.self.workers) × IsTurnOf l.plan (state_of l.self) l.fn.place × Leads l.plan l.answers (state_of l.initial.self) (state_of l.self) × (l.fn.place < length l.self.seats.items)
 
 abbrev pub decreases-keys : goal.decreases-keys
-decreases-keys l = work_left l.plan (state_of l.self)
+decreases-keys l = steps_left l.plan (state_of l.self)
