@@ -3,8 +3,9 @@
 
 checks/schedules.py [SUITES] [SEED]   100 suites and the seed 1 where they are not given
   --program PATH                      another program than crates/console/out/console
-Each suite is made at random, and run by 2, 4 and 8 workers. Its steps are split off and replayed: none may
-be passed over, and the feeds have to be the same bytes. The last line is 'N passed, M failed': the runs.
+Each suite is made at random, and run by 2, 4 and 8 workers on threads, and then by --drive. Its steps are split
+off and replayed: none may be passed over, and the feeds have to be the same bytes. What --drive prints has to be the
+same a second time. The last line is 'N passed, M failed': the runs.
 """
 
 import argparse
@@ -66,10 +67,17 @@ class Schedules:
             raise Wrong(f"the replay ends in {counts.decode()!r} and not in {wanted!r}")
         if again != feed:
             raise Wrong("the replay has another feed")
+        return feed
 
-    def judge(self, what, words, suite):
+    def drive(self, words, suite):
+        """Runs a suite twice by the fixed schedule, and replays its steps."""
+        feed = self.replay(words, suite)
+        if self.text([*words, "--details", "testfeed"], suite) != feed:
+            raise Wrong("the second run has another feed")
+
+    def judge(self, what, look):
         try:
-            self.replay(words, suite)
+            look()
             self.passed += 1
         except (Wrong, Hangs) as why:
             self.failed += 1
@@ -82,7 +90,9 @@ class Schedules:
         suite = text_of(Maker(random).plan()).encode()
         for workers in WORKERS:
             words = settings(random, workers)
-            self.judge(f"suite {number} of seed {seed}, {workers} workers", words, suite)
+            what = f"suite {number} of seed {seed}, {workers} workers"
+            self.judge(what, lambda: self.replay(words, suite))
+            self.judge(f"{what}, driven", lambda: self.drive([*words, "--drive", str(workers)], suite))
 
 
 def main():

@@ -66,6 +66,7 @@ fn feed_options(alloc: Global) -> Options {
         fail_fast: false,
         schedule: false,
         replay: None,
+        drive: None,
     }
 }
 

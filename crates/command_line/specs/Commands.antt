@@ -64,11 +64,17 @@ printing = fold with_rule configuring (
     ∷ single (codes "details-theme")
     ∷ [])
 
--- the program and its options
-abbrev pub program : App
-program = fold with_rule printing (
+-- and those that say how it ends
+abbrev pub ending : App
+ending = fold with_rule printing (
     flag (codes "fail-if-no-tests")
     ∷ flag (codes "fail-fast")
-    ∷ flag (codes "schedule")
+    ∷ [])
+
+-- the program and its options: the others say which steps are told, and which are taken
+abbrev pub program : App
+program = fold with_rule ending (
+    flag (codes "schedule")
     ∷ single (codes "replay")
+    ∷ single (codes "drive")
     ∷ [])

@@ -9,9 +9,9 @@ ghost use Rattle.command_line.specs.Found.{exclusions_found, names_found, select
 use clap::ArgMatches;
 use launcher::Given;
 use launcher::option_names::{
-    CONFIG, DETAILS, DETAILS_THEME, EXCLUDE_CLASS, EXCLUDE_METHOD, EXCLUDE_NAME, EXCLUDE_PACKAGE,
-    EXCLUDE_TAG, EXCLUDE_UNIQUE_ID, FAIL_FAST, FAIL_IF_NO_TESTS, INCLUDE_NAME, INCLUDE_TAG,
-    PROCESSORS, REPLAY, RING, SCHEDULE, SELECT_CLASS, SELECT_METHOD, SELECT_PACKAGE,
+    CONFIG, DETAILS, DETAILS_THEME, DRIVE, EXCLUDE_CLASS, EXCLUDE_METHOD, EXCLUDE_NAME,
+    EXCLUDE_PACKAGE, EXCLUDE_TAG, EXCLUDE_UNIQUE_ID, FAIL_FAST, FAIL_IF_NO_TESTS, INCLUDE_NAME,
+    INCLUDE_TAG, PROCESSORS, REPLAY, RING, SCHEDULE, SELECT_CLASS, SELECT_METHOD, SELECT_PACKAGE,
     SELECT_UNIQUE_ID, SYSTEM, WORKERS,
 };
 use selectors::SelectorKind;
@@ -147,6 +147,7 @@ pub(crate) fn given_in<'a>(alloc: Global, matches: &ArgMatches<'a>) -> Result<Gi
         details: found(matches, DETAILS),
         theme: found(matches, DETAILS_THEME),
         replay: found(matches, REPLAY),
+        drive: found(matches, DRIVE),
         fail_if_no_tests: is_found(matches, FAIL_IF_NO_TESTS),
         fail_fast: is_found(matches, FAIL_FAST),
         schedule: is_found(matches, SCHEDULE),
@@ -171,6 +172,7 @@ pub(crate) fn nothing_given<'a>(alloc: Global) -> Given<'a>
         details: None,
         theme: None,
         replay: None,
+        drive: None,
         fail_if_no_tests: false,
         fail_fast: false,
         schedule: false,

@@ -3,13 +3,13 @@
 ghost use Rattle.std.specs.Prelude.{◌≡◌, IfOk, false};
 ghost use Rattle.clap.specs.Words.{app_of, rule_of, with_rule};
 ghost use Rattle.command_line.specs.Commands.{program, printing, configuring, filtering, selecting, single, repeated};
-ghost use Rattle.command_line.specs.Commands.{excluding, flag, naming};
+ghost use Rattle.command_line.specs.Commands.{ending, excluding, flag, naming};
 
 use clap::{Arg, ArgAction, Command};
 use launcher::option_names::{
-    CONFIG, DETAILS, DETAILS_THEME, EXCLUDE_CLASS, EXCLUDE_METHOD, EXCLUDE_NAME, EXCLUDE_PACKAGE,
-    EXCLUDE_TAG, EXCLUDE_UNIQUE_ID, FAIL_FAST, FAIL_IF_NO_TESTS, INCLUDE_NAME, INCLUDE_TAG,
-    PROCESSORS, REPLAY, RING, SCHEDULE, SELECT_CLASS, SELECT_METHOD, SELECT_PACKAGE,
+    CONFIG, DETAILS, DETAILS_THEME, DRIVE, EXCLUDE_CLASS, EXCLUDE_METHOD, EXCLUDE_NAME,
+    EXCLUDE_PACKAGE, EXCLUDE_TAG, EXCLUDE_UNIQUE_ID, FAIL_FAST, FAIL_IF_NO_TESTS, INCLUDE_NAME,
+    INCLUDE_TAG, PROCESSORS, REPLAY, RING, SCHEDULE, SELECT_CLASS, SELECT_METHOD, SELECT_PACKAGE,
     SELECT_UNIQUE_ID, SYSTEM, WORKERS,
 };
 use messages::Subject;
@@ -287,9 +287,9 @@ fn printing<'a>(alloc: Global, subject: Subject<'_>) -> Result<Command<'a>, Allo
     )
 }
 
-/// The program and its options, with the helps that they have where this is run.
-pub(crate) fn command<'a>(alloc: Global, subject: Subject<'_>) -> Result<Command<'a>, AllocError>
-    ensures { IfOk result (λ command. app_of command ≡ program) }
+/// The same, and the options that say how it ends.
+fn ending<'a>(alloc: Global, subject: Subject<'_>) -> Result<Command<'a>, AllocError>
+    ensures { IfOk result (λ command. app_of command ≡ ending) }
 {
     let command = printing(alloc, subject)?;
     let command = with(
@@ -300,14 +300,24 @@ pub(crate) fn command<'a>(alloc: Global, subject: Subject<'_>) -> Result<Command
             "Ends with status 2 where there is no test",
         ),
     )?;
-    let command = with(
+    with(
         command,
         flag(
             alloc,
             FAIL_FAST,
             "Starts nothing more once a node has failed",
         ),
-    )?;
+    )
+}
+
+/// Why a program's own tests have no option that speaks of steps.
+const IS_REFUSED: &str = "Is refused: what real tests answer nobody knows before they have run";
+
+/// The program and its options, with the helps that they have where this is run.
+pub(crate) fn command<'a>(alloc: Global, subject: Subject<'_>) -> Result<Command<'a>, AllocError>
+    ensures { IfOk result (λ command. app_of command ≡ program) }
+{
+    let command = ending(alloc, subject)?;
     let command = with(
         command,
         flag(
@@ -316,11 +326,11 @@ pub(crate) fn command<'a>(alloc: Global, subject: Subject<'_>) -> Result<Command
             help_by(
                 subject,
                 "Prints, behind a run, steps that --replay takes to just what happened",
-                "Is refused: what real tests answer nobody knows before they have run",
+                IS_REFUSED,
             ),
         ),
     )?;
-    with(
+    let command = with(
         command,
         single(
             alloc,
@@ -329,7 +339,20 @@ pub(crate) fn command<'a>(alloc: Global, subject: Subject<'_>) -> Result<Command
             help_by(
                 subject,
                 "Runs these steps in place of the schedule, as in \"w1:claim:0 w1:draw\"",
-                "Is refused: what real tests answer nobody knows before they have run",
+                IS_REFUSED,
+            ),
+        ),
+    )?;
+    with(
+        command,
+        single(
+            alloc,
+            DRIVE,
+            "N",
+            help_by(
+                subject,
+                "Runs by a fixed schedule of N workers, 1 to 64, without threads",
+                IS_REFUSED,
             ),
         ),
     )

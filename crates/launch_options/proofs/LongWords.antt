@@ -22,6 +22,7 @@ in_other_words given asked are number is = record {
   fail_fast = are.fail_fast;
   schedule = are.schedule;
   replay = are.replay;
+  drive = are.drive;
   selectors = are.selectors;
   names = are.names;
   exclusions = are.exclusions;

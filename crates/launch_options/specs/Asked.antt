@@ -22,13 +22,13 @@ use Rattle.launch_options.specs.declared.fault.LaunchFault.{LaunchFault}
 use Rattle.launch_options.specs.declared.fault.LaunchFault.TheVariants.{BadWords, BadStep, BadSelector, BadTags}
 use Rattle.step_text.specs.StepTexts.{steps_of}
 use Rattle.launch_options.specs.Given.{Text, Values}
-use Rattle.launch_options.specs.Parameters.{processors_named, ring_named, params_refusal}
+use Rattle.launch_options.specs.Parameters.{processors_named, ring_named, drive_named, params_refusal}
 use Rattle.launch_options.specs.Workers.{params_said, unless_twice, workers_asked}
 
 -- what is asked for: what is to run, with which parameters and how many processors, how many workers `--workers` has said, if it
 -- is given, how many events may be shown that are not told yet, what is printed and how, whether there have to be tests, whether
--- nothing more is to start once a node has failed, whether the steps of a run are to be printed, and the steps that are to be
--- replayed, if any are
+-- nothing more is to start once a node has failed, whether the steps of a run are to be printed, the steps that are to be
+-- replayed, if any are, and how many workers are to take those of the fixed schedule, if any are
 pub record Asked : Type 0 where
   pub request : Request
   pub params : Parameters
@@ -41,6 +41,7 @@ pub record Asked : Type 0 where
   pub fail_fast : Bool
   pub schedule : Bool
   pub replay : Option (List Step)
+  pub drive : Option ℕ
 
 -- options, without where they lie in memory
 abbrev pub asked_by : Options → Asked
@@ -56,6 +57,7 @@ asked_by options = record {
   fail_fast = options.fail_fast;
   schedule = options.schedule;
   replay = option_map (λ steps. steps.items) options.replay;
+  drive = options.drive;
 }
 
 -- what `--details` asks for: there are eight, and it is the tree where it is not given
@@ -184,14 +186,15 @@ texts_refusal given =
     option_or (tags_refusal given.include_tags) (
     tags_refusal given.exclude_tags)))
 
--- why what is asked for by a name or by a number is refused: other details, other themes, what is no number of processors, and
--- what is no size of the ring
+-- why what is asked for by a name or by a number is refused: other details, other themes, what is no number of processors, what is
+-- no size of the ring, and what is no number of workers of the fixed schedule
 abbrev pub names_refusal : Values → Option LaunchFault
 names_refusal given =
     option_or (unless_named (details_named given.details)) (
     option_or (unless_named (theme_named given.theme)) (
     option_or (unless_named (processors_named given.processors)) (
-    unless_named (ring_named given.ring))))
+    option_or (unless_named (ring_named given.ring)) (
+    unless_named (drive_named given.drive)))))
 
 -- why `--workers` is refused: for what is no number of workers, and where `--config` says one of its keys too
 abbrev pub workers_refusal : Values → Option LaunchFault
@@ -217,6 +220,7 @@ pub record AreAsked (given : Values) (asked : Asked) : Type 0 where
   pub fail_fast : asked.fail_fast ≡ given.fail_fast
   pub schedule : asked.schedule ≡ given.schedule
   pub replay : IsReplay given.replay asked.replay
+  pub drive : drive_named given.drive ≡ Some asked.drive
   pub selectors : asked.request.selectors.items ≡ filter_map spelled given.selectors
   pub names : asked.request.names.items ≡ filter_map spelled given.names
   pub exclusions : asked.request.exclusions.items ≡ filter_map spelled given.exclusions

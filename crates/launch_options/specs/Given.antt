@@ -23,6 +23,7 @@ pub record Values : Type 0 where
   pub details : Option Text
   pub theme : Option Text
   pub replay : Option Text
+  pub drive : Option Text
   pub fail_if_no_tests : Bool
   pub fail_fast : Bool
   pub schedule : Bool
@@ -55,6 +56,7 @@ values_of given = record {
   details = maybe_behind given.details;
   theme = maybe_behind given.theme;
   replay = maybe_behind given.replay;
+  drive = maybe_behind given.drive;
   fail_if_no_tests = given.fail_if_no_tests;
   fail_fast = given.fail_fast;
   schedule = given.schedule;

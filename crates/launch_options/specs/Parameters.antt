@@ -1,8 +1,9 @@
--- What `--processors` and `--ring` ask for, and why `--config` and `--system` ask for nothing.
-use Rattle.std.specs.Prelude.{ℕ, ◌+◌, ◌==◌, List, [], ◌∷◌, length, map, if◌then◌else◌, Option, Some, None, Result, Ok, Err}
+-- What `--processors`, `--ring` and `--drive` ask for, and why `--config` and `--system` ask for nothing.
+use Rattle.std.specs.Prelude.{ℕ, ◌+◌, ◌==◌, List, [], ◌∷◌, length, map, if◌then◌else◌, Option, Some, None, option_map, unwrap_or, Result, Ok, Err}
 use Rattle.std.specs.Option.{option_or}
 use Rattle.config_params.specs.Pairs.{Pair, key_of, value_of, pair_of}
 use Rattle.config_params.specs.declared.fault.ParamsFault.{ParamsFault}
+use Rattle.run_table.specs.Prepared.{IsRightCount}
 use Rattle.suite_text.specs.Numbers.{number_up_to}
 use Rattle.launch_options.specs.declared.fault.LaunchFault.{LaunchFault}
 use Rattle.launch_options.specs.declared.fault.LaunchFault.TheVariants.{BadPair}
@@ -30,6 +31,15 @@ processors_named text = number_named 1024 1 text
 -- what `--ring` asks for: 1 to 16,384, and 1,024 where it is not given
 abbrev pub ring_named : Option Text → Option ℕ
 ring_named text = number_named 16384 1024 text
+
+-- what `--drive` asks for: 1 to 64 workers, or, where it is not given, no number
+abbrev pub drive_named : Option Text → Option (Option ℕ)
+drive_named None = Some None
+drive_named (Some text) = option_map Some (number_named 64 64 (Some text))
+
+-- so many workers as there may be, as one is, where no number is asked for
+abbrev pub IsRightDrive : Option ℕ → Type 0
+IsRightDrive drive = IsRightCount (unwrap_or drive 1)
 
 -- the pairs of words that are cut at their first equals sign
 abbrev pub pairs_in : List Text → List Pair

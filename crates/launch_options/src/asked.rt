@@ -1,5 +1,6 @@
 //! The options of a run.
 
+ghost use Rattle.launch_options.specs.Parameters.{IsRightDrive};
 ghost use Rattle.launch_options.specs.Workers.{IsSpread};
 ghost use Rattle.run_table.specs.Prepared.{IsRightRing};
 
@@ -38,6 +39,10 @@ pub struct Options {
     /// The steps that are run in place of the fixed schedule. Then their text alone is printed,
     /// whatever the details are.
     pub replay: Option<Vec<Step>>,
+    /// How many workers run the plan by the fixed schedule, without threads, or take the steps of
+    /// `replay`, if any are to: from 1 to 64. They count in place of those of the configuration.
+    pub drive: Option<u32>,
     pub ghost right_ring: { IsRightRing ring },
+    pub ghost right_drive: { IsRightDrive drive },
     pub ghost is_spread: { IsSpread params workers spread },
 }

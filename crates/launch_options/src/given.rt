@@ -34,6 +34,8 @@ pub struct Given<'a> {
     pub theme: Option<&'a str>,
     /// `--replay`.
     pub replay: Option<&'a str>,
+    /// `--drive`.
+    pub drive: Option<&'a str>,
     /// `--fail-if-no-tests`.
     pub fail_if_no_tests: bool,
     /// `--fail-fast`.

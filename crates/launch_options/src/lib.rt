@@ -17,7 +17,7 @@ pub use asked::Options;
 pub use details::Details;
 pub use fault::{CutCause, CutOutput, LaunchFault, RefusedSelector};
 pub use given::Given;
-pub use parameters::{processors_named, ring_named};
+pub use parameters::{drive_named, processors_named, ring_named};
 pub use setting_keys::{key_judged, strategy_names};
 pub use themes::{theme_names, theme_of};
 pub use workers::{has_long_key, workers_named};

@@ -45,3 +45,5 @@ pub const FAIL_FAST: &str = "fail-fast";
 pub const SCHEDULE: &str = "schedule";
 
 pub const REPLAY: &str = "replay";
+
+pub const DRIVE: &str = "drive";

@@ -8,7 +8,7 @@ ghost use Rattle.launch_options.specs.Given.{behind, maybe_behind, texts_of, val
 ghost use Rattle.launch_options.specs.Asked.{asked_by, details_named as details_of_name, theme_named as theme_of_name};
 ghost use Rattle.launch_options.specs.Asked.{unless_named, IsReplay, refusal_of, AreAsked, spelled, IsExpression};
 ghost use Rattle.launch_options.specs.Asked.{AreExpressions, names_refusal, texts_refusal};
-ghost use Rattle.launch_options.specs.Parameters.{params_refusal};
+ghost use Rattle.launch_options.specs.Parameters.{drive_named as drive_of_name, IsRightDrive, params_refusal};
 ghost use Rattle.launch_options.specs.Parameters.{processors_named as processors_of_name, ring_named as ring_of_name};
 ghost use Rattle.launch_options.specs.Workers.{in_long_words, workers_asked};
 ghost use Rattle.run_table.specs.Prepared.{IsRightRing};
@@ -18,7 +18,7 @@ use crate::details::Details;
 use crate::fault::LaunchFault;
 use crate::given::Given;
 use crate::judged::judge_texts;
-use crate::parameters::{judge_params, params_given, processors_named, ring_named};
+use crate::parameters::{drive_named, judge_params, params_given, processors_named, ring_named};
 use crate::themes::theme_of;
 use crate::workers::{spread_given, workers_given};
 use config_params::Params;
@@ -141,9 +141,10 @@ struct Choices {
     theme: Theme,
     processors: u32,
     ring: u32,
+    drive: Option<u32>,
 }
 
-/// What `--details`, `--details-theme`, `--processors` and `--ring` ask for, judged in this order.
+/// What `--details`, `--details-theme`, `--processors`, `--ring` and `--drive` ask for, judged in this order.
 fn choices_of(given: &Given<'_>) -> Result<Choices, LaunchFault>
     ensures details { IfOk result (λ choices. details_of_name (maybe_behind given.now.details) ≡ Some choices.details) }
     ensures theme { IfOk result (λ choices. theme_of_name (maybe_behind given.now.theme) ≡ Some choices.theme) }
@@ -151,6 +152,8 @@ fn choices_of(given: &Given<'_>) -> Result<Choices, LaunchFault>
         ≡ Some choices.processors) }
     ensures ring { IfOk result (λ choices. ring_of_name (maybe_behind given.now.ring) ≡ Some choices.ring) }
     ensures right { IfOk result (λ choices. IsRightRing choices.ring) }
+    ensures drive { IfOk result (λ choices. drive_of_name (maybe_behind given.now.drive) ≡ Some choices.drive) }
+    ensures right_drive { IfOk result (λ choices. IsRightDrive choices.drive) }
     ensures accepted { IfOk result (λ _. names_refusal (values_of given.now) ≡ None) }
     ensures refused { IfErr result (λ fault. names_refusal (values_of given.now) ≡ Some fault) }
     ensures real { IfErr result (λ fault. fault ≢ NoMemory) }
@@ -160,6 +163,7 @@ fn choices_of(given: &Given<'_>) -> Result<Choices, LaunchFault>
         theme: theme_named(given.theme)?,
         processors: processors_named(given.processors)?,
         ring: ring_named(given.ring)?,
+        drive: drive_named(given.drive)?,
     })
 }
 
@@ -187,6 +191,8 @@ fn options_of(
     requires processors { processors_of_name (maybe_behind given.now.processors) ≡ Some choices.processors }
     requires ring { ring_of_name (maybe_behind given.now.ring) ≡ Some choices.ring }
     requires right { IsRightRing choices.ring }
+    requires drive { drive_of_name (maybe_behind given.now.drive) ≡ Some choices.drive }
+    requires right_drive { IsRightDrive choices.drive }
     requires workers { workers_asked (values_of given.now) ≡ Some workers }
     ensures asked { IfOk result (λ options. AreAsked (values_of given.now) (asked_by options)) }
 {
@@ -208,14 +214,16 @@ fn options_of(
         fail_fast: given.fail_fast,
         schedule: given.schedule,
         replay,
+        drive: choices.drive,
     })
 }
 
 impl Options {
     /// The options that these values ask for. Details and themes that are none of ours are refusal
     /// 105, and so is what is no number of processors from 1 to 1,024, what is no number of places of
-    /// the ring from 1 to 16,384, and what is no number of workers from 1 to 64 and not `auto`, or
-    /// stands beside one of its keys in `--config`; then a word in the text of `--replay` that names no
+    /// the ring from 1 to 16,384, what is no number of workers of the fixed schedule from 1 to 64, and
+    /// what is no number of workers from 1 to 64 and not `auto`, or stands beside one of its keys in
+    /// `--config`; then a word in the text of `--replay` that names no
     /// step is refusal 104, at its number; then a text that spells no selector is refusal 40, and an
     /// empty pattern of names refusal 43, at its number; then an expression of `--include-tag`, and then of `--exclude-tag`,
     /// is one of 20 to 26, at a place in it; then a word of `--config` or `--system` that has no

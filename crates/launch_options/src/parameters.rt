@@ -1,4 +1,4 @@
-//! What `--config`, `--system`, `--processors` and `--ring` ask for, and with `--config` `--workers`.
+//! What `--config`, `--system`, `--processors`, `--ring` and `--drive` ask for, and with `--config` `--workers`.
 
 ghost use Rattle.std.specs.Prelude.{◌≡◌, ◌≢◌, ◌+◌, ◌++◌, ◌^◌, ◌<◌, ◌≤◌, Some, None, fold, length, IfOk, IfErr, OnOk};
 ghost use Rattle.config_params.specs.Pairs.{key_of, value_of};
@@ -8,6 +8,7 @@ ghost use Rattle.launch_options.specs.Asked.{unless_named};
 ghost use Rattle.launch_options.specs.Given.{behind, maybe_behind, values_of};
 ghost use Rattle.launch_options.specs.Parameters.{without_plus, number_named as number_of_name};
 ghost use Rattle.launch_options.specs.Parameters.{processors_named as processors_of_name, ring_named as ring_of_name};
+ghost use Rattle.launch_options.specs.Parameters.{drive_named as drive_of_name, IsRightDrive};
 ghost use Rattle.launch_options.specs.Parameters.{pairs_in, pairs_refusal, params_refusal};
 ghost use Rattle.launch_options.specs.Workers.{params_said, words_for};
 ghost use Rattle.run_table.specs.Prepared.{IsRightRing};
@@ -30,6 +31,9 @@ const MOST_PLACES: u32 = 16_384;
 
 /// The number of places of the ring where none is asked for.
 const USUAL_PLACES: u32 = 1024;
+
+/// The greatest number of workers of the fixed schedule.
+const MOST_DRIVEN: u32 = 64;
 
 /// The text without the plus that it may begin with.
 fn without_plus(text: &str) -> &str
@@ -79,6 +83,18 @@ pub fn ring_named(text: Option<&str>) -> Result<u32, LaunchFault>
     ensures right { IfOk result IsRightRing }
 {
     number_named(MOST_PLACES, USUAL_PLACES, text)
+}
+
+/// What `--drive` asks for, if it is given.
+pub fn drive_named(text: Option<&str>) -> Result<Option<u32>, LaunchFault>
+    ensures named { IfOk result (λ drive. drive_of_name (maybe_behind text.entry) ≡ Some drive) }
+    ensures refused { IfErr result (λ fault. unless_named (drive_of_name (maybe_behind text.entry)) ≡ Some fault) }
+    ensures right { IfOk result IsRightDrive }
+{
+    match text {
+        Some(text) => Ok(Some(number_named(MOST_DRIVEN, MOST_DRIVEN, Some(text))?)),
+        None => Ok(None),
+    }
 }
 
 /// Judges words, which stand behind so many others: each says a pair.

@@ -1,5 +1,6 @@
 pub mod Answered
 pub mod BrokenOff
+pub mod Driving
 pub mod JobsRan
 pub mod Launching
 pub mod Noting

@@ -61,13 +61,13 @@ module _ {B : Type 0} (answers : B → List Reply) (Behind : List Event → List
 pub jobs_feed_runs : (asked : Asked) → HasLiveFeed asked → is_run None asked.details ≡ true
 jobs_feed_runs asked lines = lines_run asked.details lines.0
 
-no_replay : (schedule : Bool) (replay : Option (List Step)) → steps_refusal schedule replay ≡ None → replay ≡ None
-no_replay true replay none = absurd (none-some BadWords (sym none))
-no_replay false None none = refl
-no_replay false (Some steps) none = absurd (none-some BadWords (sym none))
+no_replay : (schedule : Bool) (replay : Option (List Step)) (drive : Option ℕ) → steps_refusal schedule replay drive ≡ None → replay ≡ None
+no_replay true replay drive none = absurd (none-some BadWords (sym none))
+no_replay false None drive none = refl
+no_replay false (Some steps) drive none = absurd (none-some BadWords (sym none))
 
 -- a program whose steps are not asked for
-module _ (asked : Asked) (parts : SuiteParts) (no_steps : steps_refusal asked.schedule asked.replay ≡ None) where
+module _ (asked : Asked) (parts : SuiteParts) (no_steps : steps_refusal asked.schedule asked.replay asked.drive ≡ None) where
   -- is refused as a suite is
   same_refusal : program_refusal asked parts ≡ run_refusal asked parts
   same_refusal = ap (λ o. option_or o (run_refusal asked parts)) no_steps
@@ -84,7 +84,7 @@ module _ (asked : Asked) (parts : SuiteParts) (no_steps : steps_refusal asked.sc
   fails_as (NothingMatches n) x = same_refusal ∙ x
   fails_as TooManyKeys x = same_refusal ∙ x
   fails_as TooManyWorkers x = same_refusal ∙ x
-  fails_as NoWorker x = (same_refusal ∙ x.0, sym (ap (λ r. is_run r asked.details) (no_replay asked.schedule asked.replay no_steps)) ∙ x.1)
+  fails_as NoWorker x = (same_refusal ∙ x.0, sym (ap (λ r. is_run r asked.details) (no_replay asked.schedule asked.replay asked.drive no_steps)) ∙ x.1)
   fails_as Reading x = absurd x
   fails_as (Writing f) x = absurd x
 
@@ -99,7 +99,7 @@ module _ (asked : Asked) (parts : SuiteParts) (no_steps : steps_refusal asked.sc
 
 module _ (asked : Asked) (parts : SuiteParts) where
   -- steps are asked for
-  pub steps_fail : {X : Type 0} (fault : LaunchFault) (result : Result X LaunchFault) → IsErrAnd result (λ e. e ≡ fault) → fault ≡ BadWords → steps_refusal asked.schedule asked.replay ≡ Some fault → IfErr result (FailsProgram asked parts)
+  pub steps_fail : {X : Type 0} (fault : LaunchFault) (result : Result X LaunchFault) → IsErrAnd result (λ e. e ≡ fault) → fault ≡ BadWords → steps_refusal asked.schedule asked.replay asked.drive ≡ Some fault → IfErr result (FailsProgram asked parts)
   steps_fail fault (Ok x) is words why = absurd is
   steps_fail fault (Err e) is words why = rw is (rw words (ap (λ o. option_or o (run_refusal asked parts)) why ∙ ap Some words))
 
@@ -144,16 +144,16 @@ module _ (asked : Asked) (parts : SuiteParts) where
     pub unseen_run : (result : Result ExitStatus LaunchFault) → IsSeenProgramRun answers asked parts jobs saw first now old new result → IsProgramRun answers asked parts jobs old new result
     unseen_run result is = answered_as asked Selects (IsSelectedOutput answers asked parts jobs) Refuses (FailsProgram asked parts) unseen (λ fault fails. fails.0) old new result is
 
-no_schedule : (schedule : Bool) (replay : Option (List Step)) → steps_refusal schedule replay ≡ None → schedule ≡ false
-no_schedule true replay none = absurd (none-some BadWords (sym none))
-no_schedule false replay none = refl
+no_schedule : (schedule : Bool) (replay : Option (List Step)) (drive : Option ℕ) → steps_refusal schedule replay drive ≡ None → schedule ≡ false
+no_schedule true replay drive none = absurd (none-some BadWords (sym none))
+no_schedule false replay drive none = refl
 
 pub planned_memory : (asked : Asked) (parts : SuiteParts) (settings : Settings) (p : PlanParts) → IsReady asked parts settings p [] → (result : Result ExitStatus LaunchFault) → IfErr result (λ fault. fault ≡ NoMemory → TakesMemory asked parts)
 planned_memory asked parts settings p ready (Ok status) = tt
 planned_memory asked parts settings p ready (Err fault) = λ same. ready_takes asked parts settings p [] ready
 
 module _ {B L : Type 0} (answers : B → List Reply) (asked : Asked) (parts : SuiteParts) (jobs : List (ℕ × B)) (saw : PlanParts → L → L → List Telling → Type 0) (first now : L) (settings : Settings) (p : PlanParts) (ready : IsReady asked parts settings p [])
-    (no_steps : steps_refusal asked.schedule asked.replay ≡ None) where
+    (no_steps : steps_refusal asked.schedule asked.replay asked.drive ≡ None) where
   abbrev Shows : List ℕ → ExitStatus → Type 0
   Shows = IsSeenProgram answers (IsBehindDetails asked.details asked.schedule settings.workers p []) saw first now asked settings p jobs
 
@@ -162,7 +162,7 @@ module _ {B L : Type 0} (answers : B → List Reply) (asked : Asked) (parts : Su
 
   -- nothing stands behind, since no schedule is asked for
   bare : (text : List ℕ) (status : ExitStatus) → Shows text status → IsSeenProgram answers NothingBehind saw first now asked settings p jobs text status
-  bare text status = subst (λ (b : Bool). IsSeenProgram answers (IsBehindDetails asked.details b settings.workers p []) saw first now asked settings p jobs text status) (no_schedule asked.schedule asked.replay no_steps)
+  bare text status = subst (λ (b : Bool). IsSeenProgram answers (IsBehindDetails asked.details b settings.workers p []) saw first now asked settings p jobs text status) (no_schedule asked.schedule asked.replay asked.drive no_steps)
 
   accepted : program_refusal asked parts ≡ None
   accepted = same_refusal asked parts no_steps ∙ ready.accepted

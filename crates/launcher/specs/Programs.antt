@@ -118,20 +118,21 @@ module _ {B : Type 0} (answers : B → List Reply) (Behind : List Event → List
 abbrev pub program_parts : Nodes → Parameters → SuiteParts
 program_parts tree properties = record { tree = tree; scripts = []; properties = properties }
 
--- why steps are refused that are to be printed or replayed: nobody knows beforehand what the jobs answer
-abbrev pub steps_refusal : (schedule : Bool) (replay : Option (List Step)) → Option LaunchFault
-steps_refusal true replay = Some BadWords
-steps_refusal false (Some steps) = Some BadWords
-steps_refusal false None = None
+-- why steps are refused that are to be printed, replayed, or those of the fixed schedule: nobody knows beforehand what the jobs answer
+abbrev pub steps_refusal : (schedule : Bool) (replay : Option (List Step)) (drive : Option ℕ) → Option LaunchFault
+steps_refusal true replay drive = Some BadWords
+steps_refusal false (Some steps) drive = Some BadWords
+steps_refusal false None (Some workers) = Some BadWords
+steps_refusal false None None = None
 
 -- why a program is not run: that steps are asked for, and then what a suite is refused for
 abbrev pub program_refusal : Asked → SuiteParts → Option LaunchFault
-program_refusal asked parts = option_or (steps_refusal asked.schedule asked.replay) (run_refusal asked parts)
+program_refusal asked parts = option_or (steps_refusal asked.schedule asked.replay asked.drive) (run_refusal asked parts)
 
 -- a program is refused by its first refusal, and want of memory stands in place of none that is judged before; where nothing refuses
 -- it there may be no thread to run it
 abbrev pub FailsProgram : Asked → SuiteParts → LaunchFault → Type 0
-FailsProgram asked parts NoMemory = (steps_refusal asked.schedule asked.replay ≡ None) × TakesMemory asked parts
+FailsProgram asked parts NoMemory = (steps_refusal asked.schedule asked.replay asked.drive ≡ None) × TakesMemory asked parts
 FailsProgram asked parts BadWords = program_refusal asked parts ≡ Some BadWords
 FailsProgram asked parts (BadSettings fault) = program_refusal asked parts ≡ Some (BadSettings fault)
 FailsProgram asked parts (NothingMatches number) = program_refusal asked parts ≡ Some (NothingMatches number)

@@ -33,10 +33,20 @@ use Rattle.listeners.specs.Listeners.{Telling}
 use Rattle.launcher.specs.Reports.{IsOutput, IsPrintedRun}
 use Rattle.launcher.specs.Watched.{IsAnswered, LacksBy, SeesRefusal, SeesTextBy, is_run}
 
+-- settings with so many workers in place of theirs, if a number is asked for
+abbrev pub with_workers : Option ℕ → Settings → Settings
+with_workers None settings = settings
+with_workers (Some workers) settings = record settings { workers = workers }
+
+-- the same where there are settings
+abbrev pub driven_by : Option ℕ → Result Settings SettingsFault → Result Settings SettingsFault
+driven_by drive (Ok settings) = Ok (with_workers drive settings)
+driven_by drive (Err fault) = Err fault
+
 -- the settings of a run: what the options say of a key stands over what the suite says of it, and with `--workers` nodes are
--- concurrent where neither says what they are
+-- concurrent where neither says what they are; with `--drive` there are as many workers as it asks for
 abbrev pub settings_in : Asked → SuiteParts → Result Settings SettingsFault
-settings_in asked suite = settings_of (answer_with asked.workers asked.params suite.properties) asked.processors
+settings_in asked suite = driven_by asked.drive (settings_of (answer_with asked.workers asked.params suite.properties) asked.processors)
 
 -- the plan of a tree: each node has the mode that the settings give it, locks are held by the nodes that they are hoisted to,
 -- and it fails fast or does not

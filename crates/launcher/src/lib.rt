@@ -4,6 +4,7 @@
 
 mod bytes;
 mod closing;
+mod driven;
 mod exit_status;
 mod program;
 mod replay;

@@ -54,18 +54,21 @@ struct PlannedProgram {
     head: String,
 }
 
-/// Refused is that steps are to be printed or replayed (105).
+/// Refused is that steps are to be printed or replayed, or that they are to be those of the fixed schedule (105).
 fn refuse_steps(options: &Options) -> Result<(), LaunchFault>
-    ensures accepted { IfOk result (λ _. steps_refusal options.now.schedule (asked_by options.now).replay ≡ None) }
+    ensures accepted { IfOk result (λ _. steps_refusal options.now.schedule (asked_by options.now).replay options.now.drive ≡ None) }
     ensures refused { IfErr result (λ fault. (fault ≡ LaunchFault.BadWords)
-        × (steps_refusal options.now.schedule (asked_by options.now).replay ≡ Some fault)) }
+        × (steps_refusal options.now.schedule (asked_by options.now).replay options.now.drive ≡ Some fault)) }
 {
     if options.schedule {
         return Err(LaunchFault::BadWords);
     }
     match &options.replay {
         Some(_) => Err(LaunchFault::BadWords),
-        None => Ok(()),
+        None => match options.drive {
+            Some(_) => Err(LaunchFault::BadWords),
+            None => Ok(()),
+        },
     }
 }
 
@@ -76,7 +79,7 @@ fn planned_program(
     properties: Params,
     tree: Tree,
 ) -> Result<PlannedProgram, LaunchFault>
-    ensures steps { IfOk result (λ _. steps_refusal options.now.schedule (asked_by options.now).replay ≡ None) }
+    ensures steps { IfOk result (λ _. steps_refusal options.now.schedule (asked_by options.now).replay options.now.drive ≡ None) }
     ensures ready { IfOk result (λ planned. IsReady (asked_by options.now) (program_parts tree properties)
         planned.settings planned.plan []) }
     ensures head { IfOk result (λ planned. string_bytes planned.head ≡ head_of options.now.details planned.settings.warnings) }
@@ -171,8 +174,8 @@ fn run_planned<B: Job + Send, T: Threads + Wait + Sync, W: Write, V: Watcher>(
 }
 
 /// Runs what the request selects of a program's jobs, as `run_suite_watched` does those of a suite, and writes
-/// the same of it. First of all it is refused that steps are to be printed or replayed (105): nobody
-/// knows beforehand what the jobs answer. Then what a suite is refused for: what gives no settings
+/// the same of it. First of all it is refused that steps are to be printed or replayed, or that they
+/// are to be those of the fixed schedule (105): nobody knows beforehand what the jobs answer. Then what a suite is refused for: what gives no settings
 /// (34, 32, 33) and a selector that covers nothing (41), which are judged before any memory is
 /// taken; more than 256 keys (50), more than 64 workers (61), that no thread could be started (90),
 /// and an output of which the writer has only the first bytes (81). On any refusal but 81 nothing

@@ -21,6 +21,7 @@ ghost use Rattle.run_table.specs.Prepared.{HasAllJobs};
 ghost use Rattle.worker_pool.specs.Premises.{JobsMayAnswer};
 ghost use Rattle.worker_pool.specs.Reports.{run_of};
 
+use crate::driven::drive_report;
 use crate::exit_status::ExitStatus;
 use crate::replay::{ReplayCounts, push_replay_line};
 use crate::schedule_line::behind_details;
@@ -168,6 +169,43 @@ fn unrun(cause: RunCause) -> LaunchFault
     }
 }
 
+/// The report of this history, with its schedule if one is asked for.
+pub(crate) fn told_report(
+    alloc: Global,
+    options: &Options,
+    settings: &Settings,
+    plan: &Plan,
+    answers: &Answers,
+    history: &[Event],
+    texts: &Texts,
+) -> Result<Output, AllocError>
+    ensures text { IfOk result (λ report. (schedule : List ℕ) × IsBehindDetails options.now.details options.now.schedule
+        settings.now.workers plan.now answers.now history.now schedule
+        × (string_bytes report.text ≡ head_of options.now.details settings.now.warnings
+        ++ (details_of options.now.details options.now.theme plan.now texts.now history.now ++ schedule))) }
+    ensures status { IfOk result (λ report. report.status ≡ status_of_run options.now.fail_if_no_tests
+        (tests_found plan.now history.now) (has_failed plan.now history.now)) }
+{
+    let schedule = behind_details(
+        alloc,
+        options.details,
+        options.schedule,
+        plan,
+        answers,
+        settings.workers,
+        history,
+    )?;
+    history_report(
+        alloc,
+        options,
+        settings.warnings,
+        plan,
+        texts,
+        history,
+        schedule.as_str(),
+    )
+}
+
 /// The report of a run that is over.
 fn ended_report<B: Job>(
     alloc: Global,
@@ -185,23 +223,8 @@ fn ended_report<B: Job>(
         (tests_found ran.now.plan ran.now.events.items) (has_failed ran.now.plan ran.now.events.items)) }
 {
     let history = ran.events.as_slice();
-    let schedule = behind_details(
-        alloc,
-        options.details,
-        options.schedule,
-        &ran.plan,
-        answers,
-        settings.workers,
-        history,
-    )?;
-    history_report(
-        alloc,
-        options,
-        settings.warnings,
-        &ran.plan,
-        &ran.texts,
-        history,
-        schedule.as_str(),
+    told_report(
+        alloc, options, settings, &ran.plan, answers, history, &ran.texts,
     )
 }
 
@@ -291,6 +314,34 @@ fn run_report<T: Threads + Wait + Sync, V: Watcher>(
     ran_report(rt, alloc, options, settings, plan, jobs, answers, watcher)
 }
 
+/// The report of a run of what the suite says: with `--drive` by the fixed schedule, and else on threads; on threads
+/// also where a dynamic test holds a key, which none of a suite's text does, since no schedule is known to end that.
+fn suite_report<T: Threads + Wait + Sync, V: Watcher>(
+    rt: &T,
+    alloc: Global,
+    options: &Options,
+    settings: &Settings,
+    plan: Plan,
+    answers: &Answers,
+    spins: &[u32],
+    watcher: &mut V,
+) -> Result<Output, LaunchFault>
+    requires some { 1 ≤ settings.now.workers }
+    requires few { settings.now.workers ≤ 64 }
+    requires guarded { IsGuarded (declared_of plan.tree) plan }
+    ensures output { IfOk result (λ report. IsRunOutput (asked_by options.now) settings.now plan answers.now
+        (string_bytes report.text) report.status) }
+    ensures watched { Watches V.saw (IsPrintedRun (asked_by options.now) settings.now plan answers.now) plan
+        watcher.old watcher.new result }
+    ensures refused { IfErr result LacksMeans }
+{
+    if options.drive.is_some() && plan.has_free_spares() {
+        drive_report(alloc, options, settings, &plan, answers, watcher)
+    } else {
+        run_report(rt, alloc, options, settings, plan, answers, spins, watcher)
+    }
+}
+
 /// The report of these steps, taken by so many workers.
 fn replay_report(
     alloc: Global,
@@ -377,7 +428,7 @@ fn plan_report<T: Threads + Wait + Sync, V: Watcher>(
         | Details::Tree
         | Details::Testfeed
         | Details::Json
-        | Details::Xml => run_report(rt, alloc, options, settings, plan, answers, spins, watcher),
+        | Details::Xml => suite_report(rt, alloc, options, settings, plan, answers, spins, watcher),
     }
 }
 

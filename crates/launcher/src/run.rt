@@ -12,7 +12,7 @@ ghost use Rattle.suite_text.specs.Suites.{suite_parts};
 ghost use Rattle.launcher.specs.Runs.{IsReady, IsRun, IsSuiteRun, IsUnrun, FailsSuite, ReadsSuite, TakesFrom};
 ghost use Rattle.launcher.specs.Runs.{IsSeenOutput, IsSeenRun, IsSeenSuiteRun};
 ghost use Rattle.launcher.specs.Runs.{TakesMemory, answers_of as answers_in, fault_in, is_writing};
-ghost use Rattle.launcher.specs.Runs.{plan_of as plan_in, plan_refusal, selection_refusal, workers_refusal};
+ghost use Rattle.launcher.specs.Runs.{driven_by, plan_of as plan_in, plan_refusal, selection_refusal, workers_refusal};
 ghost use Rattle.resource_locks.specs.Declarations.{declared_of};
 ghost use Rattle.resource_locks.specs.Hoisted.{IsGuarded};
 ghost use Rattle.selectors.specs.Selections.{answer};
@@ -125,17 +125,34 @@ struct ReadyRun {
     spins: Vec<u32>,
 }
 
-/// The settings of a run whose suite, or whose program, has these properties.
-pub(crate) fn settings_over(
-    options: &Options,
-    properties: Params,
-) -> Result<Settings, SettingsFault>
+/// The settings of the configuration where a suite, or a program, has these properties.
+fn settings_read(options: &Options, properties: Params) -> Result<Settings, SettingsFault>
     ensures exact { result ≡ settings_of (answer_with options.now.workers options.now.params properties)
         options.now.processors }
     ensures some { IfOk result (λ settings. 1 ≤ settings.workers) }
 {
     let over = options.params_over(&properties);
     Settings::read_over(over, &properties, options.processors)
+}
+
+/// The settings of a run whose suite, or whose program, has these properties; with `--drive` as many
+/// workers count as it asks for.
+pub(crate) fn settings_over(
+    options: &Options,
+    properties: Params,
+) -> Result<Settings, SettingsFault>
+    ensures exact { result ≡ driven_by options.now.drive
+        (settings_of (answer_with options.now.workers options.now.params properties) options.now.processors) }
+    ensures some { IfOk result (λ settings. 1 ≤ settings.workers) }
+{
+    let settings = settings_read(options, properties)?;
+    match options.drive {
+        Some(workers) => Ok(Settings {
+            workers,
+            ..settings
+        }),
+        None => Ok(settings),
+    }
 }
 
 /// The plan that `plan_of` makes, for so many workers as may run it.
@@ -337,7 +354,8 @@ fn run_ready<T: Threads + Wait + Sync, W: Write, V: Watcher>(
 }
 
 /// Runs what the request selects of a suite with its settings, on as many threads as these have
-/// workers, or by the steps of a replay, and writes what the options ask for: the lines of events
+/// workers, by the fixed schedule of as many workers as are asked for, or by the steps of a replay,
+/// and writes what the options ask for: the lines of events
 /// while the run goes on, and all else when it is over. Refused are, in this order, what gives no
 /// settings (34, 32, 33) and a selector that covers nothing (41), which are judged before any
 /// memory is taken; more than 256 keys (50), more than 64 workers (61), that no thread could be

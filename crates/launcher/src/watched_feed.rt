@@ -51,7 +51,7 @@ impl<'w, 'v, W: Write, V: Watcher> WatchedFeed<'w, 'v, W, V> {
 }
 
 /// Shows a watcher this event of the plan.
-fn show<V: Watcher>(watcher: &mut V, plan: &Plan, texts: &Texts, event: Event)
+pub(crate) fn show<V: Watcher>(watcher: &mut V, plan: &Plan, texts: &Texts, event: Event)
     ensures { HasSeenMore V.saw plan.now (telling texts.now event ∷ []) watcher.old watcher.new }
 {
     watcher.watch(plan, texts, event);

@@ -11,11 +11,11 @@ use crate::options::{exclusion_of, form_of, option_of, pair_option};
 use crate::subject::Subject;
 use config_params::ParamsFault;
 use launch_options::option_names::{
-    CONFIG, DETAILS, DETAILS_THEME, EXCLUDE_TAG, INCLUDE_TAG, PROCESSORS, REPLAY, RING, SCHEDULE,
-    WORKERS,
+    CONFIG, DETAILS, DETAILS_THEME, DRIVE, EXCLUDE_TAG, INCLUDE_TAG, PROCESSORS, REPLAY, RING,
+    SCHEDULE, WORKERS,
 };
 use launch_options::{
-    Details, Given, has_long_key, processors_named, ring_named, theme_names, theme_of,
+    Details, Given, drive_named, has_long_key, processors_named, ring_named, theme_names, theme_of,
     workers_named,
 };
 use selectors::SelectorKind;
@@ -90,7 +90,7 @@ fn push_workers(
 }
 
 /// Appends which of the values that stand for something is none: what `--details`, then `--details-theme`, then
-/// `--processors`, then `--ring`, and then `--workers` may be.
+/// `--processors`, then `--ring`, then `--drive`, and then `--workers` may be.
 pub(crate) fn push_words(
     alloc: Global,
     text: &mut String,
@@ -116,6 +116,11 @@ pub(crate) fn push_words(
             return push_range(alloc, text, RING, number, "16,384");
         }
     }
+    if let Some(number) = given.drive {
+        if drive_named(given.drive).is_err() {
+            return push_range(alloc, text, DRIVE, number, "64");
+        }
+    }
     match given.workers {
         Some(value) => push_workers(alloc, text, value, given),
         None => Ok(()),
@@ -124,7 +129,13 @@ pub(crate) fn push_words(
 
 /// Appends which option asks for the steps of a run whose bodies nobody has scripted.
 pub(crate) fn push_step_option(text: &mut String, given: &Given<'_>) -> Result<(), AllocError> {
-    let option = if given.schedule { SCHEDULE } else { REPLAY };
+    let option = if given.schedule {
+        SCHEDULE
+    } else if given.replay.is_some() {
+        REPLAY
+    } else {
+        DRIVE
+    };
     write!(
         text,
         "--{option} is for suites alone: what real tests answer nobody knows before they have run\n"
