@@ -1,12 +1,16 @@
 //! The text of a suite's bytes.
 
-/// The lines of a suite's bytes before the first that is no text, and whether all are text.
+use suite_text::without_mark;
+
+/// The lines of a suite's bytes before the first that is no text, without a byte order mark, and
+/// whether all are text.
 pub(crate) fn text_of(bytes: &[u8]) -> (&str, bool) {
     match std::str::from_utf8(bytes) {
-        Ok(text) => (text, true),
+        Ok(text) => (without_mark(text), true),
         Err(fault) => {
             let front = bytes.get(..fault.valid_up_to()).unwrap_or(&[]);
-            (std::str::from_utf8(front).unwrap_or(""), false)
+            let front = std::str::from_utf8(front).unwrap_or("");
+            (without_mark(front), false)
         }
     }
 }

@@ -10,5 +10,5 @@ pub use number::{is_number, number_up_to};
 pub use script::Script;
 pub use suite::{
     Attribute, LONGEST_SPIN, LONGEST_SUITE, LineWord, MOST_PULLS, Suite, SuiteFault, Verdict, Word,
-    key_and_mode, key_and_value,
+    key_and_mode, key_and_value, without_mark,
 };

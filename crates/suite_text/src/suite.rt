@@ -6,7 +6,7 @@ ghost use Rattle.std.specs.Str.Lines.{lines};
 ghost use Rattle.descriptor.specs.Nodes.{IsTree};
 ghost use Rattle.resource_locks.specs.Spares.{HasBareSpares};
 ghost use Rattle.suite_text.specs.Kinds.{words_of, AreNodesOf, IsKind, HasBodies};
-ghost use Rattle.suite_text.specs.Reading.Bytes.{suite_read};
+ghost use Rattle.suite_text.specs.Reading.Bytes.{suite_read, without_mark};
 ghost use Rattle.suite_text.specs.Reading.Faults.{Gives};
 ghost use Rattle.suite_text.specs.Reading.Ids.{IdsFollow};
 ghost use Rattle.suite_text.specs.Reading.Judged.{MayRunOut};
@@ -23,6 +23,7 @@ mod first_line;
 mod line_word;
 mod lines;
 mod locks;
+mod order_mark;
 mod properties;
 mod pulls;
 mod spins;
@@ -39,6 +40,7 @@ use first_line::judge_first;
 pub use line_word::LineWord;
 use lines::lines_in;
 pub use locks::key_and_mode;
+pub use order_mark::without_mark;
 pub use spins::key_and_value;
 use std::alloc::Global;
 pub use verdicts::Verdict;
@@ -100,13 +102,13 @@ fn suite_of_bytes(alloc: Global, bytes: &[u8]) -> Result<Suite, SuiteFault>
     ensures exact { Gives suite_parts result (suite_read bytes.now) }
     ensures tree { IfOk result (λ suite. IsTree suite.tree) }
     ensures no_memory { IfErr result (λ fault. fault ≡ SuiteFault.NoMemory → (length bytes.now ≤ 1048576)
-        × IsUtf8 bytes.now × MayRunOut 1 no_lines (lines bytes.now)) }
+        × IsUtf8 bytes.now × MayRunOut 1 no_lines (lines (without_mark bytes.now))) }
 {
     if bytes.len() > LONGEST_SUITE {
         return Err(SuiteFault::TooLarge);
     }
     match std::str::from_utf8(bytes) {
-        Ok(text) => suite_in(alloc, text),
+        Ok(text) => suite_in(alloc, without_mark(text)),
         Err(fault) => {
             let line = line_after(&bytes[..fault.valid_up_to()]);
             Err(SuiteFault::BadLine(line))
@@ -158,19 +160,20 @@ impl Suite {
         suite_in(alloc, text)
     }
 
-    /// The suite that these bytes are. Refusals: 103 for more than 1,048,576 of them, then 100 at
-    /// the line of the first byte that is not UTF-8, else those of `parse`.
+    /// The suite that these bytes are; a byte order mark in front, U+FEFF, is passed over. Refusals:
+    /// 103 for more than 1,048,576 of them, the mark's too, then 100 at the line of the first byte
+    /// that is not UTF-8, else those of `parse`.
     pub fn read(alloc: Global, bytes: &[u8]) -> Result<Suite, SuiteFault>
         ensures exact { Gives suite_parts result (suite_read bytes.now) }
-        // Bytes that may be written for a suite are read as that suite.
-        ensures reads_back { IsUtf8 bytes.now → (suite : SuiteParts) → IsSuite bytes.now suite →
-            Gives suite_parts result (Ok suite) }
+        // Bytes that may be written for a suite, behind a byte order mark or none, are read as that suite.
+        ensures reads_back { IsUtf8 bytes.now → length bytes.now ≤ 1048576 → (suite : SuiteParts) →
+            IsSuite (without_mark bytes.now) suite → Gives suite_parts result (Ok suite) }
         // And no other bytes are read.
-        ensures written { IfOk result (λ suite. IsSuite bytes.now (suite_parts suite)) }
+        ensures written { IfOk result (λ suite. IsSuite (without_mark bytes.now) (suite_parts suite)) }
         ensures bare { IfOk result (λ suite. HasBareSpares suite.tree) }
         // Memory is taken only for bytes that are a text, not too large a one, and as `parse` takes it.
         ensures no_memory { IfErr result (λ fault. fault ≡ SuiteFault.NoMemory → (length bytes.now ≤ 1048576)
-            × IsUtf8 bytes.now × MayRunOut 1 no_lines (lines bytes.now)) }
+            × IsUtf8 bytes.now × MayRunOut 1 no_lines (lines (without_mark bytes.now))) }
     {
         suite_of_bytes(alloc, bytes)
     }

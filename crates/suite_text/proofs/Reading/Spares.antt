@@ -26,7 +26,7 @@ use Rattle.suite_text.specs.Words.{words_in}
 use Rattle.suite_text.specs.Suites.{with_declared, with_declaration, with_words_on, is_property_in, with_pair, with_properties, with_line, suite_from, suite_of, suite_parts}
 use Rattle.suite_text.specs.Reading.After.{is_after, class_of, after_said, after_body, with_after_body, given_after_body, with_after_line}
 use Rattle.suite_text.specs.Reading.Attributes.{no_attributes, with_attribute, attributes_from, attributes_of}
-use Rattle.suite_text.specs.Reading.Bytes.{suite_read}
+use Rattle.suite_text.specs.Reading.Bytes.{suite_read, without_mark}
 use Rattle.suite_text.specs.Reading.Faults.{Gives}
 use Rattle.suite_text.specs.Reading.Lines.{says_nothing, first_word, after_word, text_after_word, level_of}
 use Rattle.suite_text.specs.Reading.Nodes.{role_declared, node_on, parent_on, word_on, refusal_on, grown, unless_refused}
@@ -273,7 +273,7 @@ suite_bare text = chosen IsBare (nat_lt 1048576 (length text)) _ _ (λ _. tt)
     (then_holds IsBareRead IsBare (suite_from 1 no_lines (lines text)) (λ read. Ok (parts_of read)) (from_bare 1 no_lines (lines text) nothing_bare) (λ read so. so.bare))
 
 pub bytes_bare : (bytes : List ℕ) → IfOk (suite_read bytes) (λ suite. HasBareSpares suite.tree)
-bytes_bare bytes = chosen IsBare (nat_lt 1048576 (length bytes)) _ _ (λ _. tt) (chosen IsBare (is_utf8 bytes) (suite_of bytes) _ (λ _. suite_bare bytes) tt)
+bytes_bare bytes = chosen IsBare (nat_lt 1048576 (length bytes)) _ _ (λ _. tt) (chosen IsBare (is_utf8 bytes) (suite_of (without_mark bytes)) _ (λ _. suite_bare (without_mark bytes)) tt)
 
 -- and of a suite that a call answers by the definition
 pub given_bare : (result : Result Suite SuiteFault) (read : Result SuiteParts SuiteFault) → Gives suite_parts result read → IfOk read (λ suite. HasBareSpares suite.tree) → IfOk result (λ suite. HasBareSpares suite.tree)

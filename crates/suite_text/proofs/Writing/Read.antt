@@ -1,24 +1,23 @@
 -- What is read may be written: each text that is read is one that may be written for what was read.
 use borrow.Author.Tests.{tests}
-use Rattle.std.proofs.Common.{rules, ◌≡◌, ◌≢◌, ℕ, zero, suc, ◌+◌, ◌-◌, ◌<◌, ◌≤◌, List, [], ◌∷◌, ◌++◌, map, length, take, slice_index, Bool, true, false, cond, nat_lt, Result, Ok, Err, IfOk, refl, ap, ap₂, sym, subst, ◌∙◌, arith, append-nil}
+use Rattle.std.proofs.Common.{rules, ◌≡◌, ◌≢◌, ℕ, zero, suc, ◌-◌, ◌<◌, ◌≤◌, List, [], ◌∷◌, ◌++◌, length, take, slice_index, Bool, true, false, cond, nat_lt, Result, Ok, Err, IfOk, refl, ap, ap₂, sym, subst, ◌∙◌, arith, append-nil}
 use Rattle.std.specs.Prelude.{◌==◌, if◌then◌else◌}
 use Rattle.std.specs.List.{AllByRecursion, slice_split, onto_first}
 use Rattle.std.specs.Str.{is_utf8}
-use Rattle.std.specs.Str.Lines.{lines, lines_of_parts, strip_carriage_return}
+use Rattle.std.specs.Str.Lines.{lines, lines_of_parts}
 use Rattle.std.proofs.lemmas.Bool.{false≢true}
 use Rattle.std.proofs.lemmas.Bool.Decides.{Decides-eqb}
 use Rattle.std.proofs.lemmas.List.{append_assoc}
 use Rattle.config_params.specs.Parameters.{nothing_said}
 use Rattle.descriptor.specs.Nodes.{IsTree}
-use Rattle.unique_id.specs.Answers.{◌>>=◌}
 use Rattle.suite_text.specs.declared.suite.Suite.{Suite}
 use Rattle.suite_text.specs.declared.suite.fault.SuiteFault.{SuiteFault}
 use Rattle.suite_text.specs.declared.suite.fault.SuiteFault.TheVariants.{TooLarge, BadLine}
-use Rattle.suite_text.specs.Reading.Bytes.{suite_read, line_of_fault}
+use Rattle.suite_text.specs.Reading.Bytes.{suite_read, line_of_fault, without_mark}
 use Rattle.suite_text.specs.Reading.Faults.{Gives}
 use Rattle.suite_text.specs.Reading.Parts.{SuiteParts, LinesRead, no_lines, parts_of, suite_made}
 use Rattle.suite_text.specs.Suites.{suite_from, suite_of_lines, suite_of, suite_parts}
-use Rattle.suite_text.specs.Writing.Suites.{Line, LineEnd, Feed, ReturnFeed, TextEnd, end_text, text_of_lines, MayEndWith, AreLines, Written, lines_of_written, text_of_written, meant, IsWritten, IsSuite}
+use Rattle.suite_text.specs.Writing.Suites.{Line, Feed, ReturnFeed, TextEnd, text_of_lines, AreLines, Written, text_of_written, meant, IsWritten, IsSuite}
 use Rattle.suite_text.proofs.Writing.Said.{ok_then, ok_else, ok_same}
 use Rattle.suite_text.proofs.Writing.Stacks.{AreShort, Opening, opened}
 use Rattle.suite_text.proofs.Writing.Texts.{is_feed, HasNoFeed, texts_of, last_line}
@@ -164,14 +163,14 @@ given_written text (Ok suite) read tree = may_be_written text (suite_parts suite
 given_written text (Err fault) read tree = tt
 
 -- and so for bytes
-utf8_read : (bytes : List ℕ) (parts : SuiteParts) (b : Bool) (fault : SuiteFault) → (if b then suite_of bytes else Err fault) ≡ Ok parts → suite_of bytes ≡ Ok parts
-utf8_read bytes parts true fault e = e
-utf8_read bytes parts false fault e = absurd (cc)
+utf8_read : (text : List ℕ) (parts : SuiteParts) (b : Bool) (fault : SuiteFault) → (if b then suite_of text else Err fault) ≡ Ok parts → suite_of text ≡ Ok parts
+utf8_read text parts true fault e = e
+utf8_read text parts false fault e = absurd (cc)
 
-text_read : (bytes : List ℕ) (parts : SuiteParts) → suite_read bytes ≡ Ok parts → suite_of bytes ≡ Ok parts
+text_read : (bytes : List ℕ) (parts : SuiteParts) → suite_read bytes ≡ Ok parts → suite_of (without_mark bytes) ≡ Ok parts
 text_read bytes parts e =
-    utf8_read bytes parts (is_utf8 bytes) (BadLine (line_of_fault bytes)) (ok_else (nat_lt 1048576 (length bytes)) TooLarge (if is_utf8 bytes then suite_of bytes else Err (BadLine (line_of_fault bytes))) parts e).1
+    utf8_read (without_mark bytes) parts (is_utf8 bytes) (BadLine (line_of_fault bytes)) (ok_else (nat_lt 1048576 (length bytes)) TooLarge (if is_utf8 bytes then suite_of (without_mark bytes) else Err (BadLine (line_of_fault bytes))) parts e).1
 
-pub given_bytes_written : (bytes : List ℕ) (result : Result Suite SuiteFault) → Gives suite_parts result (suite_read bytes) → IfOk result (λ suite. IsTree suite.tree) → IfOk result (λ suite. IsSuite bytes (suite_parts suite))
-given_bytes_written bytes (Ok suite) read tree = may_be_written bytes (suite_parts suite) (text_read bytes (suite_parts suite) read) tree
+pub given_bytes_written : (bytes : List ℕ) (result : Result Suite SuiteFault) → Gives suite_parts result (suite_read bytes) → IfOk result (λ suite. IsTree suite.tree) → IfOk result (λ suite. IsSuite (without_mark bytes) (suite_parts suite))
+given_bytes_written bytes (Ok suite) read tree = may_be_written (without_mark bytes) (suite_parts suite) (text_read bytes (suite_parts suite) read) tree
 given_bytes_written bytes (Err fault) read tree = tt

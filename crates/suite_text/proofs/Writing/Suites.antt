@@ -20,7 +20,7 @@ use Rattle.suite_text.specs.declared.suite.Suite.{Suite}
 use Rattle.suite_text.specs.declared.suite.fault.SuiteFault.{SuiteFault}
 use Rattle.suite_text.specs.declared.suite.words.Word.{Word}
 use Rattle.suite_text.specs.declared.suite.words.Word.TheVariants.{Engine, Class, Test, Factory, Dyn}
-use Rattle.suite_text.specs.Reading.Bytes.{suite_read}
+use Rattle.suite_text.specs.Reading.Bytes.{suite_read, without_mark}
 use Rattle.suite_text.specs.Reading.Faults.{Gives}
 use Rattle.unique_id.specs.Answers.{◌>>=◌}
 use Rattle.suite_text.specs.Reading.Lines.{says_nothing, after_word, begins_with_sign}
@@ -358,9 +358,9 @@ pub reads_back : (result : Result Suite SuiteFault) (text : List ℕ) → Gives 
 reads_back result text gives parts is =
     subst (Gives suite_parts result) (ap suite_of is.text_is ∙ suite_back is.written is.is_written ∙ ap Ok (sym is.parts_are)) gives
 
--- and so for bytes that are a text
-pub reads_bytes_back : (result : Result Suite SuiteFault) (bytes : List ℕ) → Gives suite_parts result (suite_read bytes) → IsUtf8 bytes → (parts : SuiteParts) → IsSuite bytes parts → Gives suite_parts result (Ok parts)
-reads_bytes_back result bytes gives text parts is =
-    let few : length bytes ≤ 1048576 = subst (λ (l : List ℕ). length l ≤ 1048576) (sym is.text_is) is.is_written.short in
+-- and so for bytes that are a text, behind a byte order mark or none
+pub reads_bytes_back : (result : Result Suite SuiteFault) (bytes : List ℕ) → Gives suite_parts result (suite_read bytes) → IsUtf8 bytes → length bytes ≤ 1048576 → (parts : SuiteParts) → IsSuite (without_mark bytes) parts
+    → Gives suite_parts result (Ok parts)
+reads_bytes_back result bytes gives text few parts is =
     let small : nat_lt 1048576 (length bytes) ≡ false = search (rules, tests) in
-    reads_back result bytes (subst (Gives suite_parts result) (read_text bytes small text) gives) parts is
+    reads_back result (without_mark bytes) (subst (Gives suite_parts result) (read_text bytes small text) gives) parts is

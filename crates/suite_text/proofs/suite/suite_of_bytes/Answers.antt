@@ -2,14 +2,15 @@
 use Rattle.std.proofs.Common.{◌≡◌, ◌+◌, ◌==◌, length, nat_lt, false, rules, sym, ap, ◌∙◌, take, count_by, Err}
 use borrow.Author.Tests.{tests}
 use Rattle.suite_text.specs.declared.suite.fault.SuiteFault.TheVariants.{BadLine}
-use Rattle.suite_text.specs.Reading.Bytes.{line_of_fault}
+use Rattle.suite_text.specs.Reading.Bytes.{line_of_fault, without_mark}
 use Rattle.suite_text.proofs.Reading.Lines.{read_text, read_not_text}
 use Rattle.suite_text.proofs.suite.suite_of_bytes.Goals as goal
 
 pub returns-in-Ok-clause-exact : goal.returns-in-Ok-clause-exact
 returns-in-Ok-clause-exact c =
     let small : nat_lt 1048576 (length c.args.bytes.now) ≡ false = search (rules, tests) in
-    rw (read_text c.args.bytes.now small c.in-Ok.ensures.cases.1, sym c.in-Ok.ensures.cases.0) c.suite_in.ensures.exact
+    let marked : c.without_mark.result.now ≡ without_mark c.args.bytes.now = c.without_mark.ensures ∙ ap without_mark c.in-Ok.ensures.cases.0 in
+    rw (read_text c.args.bytes.now small c.in-Ok.ensures.cases.1, sym marked) c.suite_in.ensures.exact
 
 pub returns-in-Err-clause-exact : goal.returns-in-Err-clause-exact
 returns-in-Err-clause-exact c =
