@@ -194,6 +194,6 @@ pub(crate) fn refuse<W: Write, E: Write>(
     ensures { Closes (sentence_by subject.entry) W.contents E.contents (Err fault) writer.old writer.new errors.old
         errors.new result }
 {
-    let message = Message::with_details(fault, subject, String::new(alloc));
+    let message = Message::with_details(alloc, fault, subject, "");
     close(Err(fault), Some(message), writer, errors)
 }

@@ -62,8 +62,8 @@ pub fn message_of(
     match given_by(alloc, words) {
         Ok(given) => messages::message_of(alloc, fault, &given, subject),
         Err(_) => match said_by_clap(alloc, words, subject) {
-            Ok(said) => Message::with_details(fault, subject, said),
-            Err(_) => Message::with_details(fault, subject, String::new(alloc)),
+            Ok(said) => Message::with_details(alloc, fault, subject, said.as_str()),
+            Err(_) => Message::with_details(alloc, fault, subject, ""),
         },
     }
 }

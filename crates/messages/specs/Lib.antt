@@ -1,4 +1,5 @@
 pub mod Marks
 pub mod Messages
 pub mod Near
+pub mod Printable
 pub mod Sentences

@@ -1,28 +1,26 @@
 -- A text with a mark below one of its places.
-use Rattle.std.specs.Prelude.{◌≡◌, ℕ, if◌then◌else◌, List, length, map, replicate, ◌++◌, codes, encode_utf8_all}
+use Rattle.std.specs.Prelude.{ℕ, false, if◌then◌else◌, List, ◌++◌, codes, encode_utf8}
 use Rattle.std.specs.Char.{is_control}
+use Rattle.std.specs.List.{flat_map, repeat}
+use Rattle.std.specs.Str.{chars}
+use Rattle.unicode_width.specs.Width.{str_width}
 
 -- a control character as a question mark, any other as it is
 abbrev pub marked_char : ℕ → ℕ
 marked_char c = if is_control c then 63 else c
 
--- characters as they are shown
+abbrev pub shown_char : ℕ → List ℕ
+shown_char c = encode_utf8 (marked_char c)
+
+-- a text as it is shown
 abbrev pub shown : List ℕ → List ℕ
-shown chars = encode_utf8_all (map marked_char chars)
+shown text = flat_map shown_char (chars text)
 
--- a text and the line below it have grown by this part: the text by its characters as they are shown, the line below by a space
--- for each of them
-pub record IsPadded (part old new below_old below_new : List ℕ) : Type 0 where
-  pub chars : List ℕ
-  pub are : part ≡ encode_utf8_all chars
-  pub text : new ≡ old ++ shown chars
-  pub below : below_new ≡ below_old ++ replicate (length chars) 32
+-- how many columns it takes
+abbrev pub columns : List ℕ → ℕ
+columns text = str_width false (chars (shown text))
 
--- the text is these two parts on a line, and below it a mark at the place between them: it stands behind as many spaces as the
--- first part has characters, whatever they are
-pub record IsMarked (before behind text : List ℕ) : Type 0 where
-  pub front : List ℕ
-  pub back : List ℕ
-  pub is_front : before ≡ encode_utf8_all front
-  pub is_back : behind ≡ encode_utf8_all back
-  pub is : text ≡ codes "    " ++ shown front ++ shown back ++ codes "\n" ++ codes "    " ++ replicate (length front) 32 ++ codes "^\n"
+-- two parts of a text on a line, and below it a mark at the place between them, behind as many spaces as the first part takes columns
+abbrev pub marked_of : (before behind : List ℕ) → List ℕ
+marked_of before behind =
+    codes "    " ++ (shown before ++ (shown behind ++ (codes "\n    " ++ (repeat (columns before) (codes " ") ++ codes "^\n"))))

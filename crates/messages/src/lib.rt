@@ -12,6 +12,7 @@ mod message;
 mod near_names;
 mod nearest;
 mod options;
+mod printable;
 mod sentence;
 mod settings;
 mod subject;

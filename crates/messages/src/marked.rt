@@ -1,48 +1,49 @@
 //! A text with a mark below one of its places.
 
 ghost use Rattle.std.specs.Prelude.{◌≡◌, ◌≤◌, ◌++◌, IfOk, OnOk, length, string_bytes};
-ghost use Rattle.messages.specs.Marks.{IsMarked, IsPadded, marked_char};
+ghost use Rattle.messages.specs.Marks.{marked_of, shown, shown_char};
 
 use std::alloc::{AllocError, Global};
+use unicode_width::UnicodeWidthStr;
 
 /// How many bytes of a text are shown at most on either side of its mark.
 const MOST_SHOWN: usize = 60;
 
-/// What a shown text and its mark stand behind.
-const MARGIN: &str = "    ";
-
-/// A character as it is shown: a control character as a question mark.
-fn shown_char(c: char) -> char
-    ensures { result ≡ marked_char c }
+/// Appends a character as it is shown: a control character as a question mark.
+fn push_shown_char(text: &mut String, c: char) -> Result<(), AllocError>
+    ensures { OnOk result (string_bytes text.new ≡ string_bytes text.old ++ shown_char c) }
 {
-    if c.is_control() { '?' } else { c }
+    text.push(if c.is_control() { '?' } else { c })
 }
 
-/// Appends a text as it is shown, and to the line below it a space for each of its characters.
-fn push_padded(text: &mut String, below: &mut String, part: &str) -> Result<(), AllocError>
-    ensures { OnOk result (IsPadded part.now (string_bytes text.old) (string_bytes text.new) (string_bytes below.old)
-        (string_bytes below.new)) }
+/// Appends a text as it is shown.
+fn push_shown(text: &mut String, piece: &str) -> Result<(), AllocError>
+    ensures { OnOk result (string_bytes text.new ≡ string_bytes text.old ++ shown piece.now) }
 {
-    for c in part.chars() {
-        text.push(shown_char(c))?;
-        below.push(' ')?;
+    for c in piece.chars() {
+        push_shown_char(text, c)?;
     }
     Ok(())
 }
 
-/// What stands before the mark and behind it, with the mark below the place between them.
-fn marked(alloc: Global, before: &str, behind: &str) -> Result<String, AllocError>
-    ensures { IfOk result (λ text. IsMarked before.now behind.now (string_bytes text)) }
+/// A text as it is shown.
+fn shown(alloc: Global, text: &str) -> Result<String, AllocError>
+    ensures { IfOk result (λ shown_text. string_bytes shown_text ≡ shown text.now) }
 {
-    let mut text = String::from_str(alloc, MARGIN)?;
-    let mut below = String::from_str(alloc, MARGIN)?;
-    push_padded(&mut text, &mut below, before)?;
-    below.push_str("^\n")?;
-    let mut past = String::new(alloc);
-    push_padded(&mut text, &mut past, behind)?;
-    text.push_str("\n")?;
-    text.push_str(below.as_str())?;
-    Ok(text)
+    let mut shown_text = String::new(alloc);
+    push_shown(&mut shown_text, text)?;
+    Ok(shown_text)
+}
+
+/// What stands before the mark and behind it, with the mark below the place between them: below the
+/// column at which a terminal shows what stands behind.
+fn marked(alloc: Global, before: &str, behind: &str) -> Result<String, AllocError>
+    ensures { IfOk result (λ text. string_bytes text ≡ marked_of before.now behind.now) }
+{
+    let front = shown(alloc, before)?;
+    let back = shown(alloc, behind)?;
+    let spaces = " ".repeat(alloc, front.as_str().width())?;
+    format!(in alloc; "    {front}{back}\n    {spaces}^\n")
 }
 
 /// The end of a text, as much of it as is shown.

@@ -1,9 +1,11 @@
 //! The message of a refusal.
 
-ghost use Rattle.std.specs.Prelude.{◌≡◌};
+ghost use Rattle.std.specs.Prelude.{◌≡◌, string_bytes};
+ghost use Rattle.messages.specs.Printable.{HasNoControl};
 ghost use Rattle.messages.specs.Messages.{message_text};
 ghost use Rattle.messages.specs.Sentences.{sentence_by};
 
+use crate::printable::printable;
 use crate::sentence::sentence_by;
 use crate::settings::push_settings;
 use crate::subject::Subject;
@@ -38,14 +40,20 @@ impl fmt::Display for Message {
 }
 
 impl Message {
-    /// The message of this refusal of what was to be run, of which these details are known.
-    pub fn with_details(fault: LaunchFault, subject: Subject<'_>, details: String) -> Message
+    /// The message of this refusal of what was to be run, of which these details are known. A control
+    /// character of theirs, but an end of line, is a question mark in it; out of memory it has fewer.
+    pub fn with_details(
+        alloc: Global,
+        fault: LaunchFault,
+        subject: Subject<'_>,
+        details: &str,
+    ) -> Message
         ensures sentence { result.sentence.now ≡ sentence_by subject.entry fault }
-        ensures details { result.details ≡ details }
+        ensures printed { HasNoControl (string_bytes result.details) }
     {
         Message {
             sentence: sentence_by(fault, subject),
-            details,
+            details: printable(alloc, details),
         }
     }
 }
@@ -148,14 +156,17 @@ fn details_of(
     details
 }
 
-/// The message of a refusal of these values, or of what was to be run by them.
+/// The message of a refusal of these values, or of what was to be run by them. It has no control
+/// character but ends of lines.
 pub fn message_of(
     alloc: Global,
     fault: LaunchFault,
     given: &Given<'_>,
     subject: Subject<'_>,
 ) -> Message
-    ensures { result.sentence.now ≡ sentence_by subject.entry fault }
+    ensures sentence { result.sentence.now ≡ sentence_by subject.entry fault }
+    ensures printed { HasNoControl (string_bytes result.details) }
 {
-    Message::with_details(fault, subject, details_of(alloc, fault, given, subject))
+    let details = details_of(alloc, fault, given, subject);
+    Message::with_details(alloc, fault, subject, details.as_str())
 }
