@@ -1,5 +1,5 @@
 -- How much the nodes have left at most, and what is left at the opening, by the words of the plan.
-use Rattle.std.proofs.Common.{◌≡◌, ℕ, zero, suc, ◌+◌, ◌*◌, ◌-◌, ◌<◌, ◌≤◌, Bool, true, false, cond, ◌&&◌, ◌||◌, ◌==◌, not, nat_lt, List, [], length, take, replicate, sum_by, slice_index_or, inl, inr, refl, sym, ap, ◌∙◌, arith}
+use Rattle.std.proofs.Common.{◌≡◌, ℕ, zero, suc, ◌+◌, ◌*◌, ◌-◌, ◌<◌, ◌≤◌, Bool, true, false, cond, ◌&&◌, ◌||◌, ◌==◌, nat_lt, List, [], length, take, replicate, sum_by, slice_index_or, inl, inr, refl, sym, ap, ◌∙◌, arith}
 use Rattle.std.proofs.lemmas.Bool.{cases_Bool, and_parts, eqb-true, false_from_ne_true}
 use Rattle.std.proofs.lemmas.List.Sums.{sum_by-cons, sum_by_more, sum_by-take-le}
 use Rattle.std.proofs.Math.Nat.{suc-mul}
@@ -218,7 +218,8 @@ steps_at_start p plan workers =
     let kept = opening_is p (core_plan p plan.tree) (λ job. []) 0 (omega arith) in
     let nodes = nodes_few p plan (λ job. []) (opening p 0) kept.0 kept.1 in
     let seats : sum_by (seat_steps p) (opening p workers).seats ≡ workers * (2 + most_keys p) = sum_replicate (seat_steps p) free_seat workers in
-    let each : workers * (2 + most_keys p) ≡ workers * (most_keys p + 2) = ap (λ (k : ℕ). workers * k) (omega arith) in
+    let other_way : 2 + most_keys p ≡ most_keys p + 2 = omega arith in
+    let each = ap (λ (k : ℕ). workers * k) other_way in
     plain _ _ _ _ _ _ _ nodes seats each
   where
     plain : (a b c d e m k : ℕ) → a + b + c + 0 ≤ d → e ≡ m → m ≡ k → a + b + c + e + 0 ≤ d + k

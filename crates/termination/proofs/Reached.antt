@@ -1,5 +1,5 @@
 -- How much is left in whatever state a run has come to, by the words of the plan.
-use Rattle.std.proofs.Common.{◌≡◌, ℕ, ◌+◌, ◌*◌, ◌-◌, ◌≤◌, true, false, List, length, sum_by, refl, subst, arith}
+use Rattle.std.proofs.Common.{ℕ, ◌+◌, ◌*◌, ◌-◌, ◌≤◌, true, false, List, length, sum_by, refl, subst, arith}
 use Rattle.std.proofs.Math.Nat.{mul-le-mul_right}
 use Rattle.plan_events.specs.declared.outcome.Reply.{Reply}
 use Rattle.resource_locks.specs.Plans.{PlanParts, IsPlan, most_events}
