@@ -70,7 +70,7 @@ pub fn disputed_key()
 {}
 
 /// The bound is nearly reached: of a plan of three classes, each with two keys, one worker and the
-/// dispatcher take 73 steps, and never more than 82.
+/// dispatcher take 73 steps, where it allows 82.
 pub fn long_run()
     ensures taken { Takes long_plan 73 }
     ensures at_most { most_steps long_plan 1 ≡ 82 }

@@ -28,7 +28,7 @@ status_steps p n (Ready o) = if_skippable p n + if_fast p + 3 * keys_count p n
 status_steps p n (Claimed w) = if_fast p + keys_count p n
 status_steps p n Settled = 0
 
--- Each thing that is outstanding is counted off; nothing is at a node that is skipped.
+-- Each thing that is outstanding is counted off; at a node that is disabled nothing is.
 abbrev pub counter_steps : PlanParts → ℕ → ℕ → ℕ
 counter_steps p n c = cond (is_disabled p.tree n) 0 c
 
