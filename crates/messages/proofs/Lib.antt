@@ -1,2 +1,3 @@
 pub mod Nearing
 pub mod Printing
+pub mod Settled

@@ -1,3 +1,4 @@
+pub mod Hints
 pub mod Marks
 pub mod Messages
 pub mod Near

@@ -5,6 +5,10 @@
 
 mod attributes;
 mod bytes;
+mod finding;
+mod hint;
+mod hint_lines;
+mod keys;
 mod line;
 mod lines;
 mod marked;
@@ -19,6 +23,10 @@ mod subject;
 mod suite;
 mod values;
 
+pub use finding::hints_of;
+pub use hint::{Cause, Hint, Hints, Place};
+pub use hint_lines::hints_text;
+pub use keys::{cause_of_key, is_read};
 pub use message::{Message, message_of};
 pub use settings::said_of_settings;
 pub use subject::Subject;

@@ -17,7 +17,7 @@ fn push_shown_char(text: &mut String, c: char) -> Result<(), AllocError>
 }
 
 /// Appends a text as it is shown.
-fn push_shown(text: &mut String, piece: &str) -> Result<(), AllocError>
+pub(crate) fn push_shown(text: &mut String, piece: &str) -> Result<(), AllocError>
     ensures { OnOk result (string_bytes text.new ≡ string_bytes text.old ++ shown piece.now) }
 {
     for c in piece.chars() {

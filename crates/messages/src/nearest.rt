@@ -48,6 +48,18 @@ pub(crate) fn is_known(known: &[&str], word: &str) -> bool {
     false
 }
 
+/// The known word that is nearest, where one is near enough; for a long word none is looked for.
+pub(crate) fn nearest_known<'a>(
+    alloc: Global,
+    known: &[&'a str],
+    word: &str,
+) -> Result<Option<&'a str>, AllocError> {
+    if word.len() > LONGEST_WORD {
+        return Ok(None);
+    }
+    nearest(alloc, known, word)
+}
+
 /// Appends the known word that is nearest, where one is near enough.
 pub(crate) fn push_nearest(
     alloc: Global,
@@ -55,10 +67,7 @@ pub(crate) fn push_nearest(
     known: &[&str],
     word: &str,
 ) -> Result<(), AllocError> {
-    if word.len() > LONGEST_WORD {
-        return Ok(());
-    }
-    match nearest(alloc, known, word)? {
+    match nearest_known(alloc, known, word)? {
         Some(name) => write!(text, "; did you mean '{name}'?"),
         None => Ok(()),
     }
