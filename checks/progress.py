@@ -4,21 +4,24 @@
 checks/progress.py [SUITES] [SEED]   20 suites and the seed 1 where they are not given
   --program PATH                     another program than crates/console/out/console
 A pseudo-terminal is used. The line is drawn at most ten times a second, its numbers grow, and it is gone
-at the end, also where the output goes to the same terminal. A file, a terminal that is dumb and one of an
-unknown kind get nothing of it. What failed is said once more, on a terminal and in a file, at most twenty
+at the end, also where the output goes to the same terminal, and where that is narrower than the line. A file,
+a terminal that is dumb and one of an unknown kind get nothing of it. What failed is said once more, on a terminal and in a file, at most twenty
 of it, and the words that are said select just that, or the first ten of it.
 Suites made at random print the same with a terminal and without one.
 The last line is 'N passed, M failed': the runs.
 """
 
 import argparse
+import fcntl
 import os
 import pty
 import re
 import shlex
+import struct
 import subprocess
 import sys
 import tempfile
+import termios
 import threading
 import time
 from random import Random
@@ -35,8 +38,12 @@ MANY_TESTS = 2_600
 SPIN = 1_000_000
 SECONDS_A_RUN = 120
 MOST_SHOWN = 10
-DRAWN = re.compile(rb"\r\x1b\[K(\d+) found, (\d+) running, (\d+) done, (\d+) failed, (\d+) s")
+DRAWN = re.compile(rb"\r\x1b\[K\x1b\[\?7l(\d+) found, (\d+) running, (\d+) done, (\d+) failed, (\d+) s\x1b\[\?7h")
 ERASED = b"\r\x1b[K"
+# The line has at least 43 columns.
+NARROW = (20, 40)
+# Wider than all that a run prints.
+WIDE = 200
 BELOW = "[engine:e]/[class:a.B]"
 FAILING = ("t3()", "t'4()")
 MANY = tuple(f"m{number}()" for number in range(23))
@@ -60,26 +67,43 @@ def failing_suite(names):
 
 
 class Screen:
-    """What a terminal shows of what it is given, without the width of its lines."""
+    """What a terminal of so many columns shows of what it is given: a character behind the last column goes on the next row, or takes the last one's place where that is switched off."""
 
-    def __init__(self):
-        self.lines, self.line, self.place = [], [], 0
+    def __init__(self, columns=WIDE):
+        self.columns, self.wraps = columns, True
+        self.rows, self.row, self.place = [[]], 0, 0
+
+    def put(self, character):
+        if self.place == self.columns:
+            if self.wraps:
+                self.go_down()
+            else:
+                self.place -= 1
+        row = self.rows[self.row]
+        row.extend(" " * (self.place + 1 - len(row)))
+        row[self.place] = character
+        self.place += 1
+
+    def go_down(self):
+        self.row, self.place = self.row + 1, 0
+        if self.row == len(self.rows):
+            self.rows.append([])
 
     def take(self, text):
-        for piece in re.findall(r"\x1b\[K|\r|\n|[^\r\n\x1b]+", text):
+        for piece in re.findall(r"\x1b\[K|\x1b\[\?7[hl]|[^\x1b]", text):
             if piece == "\r":
                 self.place = 0
             elif piece == "\n":
-                self.lines.append("".join(self.line).rstrip(" "))
-                self.line, self.place = [], 0
+                self.go_down()
             elif piece == "\x1b[K":
-                del self.line[self.place :]
+                del self.rows[self.row][self.place :]
+            elif piece in ("\x1b[?7h", "\x1b[?7l"):
+                self.wraps = piece.endswith("h")
             else:
-                self.line[self.place : self.place + len(piece)] = piece
-                self.place += len(piece)
+                self.put(piece)
 
     def text(self):
-        return "\n".join(self.lines + ["".join(self.line)])
+        return "\n".join("".join(row).rstrip(" ") for row in self.rows)
 
 
 def read_all(reader, found):
@@ -97,8 +121,8 @@ def read_all(reader, found):
 class Run:
     """A run of the program: what came on its output and on its errors, each a pipe or a terminal, or one terminal for both."""
 
-    def __init__(self, program, suite, words, errors="terminal", both=False, env=None):
-        self.seconds = time.monotonic()
+    def __init__(self, program, suite, words, errors="terminal", both=False, env=None, columns=WIDE):
+        self.seconds, self.columns = time.monotonic(), columns
         streams = {}
         ends = []
         error_end = self.open(errors, streams, ends, "errors")
@@ -128,9 +152,10 @@ class Run:
             os.close(reader)
         self.errors, self.output = got["errors"], got.get("output", b"")
 
-    @staticmethod
-    def open(kind, streams, ends, name):
+    def open(self, kind, streams, ends, name):
         reader, writer = pty.openpty() if kind == "terminal" else os.pipe()
+        if kind == "terminal":
+            fcntl.ioctl(writer, termios.TIOCSWINSZ, struct.pack("HHHH", 24, self.columns, 0, 0))
         streams[name] = (reader, [])
         ends.append(writer)
         return writer
@@ -162,16 +187,19 @@ def judge_seconds(program):
         raise Wrong(f"{seconds[-1]} s in the end, of {run.seconds:.2f} s")
 
 
-def judge_together(program, details):
-    """Where both go to one terminal, at the end it shows what is printed, and nothing else."""
-    run = Run(program, slow_suite(), ["--details", details], both=True)
+def judge_together(program, details, columns=WIDE):
+    """Where both go to one terminal, at the end it shows what is printed, and nothing else; and it goes on as before on the next row."""
+    run = Run(program, slow_suite(), ["--details", details], both=True, columns=columns)
     alone = Run(program, slow_suite(), ["--details", details], errors="pipe")
-    if len(DRAWN.findall(run.errors)) < 1:
+    if run.errors.count(ERASED) < 2:
         raise Wrong("no line was drawn")
-    screen = Screen()
+    screen, wanted = Screen(columns), Screen(columns)
     screen.take(run.errors.decode())
-    if screen.text() != alone.output.decode():
+    wanted.take(alone.output.decode())
+    if screen.text() != wanted.text():
         raise Wrong(f"the screen shows {screen.text()[:500]!r}")
+    if not screen.wraps:
+        raise Wrong("the terminal leaves out what does not fit on a line")
 
 
 def judge_silent(program, errors, env):
@@ -241,6 +269,7 @@ def main():
     cases = [(f"drawn beside {details}", judge_drawn, (program, details)) for details in ("tree", "summary", "json")]
     cases += [("the seconds of a long run", judge_seconds, (program,))]
     cases += [(f"{details} on the same terminal", judge_together, (program, details)) for details in ("tree", "testfeed", "none")]
+    cases += [(f"{details} on a terminal of {columns} columns", judge_together, (program, details, columns)) for columns in NARROW for details in ("summary", "testfeed", "none")]
     cases += [("a pipe", judge_silent, (program, "pipe", None)), ("a dumb terminal", judge_silent, (program, "terminal", {"TERM": "dumb"}))]
     cases += [("a terminal of no kind", judge_silent, (program, "terminal", {})), ("colours", judge_colours, (program,))]
     said = {"tree": True, "summary": True, "testfeed": False, "none": False, "json": False}

@@ -10,7 +10,7 @@ use std::time::{Clock, Duration};
 use worker_pool::Watcher;
 
 /// The line before anything has happened.
-const LINE: &str = "\r\x1b[K0 found, 0 running, 0 done, 0 failed, 0 s";
+const LINE: &str = "\r\x1b[K\x1b[?7l0 found, 0 running, 0 done, 0 failed, 0 s\x1b[?7h";
 
 /// A clock that each reading moves on by so many milliseconds.
 #[derive(Drop)]

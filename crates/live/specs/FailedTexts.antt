@@ -1,23 +1,26 @@
 -- What is said once more of the nodes that failed.
-use Rattle.std.specs.Prelude.{ℕ, ◌+◌, ◌==◌, ◌&&◌, ◌||◌, nat_lt, Bool, true, false, cond, List, [], ◌++◌, codes, encode_utf8, length, string_bytes}
-use Rattle.std.specs.Fmt.{decimal}
+use Rattle.std.specs.Prelude.{ℕ, ◌+◌, ◌/◌, ◌%◌, ◌==◌, ◌&&◌, ◌||◌, nat_lt, Bool, true, false, cond, List, [], ◌∷◌, ◌++◌, codes, encode_utf8, length, string_bytes}
+use Rattle.std.specs.Char.{is_control}
+use Rattle.std.specs.Fmt.{decimal, digit_glyph}
 use Rattle.std.specs.List.{flat_map, list_any}
 use Rattle.std.specs.Str.{chars}
+use Rattle.live.specs.Shown.{shown}
 use Rattle.live.specs.declared.failure.Failure.{Failure}
 use Rattle.live.specs.declared.failure.Naming.{Naming}
 use Rattle.live.specs.declared.failure.Naming.TheVariants.{Named, Above, LeftOut}
 use Rattle.live.specs.declared.failures.Failures.{Failures}
 
--- a character as it is shown: a control character as a space
-abbrev pub shown_char : ℕ → List ℕ
-shown_char c = cond (nat_lt c 32 || (c == 127)) (codes " ") (encode_utf8 c)
+-- a byte as a percent escape, which an id may have in place of it
+abbrev pub escape_of : ℕ → List ℕ
+escape_of b = codes "%" ++ (digit_glyph true (b / 16 % 16) ∷ digit_glyph true (b % 16) ∷ [])
 
-abbrev pub shown : List ℕ → List ℕ
-shown text = flat_map shown_char (chars text)
+-- the escapes of a control character's bytes: from 128 on it has two, of which the first is 194 (C2) and the second its own number
+abbrev pub escapes_of : ℕ → List ℕ
+escapes_of c = cond (nat_lt c 128) (escape_of c) (codes "%C2" ++ escape_of c)
 
--- a character of a shell's word between single quotes: a quote ends the word, stands behind a backslash, and begins the next
+-- a character of an id in a shell's word between single quotes: a quote ends the word, stands behind a backslash, and begins the next
 abbrev pub shell_char : ℕ → List ℕ
-shell_char c = cond (c == 39) (codes "'\\''") (encode_utf8 c)
+shell_char c = cond (c == 39) (codes "'\\''") (cond (is_control c) (escapes_of c) (encode_utf8 c))
 
 -- the option and an id as a shell's words, behind a space
 abbrev pub word_of : List ℕ → List ℕ → List ℕ

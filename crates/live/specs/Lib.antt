@@ -3,4 +3,5 @@ pub mod LiveFeeds
 pub mod FailedTexts
 pub mod Failing
 pub mod Lines
+pub mod Shown
 pub mod Terminals

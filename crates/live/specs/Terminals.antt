@@ -13,10 +13,18 @@ use Rattle.live.specs.declared.test_counts.TestCounts.{TestCounts}
 abbrev pub erasing : List ℕ
 erasing = codes "\r\u{1b}[K"
 
--- what is drawn at one time: the line is erased; and it is drawn anew of these tests, after so many seconds, or left empty
+-- and as: leave out what does not fit on the line, and as: go on with that on the next line, as before
+abbrev pub wrapping_off : List ℕ
+wrapping_off = codes "\u{1b}[?7l"
+
+abbrev pub wrapping_on : List ℕ
+wrapping_on = codes "\u{1b}[?7h"
+
+-- What is drawn at one time: the line is erased; and it is drawn anew of these tests, after so many seconds, or left empty. However
+-- narrow the terminal is, what is drawn takes one line of it, which can be erased.
 abbrev pub drawing_of : Option (TestCounts × ℕ) → List ℕ
 drawing_of None = erasing
-drawing_of (Some line) = erasing ++ line_of line.0 line.1
+drawing_of (Some line) = erasing ++ (wrapping_off ++ (line_of line.0 line.1 ++ wrapping_on))
 
 -- what is drawn in turn
 abbrev pub drawings_of : List (Option (TestCounts × ℕ)) → List ℕ

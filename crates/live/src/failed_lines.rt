@@ -1,43 +1,55 @@
 //! The nodes that failed, once more, and the words that select them.
 
-ghost use Rattle.std.specs.Prelude.{◌≡◌, ◌++◌, OnOk, IfOk, codes, string_bytes};
+ghost use Rattle.std.specs.Prelude.{◌≡◌, ◌<◌, ◌++◌, OnOk, IfOk, codes, string_bytes, true};
+ghost use Rattle.std.specs.Fmt.{digit_glyph};
 ghost use Rattle.std.specs.List.{flat_map, list_any};
 ghost use Rattle.std.specs.Str.{chars};
+ghost use Rattle.live.specs.FailedTexts.{escape_of, escapes_of};
 ghost use Rattle.live.specs.FailedTexts.{failed_of, failure_lines, failure_word, heading, hint_of, more_line};
-ghost use Rattle.live.specs.FailedTexts.{reason_line, selecting, selects_below, shell_char, shown, shown_char};
-ghost use Rattle.live.specs.FailedTexts.{title_of, word_of};
+ghost use Rattle.live.specs.FailedTexts.{reason_line, selecting, selects_below, shell_char, title_of, word_of};
 
 use crate::failure::Failure;
 use crate::failures::Failures;
+use crate::shown::push_shown;
 use std::alloc::{AllocError, Global};
 
-/// Appends a character as it is shown: a control character as a space.
-fn push_shown_char(text: &mut String, c: char) -> Result<(), AllocError>
-    ensures { OnOk result (string_bytes text.new ≡ string_bytes text.old ++ shown_char c) }
+/// A hexadecimal digit, in upper case.
+fn hex_digit(digit: u32) -> char
+    requires { digit < 16 }
+    ensures { result ≡ digit_glyph true digit }
 {
-    if c < ' ' || c == '\u{7f}' {
-        text.push_str(" ")
-    } else {
-        text.push(c)
+    match char::from_digit(digit, 16) {
+        Some(letter) => letter.to_ascii_uppercase(),
+        None => '0',
     }
 }
 
-/// Appends a text as it is shown.
-fn push_shown(text: &mut String, piece: &str) -> Result<(), AllocError>
-    ensures { OnOk result (string_bytes text.new ≡ string_bytes text.old ++ shown piece.now) }
+/// Appends a byte as a percent escape.
+fn push_escape(text: &mut String, byte: u32) -> Result<(), AllocError>
+    ensures { OnOk result (string_bytes text.new ≡ string_bytes text.old ++ escape_of byte) }
 {
-    for c in piece.chars() {
-        push_shown_char(text, c)?;
-    }
-    Ok(())
+    text.push_str("%")?;
+    text.push(hex_digit(byte / 16 % 16))?;
+    text.push(hex_digit(byte % 16))
 }
 
-/// Appends a character as it stands between the quotes of a shell's word.
+/// Appends a control character as the percent escapes of its bytes.
+fn push_escapes(text: &mut String, c: char) -> Result<(), AllocError>
+    ensures { OnOk result (string_bytes text.new ≡ string_bytes text.old ++ escapes_of c) }
+{
+    if !c.is_ascii() {
+        text.push_str("%C2")?;
+    }
+    push_escape(text, u32::from(c))
+}
+
+/// Appends a character of an id as it stands between the quotes of a shell's word.
 fn push_char(text: &mut String, c: char) -> Result<(), AllocError>
     ensures { OnOk result (string_bytes text.new ≡ string_bytes text.old ++ shell_char c) }
 {
     match c {
         '\'' => text.push_str("'\\''"),
+        _ if c.is_control() => push_escapes(text, c),
         _ => text.push(c),
     }
 }

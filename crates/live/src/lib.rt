@@ -7,6 +7,7 @@ mod failures;
 mod line_form;
 mod live_feed;
 mod progress;
+mod shown;
 mod test_counts;
 
 pub use failed_lines::failed_text;

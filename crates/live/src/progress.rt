@@ -23,6 +23,13 @@ const SHORTEST: u64 = 100;
 /// What a terminal takes as: go to the start of the line, and erase what stands behind.
 const ERASING: &str = "\r\x1b[K";
 
+/// What a terminal takes as: leave out what does not fit on the line. On two lines of a narrow
+/// terminal only the last would be erased.
+const WRAPPING_OFF: &str = "\x1b[?7l";
+
+/// What it takes as: go on with that on the next line, as it does for all others.
+const WRAPPING_ON: &str = "\x1b[?7h";
+
 /// Hands this text to a terminal; tells whether all of it stands there.
 fn hand_on<E: Write>(terminal: &mut E, text: &str) -> bool
     ensures { IsSent result (E.contents terminal.old) (E.contents terminal.new) text.now }
@@ -111,9 +118,7 @@ impl<'e, 'c, 's, 'f, E: Write, C: Clock> Progress<'e, 'c, 's, 'f, E, C> {
     {
         let tests = TestCounts::of(self.summary.counts());
         let line = progress_line(self.alloc, tests, seconds)?;
-        let mut text = String::from_str(self.alloc, ERASING)?;
-        text.push_str(line.as_str())?;
-        Ok(text)
+        format!(in self.alloc; "{ERASING}{WRAPPING_OFF}{line}{WRAPPING_ON}")
     }
 
     /// The line, if it is to be drawn anew: unless it was drawn a moment ago.

@@ -3,8 +3,8 @@ use Rattle.std.proofs.Common.{◌++◌, List, ℕ, string_bytes, sym, ap, ◌∙
 use Rattle.std.specs.List.{flat_map}
 use Rattle.std.proofs.lemmas.Iterator.{YieldsList-from_chars}
 use Rattle.std.proofs.lemmas.Iterator.Consumers.{YieldsList-end}
-use Rattle.live.specs.FailedTexts.{shown_char}
-use Rattle.live.proofs.failed_lines.push_shown.Goals as goal
+use Rattle.live.specs.Shown.{shown_char}
+use Rattle.live.proofs.shown.push_shown.Goals as goal
 
 pub returns : goal.returns
 returns c =
