@@ -10,6 +10,8 @@ pub mod Outers
 pub mod Packages
 pub mod Patterns
 pub mod Reading
+pub mod Shards
+pub mod ShardUnits
 pub mod SparesTaken
 pub mod Staying
 pub mod Tags

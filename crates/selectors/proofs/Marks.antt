@@ -23,7 +23,7 @@ and_parts false b h = (h, absurd (cc))
 same_or_not : (a n : ℕ) → (a ≡ n) ⊎ (a ≢ n)
 same_or_not a n = grind arith
 
-is_or_is_not : (a : Bool) → (a ≡ true) ⊎ (a ≡ false)
+pub is_or_is_not : (a : Bool) → (a ≡ true) ⊎ (a ≡ false)
 is_or_is_not true = inl refl
 is_or_is_not false = inr refl
 

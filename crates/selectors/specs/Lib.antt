@@ -10,3 +10,5 @@ pub mod Names
 pub mod Patterns
 pub mod Selections
 pub mod Selectors
+pub mod Shards
+pub mod Units

@@ -1,22 +1,15 @@
 -- The tests and factories that are selected, and the tree of those.
-use Rattle.std.specs.Prelude.{ℕ, ◌&&◌, ◌||◌, ◌++◌, not, Bool, Option}
+use Rattle.std.specs.Prelude.{ℕ, ◌&&◌, ◌++◌, not, Bool, Option}
 use Rattle.std.specs.Option.{option_map}
-use Rattle.descriptor.specs.declared.kind.Kind.{Kind}
-use Rattle.descriptor.specs.declared.role.Role.{Role}
-use Rattle.descriptor.specs.Kinds.{is_test}
 use Rattle.descriptor.specs.Nodes.{Nodes, size, kind_of, role_of}
 use Rattle.descriptor.specs.Pruned.{pruned}
-use Rattle.descriptor.specs.Roles.{is_factory, is_spare}
 use Rattle.selectors.specs.declared.request.Request.{Request}
 use Rattle.selectors.specs.declared.select_fault.SelectFault.{SelectFault}
 use Rattle.selectors.specs.declared.select_fault.SelectFault.TheVariants.{NothingMatches}
 use Rattle.selectors.specs.Covered.{truths, is_covered, is_excluded, first_unmatched}
 use Rattle.selectors.specs.Filters.{keeps, tags_together}
 use Rattle.selectors.specs.Keeping.{stays}
-
--- whether a node of this kind and role may be selected: it is a factory, or a test that is no spare
-abbrev pub is_selectable : Kind → Role → Bool
-is_selectable kind role = is_factory role || (is_test kind && not (is_spare role))
+use Rattle.selectors.specs.Units.{is_selectable}
 
 -- whether a request takes node n by its place and its name: one of the selectors covers it or there are none, one of the names covers it or there
 -- are none, and none of the exclusions covers it

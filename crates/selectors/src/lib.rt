@@ -15,6 +15,8 @@ mod request;
 mod select_fault;
 mod selector;
 mod selector_fault;
+mod shard;
+mod shard_tree;
 mod taken;
 
 pub use discovery::discover;
@@ -22,3 +24,5 @@ pub use request::Request;
 pub use select_fault::SelectFault;
 pub use selector::{Selector, SelectorKind};
 pub use selector_fault::SelectorFault;
+pub use shard::{MOST_SHARDS, Shard};
+pub use shard_tree::shard_of;

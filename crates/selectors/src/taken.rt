@@ -4,7 +4,8 @@ ghost use Rattle.std.specs.Prelude.{◌≡◌, ◌<◌, IfOk, true};
 ghost use Rattle.descriptor.specs.Nodes.{size, is_spare_at, IsTree};
 ghost use Rattle.selectors.specs.Covered.{truths, is_covered};
 ghost use Rattle.selectors.specs.Keeping.{is_taken};
-ghost use Rattle.selectors.specs.Selections.{is_selectable, is_selected};
+ghost use Rattle.selectors.specs.Selections.{is_selected};
+ghost use Rattle.selectors.specs.Units.{is_selectable};
 
 use crate::covered::{covered, is_asked_for};
 use crate::filter::keeps;
@@ -13,7 +14,7 @@ use descriptor::{Kind, NodeId, Role, Tree};
 use std::alloc::{AllocError, Global};
 
 /// Whether a node of this kind and role may be selected: a factory, or a test that is no spare.
-fn is_selectable(kind: Kind, role: Role) -> bool
+pub(crate) fn is_selectable(kind: Kind, role: Role) -> bool
     ensures { result ≡ is_selectable kind role }
 {
     role.is_factory() || kind.is_test() && !role.is_spare()
