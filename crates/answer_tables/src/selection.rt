@@ -68,6 +68,7 @@ pub(crate) fn push_found(alloc: Global, answer: &mut String, tree: &Tree, words:
         exclusions: Vec::new(alloc),
         include: Vec::new(alloc),
         exclude: Vec::new(alloc),
+        shard: None,
     };
     if add_all(alloc, &mut request, words) {
         push_answered(alloc, answer, tree, &request);

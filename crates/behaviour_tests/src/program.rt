@@ -54,6 +54,7 @@ fn feed_options(alloc: Global) -> Options {
             exclusions: Vec::new(alloc),
             include: Vec::new(alloc),
             exclude: Vec::new(alloc),
+            shard: None,
         },
         params: Params::new(alloc),
         processors: 1,

@@ -40,11 +40,12 @@ excluding = fold with_rule naming (
     ∷ repeated (codes "exclude-package")
     ∷ [])
 
--- and those that say which tags run
+-- and those that say which tags run, and which shard
 abbrev pub filtering : App
 filtering = fold with_rule excluding (
     repeated (codes "include-tag")
     ∷ repeated (codes "exclude-tag")
+    ∷ single (codes "shard")
     ∷ [])
 
 -- and those that say with which settings

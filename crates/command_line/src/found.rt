@@ -12,7 +12,7 @@ use launcher::option_names::{
     CONFIG, DETAILS, DETAILS_THEME, DRIVE, EXCLUDE_CLASS, EXCLUDE_METHOD, EXCLUDE_NAME,
     EXCLUDE_PACKAGE, EXCLUDE_TAG, EXCLUDE_UNIQUE_ID, FAIL_FAST, FAIL_IF_NO_TESTS, INCLUDE_NAME,
     INCLUDE_TAG, PROCESSORS, REPLAY, RING, SCHEDULE, SELECT_CLASS, SELECT_METHOD, SELECT_PACKAGE,
-    SELECT_UNIQUE_ID, SYSTEM, WORKERS,
+    SELECT_UNIQUE_ID, SHARD, SYSTEM, WORKERS,
 };
 use selectors::SelectorKind;
 use std::alloc::{AllocError, Global};
@@ -144,6 +144,7 @@ pub(crate) fn given_in<'a>(alloc: Global, matches: &ArgMatches<'a>) -> Result<Gi
         processors: found(matches, PROCESSORS),
         workers: found(matches, WORKERS),
         ring: found(matches, RING),
+        shard: found(matches, SHARD),
         details: found(matches, DETAILS),
         theme: found(matches, DETAILS_THEME),
         replay: found(matches, REPLAY),
@@ -169,6 +170,7 @@ pub(crate) fn nothing_given<'a>(alloc: Global) -> Given<'a>
         processors: None,
         workers: None,
         ring: None,
+        shard: None,
         details: None,
         theme: None,
         replay: None,

@@ -10,7 +10,7 @@ use launcher::option_names::{
     CONFIG, DETAILS, DETAILS_THEME, DRIVE, EXCLUDE_CLASS, EXCLUDE_METHOD, EXCLUDE_NAME,
     EXCLUDE_PACKAGE, EXCLUDE_TAG, EXCLUDE_UNIQUE_ID, FAIL_FAST, FAIL_IF_NO_TESTS, INCLUDE_NAME,
     INCLUDE_TAG, PROCESSORS, REPLAY, RING, SCHEDULE, SELECT_CLASS, SELECT_METHOD, SELECT_PACKAGE,
-    SELECT_UNIQUE_ID, SYSTEM, WORKERS,
+    SELECT_UNIQUE_ID, SHARD, SYSTEM, WORKERS,
 };
 use messages::Subject;
 use std::alloc::{AllocError, Global};
@@ -169,7 +169,7 @@ fn excluding<'a>(alloc: Global) -> Result<Command<'a>, AllocError>
     )
 }
 
-/// The same, and the options that say which tags run.
+/// The same, and the options that say which tags run, and which shard.
 fn filtering<'a>(alloc: Global) -> Result<Command<'a>, AllocError>
     ensures { IfOk result (λ command. app_of command ≡ filtering) }
 {
@@ -183,13 +183,22 @@ fn filtering<'a>(alloc: Global) -> Result<Command<'a>, AllocError>
             "Runs only what has tags that make this true, as in \"slow & !db\"",
         ),
     )?;
-    with(
+    let command = with(
         command,
         repeated(
             alloc,
             EXCLUDE_TAG,
             "EXPRESSION",
             "Runs nothing that has tags that make this true",
+        ),
+    )?;
+    with(
+        command,
+        single(
+            alloc,
+            SHARD,
+            "K/N",
+            "Runs each N-th test of all that, from the K-th; shards share no locks",
         ),
     )
 }

@@ -28,6 +28,7 @@ in_other_words given asked are number is = record {
   exclusions = are.exclusions;
   include = are.include;
   exclude = are.exclude;
+  shard = are.shard;
   params =
       are.params ∙ ap (λ workers. params_said workers given) is
       ∙ ap (λ request. said_of request given.system) (sym (append-nil (given.config ++ long_words number)));

@@ -23,6 +23,7 @@ use Rattle.launch_options.specs.declared.fault.LaunchFault.TheVariants.{BadWords
 use Rattle.step_text.specs.StepTexts.{steps_of}
 use Rattle.launch_options.specs.Given.{Text, Values}
 use Rattle.launch_options.specs.Parameters.{processors_named, ring_named, drive_named, params_refusal}
+use Rattle.launch_options.specs.ShardTexts.{shard_named}
 use Rattle.launch_options.specs.Workers.{params_said, unless_twice, workers_asked}
 
 -- what is asked for: what is to run, with which parameters and how many processors, how many workers `--workers` has said, if it
@@ -196,18 +197,23 @@ names_refusal given =
     option_or (unless_named (ring_named given.ring)) (
     unless_named (drive_named given.drive)))))
 
+-- why `--shard` is refused: for what names no shard
+abbrev pub shard_refusal : Values → Option LaunchFault
+shard_refusal given = unless_named (shard_named given.shard)
+
 -- why `--workers` is refused: for what is no number of workers, and where `--config` says one of its keys too
 abbrev pub workers_refusal : Values → Option LaunchFault
 workers_refusal given = option_or (unless_named (workers_asked given)) (unless_twice given.workers given.config)
 
--- why the values are refused: what is asked for by a name or by a number, then a number of workers, then the texts that are read,
--- and what says no pair
+-- why the values are refused: what is asked for by a name or by a number, then a number of workers, then a shard, then the texts
+-- that are read, and what says no pair
 abbrev pub refusal_of : Values → Option LaunchFault
 refusal_of given =
     option_or (names_refusal given) (
     option_or (workers_refusal given) (
+    option_or (shard_refusal given) (
     option_or (texts_refusal given) (
-    params_refusal given)))
+    params_refusal given))))
 
 -- the values ask for this
 pub record AreAsked (given : Values) (asked : Asked) : Type 0 where
@@ -226,4 +232,5 @@ pub record AreAsked (given : Values) (asked : Asked) : Type 0 where
   pub exclusions : asked.request.exclusions.items ≡ filter_map spelled given.exclusions
   pub include : AreExpressions given.include_tags asked.request.include.items
   pub exclude : AreExpressions given.exclude_tags asked.request.exclude.items
+  pub shard : shard_named given.shard ≡ Some asked.request.shard
   pub params : asked.params ≡ params_said asked.workers given

@@ -20,6 +20,7 @@ pub record Values : Type 0 where
   pub processors : Option Text
   pub workers : Option Text
   pub ring : Option Text
+  pub shard : Option Text
   pub details : Option Text
   pub theme : Option Text
   pub replay : Option Text
@@ -53,6 +54,7 @@ values_of given = record {
   processors = maybe_behind given.processors;
   workers = maybe_behind given.workers;
   ring = maybe_behind given.ring;
+  shard = maybe_behind given.shard;
   details = maybe_behind given.details;
   theme = maybe_behind given.theme;
   replay = maybe_behind given.replay;

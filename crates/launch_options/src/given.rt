@@ -28,6 +28,8 @@ pub struct Given<'a> {
     pub workers: Option<&'a str>,
     /// `--ring`.
     pub ring: Option<&'a str>,
+    /// `--shard`.
+    pub shard: Option<&'a str>,
     /// `--details`.
     pub details: Option<&'a str>,
     /// `--details-theme`.

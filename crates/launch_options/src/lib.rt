@@ -10,6 +10,7 @@ pub mod option_names;
 mod options;
 mod parameters;
 mod setting_keys;
+mod shards;
 mod themes;
 mod workers;
 
@@ -19,5 +20,6 @@ pub use fault::{CutCause, CutOutput, LaunchFault, RefusedSelector};
 pub use given::Given;
 pub use parameters::{drive_named, processors_named, ring_named};
 pub use setting_keys::{key_judged, strategy_names};
+pub use shards::shard_named;
 pub use themes::{theme_names, theme_of};
 pub use workers::{has_long_key, workers_named};

@@ -34,6 +34,8 @@ pub const WORKERS: &str = "workers";
 
 pub const RING: &str = "ring";
 
+pub const SHARD: &str = "shard";
+
 pub const DETAILS: &str = "details";
 
 pub const DETAILS_THEME: &str = "details-theme";

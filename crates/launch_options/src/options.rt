@@ -9,6 +9,7 @@ ghost use Rattle.launch_options.specs.Asked.{asked_by, details_named as details_
 ghost use Rattle.launch_options.specs.Asked.{unless_named, IsReplay, refusal_of, AreAsked, spelled, IsExpression};
 ghost use Rattle.launch_options.specs.Asked.{AreExpressions, names_refusal, texts_refusal};
 ghost use Rattle.launch_options.specs.Parameters.{drive_named as drive_of_name, IsRightDrive, params_refusal};
+ghost use Rattle.launch_options.specs.ShardTexts.{shard_named as shard_of_name};
 ghost use Rattle.launch_options.specs.Parameters.{processors_named as processors_of_name, ring_named as ring_of_name};
 ghost use Rattle.launch_options.specs.Workers.{in_long_words, workers_asked};
 ghost use Rattle.run_table.specs.Prepared.{IsRightRing};
@@ -19,12 +20,13 @@ use crate::fault::LaunchFault;
 use crate::given::Given;
 use crate::judged::judge_texts;
 use crate::parameters::{drive_named, judge_params, params_given, processors_named, ring_named};
+use crate::shards::shard_named;
 use crate::themes::theme_of;
 use crate::workers::{spread_given, workers_given};
 use config_params::Params;
 use listeners::Theme;
 use scheduling::Step;
-use selectors::{Request, Selector, SelectorKind};
+use selectors::{Request, Selector, SelectorKind, Shard};
 use std::alloc::{AllocError, Global};
 use step_text::parse_steps;
 use tag_expr::TagExpr;
@@ -112,8 +114,9 @@ fn expressions_of(alloc: Global, texts: &[&str]) -> Result<Vec<TagExpr>, AllocEr
     Ok(expressions)
 }
 
-/// What is to run.
-fn request_of(alloc: Global, given: &Given<'_>) -> Result<Request, AllocError>
+/// What is to run, with this shard of it.
+fn request_of(alloc: Global, given: &Given<'_>, shard: Option<Shard>) -> Result<Request, AllocError>
+    ensures shard { IfOk result (λ request. request.shard ≡ shard) }
     ensures selectors { IfOk result
         (λ request. request.selectors.items ≡ filter_map spelled (texts_of given.now.selectors.items)) }
     ensures names { IfOk result
@@ -131,6 +134,7 @@ fn request_of(alloc: Global, given: &Given<'_>) -> Result<Request, AllocError>
         exclusions: selectors_of(alloc, given.exclusions.as_slice())?,
         include: expressions_of(alloc, given.include_tags.as_slice())?,
         exclude: expressions_of(alloc, given.exclude_tags.as_slice())?,
+        shard,
     })
 }
 
@@ -179,12 +183,14 @@ fn judge_values(alloc: Global, given: &Given<'_>) -> Result<(), LaunchFault>
     judge_params(given)
 }
 
-/// The options of values that were judged, with these choices and so many workers among them.
+/// The options of values that were judged, with these choices, so many workers and this shard among
+/// them.
 fn options_of(
     alloc: Global,
     given: &Given<'_>,
     choices: Choices,
     workers: Option<u32>,
+    shard: Option<Shard>,
 ) -> Result<Options, AllocError>
     requires details { details_of_name (maybe_behind given.now.details) ≡ Some choices.details }
     requires theme { theme_of_name (maybe_behind given.now.theme) ≡ Some choices.theme }
@@ -194,11 +200,12 @@ fn options_of(
     requires drive { drive_of_name (maybe_behind given.now.drive) ≡ Some choices.drive }
     requires right_drive { IsRightDrive choices.drive }
     requires workers { workers_asked (values_of given.now) ≡ Some workers }
+    requires shard { shard_of_name (maybe_behind given.now.shard) ≡ Some shard }
     ensures asked { IfOk result (λ options. AreAsked (values_of given.now) (asked_by options)) }
 {
     // what ends soonest is read first, so that little is alive where memory runs out
     let replay = replay_named(alloc, given.replay)?;
-    let request = request_of(alloc, given)?;
+    let request = request_of(alloc, given, shard)?;
     let params = params_given(alloc, given, workers)?;
     let spread = spread_given(alloc, given, workers)?;
     Ok(Options {
@@ -221,9 +228,9 @@ fn options_of(
 impl Options {
     /// The options that these values ask for. Details and themes that are none of ours are refusal
     /// 105, and so is what is no number of processors from 1 to 1,024, what is no number of places of
-    /// the ring from 1 to 16,384, what is no number of workers of the fixed schedule from 1 to 64, and
+    /// the ring from 1 to 16,384, what is no number of workers of the fixed schedule from 1 to 64,
     /// what is no number of workers from 1 to 64 and not `auto`, or stands beside one of its keys in
-    /// `--config`; then a word in the text of `--replay` that names no
+    /// `--config`, and what names no shard; then a word in the text of `--replay` that names no
     /// step is refusal 104, at its number; then a text that spells no selector is refusal 40, and an
     /// empty pattern of names refusal 43, at its number; then an expression of `--include-tag`, and then of `--exclude-tag`,
     /// is one of 20 to 26, at a place in it; then a word of `--config` or `--system` that has no
@@ -242,7 +249,8 @@ impl Options {
     {
         let choices = choices_of(given)?;
         let workers = workers_given(given, choices.processors)?;
+        let shard = shard_named(given.shard)?;
         judge_values(alloc, given)?;
-        Ok(options_of(alloc, given, choices, workers)?)
+        Ok(options_of(alloc, given, choices, workers, shard)?)
     }
 }

@@ -34,10 +34,10 @@ use Rattle.launcher.proofs.Planning.{ready_takes}
 use Rattle.launcher.proofs.Selected.{selected_jobs, all_jobs}
 
 -- no job of the plan is missing
-pub no_job_missing : {B : Type 0} (asked : Asked) (parts : SuiteParts) (settings : Settings) (p : PlanParts) (jobs : List (ℕ × B)) → IsTree parts.tree → IsReady asked parts settings p [] → IsTree p.tree → HasJobs parts.tree jobs → HasAllJobs p jobs
-no_job_missing asked parts settings p jobs tree ready found has =
+pub no_job_missing : {B : Type 0} (asked : Asked) (parts : SuiteParts) (settings : Settings) (p : PlanParts) (jobs : List (ℕ × B)) → IsTree parts.tree → IsReady asked parts settings p [] → HasJobs parts.tree jobs → HasAllJobs p jobs
+no_job_missing asked parts settings p jobs tree ready has =
     let same : p.tree ≡ answer parts.tree asked.request = ap (λ (q : PlanParts). q.tree) ready.plan_is in
-    all_jobs p jobs (subst (λ (t : Nodes). HasJobs t jobs) (sym same) (selected_jobs parts.tree tree asked.request (subst IsTree same found) jobs has))
+    all_jobs p jobs (subst (λ (t : Nodes). HasJobs t jobs) (sym same) (selected_jobs parts.tree tree asked.request jobs has))
 
 -- what a run of jobs prints is what is printed of the plan, where this is run
 module _ {B : Type 0} (answers : B → List Reply) (Behind : List Event → List ℕ → Type 0) (asked : Asked) (settings : Settings) (p : PlanParts) (jobs : List (ℕ × B)) where

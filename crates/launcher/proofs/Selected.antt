@@ -1,12 +1,12 @@
 -- What a request selects of a tree in which no spare declares a lock, and no engine is a factory, is such a tree.
-use Rattle.std.proofs.Common.{◌≡◌, ℕ, zero, suc, ◌-◌, ◌<◌, cond, Bool, true, false, List, [], Some, refl, sym, ap, ◌∙◌, subst, arith, inl, inr}
+use Rattle.std.proofs.Common.{◌≡◌, ℕ, zero, suc, ◌-◌, ◌<◌, cond, Bool, true, false, List, [], Option, Some, None, refl, sym, ap, ◌∙◌, subst, arith, inl, inr}
 use Rattle.std.proofs.lemmas.Bool.{cases_lt, false≢true}
 use Rattle.std.proofs.lemmas.Option.{slice_get_past}
 use Rattle.std.specs.Option.{is_some}
 use Rattle.descriptor.specs.Nodes.{Nodes, IsTree, IsChild, size, parent_of, node_at, role_or, locks_or, body_or, after_or, is_spare_at, is_factory_at, locks_of, body_of, after_of}
 use Rattle.descriptor.specs.Pruned.{IsClosed, KeepsNodes, pruned, is_kept, new_number}
 use Rattle.descriptor.specs.Roles.{is_spare, is_factory}
-use Rattle.descriptor.proofs.Pruning.{kept_at_end}
+use Rattle.descriptor.proofs.Pruning.{kept_at_end, tree_at_end}
 use Rattle.resource_locks.specs.Plans.{PlanParts}
 use Rattle.resource_locks.specs.Spares.{HasBareSpares}
 use Rattle.run_table.specs.Prepared.{HasAllJobs}
@@ -16,7 +16,8 @@ use Rattle.launcher.specs.Programs.{HasJobs}
 use Rattle.selectors.specs.declared.request.Request.{Request}
 use Rattle.selectors.specs.Covered.{truths}
 use Rattle.selectors.specs.Keeping.{stays, is_taken, is_above}
-use Rattle.selectors.specs.Selections.{is_selected, answer}
+use Rattle.selectors.specs.Selections.{is_selected, selection, answer}
+use Rattle.selectors.specs.Shards.{Part, is_unit_of, shard_or_all}
 use Rattle.selectors.proofs.Answer.{closed, kept_of}
 
 -- a spare is a node
@@ -55,28 +56,49 @@ module _ (t u : Nodes) (keep : List Bool) (close : IsClosed t keep) (tree : IsTr
             omega (arith, first, new))
       ]
 
-pub selected_bare : (t : Nodes) → IsTree t → (request : Request) → IsTree (answer t request) → HasBareSpares t → HasBareSpares (answer t request)
-selected_bare t tree request found bare =
-    let q = is_selected t request in
-    let above = truths (is_above t (is_taken t q)) (size t) in
-    let keep = truths (stays t q) (size t) in
-    let close : IsClosed t keep = subst (IsClosed t) (kept_of t tree q above refl) (closed t tree (is_taken t q) above refl) in
-    let kept : KeepsNodes t keep (pruned t keep) = kept_at_end t (pruned t keep) keep (size t) tree close refl refl in
-    let inside = spare_inside (answer t request) found in
-    record { locks = kept_locks t (pruned t keep) keep close tree kept inside bare; engines = kept_engines t (pruned t keep) keep close tree kept inside bare }
+-- the tree of the nodes that stay where some are selected
+module _ (t : Nodes) (tree : IsTree t) (q : ℕ → Bool) where
+  abbrev staying : List Bool
+  staying = truths (stays t q) (size t)
+
+  close : IsClosed t staying
+  close =
+      let above = truths (is_above t (is_taken t q)) (size t) in
+      subst (IsClosed t) (kept_of t tree q above refl) (closed t tree (is_taken t q) above refl)
+
+  kept : KeepsNodes t staying (pruned t staying)
+  kept = kept_at_end t (pruned t staying) staying (size t) tree close refl refl
+
+  found : IsTree (pruned t staying)
+  found = tree_at_end t (pruned t staying) staying (size t) tree close refl tree.root (omega arith)
+
+  staying_bare : HasBareSpares t → HasBareSpares (pruned t staying)
+  staying_bare bare =
+      let inside = spare_inside (pruned t staying) found in
+      record { locks = kept_locks t (pruned t staying) staying close tree kept inside bare; engines = kept_engines t (pruned t staying) staying close tree kept inside bare }
+
+  staying_jobs : {B : Type 0} (jobs : List (ℕ × B)) → HasJobs t jobs → HasJobs (pruned t staying) jobs
+  staying_jobs jobs has n number is =
+      let u = pruned t staying in
+      let low : n < size u = elim is [ inl body ↦ body_inside u found n number body | inr after ↦ after_inside u found n number after ] in
+      let from = kept.each n low in
+      let told : node_at u n ≡ node_at t from.0 = ap (node_at u) (sym from.1.2) ∙ kept.told from.0 from.1.0 from.1.1 in
+      has from.0 number (elim is [ inl body ↦ inl (sym (ap body_or told) ∙ body) | inr after ↦ inr (sym (ap after_or told) ∙ after) ])
+
+shard_bare : (t : Nodes) → IsTree t → (part : Option Part) → HasBareSpares t → HasBareSpares (shard_or_all t part)
+shard_bare t tree None bare = bare
+shard_bare t tree (Some part) bare = staying_bare t tree (is_unit_of t part) bare
+
+pub selected_bare : (t : Nodes) → IsTree t → (request : Request) → HasBareSpares t → HasBareSpares (answer t request)
+selected_bare t tree request bare = shard_bare (selection t request) (found t tree (is_selected t request)) request.shard (staying_bare t tree (is_selected t request) bare)
+
+shard_jobs : {B : Type 0} (t : Nodes) → IsTree t → (part : Option Part) (jobs : List (ℕ × B)) → HasJobs t jobs → HasJobs (shard_or_all t part) jobs
+shard_jobs t tree None jobs has = has
+shard_jobs t tree (Some part) jobs has = staying_jobs t tree (is_unit_of t part) jobs has
 
 -- and each body of what is selected has a job, where each of the tree has one
-pub selected_jobs : {B : Type 0} (t : Nodes) → IsTree t → (request : Request) → IsTree (answer t request) → (jobs : List (ℕ × B)) → HasJobs t jobs → HasJobs (answer t request) jobs
-selected_jobs t tree request found jobs has n number is =
-    let q = is_selected t request in
-    let above = truths (is_above t (is_taken t q)) (size t) in
-    let keep = truths (stays t q) (size t) in
-    let close : IsClosed t keep = subst (IsClosed t) (kept_of t tree q above refl) (closed t tree (is_taken t q) above refl) in
-    let kept : KeepsNodes t keep (pruned t keep) = kept_at_end t (pruned t keep) keep (size t) tree close refl refl in
-    let low : n < size (answer t request) = elim is [ inl body ↦ body_inside (answer t request) found n number body | inr after ↦ after_inside (answer t request) found n number after ] in
-    let from = kept.each n low in
-    let told : node_at (answer t request) n ≡ node_at t from.0 = ap (node_at (answer t request)) (sym from.1.2) ∙ kept.told from.0 from.1.0 from.1.1 in
-    has from.0 number (elim is [ inl body ↦ inl (sym (ap body_or told) ∙ body) | inr after ↦ inr (sym (ap after_or told) ∙ after) ])
+pub selected_jobs : {B : Type 0} (t : Nodes) → IsTree t → (request : Request) (jobs : List (ℕ × B)) → HasJobs t jobs → HasJobs (answer t request) jobs
+selected_jobs t tree request jobs has = shard_jobs (selection t request) (found t tree (is_selected t request)) request.shard jobs (staying_jobs t tree (is_selected t request) jobs has)
 
 -- so no job of a plan of it is missing
 pub all_jobs : {B : Type 0} (p : PlanParts) (jobs : List (ℕ × B)) → HasJobs p.tree jobs → HasAllJobs p jobs

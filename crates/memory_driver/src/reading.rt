@@ -85,6 +85,7 @@ pub(crate) fn find<W: Write>(alloc: Global, out: &mut Printer<W>) -> Result<(), 
         exclusions: Vec::new(alloc),
         include: Vec::new(alloc),
         exclude: Vec::new(alloc),
+        shard: None,
     };
     push_asked(alloc, &mut request)?;
     let (tree, properties) = tree_of(alloc, SHOP)?;

@@ -12,11 +12,11 @@ use crate::subject::Subject;
 use config_params::ParamsFault;
 use launch_options::option_names::{
     CONFIG, DETAILS, DETAILS_THEME, DRIVE, EXCLUDE_TAG, INCLUDE_TAG, PROCESSORS, REPLAY, RING,
-    SCHEDULE, WORKERS,
+    SCHEDULE, SHARD, WORKERS,
 };
 use launch_options::{
-    Details, Given, drive_named, has_long_key, processors_named, ring_named, theme_names, theme_of,
-    workers_named,
+    Details, Given, drive_named, has_long_key, processors_named, ring_named, shard_named,
+    theme_names, theme_of, workers_named,
 };
 use selectors::SelectorKind;
 use std::alloc::{AllocError, Global};
@@ -67,8 +67,19 @@ fn push_range(
     push_option(alloc, text, option, value, 0)
 }
 
+/// Appends why `--shard` is refused, if it is: it names no shard.
+fn push_shard(alloc: Global, text: &mut String, given: &Given<'_>) -> Result<(), AllocError> {
+    match given.shard {
+        Some(value) if shard_named(given.shard).is_err() => {
+            text.push_str("--shard is K/N, with N from 1 to 4,095 and K from 1 to N, as in 1/3\n")?;
+            push_option(alloc, text, SHARD, value, 0)
+        }
+        Some(_) | None => Ok(()),
+    }
+}
+
 /// Appends why `--workers` is refused with this value, if it is: it is no number of workers, or
-/// `--config` says one of its keys too.
+/// `--config` says one of its keys too; and else why `--shard` is.
 fn push_workers(
     alloc: Global,
     text: &mut String,
@@ -86,11 +97,11 @@ fn push_workers(
             return push_option(alloc, text, CONFIG, word, 0);
         }
     }
-    Ok(())
+    push_shard(alloc, text, given)
 }
 
 /// Appends which of the values that stand for something is none: what `--details`, then `--details-theme`, then
-/// `--processors`, then `--ring`, then `--drive`, and then `--workers` may be.
+/// `--processors`, then `--ring`, then `--drive`, then `--workers`, and then `--shard` may be.
 pub(crate) fn push_words(
     alloc: Global,
     text: &mut String,
@@ -123,7 +134,7 @@ pub(crate) fn push_words(
     }
     match given.workers {
         Some(value) => push_workers(alloc, text, value, given),
-        None => Ok(()),
+        None => push_shard(alloc, text, given),
     }
 }
 

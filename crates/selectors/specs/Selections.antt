@@ -9,6 +9,7 @@ use Rattle.selectors.specs.declared.select_fault.SelectFault.TheVariants.{Nothin
 use Rattle.selectors.specs.Covered.{truths, is_covered, is_excluded, first_unmatched}
 use Rattle.selectors.specs.Filters.{keeps, tags_together}
 use Rattle.selectors.specs.Keeping.{stays}
+use Rattle.selectors.specs.Shards.{shard_or_all}
 use Rattle.selectors.specs.Units.{is_selectable}
 
 -- whether a request takes node n by its place and its name: one of the selectors covers it or there are none, one of the names covers it or there
@@ -21,10 +22,13 @@ is_asked_for t request n = is_covered t request.selectors.items n && (is_covered
 abbrev pub is_selected : Nodes → Request → ℕ → Bool
 is_selected t request n = is_selectable (kind_of t n) (role_of t n) && (is_asked_for t request n && keeps request.include.items request.exclude.items (tags_together t n))
 
--- what discovery finds: the tree of the nodes that stay, which are node 0, each node that a selected node is at or below, and the spares of a selected
--- factory, in their order
+-- the tree of the nodes that stay, which are node 0, each node that a selected node is at or below, and the spares of a selected factory, in their order
+abbrev pub selection : Nodes → Request → Nodes
+selection t request = pruned t (truths (stays t (is_selected t request)) (size t))
+
+-- what discovery finds: that tree, or the shard of it that the request asks for
 abbrev pub answer : Nodes → Request → Nodes
-answer t request = pruned t (truths (stays t (is_selected t request)) (size t))
+answer t request = shard_or_all (selection t request) request.shard
 
 -- the refusal of a request: the first of its selectors, and then of its names, that covers no node of the whole tree, whatever else is asked for
 abbrev pub refusal : Nodes → Request → Option SelectFault

@@ -35,6 +35,11 @@ is_unit_of t part n = is_unit t n && gets part (place_of t n)
 abbrev pub shard : Nodes → Part → Nodes
 shard t part = pruned t (truths (stays t (is_unit_of t part)) (size t))
 
+-- the tree of a shard, and the whole tree where none is asked for
+abbrev pub shard_or_all : Nodes → Option Part → Nodes
+shard_or_all t None = t
+shard_or_all t (Some part) = shard t part
+
 -- each unit is got by one of so many shards, and by no two
 pub record AreDealtOut (t : Nodes) (count : ℕ) : Type 0 where
   pub each : (n : ℕ) → is_unit t n ≡ true → (k : ℕ) × (0 < k) × (k ≤ count) × (is_unit_of t (record { number = k; count = count }) n ≡ true)

@@ -9,6 +9,7 @@ ghost use Rattle.selectors.specs.Filters.{tags_together, IsTagged};
 ghost use Rattle.selectors.specs.Keeping.{stays, Stays};
 ghost use Rattle.selectors.specs.Names.{covers, names, Covers, HasIdOrSpare, HasMatchingName};
 ghost use Rattle.selectors.specs.Selections.{answer, is_selected, refusal};
+ghost use Rattle.selectors.specs.Shards.{shard_or_all};
 ghost use Rattle.selectors.specs.declared.selector.Selector.{Selector};
 ghost use Rattle.selectors.specs.declared.selector.Selector.TheVariants.{Uid, Name};
 ghost use Rattle.unique_id.specs.declared.unique_id.Segment.{Segment};
@@ -17,13 +18,16 @@ use crate::kept::kept;
 use crate::refusal::first_unmatched;
 use crate::request::Request;
 use crate::select_fault::SelectFault;
+use crate::shard::Shard;
+use crate::shard_tree::shard_of;
 use crate::taken::taken;
 use descriptor::Tree;
-use std::alloc::Global;
+use std::alloc::{AllocError, Global};
 
 /// The tree of the tests and factories that the request selects, of the spares of these factories
 /// and of what they are below, its nodes numbered anew, in their order and with their bodies. Where
-/// all nodes are that, it is the same tree, and nothing is copied.
+/// all nodes are that, it is the same tree, and nothing is copied. Where the request asks for a shard,
+/// the shard of that tree.
 ///
 /// Errors: refusal 41 for the first selector, and then for the first name, that covers no node of
 /// the whole tree, at its number, names counted behind selectors; and else want of memory. An
@@ -54,6 +58,18 @@ pub fn discover(alloc: Global, tree: Tree, request: &Request) -> Result<Tree, Se
     found(alloc, tree, request)
 }
 
+/// The shard that is asked for, or the whole tree where none is.
+fn shard_or_all(alloc: Global, tree: Tree, shard: &Option<Shard>) -> Result<Tree, AllocError>
+    ensures ok { IfOk result (λ found. found ≡ shard_or_all tree shard.now) }
+    ensures tree { IfOk result (λ found. IsTree tree → IsTree found) }
+    ensures children { IfOk result (λ found. ((n : ℕ) → ListsChildren tree n) → (n : ℕ) → ListsChildren found n) }
+{
+    match shard {
+        Some(shard) => shard_of(alloc, tree, shard),
+        None => Ok(tree),
+    }
+}
+
 /// What the request finds in a tree.
 fn found(alloc: Global, tree: Tree, request: &Request) -> Result<Tree, SelectFault>
     requires { IsTree tree }
@@ -69,6 +85,6 @@ fn found(alloc: Global, tree: Tree, request: &Request) -> Result<Tree, SelectFau
     }
     let taken = taken(alloc, &tree, request)?;
     let keep = kept(&tree, taken);
-    let found = tree.into_pruned(alloc, keep.as_slice())?;
-    Ok(found)
+    let selection = tree.into_pruned(alloc, keep.as_slice())?;
+    Ok(shard_or_all(alloc, selection, &request.shard)?)
 }

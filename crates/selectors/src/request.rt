@@ -1,6 +1,7 @@
 //! What a request asks for.
 
 use crate::selector::Selector;
+use crate::shard::Shard;
 use tag_expr::TagExpr;
 
 /// What a request asks for: tests and factories that one of the selectors covers, or all where there
@@ -18,4 +19,6 @@ pub struct Request {
     pub include: Vec<TagExpr>,
     /// Of which none may be true of the tags.
     pub exclude: Vec<TagExpr>,
+    /// Which shard of all that to take; where there is none, all of it.
+    pub shard: Option<Shard>,
 }

@@ -1,6 +1,6 @@
 //! Calls `selectors`: the tree of what one selector selects.
 
-ghost use Rattle.std.specs.Prelude.{◌≡◌, [], ◌∷◌, IfOk};
+ghost use Rattle.std.specs.Prelude.{◌≡◌, [], ◌∷◌, None, IfOk};
 ghost use Rattle.selectors.specs.declared.request.Request.{Request};
 ghost use Rattle.selectors.specs.Selections.{answer};
 
@@ -12,7 +12,7 @@ use std::alloc::Global;
 pub fn select_by(alloc: Global, tree: Tree, selector: Selector) -> Result<Tree, SelectFault>
     ensures { IfOk result (λ found. (request : Request) × (request.selectors.items ≡ selector ∷ [])
         × (request.names.items ≡ []) × (request.exclusions.items ≡ [])
-        × (request.include.items ≡ []) × (request.exclude.items ≡ []) × (found ≡ answer tree request)) }
+        × (request.include.items ≡ []) × (request.exclude.items ≡ []) × (request.shard ≡ None) × (found ≡ answer tree request)) }
 {
     let mut selectors = Vec::new(alloc);
     let Ok(()) = selectors.push(selector) else {
@@ -24,6 +24,7 @@ pub fn select_by(alloc: Global, tree: Tree, selector: Selector) -> Result<Tree, 
         exclusions: Vec::new(alloc),
         include: Vec::new(alloc),
         exclude: Vec::new(alloc),
+        shard: None,
     };
     discover(alloc, tree, &request)
 }

@@ -7,7 +7,7 @@ use Rattle.launcher.proofs.program.run_jobs_watched.Goals as goal
 
 pub run_planned-requires-clause-all : goal.run_planned-requires-clause-all
 run_planned-requires-clause-all g c κs within =
-    no_job_missing (asked_by c.args.options.now) (program_parts c.args.program.tree c.args.program.properties) c.in_ok-settings.field-0.settings c.in_ok-settings.field-0.plan c.args.program.jobs.items c.len.ensures.tree c.in_ok-settings.ensures.ready c.tree.ensures.tree c.requires.all
+    no_job_missing (asked_by c.args.options.now) (program_parts c.args.program.tree c.args.program.properties) c.in_ok-settings.field-0.settings c.in_ok-settings.field-0.plan c.args.program.jobs.items c.len.ensures.tree c.in_ok-settings.ensures.ready c.requires.all
 
 pub run_planned-requires-clause-jobs : goal.run_planned-requires-clause-jobs
 run_planned-requires-clause-jobs g c κs within = c.requires.jobs c.in_ok-settings.field-0.plan c.in_ok-settings.field-0.settings.workers c.args.options.now.ring

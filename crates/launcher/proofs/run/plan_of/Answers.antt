@@ -1,6 +1,5 @@
 -- The plan is made of what the request selects, with the modes that its nodes are given.
 use Rattle.std.proofs.Common.{subst, sym}
-use Rattle.descriptor.specs.Nodes.{IsTree}
 use Rattle.resource_locks.specs.Spares.{HasBareSpares, HasFreeSpares}
 use Rattle.never_stuck.proofs.Theorem.{never_stuck}
 use Rattle.launcher.proofs.Planning.{keys_refused, plan_made, still_guarded}
@@ -24,5 +23,5 @@ returns-in_err-plan-clause-refused c =
 pub returns-clause-never_stuck : goal.returns-clause-never_stuck
 returns-clause-never_stuck c bare =
     let found = c.in_ok-tree.ensures.ok in
-    let selected = subst HasBareSpares (sym found) (selected_bare c.args.tree c.len.ensures.tree c.args.options.now.request (subst IsTree found c.in_ok-tree.ensures.tree) bare) in
+    let selected = subst HasBareSpares (sym found) (selected_bare c.args.tree c.len.ensures.tree c.args.options.now.request bare) in
     never_stuck c.with_fail_fast-plan.result c.tree-2.ensures.plan (subst HasFreeSpares (sym c.with_fail_fast-plan.ensures.same) (c.in_ok-plan.ensures.free selected))
