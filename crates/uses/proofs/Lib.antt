@@ -1,3 +1,4 @@
 -- Lemmas of the callers.
 pub mod Ending
+pub mod Halves
 pub mod Passing

@@ -24,6 +24,12 @@ returns-in_err-read-clause-reads g c =
     (λ same. subst (λ (read : List ℕ). length read ≤ 1048576) c.as_slice.ensures.value (c.in_err-read.ensures.no_memory same).0) c.in_ok-bytes.ensures.reads
     (subst (λ (read : List ℕ). ReadsSuite (suite_read read) c.from_residual-in_err-read.result) c.as_slice.ensures.value refused)
 
+pub returns-clause-exact : goal.returns-clause-exact
+returns-clause-exact g c =
+    if_known (g.R.Read.remaining c.args.reader.now)
+    (λ bytes front. ap suite_read (sym (c.as_slice.ensures.value ∙ front)) ∙ c.in_ok-read.ensures.exact)
+    c.in_ok-bytes.ensures.front
+
 pub returns-clause-reads : goal.returns-clause-reads
 returns-clause-reads g c =
     takes_whole (g.R.Read.remaining c.args.reader.now) _ c.in_ok-bytes.bytes.items None _ c.in_ok-bytes.ensures.reads (λ same. cc) (λ same. cc) (ap suite_read (sym c.as_slice.ensures.value) ∙ c.in_ok-read.ensures.exact)
