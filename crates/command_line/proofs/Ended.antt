@@ -1,5 +1,5 @@
 -- What is said of an answer.
-use Rattle.std.proofs.Common.{◌≡◌, ℕ, Bool, true, List, codes, length, take, string_bytes, Option, Some, None, IfOk, Result, Ok, Err, inl, inr, sym, subst}
+use Rattle.std.proofs.Common.{◌≡◌, ℕ, Bool, true, List, codes, length, take, string_bytes, Option, Some, None, IfOk, Result, Ok, Err, inl, inr, refl, sym, subst, ◌∙◌}
 use Rattle.std.specs.Io.KnownBytes.{Appends}
 use Rattle.std.specs.Result.{is_ok}
 use Rattle.std.proofs.Math.Seq.{take-length}
@@ -9,15 +9,17 @@ use Rattle.live.specs.FailedTexts.{failed_of}
 use Rattle.live.specs.declared.failures.Failures.{Failures}
 use Rattle.launcher.specs.declared.exit_status.ExitStatus.{ExitStatus}
 use Rattle.launch_options.specs.declared.fault.LaunchFault.{LaunchFault}
+use Rattle.messages.specs.Hints.{hints_text}
 use Rattle.messages.specs.Messages.{message_text}
 use Rattle.messages.specs.Sentences.{Sentences}
+use Rattle.messages.specs.declared.hint.Hints.{Hints}
 use Rattle.messages.specs.declared.message.Message.{Message}
-use Rattle.command_line.specs.Runs.{HasMessage, PrintsMessage, SaysFailures, SaysOfRun, SaysWhy, WentOut}
+use Rattle.command_line.specs.Runs.{HasMessage, PrintsMessage, SaysFailures, SaysHints, SaysIfRun, SaysWhy, WentOut}
 
 module _ {E : Type 0} (sentence : Sentences) (said : E → Option (List ℕ)) (quiet told : E) (all : Bool) where
   -- the message that is printed is the answer's
   pub says_why : (answer : Result ExitStatus LaunchFault) (message : Option Message) → HasMessage sentence answer message → PrintsMessage said message quiet told all → SaysWhy said sentence answer quiet told all
-  says_why (Ok status) message none prints = inl (subst (λ (m : Option Message). PrintsMessage said m quiet told all) none prints)
+  says_why (Ok status) message none prints = (quiet, inl refl, inl (subst (λ (m : Option Message). PrintsMessage said m quiet told all) none prints))
   says_why (Err fault) None has prints = absurd has
   says_why (Err fault) (Some m) has prints =
       (string_bytes m.details, subst (λ (text : List ℕ). WentOut all (said quiet) (said told) (message_text text (string_bytes m.details))) has prints)
@@ -27,23 +29,37 @@ module _ {E : Type 0} (sentence : Sentences) (said : E → Option (List ℕ)) (q
   says_nothing (Ok status) message none prints = subst (λ (m : Option Message). PrintsMessage said m quiet told all) none prints
   says_nothing (Err fault) message has prints = tt
 
-  -- of a run that was not refused what failed is said behind that
-  pub says_behind : (last : E) (answer : Result ExitStatus LaunchFault) → SaysWhy said sentence answer quiet told all → IfOk answer (λ status. told ≡ quiet) → SaysOfRun said answer told last → SaysWhy said sentence answer quiet last all
-  says_behind last (Ok status) why same more = subst (λ (e : E). SaysFailures said e last) same more
-  says_behind last (Err fault) why same more = subst (λ (e : E). SaysWhy said sentence (Err fault) quiet e all) (sym more) why
+  -- of a run that was not refused hints are said behind that, and what failed behind them
+  pub says_behind : (between last : E) (answer : Result ExitStatus LaunchFault) → SaysWhy said sentence answer quiet told all → IfOk answer (λ status. told ≡ quiet) → SaysIfRun (SaysHints said) answer told between
+      → SaysIfRun (SaysFailures said) answer between last → SaysWhy said sentence answer quiet last all
+  says_behind between last (Ok status) why same hints failures = (between, subst (λ (e : E). SaysHints said e between) same hints, failures)
+  says_behind between last (Err fault) why same hints failures = subst (λ (e : E). SaysWhy said sentence (Err fault) quiet e all) (sym (failures ∙ hints)) why
 
 module _ {E : Type 0} (said : E → Option (List ℕ)) (old new : E) where
   -- nothing is said of what was refused, and of a run nothing need be
-  pub nothing_said : (answer : Result ExitStatus LaunchFault) → new ≡ old → SaysOfRun said answer old new
-  nothing_said (Ok status) same = inl same
-  nothing_said (Err fault) same = same
+  pub no_failures_said : (answer : Result ExitStatus LaunchFault) → new ≡ old → SaysIfRun (SaysFailures said) answer old new
+  no_failures_said (Ok status) same = inl same
+  no_failures_said (Err fault) same = same
 
-  pub of_run : (answer : Result ExitStatus LaunchFault) → is_ok answer ≡ true → SaysFailures said old new → SaysOfRun said answer old new
-  of_run (Ok status) ok is = is
-  of_run (Err fault) ok is = cc
+  pub no_hints_said : (answer : Result ExitStatus LaunchFault) → new ≡ old → SaysIfRun (SaysHints said) answer old new
+  no_hints_said (Ok status) same = inl same
+  no_hints_said (Err fault) same = same
+
+  pub failures_of_run : (answer : Result ExitStatus LaunchFault) → is_ok answer ≡ true → SaysFailures said old new → SaysIfRun (SaysFailures said) answer old new
+  failures_of_run (Ok status) ok is = is
+  failures_of_run (Err fault) ok is = cc
+
+  pub hints_of_run : (answer : Result ExitStatus LaunchFault) → is_ok answer ≡ true → SaysHints said old new → SaysIfRun (SaysHints said) answer old new
+  hints_of_run (Ok status) ok is = is
+  hints_of_run (Err fault) ok is = cc
 
   -- a text that was handed to the writer stands there as far as this took it
   pub said_so_far : (failures : Failures) (text : List ℕ) (result : Result (Unit {0}) WriteFault) → text ≡ failed_of (codes "select-unique-id") failures → SendsExactly (said old) (said new) text result → SaysFailures said old new
   said_so_far failures text (Ok done) is sent =
       inr (failures, length text, subst (λ (bytes : List ℕ). Appends (said old) (said new) (take (length text) bytes)) is (subst (Appends (said old) (said new)) (sym (take-length text)) sent))
   said_so_far failures text (Err fault) is sent = inr (failures, fault.sent, subst (λ (bytes : List ℕ). Appends (said old) (said new) (take fault.sent bytes)) is sent.1)
+
+  pub hints_so_far : (hints : Hints) (text : List ℕ) (result : Result (Unit {0}) WriteFault) → text ≡ hints_text hints → SendsExactly (said old) (said new) text result → SaysHints said old new
+  hints_so_far hints text (Ok done) is sent =
+      inr (hints, length text, subst (λ (bytes : List ℕ). Appends (said old) (said new) (take (length text) bytes)) is (subst (Appends (said old) (said new)) (sym (take-length text)) sent))
+  hints_so_far hints text (Err fault) is sent = inr (hints, fault.sent, subst (λ (bytes : List ℕ). Appends (said old) (said new) (take fault.sent bytes)) is sent.1)

@@ -10,8 +10,10 @@ use Rattle.launcher.specs.Runs.{IsRun, TakesFrom, fault_in, is_writing}
 use Rattle.launch_options.specs.declared.asked.Options.{Options}
 use Rattle.launcher.specs.declared.exit_status.ExitStatus.{ExitStatus}
 use Rattle.launch_options.specs.declared.fault.LaunchFault.{LaunchFault}
+use Rattle.messages.specs.Hints.{hints_text}
 use Rattle.messages.specs.Messages.{message_text}
 use Rattle.messages.specs.Sentences.{Sentences, sentence_of}
+use Rattle.messages.specs.declared.hint.Hints.{Hints}
 use Rattle.messages.specs.declared.message.Message.{Message}
 use Rattle.live.specs.FailedTexts.{failed_of}
 use Rattle.live.specs.Terminals.{IsDrawnBehind}
@@ -55,6 +57,11 @@ abbrev pub WentOut : Bool → (old new : Option (List ℕ)) → List ℕ → Typ
 WentOut true old new text = Appends old new text
 WentOut false old new text = (sent : ℕ) × (sent < length text) × Appends old new (take sent text)
 
+-- this is said of a run alone that was not refused
+abbrev pub SaysIfRun : {W : Type 0} → ((old new : W) → Type 0) → Result ExitStatus LaunchFault → (old new : W) → Type 0
+SaysIfRun Says (Ok status) old new = Says old new
+SaysIfRun Says (Err fault) old new = new ≡ old
+
 module _ {W : Type 0} (contents : W → Option (List ℕ)) where
   -- a line is printed, or the writer is left alone
   abbrev pub PrintsLine : Option LaunchFault → (old new : W) → Bool → Type 0
@@ -70,20 +77,23 @@ module _ {W : Type 0} (contents : W → Option (List ℕ)) where
   abbrev pub SaysFailures : (old new : W) → Type 0
   SaysFailures old new = (new ≡ old) ⊎ ((failures : Failures) × (sent : ℕ) × Appends (contents old) (contents new) (take sent (failed_of (codes "select-unique-id") failures)))
 
-  -- and that is said of a run alone that was not refused
-  abbrev pub SaysOfRun : Result ExitStatus LaunchFault → (old new : W) → Type 0
-  SaysOfRun (Ok status) old new = SaysFailures old new
-  SaysOfRun (Err fault) old new = new ≡ old
+  -- nothing is said, or the lines of hints, as far as the writer takes them
+  abbrev pub SaysHints : (old new : W) → Type 0
+  SaysHints old new = (new ≡ old) ⊎ ((hints : Hints) × (sent : ℕ) × Appends (contents old) (contents new) (take sent (hints_text hints)))
 
-  -- what is said of this answer: of a run what failed; and where something was refused, the refusal's sentence among these, and details
-  -- below it
+  -- hints, and what failed behind them
+  abbrev pub SaysOfRun : (old new : W) → Type 0
+  SaysOfRun old new = (between : W) × SaysHints old between × SaysFailures between new
+
+  -- what is said of this answer: of a run hints, and what failed; and where something was refused, the refusal's sentence among these,
+  -- and details below it
   abbrev pub SaysWhy : Sentences → Result ExitStatus LaunchFault → (old new : W) → Bool → Type 0
-  SaysWhy sentence (Ok status) old new all = SaysFailures old new
+  SaysWhy sentence (Ok status) old new all = SaysOfRun old new
   SaysWhy sentence (Err fault) old new all = (details : List ℕ) × WentOut all (contents old) (contents new) (message_text (sentence fault) details)
 
 module _ {W E : Type 0} (sentence : Sentences) (contents : W → Option (List ℕ)) (said : E → Option (List ℕ)) where
-  -- what is done after this answer: a refusal's line is printed unless the writer failed, its message, or what failed in a run, goes
-  -- to the other writer, and the program ends with the number of the answer's status
+  -- what is done after this answer: a refusal's line is printed unless the writer failed, its message, or hints of a run and what
+  -- failed in it, go to the other writer, and the program ends with the number of the answer's status
   pub record Closes (answer : Result ExitStatus LaunchFault) (old new : W) (quiet told : E) (ending : Ending) : Type 0 where
     pub line : PrintsLine contents (line_after answer) old new ending.is_printed
     pub message : SaysWhy said sentence answer quiet told ending.is_told

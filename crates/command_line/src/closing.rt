@@ -4,16 +4,17 @@ ghost use Rattle.std.specs.Prelude.{◌≡◌, ◌++◌, None, Err, IfOk, IfSome
 ghost use Rattle.launcher.specs.Closings.{line_after};
 ghost use Rattle.launcher.specs.ExitStatuses.{number_of, status_after};
 ghost use Rattle.messages.specs.Sentences.{sentence_by};
-ghost use Rattle.command_line.specs.Runs.{Closes, PrintsLine, PrintsMessage, SaysFailures, SaysOfRun, WentOut};
-ghost use Rattle.command_line.specs.Runs.{refusal_line};
+ghost use Rattle.command_line.specs.Runs.{Closes, PrintsLine, PrintsMessage, SaysFailures, SaysHints, SaysIfRun};
+ghost use Rattle.command_line.specs.Runs.{WentOut, refusal_line};
 
 use crate::said::message_after;
+use crate::words::given_by;
 use arrayvec::ArrayString;
 use launcher::option_names::SELECT_UNIQUE_ID;
 use launcher::{Closing, Details, ExitStatus, LaunchFault, Options};
 use listeners::print_to;
 use live::{Failures, failed_text};
-use messages::{Message, Subject};
+use messages::{Hints, Message, Subject, hints_of, hints_text};
 use std::alloc::Global;
 use std::fmt;
 use std::io::Write;
@@ -131,8 +132,8 @@ pub(crate) fn close_run<W: Write, E: Write>(
     close(answer, message, writer, errors)
 }
 
-/// Whether what failed is said once more: it is behind a tree and behind a summary.
-fn says_failures(answer: Result<ExitStatus, LaunchFault>, options: &Options) -> bool
+/// Whether more is said of a run, as what failed: it is behind a tree and behind a summary.
+fn says_more(answer: Result<ExitStatus, LaunchFault>, options: &Options) -> bool
     ensures { IsTrue result → is_ok answer ≡ true }
 {
     answer.is_ok()
@@ -157,14 +158,63 @@ fn say_failures<E: Write>(
     failures: &Failures,
     errors: &mut E,
 )
-    ensures { SaysOfRun E.contents answer errors.old errors.new }
+    ensures { SaysIfRun (SaysFailures E.contents) answer errors.old errors.new }
 {
-    if says_failures(answer, options) && !failures.are_none() {
+    if says_more(answer, options) && !failures.are_none() {
         print_failures(alloc, failures, errors);
     }
 }
 
-/// Says what there is to say after this answer of a run that these words asked for, and of what failed.
+/// Says these hints, if there is memory for that, as far as the writer takes it.
+fn print_hints<E: Write>(alloc: Global, hints: &Hints<'_>, errors: &mut E)
+    ensures { SaysHints E.contents errors.old errors.new }
+{
+    if let Ok(text) = hints_text(alloc, hints) {
+        let _ = print_to(errors, text.as_bytes());
+    }
+}
+
+/// Says what of these words, which asked for these options, and of this suite has another effect than
+/// it seems to have, if something does.
+fn print_hints_of<E: Write>(
+    alloc: Global,
+    options: &Options,
+    words: &[String],
+    suite: &[u8],
+    errors: &mut E,
+)
+    ensures { SaysHints E.contents errors.old errors.new }
+{
+    let Ok(given) = given_by(alloc, words) else {
+        return;
+    };
+    if let Ok(hints) = hints_of(alloc, &given, options, suite) {
+        if !hints.are_none() {
+            print_hints(alloc, &hints, errors);
+        }
+    }
+}
+
+/// Says the same of a suite's run, where that is said.
+fn say_hints<E: Write>(
+    alloc: Global,
+    answer: Result<ExitStatus, LaunchFault>,
+    options: &Options,
+    words: &[String],
+    subject: Subject<'_>,
+    errors: &mut E,
+)
+    ensures { SaysIfRun (SaysHints E.contents) answer errors.old errors.new }
+{
+    if let Subject::Suite(suite) = subject {
+        if says_more(answer, options) {
+            print_hints_of(alloc, options, words, suite, errors);
+        }
+    }
+}
+
+/// Says what there is to say after this answer of a run that these words asked for, of what has
+/// another effect than it seems to have, and of what failed.
 pub(crate) fn close_with_failures<W: Write, E: Write>(
     alloc: Global,
     answer: Result<ExitStatus, LaunchFault>,
@@ -178,7 +228,8 @@ pub(crate) fn close_with_failures<W: Write, E: Write>(
     ensures { Closes (sentence_by subject.entry) W.contents E.contents answer writer.old writer.new errors.old errors.new
         result }
 {
-    let ending = close_run(alloc, answer, words, subject, writer, errors);
+    let ending = close_run(alloc, answer, words, subject, writer, &mut *errors);
+    say_hints(alloc, answer, options, words, subject, &mut *errors);
     say_failures(alloc, answer, options, failures, errors);
     ending
 }

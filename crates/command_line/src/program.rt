@@ -69,8 +69,8 @@ fn run_read<T: Threads + Wait + Sync, R: Read, W: Write, E: Write>(
 }
 
 /// Runs what `run_console` runs, and then prints the line of a refusal, unless the writer failed,
-/// and its message on the other writer. There what failed is said once more, behind a tree or a
-/// summary, with words that select it.
+/// and its message on the other writer. Behind a tree or a summary it is said there what of the words
+/// and the suite has no effect, and what failed, with words that select it.
 pub fn run_words<T: Threads + Wait + Sync, R: Read, W: Write, E: Write>(
     rt: &T,
     alloc: Global,

@@ -1,4 +1,4 @@
--- What failed is said behind what is said of the answer.
+-- Hints are said behind what is said of the answer, and what failed behind them.
 use Rattle.messages.specs.Sentences.{sentence_by}
 use Rattle.command_line.proofs.Ended.{says_behind}
 use Rattle.command_line.proofs.closing.close_with_failures.Goals as goal
@@ -6,6 +6,6 @@ use Rattle.command_line.proofs.closing.close_with_failures.Goals as goal
 pub returns : goal.returns
 returns g c = record {
   line = c.close_run-ending.ensures.closed.line;
-  message = says_behind (sentence_by c.args.subject) (g.E.Write.contents) _ _ _ _ c.args.answer c.close_run-ending.ensures.closed.message c.close_run-ending.ensures.silent c.say_failures.ensures;
+  message = says_behind (sentence_by c.args.subject) (g.E.Write.contents) _ _ _ _ _ c.args.answer c.close_run-ending.ensures.closed.message c.close_run-ending.ensures.silent c.say_hints.ensures c.say_failures.ensures;
   status = c.close_run-ending.ensures.closed.status;
 }

@@ -17,6 +17,7 @@ returns c = λ i. record {
   details = c.found-5.ensures i;
   theme = c.found-6.ensures i;
   replay = c.found-7.ensures i;
+  drive = c.found-8.ensures i;
   fail_if_no_tests = c.is_found.ensures i;
   fail_fast = c.is_found-2.ensures i;
   schedule = c.is_found-3.ensures i;
