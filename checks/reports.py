@@ -256,7 +256,7 @@ class Reports:
 
     def ran(self, details, suite, *words):
         status, text, said = ran(self.program, ["--details", details, *words], suite.encode(), SECONDS_A_RUN)
-        is_log = details in ("tree", "summary") and said.startswith(b"Failures (")
+        is_log = details in ("tree", "summary") and said.startswith((b"Hints (", b"Failures ("))
         if (said and not is_log) or status not in (0, 1):
             raise Wrong(f"status {status}: {said.decode(errors='replace')}")
         return status, text.decode()
