@@ -18,3 +18,4 @@ pub mod Finding
 pub mod Serving
 pub mod Choosing
 pub mod Progress
+pub mod Driven

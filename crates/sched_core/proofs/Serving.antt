@@ -4,14 +4,9 @@ use Rattle.std.proofs.Common.{◌≡◌, ◌∙◌, ◌<◌, ◌≤◌, ◌+◌,
 use Rattle.std.specs.Result.{is_ok}
 use Rattle.std.proofs.lemmas.Bool.{false≢true}
 use Rattle.std.proofs.lemmas.Option.{slice_get_within}
-use Rattle.plan_events.specs.declared.event.Event.{Event}
 use Rattle.plan_events.specs.declared.outcome.Reply.{Reply}
 use Rattle.resource_locks.specs.Plans.{PlanParts}
 use Rattle.resource_locks.specs.Spares.{HasFreeSpares}
-use Rattle.event_history.specs.History.{IsComplete}
-use Rattle.event_history.specs.Parts.{EndsInPlan}
-use Rattle.event_history.proofs.PartsOf.{ends_in_plan}
-use Rattle.event_history.proofs.Spares.{plan_tree}
 use Rattle.scheduling.specs.declared.seat.Seat.{Seat}
 use Rattle.scheduling.specs.declared.step.Action.{Action}
 use Rattle.scheduling.specs.declared.step.Step.{Step}
@@ -27,7 +22,6 @@ use Rattle.scheduling.specs.declared.status.NodeStatus.TheVariants.{Settled}
 use Rattle.scheduling.specs.Inside.Start.{free_seat}
 use Rattle.scheduling.proofs.FirstState.{get_replicate}
 use Rattle.scheduling.proofs.Headline.{core_plan}
-use Rattle.scheduling.proofs.PlanOver.{plan_over}
 use Rattle.never_stuck.specs.Reaching.{answer}
 use Rattle.never_stuck.specs.Reaching.{reply_by as reply_of_job}
 use Rattle.termination.specs.Inside.Accounts.{steps_left}
@@ -40,12 +34,12 @@ use Rattle.termination.proofs.TurnsEnd.{seat_there, all_settled}
 use Rattle.sched_core.specs.declared.machine.Machine.{Machine}
 use Rattle.sched_core.specs.declared.trace.Trace.{Trace}
 use Rattle.sched_core.specs.Rounds.{IsTakenWhole}
-use Rattle.sched_core.specs.Traces.{IsTraceOf, IsWhole}
+use Rattle.sched_core.specs.Traces.{IsTraceOf}
 use Rattle.sched_core.specs.Replies.{reply_of, replies_of}
 use Rattle.sched_core.specs.Runs.{run, passed_over, state_or, missed}
 use Rattle.sched_core.specs.Steps.{reply_awaited, reply_for, after_step}
 use Rattle.sched_core.specs.Inside.Fields.{state_of, IsSound, IsAnswered}
-use Rattle.sched_core.specs.Inside.Rounds.{IsNextInTurn, IsIdle, IsQuiet, Leads}
+use Rattle.sched_core.specs.Inside.Rounds.{IsNextInTurn, IsIdle, IsQuiet, IsOver, Leads}
 use Rattle.sched_core.proofs.Sound.{work_is}
 use Rattle.sched_core.proofs.Tracing.{shown_trace}
 
@@ -178,14 +172,8 @@ module _ (p : PlanParts) (answers : List (ℕ × Reply)) where
       settled = all_settled p sound.plan (core_plan p sound.plan.tree) spares (replies_of answers) (reply_of answers) (λ job. refl) (state_of m) sound.live
           (λ v o at. in_turn m sound v o at None ((quiet v (within v (slice_get_within m.seats.items v o at))).1 o at))
 
-      pub whole_turns : (passed : ℕ) (t : Trace) → IsTraceOf (state_of m) passed t → IsWhole p t
-      whole_turns passed t is =
-          let over = plan_over p (core_plan p sound.plan.tree) (replies_of answers) (state_of m) sound.live.kept.0 sound.live.kept.1 sound.live.placed settled (quiet 0 (within 0 sound.live.some)).0 in
-          record {
-            complete = subst (λ (h : List Event). IsComplete p h) (sym is.published) over.1.0;
-            ends = subst (λ (h : List Event). EndsInPlan h) (sym is.published) (ends_in_plan p (plan_tree p.tree sound.plan.tree) (replies_of answers) (length m.seats.items) m.published.items sound.live.kept.1.published.legal over.1.1.0 over.1.1.1);
-            given = is.given ∙ over.0 ∙ sym is.published;
-          }
+      pub over_turns : IsOver (state_of m)
+      over_turns = ((quiet 0 (within 0 sound.live.some)).0, settled)
 
     pub taken_whole : (workers : ℕ) (t : Trace) → m.workers ≡ workers → Leads p answers (opening p workers) (state_of m) → IsTraceOf (state_of m) 0 t → IsTakenWhole p answers workers t
     taken_whole workers t count leads is = record {

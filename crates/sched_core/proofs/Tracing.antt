@@ -15,7 +15,7 @@ use Rattle.event_history.proofs.Apart.{apart}
 use Rattle.descriptor.specs.Nodes.{IsTree}
 use Rattle.scheduling.proofs.OnlyHistory.{only_history, as_expected}
 use Rattle.scheduling.specs.Runs.{opening}
-use Rattle.scheduling.proofs.Going.{going_end}
+use Rattle.scheduling.proofs.PlanOver.{plan_over}
 use Rattle.scheduling.proofs.Scheduled.{drives_only, drives_end}
 use Rattle.scheduling.specs.State.{State}
 use Rattle.scheduling.specs.Runs.{IsRight as IsStateRight}
@@ -25,9 +25,10 @@ use Rattle.sched_core.specs.declared.machine.Machine.{Machine}
 use Rattle.sched_core.specs.declared.trace.Trace.{Trace}
 use Rattle.sched_core.specs.Replies.{reply_of, replies_of}
 use Rattle.sched_core.specs.Inside.Fields.{state_of, parts_upto, IsSound}
-use Rattle.sched_core.specs.Drives.{Drives, reply_given, IsOnSchedule}
+use Rattle.sched_core.specs.Inside.Rounds.{IsOver}
+use Rattle.sched_core.specs.Drives.{Drives, reply_given}
 use Rattle.sched_core.specs.Runs.{IsRight}
-use Rattle.sched_core.specs.Traces.{lists_of, IsTraceOf, IsRightTrace, IsDriven, IsOnlyDriven, IsShownAtEnd, IsWhole, KeepsApart, HasExpected, IsOnlyHistory}
+use Rattle.sched_core.specs.Traces.{lists_of, IsTraceOf, IsRightTrace, IsDriven, IsOnlyDriven, IsShownAtEnd, IsWhole, IsOfOneWorker, KeepsApart, HasExpected, IsOnlyHistory}
 use Rattle.sched_core.proofs.Parts.{parts_len, parts_at}
 
 -- the lists of all workers are as many, and each is the worker's part
@@ -74,6 +75,16 @@ module _ (p : PlanParts) (answers : List (ℕ × Reply)) (m : Machine) (sound : 
   pub shown_trace : IsShown (state_of m) t.given.items
   shown_trace = subst (IsShown (state_of m)) (sym is.given) right_state.shown
 
+  -- where the run is over the trace is of the whole plan
+  pub whole_trace : IsOver (state_of m) → IsWhole p t
+  whole_trace ended =
+      let over = plan_over p (core_plan p sound.plan.tree) (replies_of answers) (state_of m) sound.live.kept.0 sound.live.kept.1 sound.live.placed ended.1 ended.0 in
+      record {
+        complete = subst (λ (h : List Event). IsComplete p h) (sym is.published) over.1.0;
+        ends = subst (λ (h : List Event). EndsInPlan h) (sym is.published) (ends_in_plan p (plan_tree p.tree sound.plan.tree) (replies_of answers) (length m.seats.items) m.published.items sound.live.kept.1.published.legal over.1.1.0 over.1.1.1);
+        given = is.given ∙ over.0 ∙ sym is.published;
+      }
+
 -- a fact of what a call gives where it succeeds, from another
 pub if_ok : {T E : Type 0} {P Q : T → Type 0} (r : Result T E) → ((x : T) → P x → Q x) → IfOk r P → IfOk r Q
 if_ok (Ok x) f h = f x h
@@ -94,17 +105,6 @@ only_driven p answers t driven final drives = subst (λ (s : State). IsTraceOf s
 pub shown_at_end : (p : PlanParts) (answers : List (ℕ × Reply)) (t : Trace) (s : State) → Drives p answers (opening p 1) s → IsShown s t.given.items → IsShownAtEnd p answers t
 shown_at_end p answers t s drives shown final other = subst (λ (u : State). IsShown u t.given.items) (drives_only p (reply_given p answers) (opening p 1) s final drives other) shown
 
--- the fixed schedule ends with the whole plan
-pub whole_trace : (p : PlanParts) (answers : List (ℕ × Reply)) (m : Machine) → IsSound p answers m → IsOnSchedule p answers (state_of m) → (passed : ℕ) (t : Trace) → IsTraceOf (state_of m) passed t → (first : State) → Drives p answers first (state_of m) → IsWhole p t
-whole_trace p answers m sound going passed t is first drives =
-    let ended = drives_end p (reply_given p answers) first (state_of m) drives in
-    let end = going_end p (core_plan p sound.plan.tree) (replies_of answers) (state_of m) going.0 going.1 ended.1 ended.0 in
-    record {
-      complete = subst (λ (h : List Event). IsComplete p h) (sym is.published) end.1.0;
-      ends = subst (λ (h : List Event). EndsInPlan h) (sym is.published) (ends_in_plan p (plan_tree p.tree sound.plan.tree) (replies_of answers) (length m.seats.items) m.published.items sound.live.kept.1.published.legal end.1.1.0 end.1.1.1);
-      given = is.given ∙ end.0 ∙ sym is.published;
-    }
-
 -- what follows of a trace that is right
 module _ (p : PlanParts) (answers : List (ℕ × Reply)) (tree : IsTree p.tree) (workers : ℕ) (t : Trace) (right : IsRightTrace p answers workers t) where
   pub right_apart : KeepsApart p t
@@ -116,3 +116,16 @@ module _ (p : PlanParts) (answers : List (ℕ × Reply)) (tree : IsTree p.tree) 
 pub right_only : (p : PlanParts) (answers : List (ℕ × Reply)) → IsTree p.tree → (t : Trace) → IsRightTrace p answers 1 t → IsWhole p t → IsOnlyHistory p answers t
 right_only p answers tree t right whole same h legal order complete =
     only_history p tree (reply_of answers) (replies_of answers) (λ job. refl) same h t.published.items legal order complete right.legal right.order whole.complete
+
+-- All that is said of the schedule of one worker, where it has led to the machine's state.
+pub of_one_worker : (p : PlanParts) (answers : List (ℕ × Reply)) (m : Machine) → IsSound p answers m → m.workers ≡ 1 → Drives p answers (opening p 1) (state_of m) → (t : Trace) → IsTraceOf (state_of m) 0 t → IsOfOneWorker p answers t
+of_one_worker p answers m sound one drives t is =
+    let driven : IsDriven p answers t = record { final = state_of m; drives = drives; trace = is } in
+    let whole = whole_trace p answers m sound 1 0 one t is (drives_end p (reply_given p answers) (opening p 1) (state_of m) drives) in
+    record {
+      driven = driven;
+      only = only_driven p answers t driven;
+      shown = shown_at_end p answers t (state_of m) drives (shown_trace p answers m sound 1 0 one t is);
+      whole = whole;
+      only_history = right_only p answers sound.plan.tree t (right_trace p answers m sound 1 0 one t is) whole;
+    }

@@ -70,3 +70,12 @@ pub record IsWhole (p : PlanParts) (t : Trace) : Type 0 where
   pub complete : IsComplete p t.published.items
   pub ends : EndsInPlan t.published.items
   pub given : t.given.items ≡ t.published.items
+
+-- What the schedule of one worker leaves: its own trace, and no other; of the whole plan, also where spares hold keys; and, where each
+-- node runs in the thread of its parent, of the only history.
+pub record IsOfOneWorker (p : PlanParts) (answers : List (ℕ × Reply)) (t : Trace) : Type 0 where
+  pub driven : IsDriven p answers t
+  pub only : IsOnlyDriven p answers t
+  pub shown : IsShownAtEnd p answers t
+  pub whole : IsWhole p t
+  pub only_history : IsOnlyHistory p answers t

@@ -3,12 +3,13 @@ use Rattle.std.specs.Prelude.{◌≡◌, ℕ, ◌+◌, ◌<◌, ◌≤◌, true,
 use Rattle.descriptor.specs.Nodes.{size}
 use Rattle.plan_events.specs.declared.outcome.Reply.{Reply}
 use Rattle.resource_locks.specs.Plans.{PlanParts}
+use Rattle.scheduling.specs.declared.status.NodeStatus.TheVariants.{Settled}
 use Rattle.scheduling.specs.declared.seat.Seat.{Seat}
 use Rattle.scheduling.specs.declared.step.Action.{Action}
 use Rattle.scheduling.specs.declared.step.Step.{Step}
 use Rattle.scheduling.specs.Choices.{key_at, mode_at, admits, decided}
 use Rattle.scheduling.specs.Rows.{read_row}
-use Rattle.scheduling.specs.State.{State, lock_at}
+use Rattle.scheduling.specs.State.{State, status_at, lock_at}
 use Rattle.termination.specs.Inside.Accounts.{steps_left}
 use Rattle.termination.specs.Inside.Turns.{MayTake, NextInTurn}
 use Rattle.sched_core.specs.Runs.{run, passed_over}
@@ -38,6 +39,10 @@ IsIdle p answers s w = (seat : Seat) → slice_get s.seats w ≡ Some seat → I
 -- nor is there anything to be read
 abbrev pub IsQuiet : PlanParts → List (ℕ × Reply) → State → ℕ → Type 0
 IsQuiet p answers s w = (read_row s ≡ None) × IsIdle p answers s w
+
+-- The run is over: the plan's node is settled, and there is nothing to be read.
+abbrev pub IsOver : State → Type 0
+IsOver s = (read_row s ≡ None) × (status_at s 0 ≡ Settled)
 
 -- Steps of which none is passed over lead from the one state to the other, and each leaves less to do.
 pub record Leads (p : PlanParts) (answers : List (ℕ × Reply)) (s t : State) : Type 0 where
