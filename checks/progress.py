@@ -4,8 +4,9 @@
 checks/progress.py [SUITES] [SEED]   20 suites and the seed 1 where they are not given
   --program PATH                     another program than crates/console/out/console
 A pseudo-terminal is used. The line is drawn at most ten times a second, its numbers grow, and it is gone
-at the end, also where the output goes to the same terminal, and where that is narrower than the line. A file,
-a terminal that is dumb and one of an unknown kind get nothing of it. What failed is said once more, on a terminal and in a file, at most twenty
+at the end, also where the output goes to the same terminal, and where that is narrower than the line. The test
+that it names, if one has been running for two seconds, is the one that runs longest by the feed on that terminal.
+A file, a terminal that is dumb and one of an unknown kind get nothing of it. What failed is said once more, on a terminal and in a file, at most twenty
 of it, and the words that are said select just that, or the first ten of it.
 Suites made at random print the same with a terminal and without one.
 The last line is 'N passed, M failed': the runs.
@@ -17,6 +18,7 @@ import os
 import pty
 import re
 import shlex
+import signal
 import struct
 import subprocess
 import sys
@@ -38,7 +40,14 @@ MANY_TESTS = 2_600
 SPIN = 1_000_000
 SECONDS_A_RUN = 120
 MOST_SHOWN = 10
-DRAWN = re.compile(rb"\r\x1b\[K\x1b\[\?7l(\d+) found, (\d+) running, (\d+) done, (\d+) failed, (\d+) s\x1b\[\?7h")
+DRAWN = re.compile(
+    rb"\r\x1b\[K\x1b\[\?7l(\d+) found, (\d+) running, (\d+) done, (\d+) failed, (\d+) s"
+    rb"(?:, longest (?P<long>\d+) s: (?P<name>[^\x00-\x1f]+))?\x1b\[\?7h"
+)
+FED = re.compile(rb"w\d+ (?P<what>started|finished) \S*\[method:(?P<test>[^]]*)\]")
+# So often a run is held up, and for so many seconds: no body takes as long by itself.
+STOPS = 3
+SECONDS_A_STOP = 2.3
 ERASED = b"\r\x1b[K"
 # The line has at least 43 columns.
 NARROW = (20, 40)
@@ -121,7 +130,7 @@ def read_all(reader, found):
 class Run:
     """A run of the program: what came on its output and on its errors, each a pipe or a terminal, or one terminal for both."""
 
-    def __init__(self, program, suite, words, errors="terminal", both=False, env=None, columns=WIDE):
+    def __init__(self, program, suite, words, errors="terminal", both=False, env=None, columns=WIDE, stops=0):
         self.seconds, self.columns = time.monotonic(), columns
         streams = {}
         ends = []
@@ -132,13 +141,20 @@ class Run:
             given.seek(0)
             kinds = {"TERM": "xterm"} if env is None else env
             kept = {name: value for name, value in os.environ.items() if name not in ("TERM", "NO_COLOR")}
-            process = subprocess.Popen([program, *words], stdin=given, stdout=output_end, stderr=error_end, env={**kept, **kinds})
+            # one that is held up runs on one processor, so that its bodies take their time
+            bind = (lambda: os.sched_setaffinity(0, {min(os.sched_getaffinity(0))})) if stops else None
+            process = subprocess.Popen([program, *words], stdin=given, stdout=output_end, stderr=error_end, env={**kept, **kinds}, preexec_fn=bind)
         for end in ends:
             os.close(end)
         threads = []
         for reader, found in streams.values():
             threads.append(threading.Thread(target=read_all, args=(reader, found)))
             threads[-1].start()
+        for _ in range(stops):
+            time.sleep(0.4)
+            process.send_signal(signal.SIGSTOP)
+            time.sleep(SECONDS_A_STOP)
+            process.send_signal(signal.SIGCONT)
         try:
             self.status = process.wait(SECONDS_A_RUN)
         except subprocess.TimeoutExpired:
@@ -161,13 +177,18 @@ class Run:
         return writer
 
 
+def drawn_in(errors):
+    """The numbers of each drawing, and the test that it names, or none."""
+    return [(tuple(map(int, found.groups()[:5])), found["name"]) for found in DRAWN.finditer(errors)]
+
+
 def judge_drawn(program, details):
     """The line comes at most ten times a second, its numbers grow, and it is gone at the end."""
     run = Run(program, slow_suite(), ["--details", details])
     silent = Run(program, slow_suite(), ["--details", details], errors="pipe")
     if (run.status, run.output) != (silent.status, silent.output) or run.status != 0:
         raise Wrong(f"status {run.status} and {silent.status}")
-    drawn = [tuple(map(int, numbers)) for numbers in DRAWN.findall(run.errors)]
+    drawn, names = zip(*drawn_in(run.errors)) if DRAWN.search(run.errors) else ((), ())
     if not 3 <= len(drawn) <= 10 * run.seconds + 1:
         raise Wrong(f"drawn {len(drawn)} times in {run.seconds:.2f} s")
     if DRAWN.sub(b"", run.errors).replace(ERASED, b"") != b"" or not run.errors.endswith(ERASED):
@@ -177,12 +198,35 @@ def judge_drawn(program, details):
             raise Wrong(f"{before} before {after}")
     if any(found != TESTS or running > 1 or done + running > found or failed for found, running, done, failed, _ in drawn):
         raise Wrong(f"{drawn}")
+    if any(names):
+        raise Wrong(f"no test takes two seconds, and {names} are named")
+
+
+def judge_longest(program):
+    """A test that is named runs, and of those that run it was the first to start: so the feed says above the line."""
+    words = ["--details", "testfeed", "--workers", "8"]
+    run = Run(program, slow_suite(MANY_TESTS), words, both=True, stops=STOPS)
+    running, named = [], 0
+    for found in re.finditer(DRAWN.pattern + b"|" + FED.pattern, run.errors):
+        test = found["test"]
+        if found["what"] == b"started":
+            running.append(test)
+        elif found["what"] == b"finished":
+            running.remove(test)
+        elif found["name"]:
+            named += 1
+            if not running or found["name"] != running[0] + b" in a.B":
+                raise Wrong(f"{found['name']} is named, and {running} run")
+            if not 2 <= int(found["long"]) <= run.seconds:
+                raise Wrong(f"{found[0]} in a run of {run.seconds:.2f} s")
+    if run.status != 0 or running or not named:
+        raise Wrong(f"status {run.status}, {named} were named, {running} run in the end")
 
 
 def judge_seconds(program):
     """The seconds are those since the beginning, and not those since the line was drawn last."""
     run = Run(program, slow_suite(MANY_TESTS), ["--details", "none"])
-    seconds = [int(numbers[4]) for numbers in DRAWN.findall(run.errors)]
+    seconds = [numbers[4] for numbers, _ in drawn_in(run.errors)]
     if not run.seconds - 1.5 < seconds[-1] < run.seconds:
         raise Wrong(f"{seconds[-1]} s in the end, of {run.seconds:.2f} s")
 
@@ -267,7 +311,7 @@ def main():
     given = words.parse_args()
     program = given.program or built_console()
     cases = [(f"drawn beside {details}", judge_drawn, (program, details)) for details in ("tree", "summary", "json")]
-    cases += [("the seconds of a long run", judge_seconds, (program,))]
+    cases += [("the seconds of a long run", judge_seconds, (program,)), ("the test that runs longest", judge_longest, (program,))]
     cases += [(f"{details} on the same terminal", judge_together, (program, details)) for details in ("tree", "testfeed", "none")]
     cases += [(f"{details} on a terminal of {columns} columns", judge_together, (program, details, columns)) for columns in NARROW for details in ("summary", "testfeed", "none")]
     cases += [("a pipe", judge_silent, (program, "pipe", None)), ("a dumb terminal", judge_silent, (program, "terminal", {"TERM": "dumb"}))]

@@ -2,7 +2,7 @@
 
 use crate::failing::{Failing, Full};
 use listeners::Summary;
-use live::{Failures, Progress};
+use live::{Failures, Progress, Running};
 use std::alloc::Global;
 use std::cell::Cell;
 use std::io::{Result as IoResult, Write};
@@ -38,7 +38,16 @@ fn leave_moments<E: Write>(alloc: Global, terminal: &mut E, step: u64) {
     };
     let mut summary = Summary::new(alloc);
     let mut failures = Failures::new(alloc);
-    let mut progress = Progress::new(alloc, terminal, &clock, false, &mut summary, &mut failures);
+    let mut running = Running::new(alloc);
+    let mut progress = Progress::new(
+        alloc,
+        terminal,
+        &clock,
+        false,
+        &mut summary,
+        &mut failures,
+        &mut running,
+    );
     for _ in 0..6 {
         progress.idle();
     }

@@ -16,7 +16,7 @@ use crate::system_words::given_words;
 use crate::words::read_options;
 use launcher::{ExitStatus, LaunchFault, Options, run_options_watched};
 use listeners::Summary;
-use live::{Failures, Progress};
+use live::{Failures, Progress, Running};
 use messages::Subject;
 use std::alloc::Global;
 use std::env::Args;
@@ -64,6 +64,7 @@ fn run_shown<T: Threads + Wait + Sync, C: Clock + Drop, R: Read, W: Write, E: Wr
         (W.contents writer.old) (W.contents writer.new) result }
 {
     let mut summary = Summary::new(alloc);
+    let mut running = Running::new(alloc);
     let mut progress = Progress::new(
         alloc,
         errors,
@@ -71,6 +72,7 @@ fn run_shown<T: Threads + Wait + Sync, C: Clock + Drop, R: Read, W: Write, E: Wr
         prints_lines(options),
         &mut summary,
         failures,
+        &mut running,
     );
     run_followed(rt, alloc, options, reader, writer, &mut progress)
 }

@@ -21,7 +21,7 @@ use crate::terminal::prints_lines;
 use crate::words::read_options;
 use launcher::{ExitStatus, LaunchFault, Options, Program, run_jobs_watched};
 use listeners::Summary;
-use live::{Failures, Progress};
+use live::{Failures, Progress, Running};
 use messages::{Subject, said_of_settings};
 use plan_events::Job;
 use std::alloc::Global;
@@ -71,6 +71,7 @@ fn run_jobs_shown<B: Job + Send, T: Threads + Wait + Sync, C: Clock + Drop, W: W
         (asked_by options.now) (W.contents writer.old) (W.contents writer.new) result }
 {
     let mut summary = Summary::new(alloc);
+    let mut running = Running::new(alloc);
     let mut progress = Progress::new(
         alloc,
         errors,
@@ -78,6 +79,7 @@ fn run_jobs_shown<B: Job + Send, T: Threads + Wait + Sync, C: Clock + Drop, W: W
         prints_lines(options),
         &mut summary,
         failures,
+        &mut running,
     );
     run_jobs_followed(rt, alloc, options, program, writer, &mut progress)
 }

@@ -13,9 +13,10 @@ use Rattle.listeners.specs.Listeners.{Telling}
 use Rattle.worker_pool.specs.Watching.{HasSeenMore}
 use Rattle.live.proofs.Keeping.{none_kept}
 use Rattle.live.specs.Failing.{HasKept}
-use Rattle.live.specs.Terminals.{AreDrawn, HasFollowed, IsDrawnOn, IsSent, drawing_of, drawings_of, is_done}
+use Rattle.live.proofs.RunningTests.{none_running, running_on}
+use Rattle.live.specs.RunningTests.{Follows, HasFollowedTests}
+use Rattle.live.specs.Terminals.{AreDrawn, HasFollowed, IsDrawnOn, IsSent, Line, drawing_of, drawings_of, is_done}
 use Rattle.live.specs.declared.progress.Progress.{Progress}
-use Rattle.live.specs.declared.test_counts.TestCounts.{TestCounts}
 
 -- all of a text was written, and then nothing more
 pub sent_whole : (a b c : Option (List ℕ)) (text bytes : List ℕ) (all : Bool) → bytes ≡ text → Appends a b bytes → Keeps b c → IsSent all a c text
@@ -31,7 +32,7 @@ pub none_drawn : (a : Option (List ℕ)) (done : Bool) → AreDrawn a a done
 none_drawn a done = record { lines = []; sent = 0; whole = λ going. refl; written = Appends-nil a }
 
 -- one line was drawn
-pub one_drawn : (a b : Option (List ℕ)) (all done : Bool) (line : Option (TestCounts × ℕ)) (text : List ℕ) → text ≡ drawing_of line → (all ≡ false → done ≡ true) → IsSent all a b text → AreDrawn a b done
+pub one_drawn : (a b : Option (List ℕ)) (all done : Bool) (line : Option Line) (text : List ℕ) → text ≡ drawing_of line → (all ≡ false → done ≡ true) → IsSent all a b text → AreDrawn a b done
 one_drawn a b true done line text is ends sent = record {
   lines = line ∷ [];
   sent = length (drawings_of (line ∷ []));
@@ -89,7 +90,7 @@ still_going false drawn going is = cc
 module _ {E C : Type 0} (contents : E → Option (List ℕ)) where
   -- one line was handed to the terminal
   pub shown : (old new : Progress E C) (all : Bool) (text : List ℕ) → new.terminal.ghost_name ≡ old.terminal.ghost_name → is_done old ≡ false → (all ≡ false → is_done new ≡ true) → IsSent all (contents old.terminal.now) (contents new.terminal.now) text
-      → (line : Option (TestCounts × ℕ)) → text ≡ drawing_of line → IsDrawnOn contents old new
+      → (line : Option Line) → text ≡ drawing_of line → IsDrawnOn contents old new
   shown old new all text same going ends sent line is = record {
     same = same;
     drawn = one_drawn (contents old.terminal.now) (contents new.terminal.now) all (is_done new) line text is ends sent;
@@ -124,16 +125,24 @@ module _ {E C : Type 0} (contents : E → Option (List ℕ)) where
 
   -- before anything was shown
   pub begun : (p : PlanParts) (first : Progress E C) → HasFollowed contents p first first []
-  begun p first = record { drawn = left first first refl (λ done. done); kept = none_kept p first.failures.now }
+  begun p first = record { drawn = left first first refl (λ done. done); kept = none_kept p first.failures.now; running = none_running p.tree first.running.now }
 
   module _ (p : PlanParts) (first old new : Progress E C) (ts : List Telling) (was : HasFollowed contents p first old ts) (drawn : IsDrawnOn contents old new) where
     -- nothing more was shown
-    pub follows_as_much : new.failures ≡ old.failures → HasFollowed contents p first new ts
-    follows_as_much same = record { drawn = drawn_more first old new was.drawn drawn; kept = subst (λ fs. HasKept p first.failures.now fs.now ts) (sym same) was.kept }
+    pub follows_as_much : new.failures ≡ old.failures → new.running ≡ old.running → HasFollowed contents p first new ts
+    follows_as_much failures running = record {
+      drawn = drawn_more first old new was.drawn drawn;
+      kept = subst (λ fs. HasKept p first.failures.now fs.now ts) (sym failures) was.kept;
+      running = subst (λ rs. HasFollowedTests p.tree first.running.now rs.now ts) (sym running) was.running;
+    }
 
     -- one event more was
-    pub follows_more : (t : Telling) → HasSeenMore HasKept p (t ∷ []) old.failures.now new.failures.now → HasFollowed contents p first new (ts ++ t ∷ [])
-    follows_more t kept = record { drawn = drawn_more first old new was.drawn drawn; kept = kept first.failures.now ts was.kept }
+    pub follows_more : (t : Telling) → HasSeenMore HasKept p (t ∷ []) old.failures.now new.failures.now → Follows p.tree t.event old.running.now new.running.now → HasFollowed contents p first new (ts ++ t ∷ [])
+    follows_more t kept running = record {
+      drawn = drawn_more first old new was.drawn drawn;
+      kept = kept first.failures.now ts was.kept;
+      running = running_on p.tree first.running.now old.running.now new.running.now ts t was.running running;
+    }
 
 -- what there is of a result is as it was said to be
 pub some_if_ok : {A F : Type 0} {P Q : A → Type 0} (result : Result A F) (found : Option A) → found ≡ result_ok result → ((a : A) → P a → Q a) → IfOk result P → IfSome found Q

@@ -1,5 +1,6 @@
 -- Why the lines so far, and the next, are what is printed.
 pub mod Lines
+pub mod RunningTests
 pub mod Going
 pub mod Fronts
 pub mod Drawing

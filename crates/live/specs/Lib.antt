@@ -3,5 +3,6 @@ pub mod LiveFeeds
 pub mod FailedTexts
 pub mod Failing
 pub mod Lines
+pub mod RunningTests
 pub mod Shown
 pub mod Terminals

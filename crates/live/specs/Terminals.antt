@@ -6,6 +6,7 @@ use Rattle.resource_locks.specs.Plans.{PlanParts}
 use Rattle.listeners.specs.Listeners.{Telling}
 use Rattle.live.specs.Failing.{HasKept}
 use Rattle.live.specs.Lines.{line_of}
+use Rattle.live.specs.RunningTests.{HasFollowedTests, longest_part}
 use Rattle.live.specs.declared.progress.Progress.{Progress}
 use Rattle.live.specs.declared.test_counts.TestCounts.{TestCounts}
 
@@ -20,14 +21,23 @@ wrapping_off = codes "\u{1b}[?7l"
 abbrev pub wrapping_on : List ℕ
 wrapping_on = codes "\u{1b}[?7h"
 
--- What is drawn at one time: the line is erased; and it is drawn anew of these tests, after so many seconds, or left empty. However
--- narrow the terminal is, what is drawn takes one line of it, which can be erased.
-abbrev pub drawing_of : Option (TestCounts × ℕ) → List ℕ
+-- what the line says: how far the tests have come after so many seconds, and of one that runs long its name and its seconds
+pub record Line : Type 0 where
+  pub tests : TestCounts
+  pub seconds : ℕ
+  pub longest : Option (List ℕ × ℕ)
+
+abbrev pub text_of : Line → List ℕ
+text_of line = line_of line.tests line.seconds ++ longest_part line.longest
+
+-- What is drawn at one time: the line is erased; and it is drawn anew, or left empty. However narrow the terminal is, what is drawn takes
+-- one line of it, which can be erased.
+abbrev pub drawing_of : Option Line → List ℕ
 drawing_of None = erasing
-drawing_of (Some line) = erasing ++ (wrapping_off ++ (line_of line.0 line.1 ++ wrapping_on))
+drawing_of (Some line) = erasing ++ (wrapping_off ++ (text_of line ++ wrapping_on))
 
 -- what is drawn in turn
-abbrev pub drawings_of : List (Option (TestCounts × ℕ)) → List ℕ
+abbrev pub drawings_of : List (Option Line) → List ℕ
 drawings_of lines = flat_map drawing_of lines
 
 -- all of a text was handed to a terminal, or the first so many bytes
@@ -37,7 +47,7 @@ IsSent false old new text = (sent : ℕ) × Appends old new (take sent text)
 
 -- Behind what was held stand drawings, one behind the other; where nothing more is drawn perhaps the first so many bytes of them alone.
 pub record AreDrawn (old new : Option (List ℕ)) (is_done : Bool) : Type 0 where
-  pub lines : List (Option (TestCounts × ℕ))
+  pub lines : List (Option Line)
   pub sent : ℕ
   pub whole : is_done ≡ false → sent ≡ length (drawings_of lines)
   pub written : Appends old new (take sent (drawings_of lines))
@@ -60,7 +70,9 @@ module _ {E C : Type 0} (contents : E → Option (List ℕ)) where
     pub done : is_done first ≡ true → is_done now ≡ true
     pub left_alone : is_done first ≡ true → now.terminal.now ≡ first.terminal.now
 
-  -- One that watches has been shown these events of the plan: it was drawn on its terminal, and the failures among them were kept.
+  -- One that watches has been shown these events of the plan: it was drawn on its terminal, the failures among them were kept, and the tests
+  -- that run were noted.
   pub record HasFollowed (p : PlanParts) (first now : Progress E C) (ts : List Telling) : Type 0 where
     pub drawn : IsDrawnOn first now
     pub kept : HasKept p first.failures.now now.failures.now ts
+    pub running : HasFollowedTests p.tree first.running.now now.running.now ts

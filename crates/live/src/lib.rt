@@ -7,6 +7,7 @@ mod failures;
 mod line_form;
 mod live_feed;
 mod progress;
+mod running;
 mod shown;
 mod test_counts;
 
@@ -16,4 +17,5 @@ pub use failures::Failures;
 pub use line_form::LineForm;
 pub use live_feed::{LiveFeed, Outlet};
 pub use progress::Progress;
+pub use running::{Longest, Running, RunningTest};
 pub use test_counts::{TestCounts, progress_line};

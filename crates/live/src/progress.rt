@@ -1,13 +1,15 @@
 //! A watcher that draws how far a run has come.
 
-ghost use Rattle.std.specs.Prelude.{◌≡◌, ◌∷◌, [], ℕ, true, false, IfOk, IfSome, Option, Some, string_bytes};
+ghost use Rattle.std.specs.Prelude.{◌≡◌, ◌∷◌, [], true, false, IfOk, IfSome, Option, Some, string_bytes};
+ghost use Rattle.std.specs.Time.{instant_nanos};
 ghost use Rattle.listeners.specs.Listeners.{telling};
 ghost use Rattle.worker_pool.specs.Watching.{HasSeenMore};
 ghost use Rattle.live.specs.Failing.{HasKept};
-ghost use Rattle.live.specs.Terminals.{IsDrawnOn, IsSent, drawing_of, is_done};
-ghost use Rattle.live.specs.declared.test_counts.TestCounts.{TestCounts as Counts};
+ghost use Rattle.live.specs.RunningTests.{Follows, IsSaid};
+ghost use Rattle.live.specs.Terminals.{IsDrawnOn, IsSent, Line, drawing_of, is_done};
 
 use crate::failures::Failures;
+use crate::running::Running;
 use crate::test_counts::{TestCounts, progress_line};
 use listeners::{Listener, Summary, print_to};
 use plan_events::{Event, Texts};
@@ -41,8 +43,8 @@ fn hand_on<E: Write>(terminal: &mut E, text: &str) -> bool
 }
 
 /// Draws how far a run has come on a line of a terminal, at most ten times a second, and erases it
-/// when the plan is finished. The tests are counted in a summary that it was lent, and the nodes that
-/// failed are kept in a list that it was lent.
+/// when the plan is finished. The tests are counted in a summary that it was lent, the nodes that
+/// failed are kept in a list that it was lent, and those that run in another.
 #[derive(Drop)]
 pub struct Progress<'e, 'c, 's, 'f, E: Write, C: Clock> {
     alloc: Global,
@@ -57,11 +59,13 @@ pub struct Progress<'e, 'c, 's, 'f, E: Write, C: Clock> {
     among_lines: bool,
     summary: &'s mut Summary,
     failures: &'f mut Failures,
+    running: &'s mut Running,
 }
 
 impl<'e, 'c, 's, 'f, E: Write, C: Clock> Progress<'e, 'c, 's, 'f, E, C> {
     /// Nothing has happened yet, and nothing is drawn. Where lines are printed on the terminal by
-    /// others, each event erases the line. It is lent an empty summary, and a list for what fails.
+    /// others, each event erases the line. It is lent an empty summary, a list for what fails, and an
+    /// empty one for what runs.
     pub fn new(
         alloc: Global,
         terminal: &'e mut E,
@@ -69,6 +73,7 @@ impl<'e, 'c, 's, 'f, E: Write, C: Clock> Progress<'e, 'c, 's, 'f, E, C> {
         among_lines: bool,
         summary: &'s mut Summary,
         failures: &'f mut Failures,
+        running: &'s mut Running,
     ) -> Progress<'e, 'c, 's, 'f, E, C>
         ensures same { result.terminal.ghost_name ≡ terminal.entry.ghost_name }
         ensures terminal { result.terminal.now ≡ terminal.old }
@@ -85,15 +90,17 @@ impl<'e, 'c, 's, 'f, E: Write, C: Clock> Progress<'e, 'c, 's, 'f, E, C> {
             among_lines,
             summary,
             failures,
+            running,
         }
     }
 
     /// Hands this to the terminal; one that fails is left alone from then on.
     fn show(&mut self, text: &str)
         requires going { is_done self.old ≡ false }
-        ensures drawn { (line : Option (Counts × ℕ)) → text.now ≡ drawing_of line →
+        ensures drawn { (line : Option Line) → text.now ≡ drawing_of line →
             IsDrawnOn E.contents self.old self.new }
         ensures failures { self.new.failures ≡ self.old.failures }
+        ensures running { self.new.running ≡ self.old.running }
     {
         if !hand_on(&mut *self.terminal, text) {
             self.is_over = true;
@@ -105,6 +112,7 @@ impl<'e, 'c, 's, 'f, E: Write, C: Clock> Progress<'e, 'c, 's, 'f, E, C> {
     fn erase(&mut self)
         ensures drawn { IsDrawnOn E.contents self.old self.new }
         ensures failures { self.new.failures ≡ self.old.failures }
+        ensures running { self.new.running ≡ self.old.running }
     {
         if self.is_drawn {
             self.show(ERASING);
@@ -112,12 +120,14 @@ impl<'e, 'c, 's, 'f, E: Write, C: Clock> Progress<'e, 'c, 's, 'f, E, C> {
         }
     }
 
-    /// The line as it is to be drawn.
-    fn line(&self, seconds: u64) -> Result<String, AllocError>
-        ensures { IfOk result (λ text. (tests : Counts) × (string_bytes text ≡ drawing_of (Some (tests, seconds)))) }
+    /// The line as it is to be drawn at this time, so many seconds after the beginning.
+    fn line(&self, now: Instant, seconds: u64) -> Result<String, AllocError>
+        ensures { IfOk result (λ text. (line : Line) × IsSaid self.now.running.now (instant_nanos now) line.longest
+            × (string_bytes text ≡ drawing_of (Some line))) }
     {
         let tests = TestCounts::of(self.summary.counts());
-        let line = progress_line(self.alloc, tests, seconds)?;
+        let mut line = progress_line(self.alloc, tests, seconds)?;
+        self.running.push_longest(&mut line, now)?;
         format!(in self.alloc; "{ERASING}{WRAPPING_OFF}{line}{WRAPPING_ON}")
     }
 
@@ -127,7 +137,8 @@ impl<'e, 'c, 's, 'f, E: Write, C: Clock> Progress<'e, 'c, 's, 'f, E, C> {
         ensures drawn { self.new.is_drawn ≡ self.old.is_drawn }
         ensures over { self.new.is_over ≡ self.old.is_over }
         ensures failures { self.new.failures ≡ self.old.failures }
-        ensures line { IfSome result (λ text. (line : Counts × ℕ) × (string_bytes text ≡ drawing_of (Some line))) }
+        ensures running { self.new.running ≡ self.old.running }
+        ensures line { IfSome result (λ text. (line : Line) × (string_bytes text ≡ drawing_of (Some line))) }
     {
         let (Some(begun), Some(drawn)) = (self.begun, self.drawn) else {
             return None;
@@ -139,7 +150,8 @@ impl<'e, 'c, 's, 'f, E: Write, C: Clock> Progress<'e, 'c, 's, 'f, E, C> {
             return None;
         }
         self.drawn = Some(now);
-        self.line(now.duration_since(begun).as_secs()).ok()
+        let seconds = now.duration_since(begun).as_secs();
+        self.line(now, seconds).ok()
     }
 
     /// Draws the line anew, unless it was drawn a moment ago.
@@ -147,6 +159,7 @@ impl<'e, 'c, 's, 'f, E: Write, C: Clock> Progress<'e, 'c, 's, 'f, E, C> {
         requires going { self.old.is_over ≡ false }
         ensures drawn { IsDrawnOn E.contents self.old self.new }
         ensures failures { self.new.failures ≡ self.old.failures }
+        ensures running { self.new.running ≡ self.old.running }
     {
         if let Some(text) = self.next_line() {
             self.is_drawn = true;
@@ -158,6 +171,7 @@ impl<'e, 'c, 's, 'f, E: Write, C: Clock> Progress<'e, 'c, 's, 'f, E, C> {
     fn redraw(&mut self)
         ensures drawn { IsDrawnOn E.contents self.old self.new }
         ensures failures { self.new.failures ≡ self.old.failures }
+        ensures running { self.new.running ≡ self.old.running }
     {
         if self.among_lines {
             self.erase();
@@ -170,6 +184,7 @@ impl<'e, 'c, 's, 'f, E: Write, C: Clock> Progress<'e, 'c, 's, 'f, E, C> {
     fn close(&mut self, is_finished: bool)
         ensures drawn { IsDrawnOn E.contents self.old self.new }
         ensures failures { self.new.failures ≡ self.old.failures }
+        ensures running { self.new.running ≡ self.old.running }
     {
         if is_finished {
             self.erase();
@@ -183,6 +198,7 @@ impl<'e, 'c, 's, 'f, E: Write, C: Clock> Progress<'e, 'c, 's, 'f, E, C> {
         ensures drawn { self.new.is_drawn ≡ self.old.is_drawn }
         ensures over { self.old.is_over ≡ true → self.new.is_over ≡ true }
         ensures failures { self.new.failures ≡ self.old.failures }
+        ensures running { self.new.running ≡ self.old.running }
     {
         if self.summary.got().is_empty() && self.summary.prepare(plan).is_err() {
             self.is_over = true;
@@ -192,15 +208,19 @@ impl<'e, 'c, 's, 'f, E: Write, C: Clock> Progress<'e, 'c, 's, 'f, E, C> {
         }
     }
 
-    /// Takes note of a node that failed.
+    /// Takes note of a node that failed, and of a test that started or finished.
     fn note(&mut self, plan: &Plan, texts: &Texts, event: Event)
         ensures terminal { self.new.terminal ≡ self.old.terminal }
         ensures drawn { self.new.is_drawn ≡ self.old.is_drawn }
         ensures over { self.new.is_over ≡ self.old.is_over }
         ensures kept { HasSeenMore HasKept plan.now (telling texts.now event ∷ []) self.old.failures.now
             self.new.failures.now }
+        ensures running { Follows plan.now.tree event self.old.running.now self.new.running.now }
     {
-        self.failures.watch(plan, texts, event);
+        let event = &event;
+        self.failures.watch(plan, texts, *event);
+        let now = Instant::now(self.clock).ok();
+        self.running.note(plan, *event, now);
     }
 }
 

@@ -14,8 +14,8 @@ returns g c first before was =
     let noted = c.note.new.self in
     let at_count =
     follows_as_much contents p first old counted before was (left contents old counted c.count.ensures.terminal (done_by old.is_over old.is_drawn counted.is_over counted.is_drawn c.count.ensures.drawn c.count.ensures.over))
-    c.count.ensures.failures in
+    c.count.ensures.failures c.count.ensures.running in
     let at_note =
-    follows_more contents p first counted noted before at_count (left contents counted noted c.note.ensures.terminal (λ done. ap₂ (λ o d. o && not d) c.note.ensures.over c.note.ensures.drawn ∙ done)) t c.note.ensures.kept in
-    let at_redraw = follows_as_much contents p first noted c.redraw.new.self (before ++ t ∷ []) at_note c.redraw.ensures.drawn c.redraw.ensures.failures in
-    follows_as_much contents p first c.redraw.new.self c.close.new.self (before ++ t ∷ []) at_redraw c.close.ensures.drawn c.close.ensures.failures
+    follows_more contents p first counted noted before at_count (left contents counted noted c.note.ensures.terminal (λ done. ap₂ (λ o d. o && not d) c.note.ensures.over c.note.ensures.drawn ∙ done)) t c.note.ensures.kept c.note.ensures.running in
+    let at_redraw = follows_as_much contents p first noted c.redraw.new.self (before ++ t ∷ []) at_note c.redraw.ensures.drawn c.redraw.ensures.failures c.redraw.ensures.running in
+    follows_as_much contents p first c.redraw.new.self c.close.new.self (before ++ t ∷ []) at_redraw c.close.ensures.drawn c.close.ensures.failures c.close.ensures.running
