@@ -114,3 +114,8 @@ module _ {R W E : Type 0} (remaining : R → Option (List ℕ)) (contents : W �
     pub drawn : E
     pub draws : IsDrawnBehind (said first) (said drawn)
     pub run : IsProgramRun words before after old new drawn last ending
+
+  -- the program, where standard error is a terminal that can be drawn on, or is none
+  abbrev pub IsMainRun : Bool → List Text → (before after : R) → (old new : W) → (first last : E) → Ending → Type 0
+  IsMainRun true words before after old new first last ending = IsTerminalRun words before after old new first last ending
+  IsMainRun false words before after old new first last ending = IsProgramRun words before after old new first last ending

@@ -6,6 +6,7 @@ mod both;
 mod closing;
 mod found;
 mod kept;
+mod main_body;
 mod option_names;
 mod program;
 mod said;
@@ -16,6 +17,7 @@ mod tests_on_terminal;
 mod words;
 
 pub use closing::Ending;
+pub use main_body::run_main;
 pub use program::{run_console, run_program, run_words};
 pub use said::message_of;
 pub use system_words::given_words;

@@ -119,7 +119,7 @@ fn run_drawn<T: Threads + Wait + Sync, C: Clock + Drop, R: Read, W: Write, E: Wr
 /// Does what `run_words` does, where the other writer is a terminal. On it stands how far the run
 /// has come, on a line that is drawn anew at most ten times a second by this clock, and is erased at
 /// the end; and behind a tree or a summary what of the words and the suite has no effect, and what
-/// failed, with the words that select just that.
+/// failed, with words that select it.
 pub fn run_words_on_terminal<
     T: Threads + Wait + Sync,
     C: Clock + Drop,

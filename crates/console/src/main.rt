@@ -1,7 +1,7 @@
 //! The program: a suite from standard input, what became of it on standard output, and what is wrong on standard error.
 #![tactic(auto)]
 
-use command_line::{Ending, run_on_terminal, run_program};
+use command_line::run_main;
 use std::io::{self, IsTerminal};
 use std::process::ExitCode;
 
@@ -18,13 +18,19 @@ fn is_drawn_on(rt: &HostRuntime) -> bool {
 
 fn main(rt: HostRuntime) -> ExitCode {
     let words = std::env::args(&rt);
+    let is_terminal = is_drawn_on(&rt);
     let reader = &mut rt.reader();
     let writer = &mut io::writer(&rt);
     let errors = &mut rt.stderr();
-    let Ending { status, .. } = if is_drawn_on(&rt) {
-        run_on_terminal(&rt, &rt, rt.alloc(), words, reader, writer, errors)
-    } else {
-        run_program(&rt, rt.alloc(), words, reader, writer, errors)
-    };
-    ExitCode::from(status)
+    let ending = run_main(
+        &rt,
+        &rt,
+        rt.alloc(),
+        words,
+        is_terminal,
+        reader,
+        writer,
+        errors,
+    );
+    ExitCode::from(ending.status)
 }

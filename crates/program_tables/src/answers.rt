@@ -4,7 +4,7 @@ use crate::cutting::Cutting;
 use crate::own_tests::run_own_tests;
 use crate::rows::push_line;
 use crate::still_clock::StillClock;
-use command_line::{Ending, run_words, run_words_on_terminal};
+use command_line::{Ending, run_main, run_words};
 use std::alloc::{AllocError, Global};
 use std::sync::Wait;
 use std::thread::Threads;
@@ -72,40 +72,38 @@ fn push_end(alloc: Global, answers: &mut Vec<u8>, ending: Ending) -> Result<(), 
     answers.extend_from_slice(end_line(alloc, ending)?.as_bytes())
 }
 
-/// Runs the program with these words on a suite, and appends what it writes, and how it ends.
+/// Runs the program with these words on a suite, as `main` does where standard error is a terminal or
+/// is none, and appends what it writes, and how it ends. On a terminal nothing is drawn by the time.
 fn push_run<T: Threads + Wait + Sync>(
     rt: &T,
     alloc: Global,
     answers: &mut Vec<u8>,
     errors: &mut Vec<u8>,
-    words: &[String],
+    words: Vec<String>,
+    is_terminal: bool,
     mut suite: &[u8],
 ) -> Result<(), AllocError> {
-    let ending = run_words(rt, alloc, words, &mut suite, answers, errors);
+    let (clock, words) = (StillClock, Ok(words.into_iter()));
+    let ending = run_main(
+        rt,
+        clock,
+        alloc,
+        words,
+        is_terminal,
+        &mut suite,
+        answers,
+        errors,
+    );
     push_end(alloc, answers, ending)
 }
 
-/// The same, where the errors go to a terminal, on which nothing is drawn by the time.
-fn push_terminal<T: Threads + Wait + Sync>(
-    rt: &T,
-    alloc: Global,
-    answers: &mut Vec<u8>,
-    errors: &mut Vec<u8>,
-    words: &[String],
-    mut suite: &[u8],
-) -> Result<(), AllocError> {
-    let clock = StillClock;
-    let ending = run_words_on_terminal(rt, clock, alloc, words, &mut suite, answers, errors);
-    push_end(alloc, answers, ending)
-}
-
-/// What `push_run` does, with an output that takes so many bytes, and then fails.
+/// What `push_run` does without a terminal, with an output that takes so many bytes, and then fails.
 fn push_cut<T: Threads + Wait + Sync>(
     rt: &T,
     alloc: Global,
     answers: &mut Vec<u8>,
     errors: &mut Vec<u8>,
-    words: &[String],
+    words: Vec<String>,
     mut suite: &[u8],
     room: usize,
 ) -> Result<(), AllocError> {
@@ -113,7 +111,17 @@ fn push_cut<T: Threads + Wait + Sync>(
         taken: Vec::new(alloc),
         room,
     };
-    let ending = run_words(rt, alloc, words, &mut suite, &mut output, errors);
+    let (clock, words) = (StillClock, Ok(words.into_iter()));
+    let ending = run_main(
+        rt,
+        clock,
+        alloc,
+        words,
+        false,
+        &mut suite,
+        &mut output,
+        errors,
+    );
     answers.extend_from_slice(output.taken.as_slice())?;
     answers.extend_from_slice(end_line(alloc, ending)?.as_bytes())
 }
@@ -151,7 +159,7 @@ fn has_second<T: Threads + Wait + Sync>(
     for _ in 0..runs {
         let mut feed = Vec::new(alloc);
         let mut errors = Vec::new(alloc);
-        push_run(rt, alloc, &mut feed, &mut errors, words, suite)?;
+        run_words(rt, alloc, words, &mut &*suite, &mut feed, &mut errors);
         if is_of_second(feed.as_slice()) {
             return Ok(true);
         }
@@ -164,19 +172,16 @@ fn push_asked<T: Threads + Wait + Sync>(
     rt: &T,
     alloc: Global,
     answers: &mut Vec<u8>,
-    words: &[String],
+    words: Vec<String>,
     suite: &[u8],
     asks: Asks,
 ) -> Result<(), AllocError> {
     let mut errors = Vec::new(alloc);
     match asks {
-        Asks::Nothing => push_run(rt, alloc, answers, &mut errors, words, suite),
-        Asks::Errors => {
-            push_run(rt, alloc, answers, &mut errors, words, suite)?;
-            answers.extend_from_slice(errors.as_slice())
-        }
-        Asks::Terminal => {
-            push_terminal(rt, alloc, answers, &mut errors, words, suite)?;
+        Asks::Nothing => push_run(rt, alloc, answers, &mut errors, words, false, suite),
+        Asks::Errors | Asks::Terminal => {
+            let is_terminal = asks == Asks::Terminal;
+            push_run(rt, alloc, answers, &mut errors, words, is_terminal, suite)?;
             answers.extend_from_slice(errors.as_slice())
         }
         Asks::Cut(room) => {
@@ -184,7 +189,7 @@ fn push_asked<T: Threads + Wait + Sync>(
             answers.extend_from_slice(errors.as_slice())
         }
         Asks::SecondWorker => {
-            let said = if has_second(rt, alloc, words, suite, 100)? {
+            let said = if has_second(rt, alloc, words.as_slice(), suite, 100)? {
                 "a second worker\n"
             } else {
                 "no second worker\n"
@@ -192,7 +197,7 @@ fn push_asked<T: Threads + Wait + Sync>(
             answers.extend_from_slice(said.as_bytes())
         }
         Asks::OwnTests => {
-            push_own_tests(rt, alloc, answers, &mut errors, words)?;
+            push_own_tests(rt, alloc, answers, &mut errors, words.as_slice())?;
             answers.extend_from_slice(errors.as_slice())
         }
     }
@@ -213,5 +218,5 @@ pub(crate) fn push_answer<T: Threads + Wait + Sync>(
     answers.push(b'\n')?;
     let mut words = Vec::new(alloc);
     push_line(alloc, &mut words, said)?;
-    push_asked(rt, alloc, answers, words.as_slice(), suite, asks)
+    push_asked(rt, alloc, answers, words, suite, asks)
 }
