@@ -60,6 +60,7 @@ pub(crate) fn answer<T: Threads + Wait + Sync, W: Write>(
         "RunTable::prepare" => table(alloc, out),
         "run_plan" => run_twice(rt, alloc, out, PAIR, 2),
         "run_plan by eight" => run_twice(rt, alloc, out, SHOP, 8),
+        "run_plan by twelve" => run_twice(rt, alloc, out, SHOP, 12),
         _ => {
             once(alloc, out, name)?;
             once(alloc, out, name)
