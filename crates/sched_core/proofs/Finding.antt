@@ -11,7 +11,7 @@ use Rattle.scheduling.specs.declared.task.Task.{Task}
 use Rattle.scheduling.specs.Choices.{decided}
 use Rattle.scheduling.specs.State.{State}
 use Rattle.scheduling.specs.declared.task.Task.TheVariants.{Free}
-use Rattle.termination.specs.Inside.Turns.{NextFree, NextInTurn}
+use Rattle.termination.specs.Turns.{NextFree, NextInTurn}
 use Rattle.scheduling.specs.declared.status.NodeStatus.TheVariants.{Hidden}
 use Rattle.scheduling.specs.Inside.Going.{word_of}
 use Rattle.scheduling.proofs.GoingBasics.{hidden_ready, hidden_claimed}

@@ -19,3 +19,4 @@ pub mod Serving
 pub mod Choosing
 pub mod Progress
 pub mod Driven
+pub mod InTurns

@@ -25,7 +25,8 @@ use Rattle.scheduling.proofs.Headline.{core_plan}
 use Rattle.never_stuck.specs.Reaching.{answer}
 use Rattle.never_stuck.specs.Reaching.{reply_by as reply_of_job}
 use Rattle.termination.specs.Inside.Accounts.{steps_left}
-use Rattle.termination.specs.Inside.Turns.{NextInTurn, takes_keys, IsTurnOf, IsBetweenTurns}
+use Rattle.termination.specs.Inside.Turns.{IsTurnOf, IsBetweenTurns}
+use Rattle.termination.specs.Turns.{NextInTurn, takes_keys}
 use Rattle.termination.proofs.Acting.{read_same}
 use Rattle.termination.proofs.InTurn.{Goes, goes_on, is_free_then, turn_over}
 use Rattle.termination.proofs.Opening.{steps_at_start}
@@ -39,7 +40,8 @@ use Rattle.sched_core.specs.Replies.{reply_of, replies_of}
 use Rattle.sched_core.specs.Runs.{run, passed_over, state_or, missed}
 use Rattle.sched_core.specs.Steps.{reply_awaited, reply_for, after_step}
 use Rattle.sched_core.specs.Inside.Fields.{state_of, IsSound, IsAnswered}
-use Rattle.sched_core.specs.Inside.Rounds.{IsNextInTurn, IsIdle, IsQuiet, IsOver, Leads}
+use Rattle.sched_core.specs.Inside.Rounds.{IsQuiet, IsOver, Leads}
+use Rattle.sched_core.specs.InTurns.{IsNextInTurn, IsIdle, IsStepInTurn}
 use Rattle.sched_core.proofs.Sound.{work_is}
 use Rattle.sched_core.proofs.Tracing.{shown_trace}
 
@@ -84,6 +86,7 @@ module _ (p : PlanParts) (answers : List (ℕ × Reply)) where
 
   -- What is left of a step of the worker at place w, in its turn.
   pub record IsWorked (old new : Machine) (w : ℕ) : Type 0 where
+    pub step : IsStepInTurn p answers w (state_of old) (state_of new)
     pub turn : IsTurnOf p (state_of new) w
     pub leads : Leads p answers (state_of old) (state_of new)
     pub less : steps_left p (state_of new) < steps_left p (state_of old)
@@ -128,6 +131,7 @@ module _ (p : PlanParts) (answers : List (ℕ × Reply)) where
       worked =
           let to : goes.next ≡ state_of new = sym got.1 in
           record {
+            step = subst (IsStepInTurn p answers w (state_of old)) to (record { seat = seat; at = at; action = a; next = next; leads = leads });
             turn = subst (λ (s : State). IsTurnOf p s w) to goes.turn;
             leads = subst (Leads p answers (state_of old)) to (leads_one (state_of old) goes.next (Worker (w + 1) a) leads goes.less);
             less = subst (λ (s : State). steps_left p s < steps_left p (state_of old)) to goes.less;

@@ -1,5 +1,5 @@
 -- What a trace of the machine tells: each worker's part, and the headline.
-use Rattle.std.proofs.Common.{◌≡◌, ◌∙◌, ◌<◌, ◌+◌, ℕ, List, [], length, Some, Result, Ok, Err, IfOk, OnOk, slice_get, refl, sym, ap, subst, arith}
+use Rattle.std.proofs.Common.{◌≡◌, ◌∙◌, ◌<◌, ◌+◌, ℕ, List, [], length, Some, Result, Ok, Err, IfOk, slice_get, refl, sym, ap, subst, arith}
 use Rattle.std.proofs.lemmas.Option.{same_Some, slice_get-get_or, slice_get_within}
 use Rattle.plan_events.specs.declared.event.Event.{Event}
 use Rattle.plan_events.specs.declared.outcome.Reply.{Reply}
@@ -89,14 +89,6 @@ module _ (p : PlanParts) (answers : List (ℕ × Reply)) (m : Machine) (sound : 
 pub if_ok : {T E : Type 0} {P Q : T → Type 0} (r : Result T E) → ((x : T) → P x → Q x) → IfOk r P → IfOk r Q
 if_ok (Ok x) f h = f x h
 if_ok (Err e) f h = tt
-
-pub on_ok : {T E P : Type 0} (r : Result T E) → P → OnOk r P
-on_ok (Ok x) fact = fact
-on_ok (Err e) fact = tt
-
-pub both_ok : {T E : Type 0} {P Q R : T → Type 0} (r : Result T E) → ((x : T) → P x → Q x → R x) → IfOk r P → IfOk r Q → IfOk r R
-both_ok (Ok x) f h k = f x h k
-both_ok (Err e) f h k = tt
 
 -- the schedule ends in one state only, so what is driven is driven to each state in which it ends
 pub only_driven : (p : PlanParts) (answers : List (ℕ × Reply)) (t : Trace) → IsDriven p answers t → IsOnlyDriven p answers t

@@ -7,6 +7,7 @@ pub mod Drives
 pub mod Snapshot
 pub mod Traces
 pub mod Rounds
+pub mod InTurns
 pub mod Texts
 pub mod Inside
 pub mod Endings

@@ -7,15 +7,17 @@ ghost use Rattle.scheduling.specs.Answers.{answer_of};
 ghost use Rattle.scheduling.specs.Choices.{keys_count, key_at, mode_at, admits as admits_of};
 ghost use Rattle.scheduling.specs.LinkLists.{AreTurns};
 ghost use Rattle.scheduling.specs.Rows.{read_row};
-ghost use Rattle.scheduling.specs.State.{status_at, lock_at};
+ghost use Rattle.scheduling.specs.State.{State, status_at, lock_at};
 ghost use Rattle.scheduling.specs.declared.seat.Hand.{Hand as HandValue};
 ghost use Rattle.scheduling.specs.declared.seat.Seat.{Seat as SeatValue};
 ghost use Rattle.termination.specs.Inside.Accounts.{steps_left};
-ghost use Rattle.termination.specs.Inside.Turns.{is_offered_to as is_offered_to_of, takes_keys as takes_keys_of};
-ghost use Rattle.termination.specs.Inside.Turns.{AreFreeFrom, MayTake, NextNode, NextFree, NextInTurn};
 ghost use Rattle.termination.specs.Inside.Turns.{IsTurnOf, IsBetweenTurns};
+ghost use Rattle.termination.specs.Turns.{is_offered_to as is_offered_to_of, takes_keys as takes_keys_of};
+ghost use Rattle.termination.specs.Turns.{AreFreeFrom, MayTake, NextNode, NextFree, NextInTurn};
+ghost use Rattle.sched_core.specs.Runs.{state_or};
+ghost use Rattle.sched_core.specs.InTurns.{IsNextInTurn, IsIdle, IsStepInTurn, TakesKeys, IsTurn, IsRound, Rounds};
 ghost use Rattle.sched_core.specs.Inside.Fields.{state_of, IsSound};
-ghost use Rattle.sched_core.specs.Inside.Rounds.{IsFoundFor, IsNextInTurn, IsIdle, IsQuiet, Leads};
+ghost use Rattle.sched_core.specs.Inside.Rounds.{IsFoundFor, IsQuiet, Leads};
 
 use crate::answers::Answers;
 use crate::machine::Machine;
@@ -190,6 +192,7 @@ impl Machine {
         ensures sound { IsSound plan.now answers.now self.new }
         ensures workers { self.new.workers ≡ self.old.workers }
         ensures turn { IsTurnOf plan.now (state_of self.new) place }
+        ensures step { result ≡ true → IsStepInTurn plan.now answers.now place (state_of self.old) (state_of self.new) }
         ensures leads { Leads plan.now answers.now (state_of self.old) (state_of self.new) }
         ensures less { result ≡ true → steps_left plan.now (state_of self.new) < steps_left plan.now
             (state_of self.old) }
@@ -212,6 +215,9 @@ impl Machine {
         ensures sound { IsSound plan.now answers.now self.new }
         ensures workers { self.new.workers ≡ self.old.workers }
         ensures turn { IsTurnOf plan.now (state_of self.new) place }
+        ensures more { result ≡ true → (t : State) → TakesKeys plan.now answers.now place (state_of self.new) t →
+            TakesKeys plan.now answers.now place (state_of self.old) t }
+        ensures done { result ≡ false → TakesKeys plan.now answers.now place (state_of self.old) (state_of self.new) }
         ensures leads { Leads plan.now answers.now (state_of self.old) (state_of self.new) }
         ensures less { result ≡ true → steps_left plan.now (state_of self.new) < steps_left plan.now
             (state_of self.old) }
@@ -232,6 +238,7 @@ impl Machine {
         ensures sound { IsSound plan.now answers.now self.new }
         ensures workers { self.new.workers ≡ self.old.workers }
         ensures between { IsBetweenTurns (state_of self.new) }
+        ensures turn { IsTurn plan.now answers.now place (state_of self.old) (state_of self.new) }
         ensures leads { Leads plan.now answers.now (state_of self.old) (state_of self.new) }
         ensures less { result ≡ true → steps_left plan.now (state_of self.new) < steps_left plan.now
             (state_of self.old) }
@@ -259,6 +266,8 @@ impl Machine {
         ensures sound { IsSound plan.now answers.now self.new }
         ensures workers { self.new.workers ≡ self.old.workers }
         ensures between { IsBetweenTurns (state_of self.new) }
+        ensures turn { IsTurn plan.now answers.now place
+            (state_or (state_of self.old) (read_row (state_of self.old))) (state_of self.new) }
         ensures leads { Leads plan.now answers.now (state_of self.old) (state_of self.new) }
         ensures less { result ≡ true → steps_left plan.now (state_of self.new) < steps_left plan.now
             (state_of self.old) }
@@ -278,6 +287,8 @@ impl Machine {
         ensures sound { IsSound plan.now answers.now self.new }
         ensures workers { self.new.workers ≡ self.old.workers }
         ensures between { IsBetweenTurns (state_of self.new) }
+        ensures round { IsRound plan.now answers.now self.old.workers (state_of self.old) (state_of self.new) }
+        ensures same { result ≡ false → self.new ≡ self.old }
         ensures leads { Leads plan.now answers.now (state_of self.old) (state_of self.new) }
         ensures less { result ≡ true → steps_left plan.now (state_of self.new) < steps_left plan.now
             (state_of self.old) }
@@ -301,6 +312,7 @@ impl Machine {
         requires between { IsBetweenTurns (state_of self.old) }
         ensures sound { IsSound plan.now answers.now self.new }
         ensures workers { self.new.workers ≡ self.old.workers }
+        ensures rounds { Rounds plan.now answers.now self.old.workers (state_of self.old) (state_of self.new) }
         ensures leads { Leads plan.now answers.now (state_of self.old) (state_of self.new) }
         ensures quiet { (v : ℕ) → v < self.old.workers → IsQuiet plan.now answers.now (state_of self.new) v }
     {

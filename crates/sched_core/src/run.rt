@@ -12,7 +12,7 @@ ghost use Rattle.sched_core.specs.Taken.{IsBounded, IsShort};
 ghost use Rattle.sched_core.specs.Traces.{IsTraceOf, IsRightTrace, IsDriven, IsOnlyDriven, IsShownAtEnd, IsWhole};
 ghost use Rattle.sched_core.specs.Traces.{KeepsApart, HasExpected, IsOnlyHistory, IsOfOneWorker};
 ghost use Rattle.sched_core.specs.Rounds.{IsTakenWhole, EndsWhole};
-ghost use Rattle.sched_core.specs.Drives.{Drives};
+ghost use Rattle.sched_core.specs.InTurns.{Schedules, IsScheduled, IsOnlyScheduled};
 ghost use Rattle.sched_core.specs.Inside.Fields.{state_of, IsSound};
 ghost use Rattle.sched_core.specs.Inside.Rounds.{IsOver, Leads};
 
@@ -53,7 +53,7 @@ impl Machine {
         ensures workers { self.new.workers ≡ self.old.workers }
         ensures leads { Leads plan.now answers.now (state_of self.old) (state_of self.new) }
         ensures over { HasFreeSpares plan.now → IsOver (state_of self.new) }
-        ensures one { self.old.workers ≡ 1 → Drives plan.now answers.now (state_of self.old) (state_of self.new) }
+        ensures schedules { Schedules plan.now answers.now self.old.workers (state_of self.old) (state_of self.new) }
     {
         if self.workers == 1 {
             self.drive(plan, turns, answers);
@@ -112,6 +112,9 @@ pub fn drive_with(
     ensures whole { IfOk result (λ trace. EndsWhole plan.now trace) }
     ensures apart { IfOk result (λ trace. KeepsApart plan.now trace) }
     ensures expected { IfOk result (λ trace. HasExpected plan.now answers.now trace) }
+    // It is the trace of the schedule, and of no other: plan, replies and the number of workers determine it.
+    ensures scheduled { IfOk result (λ trace. IsScheduled plan.now answers.now workers trace) }
+    ensures only { IfOk result (λ trace. IsOnlyScheduled plan.now answers.now workers trace) }
     // Of one worker it is the schedule of `drive`.
     ensures one { IfOk result (λ trace. workers ≡ 1 → IsOfOneWorker plan.now answers.now trace) }
     // So it is from wherever the workers' steps lead, also those that the schedule does not take.

@@ -47,7 +47,8 @@ use Rattle.never_stuck.proofs.Counts.{in_hand, free_hand}
 use Rattle.never_stuck.proofs.Reach.{here, holds_here, on_here}
 use Rattle.never_stuck.proofs.Rows.{opens}
 use Rattle.termination.specs.Inside.Accounts.{steps_left}
-use Rattle.termination.specs.Inside.Turns.{is_offered_to, AreFreeFrom, NextWaiting, NextFree, NextInTurn, takes_keys, IsAhead, IsTurnOf, IsBetweenTurns}
+use Rattle.termination.specs.Inside.Turns.{IsAhead, IsTurnOf, IsBetweenTurns}
+use Rattle.termination.specs.Turns.{is_offered_to, AreFreeFrom, NextWaiting, NextFree, NextInTurn, takes_keys}
 use Rattle.termination.proofs.Bounded.{decided_left}
 use Rattle.termination.proofs.Paying.{row_pays}
 use Rattle.termination.proofs.StepKinds.{decided_or}
@@ -283,7 +284,7 @@ module _ (p : PlanParts) (plan : IsPlan p) (core : IsCorePlan p) (replies : ℕ 
       ]
 
     by_hand : (hand : Option Hand) → D.hand ≡ hand → D.task ≡ Free → (a : Action) → NextFree p s w R hand (Some a) → Goes a
-    by_hand None empty free a next = subst Goes (sym next.2) (node_goes next.0 free empty next.1.free (status_at s next.0) refl next.1.offered)
+    by_hand None empty free a next = subst Goes (sym next.2) (node_goes next.0 free empty next.1.may.free (status_at s next.0) refl next.1.may.offered)
     by_hand (Some hand) in_its free a next = by_waiting hand.waiting refl next
       where
         by_waiting : (waiting : Option ℕ) → hand.waiting ≡ waiting → NextWaiting p s R hand waiting (Some a) → Goes a

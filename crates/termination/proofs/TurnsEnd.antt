@@ -24,7 +24,7 @@ use Rattle.never_stuck.specs.Inside.Progress.{HandOn, HandsOn}
 use Rattle.never_stuck.specs.Reaching.{answer}
 use Rattle.never_stuck.proofs.Quiet.{IsQuiet, Chosen, choose}
 use Rattle.never_stuck.proofs.Rows.{hand_on}
-use Rattle.termination.specs.Inside.Turns.{is_offered_to, MayTake, NextWaiting, NextFree, NextInTurn}
+use Rattle.termination.specs.Turns.{is_offered_to, MayTake, NextWaiting, NextFree, NextInTurn}
 use Rattle.termination.proofs.InTurn.{is_free_then}
 
 not_unsettled : (v : NodeStatus) → ((v ≡ Settled → ⊥) → ⊥) → v ≡ Settled

@@ -1,19 +1,17 @@
 -- What a turn leaves. Only private functions and proofs need this file.
-use Rattle.std.specs.Prelude.{◌≡◌, ℕ, ◌+◌, ◌<◌, ◌≤◌, true, List, length, Option, Some, None, slice_get}
+use Rattle.std.specs.Prelude.{◌≡◌, ℕ, ◌+◌, ◌<◌, ◌≤◌, true, List, length, Option, Some, None}
 use Rattle.descriptor.specs.Nodes.{size}
 use Rattle.plan_events.specs.declared.outcome.Reply.{Reply}
 use Rattle.resource_locks.specs.Plans.{PlanParts}
 use Rattle.scheduling.specs.declared.status.NodeStatus.TheVariants.{Settled}
-use Rattle.scheduling.specs.declared.seat.Seat.{Seat}
-use Rattle.scheduling.specs.declared.step.Action.{Action}
 use Rattle.scheduling.specs.declared.step.Step.{Step}
-use Rattle.scheduling.specs.Choices.{key_at, mode_at, admits, decided}
+use Rattle.scheduling.specs.Choices.{key_at, mode_at, admits}
 use Rattle.scheduling.specs.Rows.{read_row}
 use Rattle.scheduling.specs.State.{State, status_at, lock_at}
 use Rattle.termination.specs.Inside.Accounts.{steps_left}
-use Rattle.termination.specs.Inside.Turns.{MayTake, NextInTurn}
+use Rattle.termination.specs.Turns.{MayTake, IsFirstToTake}
+use Rattle.sched_core.specs.InTurns.{IsIdle}
 use Rattle.sched_core.specs.Runs.{run, passed_over}
-use Rattle.sched_core.specs.Steps.{reply_for}
 
 -- the first so many keys of node n may be taken
 abbrev pub AreFreeBelow : PlanParts → State → ℕ → ℕ → Type 0
@@ -23,20 +21,12 @@ AreFreeBelow p s n i = (j : ℕ) → j < i → admits (mode_at p n j) (lock_at s
 abbrev pub NoneFoundBelow : PlanParts → State → ℕ → ℕ → Type 0
 NoneFoundBelow p s w k = (n : ℕ) → n < k → MayTake p s w n → ⊥
 
--- a node that the worker at place w may take, or there is none
+-- the first node that the worker at place w may take, or there is none
 abbrev pub IsFoundFor : PlanParts → State → ℕ → Option ℕ → Type 0
 IsFoundFor p s w None = (n : ℕ) → n < size p.tree → MayTake p s w n → ⊥
-IsFoundFor p s w (Some n) = (n < size p.tree) × MayTake p s w n
+IsFoundFor p s w (Some n) = IsFirstToTake p s w n
 
--- what the worker at place w does in its turn, in this seat
-abbrev pub IsNextInTurn : PlanParts → List (ℕ × Reply) → State → ℕ → Seat → Option Action → Type 0
-IsNextInTurn p answers s w seat found = NextInTurn p s w (reply_for p answers seat) seat.hand (decided p (reply_for p answers seat) seat.task) found
-
--- it has nothing to do
-abbrev pub IsIdle : PlanParts → List (ℕ × Reply) → State → ℕ → Type 0
-IsIdle p answers s w = (seat : Seat) → slice_get s.seats w ≡ Some seat → IsNextInTurn p answers s w seat None
-
--- nor is there anything to be read
+-- The worker at place w has nothing to do, nor is there anything to be read.
 abbrev pub IsQuiet : PlanParts → List (ℕ × Reply) → State → ℕ → Type 0
 IsQuiet p answers s w = (read_row s ≡ None) × IsIdle p answers s w
 

@@ -4,7 +4,7 @@ use Rattle.std.proofs.lemmas.Option.{same_Some}
 use Rattle.scheduling.specs.declared.seat.Seat.{Seat}
 use Rattle.scheduling.specs.declared.step.Action.TheVariants.{Look}
 use Rattle.sched_core.specs.Inside.Fields.{state_of}
-use Rattle.sched_core.specs.Inside.Rounds.{IsNextInTurn}
+use Rattle.sched_core.specs.InTurns.{IsNextInTurn}
 use Rattle.sched_core.specs.Steps.{reply_for}
 use Rattle.sched_core.proofs.Finding.{seat_at, next_told, waited_inside}
 use Rattle.sched_core.proofs.InRange.{bounds, undecided}

@@ -37,3 +37,9 @@ pub returns-else-self-eq1-clause-over : goal.returns-else-self-eq1-clause-over
 returns-else-self-eq1-clause-over c free =
     let same = c.drive_rounds.ensures.workers in
     over_turns c.args.plan.now c.args.answers.now c.drive_rounds.new.self c.drive_rounds.ensures.sound free (λ v lt. c.drive_rounds.ensures.quiet v (omega (arith, lt, same)))
+
+pub returns-then-self-eq1-clause-schedules : goal.returns-then-self-eq1-clause-schedules
+returns-then-self-eq1-clause-schedules c = record { one = λ _. c.drive.ensures.drives; several = λ other. absurd (other c.if-self-eq1.true) }
+
+pub returns-else-self-eq1-clause-schedules : goal.returns-else-self-eq1-clause-schedules
+returns-else-self-eq1-clause-schedules c = record { one = λ one. absurd (c.if-self-eq1.false one); several = λ _. c.drive_rounds.ensures.rounds }
