@@ -197,8 +197,8 @@ fn filtering<'a>(alloc: Global) -> Result<Command<'a>, AllocError>
         single(
             alloc,
             SHARD,
-            "K/N",
-            "Runs each N-th test of all that, from the K-th; shards share no locks",
+            "[hash:]K/N",
+            "Runs each N-th test from the K-th, or by hash; shards share no locks",
         ),
     )
 }

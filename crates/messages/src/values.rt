@@ -71,7 +71,9 @@ fn push_range(
 fn push_shard(alloc: Global, text: &mut String, given: &Given<'_>) -> Result<(), AllocError> {
     match given.shard {
         Some(value) if shard_named(given.shard).is_err() => {
-            text.push_str("--shard is K/N, with N from 1 to 4,095 and K from 1 to N, as in 1/3\n")?;
+            text.push_str(
+                "--shard is K/N or hash:K/N, with N from 1 to 4,095 and K from 1 to N\n",
+            )?;
             push_option(alloc, text, SHARD, value, 0)
         }
         Some(_) | None => Ok(()),

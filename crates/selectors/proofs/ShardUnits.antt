@@ -1,5 +1,5 @@
 -- The units of a shard's tree are those of the whole at its places.
-use Rattle.std.proofs.Common.{◌≡◌, ℕ, zero, suc, ◌+◌, ◌<◌, ◌≤◌, ◌&&◌, Bool, true, false, cond, List, [], ◌∷◌, ◌++◌, length, refl, sym, ap, ◌∙◌, subst, arith, inl, inr, Option, Some, None, Result, Ok, Err, IfOk}
+use Rattle.std.proofs.Common.{◌≡◌, ℕ, zero, suc, ◌+◌, ◌<◌, ◌≤◌, ◌&&◌, Bool, true, false, cond, List, [], ◌∷◌, ◌++◌, length, refl, sym, ap, ap₂, ◌∙◌, subst, arith, inl, inr, Option, Some, None, Result, Ok, Err, IfOk}
 use Rattle.std.proofs.lemmas.List.{append-nil, length-append}
 use Rattle.std.proofs.lemmas.List.Elements.{filter_map-append}
 use Rattle.std.specs.List.{filter_map, cons_option}
@@ -9,10 +9,11 @@ use Rattle.descriptor.specs.Pruned.{IsClosed, KeepsNodes, is_kept, new_number, p
 use Rattle.descriptor.proofs.Pruning.{kept_at_end}
 use Rattle.selectors.specs.Covered.{truths}
 use Rattle.selectors.specs.Keeping.{stays, Stays, is_above, is_taken}
-use Rattle.selectors.specs.Shards.{Part, gets, is_unit_of, place_of, picked, shard, AreApart}
+use Rattle.selectors.specs.Shards.{Part, gets, gets_told, is_unit_of, place_of, picked, shard, AreApart}
 use Rattle.selectors.specs.Units.{is_selectable, is_unit, units}
 use Rattle.selectors.proofs.Answer.{closed, kept_of}
 use Rattle.selectors.proofs.Marks.{and_both, and_parts, is_or_is_not}
+use Rattle.selectors.proofs.Shards.{unit_told}
 use Rattle.selectors.proofs.SparesTaken.{spare_unselectable}
 use Rattle.selectors.proofs.Staying.{stays_is}
 use Rattle.selectors.proofs.Truths.{never, read_truth}
@@ -20,13 +21,6 @@ use Rattle.selectors.proofs.Truths.{never, read_truth}
 -- what is told of the units below n
 abbrev units_below : Nodes → ℕ → List Node
 units_below t n = filter_map (node_at t) (numbers_where (is_unit t) n)
-
-of_node : (o : Option Node) → is_selectable (kind_or o) (role_or o) ≡ true → (node : Node) × (o ≡ Some node)
-of_node None h = absurd (cc)
-of_node (Some node) h = (node, refl)
-
-unit_told : (t : Nodes) (n : ℕ) → is_unit t n ≡ true → (node : Node) × (node_at t n ≡ Some node)
-unit_told t n unit = of_node (node_at t n) unit
 
 units_more : (t : Nodes) (n : ℕ) (node : Node) → is_unit t n ≡ true → node_at t n ≡ Some node → units_below t (suc n) ≡ units_below t n ++ node ∷ []
 units_more t n node unit told =
@@ -54,11 +48,11 @@ count_units t (suc n) =
     ]
 
 module _ {X : Type 0} where
-  pub picked_more : (q : ℕ → Bool) (i place : ℕ) (xs : List X) (x : X) → place ≡ i + length xs → picked q i (xs ++ x ∷ []) ≡ picked q i xs ++ cond (q place) (x ∷ []) []
-  picked_more q i place [] x e = let same : i ≡ place = omega arith in ap (λ n. cond (q n) (x ∷ []) []) same
+  pub picked_more : (q : ℕ → X → Bool) (i place : ℕ) (xs : List X) (x : X) → place ≡ i + length xs → picked q i (xs ++ x ∷ []) ≡ picked q i xs ++ cond (q place x) (x ∷ []) []
+  picked_more q i place [] x e = let same : i ≡ place = omega arith in ap (λ n. cond (q n x) (x ∷ []) []) same
   picked_more q i place (y ∷ xs) x e =
-      let rest : picked q (suc i) (xs ++ x ∷ []) ≡ picked q (suc i) xs ++ cond (q place) (x ∷ []) [] = picked_more q (suc i) place xs x (omega arith) in
-      ap (λ zs. cond (q i) (y ∷ zs) zs) rest ∙ inside (q i) y (picked q (suc i) xs) (cond (q place) (x ∷ []) [])
+      let rest : picked q (suc i) (xs ++ x ∷ []) ≡ picked q (suc i) xs ++ cond (q place x) (x ∷ []) [] = picked_more q (suc i) place xs x (omega arith) in
+      ap (λ zs. cond (q i y) (y ∷ zs) zs) rest ∙ inside (q i y) y (picked q (suc i) xs) (cond (q place x) (x ∷ []) [])
     where
       inside : (b : Bool) (y : X) (xs zs : List X) → cond b (y ∷ (xs ++ zs)) (xs ++ zs) ≡ cond b (y ∷ xs) xs ++ zs
       inside true y xs zs = refl
@@ -103,22 +97,22 @@ module _ (t : Nodes) (tree : IsTree t) (part : Part) where
       | inr left ↦ ap (units_below u) (number_left n left) ∙ before ∙ ap (picked (gets part) 0) (sym (units_same t n other))
     ]
 
-    picks : (n : ℕ) (node : Node) → is_unit t n ≡ true → node_at t n ≡ Some node → picked (gets part) 0 (units_below t (suc n)) ≡ picked (gets part) 0 (units_below t n) ++ cond (gets part (place_of t n)) (node ∷ []) []
+    picks : (n : ℕ) (node : Node) → is_unit t n ≡ true → node_at t n ≡ Some node → picked (gets part) 0 (units_below t (suc n)) ≡ picked (gets part) 0 (units_below t n) ++ cond (gets part (place_of t n) node) (node ∷ []) []
     picks n node unit told = ap (picked (gets part) 0) (units_more t n node unit told) ∙ picked_more (gets part) 0 (place_of t n) (units_below t n) node (let count : length (units_below t n) ≡ place_of t n = count_units t n in omega arith)
 
     -- one unit more
     unit_more : (n : ℕ) → n < size t → is_unit t n ≡ true → Upto n → Upto (suc n)
     unit_more n inside unit before =
         let node = unit_told t n unit in
-        elim (is_or_is_not (gets part (place_of t n))) [
+        elim (is_or_is_not (gets part (place_of t n) node.0)) [
           | inl mine ↦
-              let stayed : is_kept keep n ≡ true = keeps n inside ∙ unit_stays n inside (and_both (is_unit t n) _ unit mine) in
+              let stayed : is_kept keep n ≡ true = keeps n inside ∙ unit_stays n inside (and_both (is_unit t n) _ unit (ap (gets_told part (place_of t n)) node.1 ∙ mine)) in
               ap (units_below u) (number_kept n stayed)
               ∙ units_more u (new_number keep n) node.0 (same_unit n inside stayed ∙ unit) (kept.told n inside stayed ∙ node.1)
               ∙ ap (λ (xs : List Node). xs ++ node.0 ∷ []) before
               ∙ sym (picks n node.0 unit node.1 ∙ ap (λ b. picked (gets part) 0 (units_below t n) ++ cond b (node.0 ∷ []) []) mine)
           | inr other ↦
-              let none : is_unit_of t part n ≡ false = ap (λ b. b && gets part (place_of t n)) unit ∙ other in
+              let none : is_unit_of t part n ≡ false = ap₂ (λ b o. b && gets_told part (place_of t n) o) unit node.1 ∙ other in
               let left : is_kept keep n ≡ false = keeps n inside ∙ other_goes apart n inside unit none in
               ap (units_below u) (number_left n left) ∙ before
               ∙ sym (picks n node.0 unit node.1 ∙ ap (λ b. picked (gets part) 0 (units_below t n) ++ cond b (node.0 ∷ []) []) other ∙ append-nil (picked (gets part) 0 (units_below t n)))
@@ -145,7 +139,9 @@ shard_keeps t tree part =
     let above = truths (is_above t (is_taken t q)) (size t) in
     subst (IsClosed t) (kept_of t tree q above refl) (closed t tree (is_taken t q) above refl)
 
+-- and each where it stood, told of as before
+pub shard_kept : (t : Nodes) (tree : IsTree t) (part : Part) → KeepsNodes t (truths (stays t (is_unit_of t part)) (size t)) (shard t part)
+shard_kept t tree part = kept_at_end t (shard t part) (truths (stays t (is_unit_of t part)) (size t)) (size t) tree (shard_keeps t tree part) refl refl
+
 pub shard_units : (t : Nodes) (tree : IsTree t) (part : Part) → AreApart t → units (shard t part) ≡ picked (gets part) 0 (units t)
-shard_units t tree part apart =
-    let keep = truths (stays t (is_unit_of t part)) (size t) in
-    units_picked t tree part apart keep refl (shard t part) (kept_at_end t (shard t part) keep (size t) tree (shard_keeps t tree part) refl refl)
+shard_units t tree part apart = units_picked t tree part apart (truths (stays t (is_unit_of t part)) (size t)) refl (shard t part) (shard_kept t tree part)

@@ -5,13 +5,13 @@ use Rattle.descriptor.specs.declared.kind.Kind.{Kind}
 use Rattle.descriptor.specs.declared.role.Role.{Role}
 use Rattle.descriptor.specs.declared.role.Role.TheVariants.{Plain, Factory, Spare}
 use Rattle.descriptor.specs.Kinds.{is_test}
-use Rattle.descriptor.specs.Nodes.{Nodes, IsTree, IsChild, parent_of, kind_of, role_of, is_spare_at}
+use Rattle.descriptor.specs.Nodes.{Nodes, IsTree, IsChild, parent_of, node_at, kind_of, role_of, is_spare_at}
 use Rattle.descriptor.specs.Roles.{is_factory, is_spare}
 use Rattle.selectors.specs.declared.request.Request.{Request}
 use Rattle.selectors.specs.Filters.{keeps, tags_together}
 use Rattle.selectors.specs.Keeping.{is_taken}
 use Rattle.selectors.specs.Selections.{is_asked_for, is_selected}
-use Rattle.selectors.specs.Shards.{Part, gets, is_unit_of, place_of}
+use Rattle.selectors.specs.Shards.{Part, gets_told, is_unit_of, place_of}
 use Rattle.selectors.specs.Units.{is_selectable}
 
 or_none : (a : Bool) → (a || false) ≡ a
@@ -53,4 +53,4 @@ spare_taken t tree request f n e spare =
 -- and so is the spare of a shard's factory
 pub spare_in_shard : (t : Nodes) → IsTree t → (part : Part) (f n : ℕ) → IsChild t f n → is_spare_at t n ≡ true → is_taken t (is_unit_of t part) f ≡ is_taken t (is_unit_of t part) n
 spare_in_shard t tree part f n e spare =
-    spare_as_factory t tree (is_unit_of t part) f n e spare (ap (λ b. b && gets part (place_of t n)) (spare_unselectable (kind_of t n) (role_of t n) spare))
+    spare_as_factory t tree (is_unit_of t part) f n e spare (ap (λ b. b && gets_told part (place_of t n) (node_at t n)) (spare_unselectable (kind_of t n) (role_of t n) spare))

@@ -3,6 +3,7 @@ pub mod ClassNames
 pub mod Covered
 pub mod Faults
 pub mod Filters
+pub mod Hashes
 pub mod Keeping
 pub mod Lineages
 pub mod NameEnds

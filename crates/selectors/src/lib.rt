@@ -4,8 +4,10 @@
 
 mod class_names;
 mod covered;
+mod dealing;
 mod discovery;
 mod filter;
+mod id_hash;
 mod kept;
 mod name_end;
 mod names;
@@ -19,6 +21,7 @@ mod shard;
 mod shard_tree;
 mod taken;
 
+pub use dealing::Dealing;
 pub use discovery::discover;
 pub use request::Request;
 pub use select_fault::SelectFault;

@@ -3,6 +3,7 @@
 ghost use Rattle.std.specs.Prelude.{◌≡◌, ℕ, ◌<◌, ◌↔◌, true, IfOk};
 ghost use Rattle.descriptor.specs.Children.{ListsChildren};
 ghost use Rattle.descriptor.specs.Nodes.{size, is_spare_at, IsTree};
+ghost use Rattle.descriptor.specs.Pruned.{KeepsNodes};
 ghost use Rattle.selectors.specs.Covered.{truths};
 ghost use Rattle.selectors.specs.Keeping.{is_taken, stays, Stays};
 ghost use Rattle.selectors.specs.Shards.{gets, is_unit_of, picked, place_of, shard as shard_in, AreApart, AreDealtOut};
@@ -48,7 +49,7 @@ fn is_taken(tree: &Tree, shard: &Shard, place: usize, before: &[bool], node: Nod
     if tree.role(node).is_spare() {
         return is_spare_taken(tree, shard, before, node);
     }
-    is_unit(tree, node) && shard.gets(place)
+    is_unit(tree, node) && shard.gets(place, tree.node(node))
 }
 
 /// For each node whether it is taken: it is a unit that the shard gets, or a spare of such a factory.
@@ -77,17 +78,19 @@ pub fn shard_of(alloc: Global, tree: Tree, shard: &Shard) -> Result<Tree, AllocE
     ensures ok { IfOk result (λ found. found ≡ shard_in tree shard.now) }
     ensures tree { IfOk result (λ found. IsTree found) }
     ensures children { IfOk result (λ found. (n : ℕ) → ListsChildren found n) }
-    // A shard's units are those of the tree at its places, in the tree's order.
+    // A shard's units are those of the tree that it gets, in the tree's order.
     ensures units { AreApart tree → units (shard_in tree shard.now) ≡ picked (gets shard.now) 0 (units tree) }
+    // Each node of it is one of the tree, of which all is told as before, below the parent that it had.
+    ensures kept { KeepsNodes tree (truths (stays tree (is_unit_of tree shard.now)) (size tree)) (shard_in tree shard.now) }
     // Each unit of the tree is got by one shard of as many, and by no two.
-    ensures dealt { AreDealtOut tree shard.now.count }
+    ensures dealt { AreDealtOut tree shard.now.count shard.now.dealing }
     // What staying comes to.
     ensures stays { (n : ℕ) → n < size tree → (stays tree (is_unit_of tree shard.now) n ≡ true)
         ↔ Stays tree (is_unit_of tree shard.now) n }
 {
-    // the contract of `len` tells that it is a tree, that of `gets` that there is a shard
+    // the contract of `len` tells that it is a tree, that of `count` that there is a shard
     let _ = tree.len();
-    let _ = shard.gets(0);
+    let _ = shard.count();
     made(alloc, tree, shard)
 }
 
