@@ -7,7 +7,8 @@ Each suite is made at random, with names and texts that have to be escaped, some
 warned of, and run by one worker, some with a schedule. The JSON has to say what the feed says, the XML
 what the definitions say of the suite, as many tests as the summary and a failure where the status is 1,
 the list which tests and factories would be run, and the nodes of the plan in which modes and with which locks
-they would be. Each has to be that and nothing else. The last line
+they would be. Each has to be that and nothing else. Of shards each has to list the tests that it gets, and all
+together tell in their feeds what a run of the whole tells, and fail if that does. The last line
 is 'N passed, M failed': the texts that were judged.
 """
 
@@ -206,11 +207,35 @@ def judge_xml(plan, text, told):
     same("whether something failed", bad > 0, told.status == 1)
 
 
+def units_of(plan):
+    """Each test but a dynamic one, and each factory."""
+    return [node for node in plan.nodes if node.word in ("test", "factory")]
+
+
+def list_of(units):
+    """The list of what would be run of these: what is not disabled, and below no node that is."""
+    run = [node for node in units if not any(above.disabled for above in (node, *node.ancestors()))]
+    return "".join(f"{node.id}\n" for node in run)
+
+
+def hash_of(text):
+    """FNV-1a of 64 bits."""
+    value = 14695981039346656037
+    for byte in text.encode():
+        value = (value ^ byte) * 1099511628211 % 2**64
+    return value
+
+
+def share(units, form, number, count):
+    """The units of this shard, by their places or by the hashes of their ids."""
+    if form == "hash:":
+        return [node for node in units if hash_of(node.id) % count == number - 1]
+    return units[number - 1 :: count]
+
+
 def judge_list(plan, text):
     """Each test but a dynamic one, and each factory, unless it is disabled or a node above it is."""
-    units = [node for node in plan.nodes if node.word in ("test", "factory")]
-    run = [node for node in units if not any(above.disabled for above in (node, *node.ancestors()))]
-    same("the list", text, "".join(f"{node.id}\n" for node in run))
+    same("the list", text, list_of(units_of(plan)))
 
 
 def node_object(plan, node):
@@ -273,6 +298,18 @@ class Reports:
             if self.failed <= MOST_SHOWN:
                 print(f"FAILED {what}: {type(why).__name__} {why}", flush=True)
 
+    def judge_shards(self, plan, suite, form, count):
+        """The lists of all shards, what their feeds tell together, and whether one of them fails."""
+        status, feed = self.ran("testfeed", suite)
+        failed, lines = 0, set()
+        for number in range(1, count + 1):
+            words = ["--shard", f"{form}{number}/{count}"]
+            same(f"the list of {words[1]}", self.text("list", suite, *words), list_of(share(units_of(plan), form, number, count)))
+            ended, told = self.ran("testfeed", suite, *words)
+            failed, lines = max(failed, ended), lines | set(told.split("\n"))
+        same("what the feeds of all shards tell", sorted(lines), sorted(set(feed.split("\n"))))
+        same("whether a shard fails", failed, status)
+
     def suite(self, seed, number):
         """Makes the suite of this number, and judges its reports."""
         random = Random(f"{seed}/{number}")
@@ -286,6 +323,8 @@ class Reports:
         self.judge(f"{name}, json", lambda: judge_json(plan, self.text("json", suite, *words), told))
         self.judge(f"{name}, xml", lambda: judge_xml(plan, self.text("xml", suite, *words), told))
         self.judge(f"{name}, list", lambda: judge_list(plan, self.text("list", suite, *words)))
+        form, count = random.choice(["", "hash:"]), random.randrange(1, 5)
+        self.judge(f"{name}, shards", lambda: self.judge_shards(plan, suite, form, count))
         is_parallel = random.random() < 0.7
         nodes = Plan(root, is_parallel, "same_thread", "same_thread")
         self.judge(f"{name}, plan", lambda: judge_plan(nodes, self.text("plan", suite, *PARALLEL * is_parallel), told.warnings))

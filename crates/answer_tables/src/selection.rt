@@ -53,7 +53,7 @@ fn push_answered(alloc: Global, answer: &mut String, tree: &Tree, request: &Requ
     };
     match discover(alloc, tree, request) {
         Ok(found) => {
-            push_names(answer, &found);
+            push_names(answer, &found.tree);
             drop(found)
         }
         Err(fault) => push_refusal(answer, fault.number(), fault.place(), &fault),

@@ -64,6 +64,7 @@ fn feed_options(alloc: Global) -> Options {
         details: Details::Testfeed,
         theme: Theme::Unicode,
         fail_if_no_tests: false,
+        fail_if_nothing_selected: false,
         fail_fast: false,
         schedule: false,
         replay: None,

@@ -46,8 +46,8 @@ module _ {L : Type 0} (saw : PlanParts → L → L → List Telling → Type 0) 
   of_suite asked suite old new result is =
       let Output = IsSeenSuiteOutput saw first now asked suite in
       let output : (text : List ℕ) (status : ExitStatus) → Output text status → Holds =
-      λ text status out. let p = plan_of asked.fail_fast out.settings (answer suite.tree asked.request) in
-      of_text (IsPrintedRun asked out.settings p (answers_of suite.scripts)) p (is_run asked.replay asked.details) text status out.output.1 in
+      λ text status out. let p = plan_of asked.fail_fast out.output.settings (answer suite.tree asked.request) in
+      of_text (IsPrintedRun asked out.output.settings p (answers_of suite.scripts)) p (is_run asked.replay asked.details) text out.told out.output.output.1 in
       of_answer Output output asked (λ fault. FailsSuite asked suite fault × SeesRefusal first now Output fault) old new result (λ fault fails. of_fault Output output fault fails.1) is
 
   of_loaded : (asked : Asked) (loaded : Result suites.Suite LaunchFault) (old new : Option (List ℕ)) (result : Result ExitStatus LaunchFault) → RunsLoaded (λ suite. IsSeenSuiteRun saw first now asked suite old new) loaded result → IfErr loaded (λ fault. now ≡ first) → Holds
@@ -63,8 +63,8 @@ module _ {L : Type 0} (saw : PlanParts → L → L → List Telling → Type 0) 
   of_program answers asked parts jobs old new result is =
       let Output = IsSeenSelectedOutput answers asked parts jobs saw first now in
       let output : (text : List ℕ) (status : ExitStatus) → Output text status → Holds =
-      λ text status out. let p = plan_of asked.fail_fast out.settings (answer parts.tree asked.request) in
-      of_text (IsPrintedJobs answers NothingBehind asked out.settings p jobs) p (is_run None asked.details) text status out.output.1 in
+      λ text status out. let p = plan_of asked.fail_fast out.output.settings (answer parts.tree asked.request) in
+      of_text (IsPrintedJobs answers NothingBehind asked out.output.settings p jobs) p (is_run None asked.details) text out.told out.output.output.1 in
       of_answer Output output asked (λ fault. FailsProgram asked parts fault × SeesRefusal first now Output fault) old new result (λ fault fails. of_fault Output output fault fails.1) is
 
 module _ {E C : Type 0} (contents : E → Option (List ℕ)) (first now : Progress E C) where

@@ -19,6 +19,7 @@ in_other_words given asked are number is = record {
   workers = refl;
   ring = are.ring;
   tests = are.tests;
+  selected = are.selected;
   fail_fast = are.fail_fast;
   schedule = are.schedule;
   replay = are.replay;

@@ -1,7 +1,7 @@
 -- What the values of the options ask for, and why they ask for nothing.
-use Rattle.std.specs.Prelude.{◌≡◌, ℕ, ◌+◌, Bool, true, false, List, [], ◌∷◌, length, codes, map, if◌then◌else◌, Option, Some, None, option_map, Result, Ok, Err}
+use Rattle.std.specs.Prelude.{◌≡◌, ℕ, ◌+◌, ◌&&◌, not, Bool, true, false, List, [], ◌∷◌, length, codes, map, if◌then◌else◌, Option, Some, None, option_map, Result, Ok, Err}
 use Rattle.std.specs.List.{filter_map}
-use Rattle.std.specs.Option.{option_or}
+use Rattle.std.specs.Option.{is_some, option_or}
 use Rattle.std.specs.Str.{bytes_eq}
 use Rattle.config_params.specs.Parameters.{Parameters}
 use Rattle.listeners.specs.declared.theme.Theme.{Theme}
@@ -27,8 +27,8 @@ use Rattle.launch_options.specs.ShardTexts.{shard_named}
 use Rattle.launch_options.specs.Workers.{params_said, unless_twice, workers_asked}
 
 -- what is asked for: what is to run, with which parameters and how many processors, how many workers `--workers` has said, if it
--- is given, how many events may be shown that are not told yet, what is printed and how, whether there have to be tests, whether
--- nothing more is to start once a node has failed, whether the steps of a run are to be printed, the steps that are to be
+-- is given, how many events may be shown that are not told yet, what is printed and how, whether there have to be tests, or, where a
+-- shard is asked for, whether something has to be selected, whether nothing more is to start once a node has failed, whether the steps of a run are to be printed, the steps that are to be
 -- replayed, if any are, and how many workers are to take those of the fixed schedule, if any are
 pub record Asked : Type 0 where
   pub request : Request
@@ -39,6 +39,7 @@ pub record Asked : Type 0 where
   pub details : Details
   pub theme : Theme
   pub fail_if_no_tests : Bool
+  pub fail_if_nothing_selected : Bool
   pub fail_fast : Bool
   pub schedule : Bool
   pub replay : Option (List Step)
@@ -55,6 +56,7 @@ asked_by options = record {
   details = options.details;
   theme = options.theme;
   fail_if_no_tests = options.fail_if_no_tests;
+  fail_if_nothing_selected = options.fail_if_nothing_selected;
   fail_fast = options.fail_fast;
   schedule = options.schedule;
   replay = option_map (λ steps. steps.items) options.replay;
@@ -222,7 +224,9 @@ pub record AreAsked (given : Values) (asked : Asked) : Type 0 where
   pub processors : processors_named given.processors ≡ Some asked.processors
   pub workers : workers_asked given ≡ Some asked.workers
   pub ring : ring_named given.ring ≡ Some asked.ring
-  pub tests : asked.fail_if_no_tests ≡ given.fail_if_no_tests
+  -- where a shard is asked for, `--fail-if-no-tests` is about all that is selected, and not about the shard
+  pub tests : asked.fail_if_no_tests ≡ (given.fail_if_no_tests && not (is_some asked.request.shard))
+  pub selected : asked.fail_if_nothing_selected ≡ (given.fail_if_no_tests && is_some asked.request.shard)
   pub fail_fast : asked.fail_fast ≡ given.fail_fast
   pub schedule : asked.schedule ≡ given.schedule
   pub replay : IsReplay given.replay asked.replay

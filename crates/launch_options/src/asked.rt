@@ -30,8 +30,10 @@ pub struct Options {
     pub details: Details,
     /// The signs of the tree.
     pub theme: Theme,
-    /// Whether a run without tests has a status of its own.
+    /// Whether a run without tests has a status of its own; not where a shard is asked for.
     pub fail_if_no_tests: bool,
+    /// Whether a shard has that status where nothing is selected at all.
+    pub fail_if_nothing_selected: bool,
     /// Whether nothing more starts once a node has failed.
     pub fail_fast: bool,
     /// Whether the steps that led to the history of a run are printed behind its details.

@@ -1,8 +1,8 @@
 //! What each value means that words give the options of a run.
 
-ghost use Rattle.std.specs.Prelude.{◌≡◌, ◌≢◌, ℕ, Some, None, option_map, IfOk, IfErr, OnOk};
+ghost use Rattle.std.specs.Prelude.{◌≡◌, ◌≢◌, ◌&&◌, not, ℕ, Some, None, option_map, IfOk, IfErr, OnOk};
 ghost use Rattle.std.specs.List.{filter_map};
-ghost use Rattle.std.specs.Option.{option_or};
+ghost use Rattle.std.specs.Option.{is_some, option_or};
 ghost use Rattle.launch_options.specs.declared.fault.LaunchFault.TheVariants.{NoMemory};
 ghost use Rattle.launch_options.specs.Given.{behind, maybe_behind, texts_of, values_of};
 ghost use Rattle.launch_options.specs.Asked.{asked_by, details_named as details_of_name, theme_named as theme_of_name};
@@ -183,6 +183,26 @@ fn judge_values(alloc: Global, given: &Given<'_>) -> Result<(), LaunchFault>
     judge_params(given)
 }
 
+/// Whether it is so, and no shard is asked for.
+fn is_whole(so: bool, shard: &Option<Shard>) -> bool
+    ensures { result ≡ (so && not (is_some shard.now)) }
+{
+    match shard {
+        Some(_) => false,
+        None => so,
+    }
+}
+
+/// Whether it is so, and a shard is asked for.
+fn is_dealt(so: bool, shard: &Option<Shard>) -> bool
+    ensures { result ≡ (so && is_some shard.now) }
+{
+    match shard {
+        Some(_) => so,
+        None => false,
+    }
+}
+
 /// The options of values that were judged, with these choices, so many workers and this shard among
 /// them.
 fn options_of(
@@ -204,6 +224,8 @@ fn options_of(
     ensures asked { IfOk result (λ options. AreAsked (values_of given.now) (asked_by options)) }
 {
     // what ends soonest is read first, so that little is alive where memory runs out
+    let needs_tests = is_whole(given.fail_if_no_tests, &shard);
+    let needs_selection = is_dealt(given.fail_if_no_tests, &shard);
     let replay = replay_named(alloc, given.replay)?;
     let request = request_of(alloc, given, shard)?;
     let params = params_given(alloc, given, workers)?;
@@ -217,7 +239,8 @@ fn options_of(
         ring: choices.ring,
         details: choices.details,
         theme: choices.theme,
-        fail_if_no_tests: given.fail_if_no_tests,
+        fail_if_no_tests: needs_tests,
+        fail_if_nothing_selected: needs_selection,
         fail_fast: given.fail_fast,
         schedule: given.schedule,
         replay,

@@ -2,6 +2,7 @@ pub mod Answered
 pub mod BrokenOff
 pub mod Driving
 pub mod JobsRan
+pub mod Judging
 pub mod Launching
 pub mod Noting
 pub mod Planning

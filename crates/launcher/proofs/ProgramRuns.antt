@@ -24,11 +24,13 @@ use Rattle.launch_options.specs.declared.details.Details.TheVariants as details
 use Rattle.launch_options.specs.declared.fault.LaunchFault.{LaunchFault}
 use Rattle.launch_options.specs.declared.fault.LaunchFault.TheVariants.{NoMemory, Suite as OfSuite, BadWords, BadStep, BadSelector, BadTags, BadPair, BadSettings, NothingMatches, TooManyKeys, TooManyWorkers, NoWorker, Reading, Writing}
 use Rattle.launcher.specs.declared.exit_status.ExitStatus.{ExitStatus}
-use Rattle.launcher.specs.Programs.{FailsProgram, HasJobs, IsJobsOutput, IsPrintedJobs, IsProgramOutput, IsProgramRun, IsSeenProgram, IsSeenProgramRun, IsSeenSelectedOutput, IsSelectedOutput, NothingBehind, program_refusal, steps_refusal}
+use Rattle.launcher.specs.Missing.{IsJudged, answer_unless, is_missing}
+use Rattle.launcher.specs.Programs.{FailsProgram, HasJobs, IsJobsOutput, IsPrintedJobs, IsProgramOutput, IsProgramRun, IsSeenProgram, IsSeenProgramRun, IsSeenSelectedOutput, IsSelectedBy, IsSelectedOutput, NothingBehind, program_refusal, steps_refusal}
 use Rattle.launcher.specs.Reports.{IsBehindDetails}
 use Rattle.launcher.specs.Runs.{FailsSuite, IsReady, TakesMemory, crowd_refusal, plan_refusal, run_refusal, settings_in, settings_refusal}
 use Rattle.launcher.specs.Watched.{HasLiveFeed, IsAnswered, LacksBy, SeesRefusal, cut_in, is_run}
 use Rattle.launcher.proofs.BrokenOff.{answered_as, refused}
+use Rattle.launcher.proofs.Judging.{judged}
 use Rattle.launcher.proofs.Showing.{IsTextOf, lines_run}
 use Rattle.launcher.proofs.Planning.{ready_takes}
 use Rattle.launcher.proofs.Selected.{selected_jobs, all_jobs}
@@ -138,7 +140,13 @@ module _ (asked : Asked) (parts : SuiteParts) where
     planned_fails fault (Err e) is same fails = subst (λ (f : LaunchFault). IsSeenProgramRun answers asked parts jobs saw first now old new (Err f)) (sym is) (refused asked Selects Refuses old new fault (program_uncut fault fails) (fails, inl same))
 
     unseen : (text : List ℕ) (status : ExitStatus) → Selects text status → IsSelectedOutput answers asked parts jobs text status
-    unseen text status shows = record { accepted = shows.accepted; settings = shows.settings; are = shows.are; output = shows.output.0; never_stuck = shows.never_stuck }
+    unseen text status shows =
+        let told = shows.output in
+        record {
+          told = shows.told;
+          output = record { accepted = told.accepted; settings = told.settings; are = told.are; output = told.output.0; never_stuck = told.never_stuck };
+          exits = shows.exits;
+        }
 
     -- a run that somebody watches is a run
     pub unseen_run : (result : Result ExitStatus LaunchFault) → IsSeenProgramRun answers asked parts jobs saw first now old new result → IsProgramRun answers asked parts jobs old new result
@@ -167,7 +175,10 @@ module _ {B L : Type 0} (answers : B → List Reply) (asked : Asked) (parts : Su
   accepted : program_refusal asked parts ≡ None
   accepted = same_refusal asked parts no_steps ∙ ready.accepted
 
-  selected : (text : List ℕ) (status : ExitStatus) → Shows text status → IsSeenSelectedOutput answers asked parts jobs saw first now text status
+  abbrev Selected : List ℕ → ExitStatus → Type 0
+  Selected = IsSelectedBy (λ settings p. IsSeenProgram answers NothingBehind saw first now asked settings p jobs) asked parts
+
+  selected : (text : List ℕ) (status : ExitStatus) → Shows text status → Selected text status
   selected text status output = record {
     accepted = accepted;
     settings = settings;
@@ -180,7 +191,7 @@ module _ {B L : Type 0} (answers : B → List Reply) (asked : Asked) (parts : Su
   fails_by true runs fault why = elim why [ inl is ↦ rw is (no_steps, ready_takes asked parts settings p [] ready) | inr is ↦ rw is (accepted, runs) ]
   fails_by false runs fault is = rw is (no_steps, ready_takes asked parts settings p [] ready)
 
-  fails : (fault : LaunchFault) → Lacks fault → FailsProgram asked parts fault × SeesRefusal first now (IsSeenSelectedOutput answers asked parts jobs saw first now) fault
+  fails : (fault : LaunchFault) → Lacks fault → FailsProgram asked parts fault × SeesRefusal first now Selected fault
   fails fault why = (
     fails_by (is_run None asked.details) refl fault why.0,
     elim why.1 [
@@ -189,6 +200,8 @@ module _ {B L : Type 0} (answers : B → List Reply) (asked : Asked) (parts : Su
     ],
   )
 
-  -- what is shown of the plan is what is answered of the program
-  pub program_run : (old new : Option (List ℕ)) (result : Result ExitStatus LaunchFault) → IsAnswered asked Shows Lacks old new result → IsSeenProgramRun answers asked parts jobs saw first now old new result
-  program_run old new result is = answered_as asked Shows (IsSeenSelectedOutput answers asked parts jobs saw first now) Lacks _ selected fails old new result is
+  -- what is shown of the plan is what is answered of the program, of which it is asked whether something is missing
+  pub program_run : (missing : Bool) → missing ≡ is_missing asked parts.tree → (old new : Option (List ℕ)) (result given : Result ExitStatus LaunchFault) → given ≡ answer_unless missing result → IsAnswered asked Shows Lacks old new result → IsSeenProgramRun answers asked parts jobs saw first now old new given
+  program_run missing same old new result given judged_so is =
+      subst (λ (r : Result ExitStatus LaunchFault). IsSeenProgramRun answers asked parts jobs saw first now old new r) (sym judged_so) (subst (λ (b : Bool). IsAnswered asked (IsJudged b Selected) (λ f. FailsProgram asked parts f × SeesRefusal first now (IsJudged b Selected) f) old new (answer_unless missing result)) same
+      (judged missing Selected asked (FailsProgram asked parts) first now old new result (answered_as asked Shows Selected Lacks (λ f. FailsProgram asked parts f × SeesRefusal first now Selected f) selected fails old new result is)))

@@ -48,7 +48,7 @@ module _ {L : Type 0} (saw : PlanParts → L → L → List Telling → Type 0) 
     answer_seen (Err fault) is = refused_seen (cut_in fault) fault is
 
   suite_shows : (asked : Asked) (suite : SuiteParts) (text : List ℕ) (status : ExitStatus) → IsSeenSuiteOutput saw first now asked suite text status → SeesSome
-  suite_shows asked suite text status is = text_seen (IsPrintedRun asked is.settings _ (answers_of suite.scripts)) _ (is_run asked.replay asked.details) text status is.output.1
+  suite_shows asked suite text status is = text_seen (IsPrintedRun asked is.output.settings _ (answers_of suite.scripts)) _ (is_run asked.replay asked.details) text is.told is.output.output.1
 
   pub suite_seen : (asked : Asked) (suite : SuiteParts) (old new : Option (List ℕ)) (result : Result ExitStatus LaunchFault) → IsSeenSuiteRun saw first now asked suite old new result → SeesSome
   suite_seen asked suite old new result is = answer_seen asked (IsSeenSuiteOutput saw first now asked suite) (FailsSuite asked suite) (suite_shows asked suite) old new result is
@@ -66,7 +66,7 @@ module _ {L : Type 0} (saw : PlanParts → L → L → List Telling → Type 0) 
 
   module _ {B : Type 0} (answers : B → List Reply) (asked : Asked) (parts : SuiteParts) (jobs : List (ℕ × B)) where
     program_shows : (text : List ℕ) (status : ExitStatus) → IsSeenSelectedOutput answers asked parts jobs saw first now text status → SeesSome
-    program_shows text status is = text_seen (IsPrintedJobs answers NothingBehind asked is.settings _ jobs) _ (is_run None asked.details) text status is.output.1
+    program_shows text status is = text_seen (IsPrintedJobs answers NothingBehind asked is.output.settings _ jobs) _ (is_run None asked.details) text is.told is.output.output.1
 
     pub program_seen : (old new : Option (List ℕ)) (result : Result ExitStatus LaunchFault) → IsSeenProgramRun answers asked parts jobs saw first now old new result → SeesSome
     program_seen old new result is = answer_seen asked (IsSeenSelectedOutput answers asked parts jobs saw first now) (FailsProgram asked parts) program_shows old new result is

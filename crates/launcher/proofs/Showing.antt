@@ -33,10 +33,12 @@ use Rattle.launcher.specs.declared.report.Output.{Output}
 use Rattle.launcher.specs.declared.watched_feed.WatchedFeed.{WatchedFeed}
 use Rattle.launcher.specs.Beside.{SeesBeside}
 use Rattle.launcher.specs.Reports.{details_of, HasHistory, IsOutput, IsOutputWith, IsPlanOutput, IsPrintedRun, IsRunOutput}
-use Rattle.launcher.specs.Runs.{FailsSuite, IsReady, IsSeenOutput, IsSeenSuiteOutput, IsSeenSuiteRun, IsSuiteOutput, IsSuiteRun, IsUnrun, TakesMemory}
+use Rattle.launcher.specs.Missing.{IsJudged, answer_unless, is_missing}
+use Rattle.launcher.specs.Runs.{FailsSuite, IsReady, IsSeenOutput, IsSeenReadyRun, IsSeenSuiteOutput, IsSeenSuiteRun, IsSuiteOutput, IsSuiteOutputBy, IsSuiteRun, IsUnrun, TakesMemory}
 use Rattle.launcher.specs.WarningTexts.{head_of}
-use Rattle.launcher.specs.Watched.{HasLiveFeed, HasSeenPrinted, IsAllOf, IsBrokenOff, SeesRefusal, SeesTextBy, SomeOutput, WatchesBy, cut_in, form_by, is_run, outlet_by}
+use Rattle.launcher.specs.Watched.{HasLiveFeed, HasSeenPrinted, IsAllOf, IsBrokenOff, SeesRefusal, SeesTextBy, SomeOutput, WatchesBy, IsAnswered, cut_in, form_by, is_run, outlet_by}
 use Rattle.launcher.proofs.BrokenOff.{answered_as, broken as broken_run, cut_short, refused, uncut_by, whole as whole_of}
+use Rattle.launcher.proofs.Judging.{judged}
 use Rattle.launcher.proofs.Planning.{ready_output, ready_takes, ready_unrun}
 
 -- lines are printed from the first only if they are asked for, and no replay
@@ -350,11 +352,29 @@ module _ {L : Type 0} (saw : PlanParts → L → L → List Telling → Type 0) 
   refused_suite fault (Err e) is same fails = subst (λ (f : LaunchFault). IsSeenSuiteRun saw first now asked suite old new (Err f)) (sym is) (refused asked Shows Fails old new fault (suite_uncut asked suite fault fails) (fails, inl same))
 
   unseen : (text : List ℕ) (status : ExitStatus) → Shows text status → IsSuiteOutput asked suite text status
-  unseen text status shows = record { accepted = shows.accepted; settings = shows.settings; are = shows.are; output = shows.output.0; never_stuck = shows.never_stuck }
+  unseen text status shows =
+      let told = shows.output in
+      record {
+        told = shows.told;
+        output = record { accepted = told.accepted; settings = told.settings; are = told.are; output = told.output.0; never_stuck = told.never_stuck };
+        exits = shows.exits;
+      }
 
   -- a run that somebody watches is a run
   pub suite_run : (result : Result ExitStatus LaunchFault) → IsSeenSuiteRun saw first now asked suite old new result → IsSuiteRun asked suite old new result
   suite_run result is = answered_as asked Shows (IsSuiteOutput asked suite) Fails (FailsSuite asked suite) unseen (λ fault fails. fails.0) old new result is
+
+  -- it is asked whether something is missing
+  pub judged_run : (missing : Bool) → missing ≡ is_missing asked suite.tree → (result given : Result ExitStatus LaunchFault) → given ≡ answer_unless missing result → IsSeenReadyRun saw first now asked suite old new result → IsSeenSuiteRun saw first now asked suite old new given
+  judged_run missing is result given same run =
+      subst (λ (r : Result ExitStatus LaunchFault). IsSeenSuiteRun saw first now asked suite old new r) (sym same) (subst (λ (b : Bool). IsAnswered asked (IsJudged b (IsSuiteOutputBy (IsSeenOutput saw first now asked) asked suite)) (λ f. FailsSuite asked suite f × SeesRefusal first now (IsJudged b (IsSuiteOutputBy (IsSeenOutput saw first now asked) asked suite)) f) old new (answer_unless missing result)) is
+      (judged missing (IsSuiteOutputBy (IsSeenOutput saw first now asked) asked suite) asked (FailsSuite asked suite) first now old new result run))
+
+  abbrev Readies : List ℕ → ExitStatus → Type 0
+  Readies = IsSuiteOutputBy (IsSeenOutput saw first now asked) asked suite
+
+  abbrev Breaks : LaunchFault → Type 0
+  Breaks fault = FailsSuite asked suite fault × SeesRefusal first now Readies fault
 
   -- what is answered of a suite that is ready to be run
   module _ (settings : Settings) (p : PlanParts) (answers : List (ℕ × Reply)) (ready : IsReady asked suite settings p answers) where
@@ -365,17 +385,17 @@ module _ {L : Type 0} (saw : PlanParts → L → L → List Telling → Type 0) 
     abbrev Prints : List ℕ → ExitStatus → Type 0
     Prints = IsSeenOutput saw first now asked settings p answers
 
-    pub shows_suite : (text : List ℕ) (status : ExitStatus) → Prints text status → Shows text status
+    pub shows_suite : (text : List ℕ) (status : ExitStatus) → Prints text status → Readies text status
     shows_suite = ready_output asked suite settings p answers ready (IsSeenOutput saw first now asked)
 
     pub cut : (text : List ℕ) (status : ExitStatus) (fault : WriteFault) (result : Result ExitStatus LaunchFault) → IsErrAnd result (λ e. e ≡ Writing (cut_by_writer fault.sent)) → Prints text status
-        → (fault.sent < length text) × Appends old new (take fault.sent text) → IsSeenSuiteRun saw first now asked suite old new result
-    cut text status fault result is output sent = cut_short asked Shows Fails old new text status fault result is (shows_suite text status output) sent
+        → (fault.sent < length text) × Appends old new (take fault.sent text) → IsSeenReadyRun saw first now asked suite old new result
+    cut text status fault result is output sent = cut_short asked Readies Breaks old new text status fault result is (shows_suite text status output) sent
 
-    pub whole : (text : List ℕ) (status : ExitStatus) → Prints text status → Appends old new text → IsAllOf Shows old new status
-    whole text status output sent = whole_of asked Shows Fails old new text status (shows_suite text status output) sent
+    pub whole : (text : List ℕ) (status : ExitStatus) → Prints text status → Appends old new text → IsAllOf Readies old new status
+    whole text status output sent = whole_of asked Readies Breaks old new text status (shows_suite text status output) sent
 
-    in_vain : (fault : LaunchFault) → SeesRefusal first now Prints fault → SeesRefusal first now Shows fault
+    in_vain : (fault : LaunchFault) → SeesRefusal first now Prints fault → SeesRefusal first now Readies fault
     in_vain fault is = elim is [
       | inl same ↦ inl same
       | inr vain ↦ inr (vain.0, record { text = vain.1.text; status = vain.1.status; output = shows_suite vain.1.text vain.1.status vain.1.output })
@@ -383,7 +403,7 @@ module _ {L : Type 0} (saw : PlanParts → L → L → List Telling → Type 0) 
 
     -- a run that broke off is answered by its fault, unless its writer failed or a part of it was written
     pub broken : (fault result : LaunchFault) (outlet : Outlet) (sent : ℕ) → IsUnrun asked fault → SeesRefusal first now Prints fault → IsBrokenOff asked Prints outlet old new sent → (outlet ≡ Failed → result ≡ Writing (cut_by_writer sent))
-        → (outlet ≢ Failed → 0 < sent → result ≡ Writing (cut_by_memory sent)) → (outlet ≢ Failed → sent ≡ 0 → result ≡ fault) → IsSeenSuiteRun saw first now asked suite old new (Err result)
+        → (outlet ≢ Failed → 0 < sent → result ≡ Writing (cut_by_memory sent)) → (outlet ≢ Failed → sent ≡ 0 → result ≡ fault) → IsSeenReadyRun saw first now asked suite old new (Err result)
     broken fault result outlet sent why seen so failed some same =
-        answered_as asked Prints Shows Fails Fails shows_suite (λ f is. is) old new (Err result)
-        (broken_run asked Prints Fails old new fault result (uncut_by (is_run asked.replay asked.details) fault why) (ready_unrun asked suite settings p answers ready fault why, in_vain fault seen) outlet sent so failed some same)
+        answered_as asked Prints Readies Breaks Breaks shows_suite (λ f is. is) old new (Err result)
+        (broken_run asked Prints Breaks old new fault result (uncut_by (is_run asked.replay asked.details) fault why) (ready_unrun asked suite settings p answers ready fault why, in_vain fault seen) outlet sent so failed some same)

@@ -3,6 +3,7 @@ pub mod Bytes
 pub mod Closings
 pub mod ExitStatuses
 pub mod Faults
+pub mod Missing
 pub mod Programs
 pub mod ReplayTexts
 pub mod Reports

@@ -33,6 +33,7 @@ use Rattle.launch_options.specs.declared.fault.LaunchFault.{LaunchFault}
 use Rattle.launch_options.specs.declared.fault.LaunchFault.TheVariants.{BadSettings, BadWords, NoMemory, NothingMatches, NoWorker, TooManyKeys, TooManyWorkers}
 use Rattle.launcher.specs.declared.exit_status.ExitStatus.{ExitStatus}
 use Rattle.launcher.specs.ExitStatuses.{status_of_run}
+use Rattle.launcher.specs.Missing.{IsJudged, is_missing}
 use Rattle.launcher.specs.Reports.{details_of, HasHistory, IsExpectedOutput, IsListing, IsPlanned}
 use Rattle.launcher.specs.Runs.{TakesMemory, plan_of, run_refusal, settings_in}
 use Rattle.launcher.specs.WarningTexts.{head_of}
@@ -151,9 +152,9 @@ pub record IsSelectedBy (Prints : Settings → PlanParts → List ℕ → ExitSt
   pub never_stuck : HasBareSpares parts.tree → NeverStuck (plan_of asked.fail_fast settings (answer parts.tree asked.request))
 
 module _ {B : Type 0} (answers : B → List Reply) (asked : Asked) (parts : SuiteParts) (jobs : List (ℕ × B)) where
-  -- what is printed of a program's jobs, and the status
+  -- what is printed of a program's jobs, and the status, which of a shard says too that nothing is selected
   abbrev pub IsSelectedOutput : List ℕ → ExitStatus → Type 0
-  IsSelectedOutput = IsSelectedBy (λ settings p. IsProgramOutput answers NothingBehind asked.details asked settings p jobs) asked parts
+  IsSelectedOutput = IsJudged (is_missing asked parts.tree) (IsSelectedBy (λ settings p. IsProgramOutput answers NothingBehind asked.details asked settings p jobs) asked parts)
 
   -- the answer of a run of a program's jobs, and what the writer held before and holds after
   abbrev pub IsProgramRun : Option (List ℕ) → Option (List ℕ) → Result ExitStatus LaunchFault → Type 0
@@ -162,7 +163,7 @@ module _ {B : Type 0} (answers : B → List Reply) (asked : Asked) (parts : Suit
   module _ {L : Type 0} (saw : PlanParts → L → L → List Telling → Type 0) (first now : L) where
     -- the same; and whoever watches has seen the very history that is printed, or, where nothing is run, nothing
     abbrev pub IsSeenSelectedOutput : List ℕ → ExitStatus → Type 0
-    IsSeenSelectedOutput = IsSelectedBy (λ settings p. IsSeenProgram answers NothingBehind saw first now asked settings p jobs) asked parts
+    IsSeenSelectedOutput = IsJudged (is_missing asked parts.tree) (IsSelectedBy (λ settings p. IsSeenProgram answers NothingBehind saw first now asked settings p jobs) asked parts)
 
     -- the answer of a run that somebody watches, who was like this at first and is like this in the end
     abbrev pub IsSeenProgramRun : Option (List ℕ) → Option (List ℕ) → Result ExitStatus LaunchFault → Type 0

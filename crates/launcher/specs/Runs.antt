@@ -30,6 +30,7 @@ use Rattle.suite_text.specs.declared.suite.Suite as suites
 use Rattle.launch_options.specs.Asked.{Asked}
 use Rattle.launch_options.specs.Workers.{answer_with}
 use Rattle.listeners.specs.Listeners.{Telling}
+use Rattle.launcher.specs.Missing.{IsJudged, is_missing}
 use Rattle.launcher.specs.Reports.{IsOutput, IsPrintedRun}
 use Rattle.launcher.specs.Watched.{IsAnswered, LacksBy, SeesRefusal, SeesTextBy, is_run}
 
@@ -110,9 +111,9 @@ pub record IsSuiteOutputBy (Prints : Settings → PlanParts → List (ℕ × Rep
   -- whatever the workers of this plan do first, it can still be brought to its end
   pub never_stuck : HasBareSpares suite.tree → NeverStuck (plan_of asked.fail_fast settings (answer suite.tree asked.request))
 
--- what is printed of a suite, and the status
+-- what is printed of a suite, and the status, which of a shard says too that nothing is selected
 abbrev pub IsSuiteOutput : Asked → SuiteParts → List ℕ → ExitStatus → Type 0
-IsSuiteOutput asked = IsSuiteOutputBy (IsOutput asked) asked
+IsSuiteOutput asked suite = IsJudged (is_missing asked suite.tree) (IsSuiteOutputBy (IsOutput asked) asked suite)
 
 -- the output of a suite is refused by its first refusal, and want of memory stands in place of none that is judged before; where
 -- nothing refuses the suite there may be no thread to run it
@@ -151,7 +152,11 @@ module _ {L : Type 0} (saw : PlanParts → L → L → List Telling → Type 0) 
 
   -- the same of a suite
   abbrev pub IsSeenSuiteOutput : SuiteParts → List ℕ → ExitStatus → Type 0
-  IsSeenSuiteOutput = IsSuiteOutputBy IsSeenOutput asked
+  IsSeenSuiteOutput suite = IsJudged (is_missing asked suite.tree) (IsSuiteOutputBy IsSeenOutput asked suite)
+
+  -- the answer of a run of this suite that somebody watches, before it is asked whether something is missing
+  abbrev pub IsSeenReadyRun : SuiteParts → Option (List ℕ) → Option (List ℕ) → Result ExitStatus LaunchFault → Type 0
+  IsSeenReadyRun suite = IsAnswered asked (IsSuiteOutputBy IsSeenOutput asked suite) (λ fault. FailsSuite asked suite fault × SeesRefusal first now (IsSuiteOutputBy IsSeenOutput asked suite) fault)
 
   -- the answer of a run of this suite that somebody watches, who was like this at first and is like this in the end
   abbrev pub IsSeenSuiteRun : SuiteParts → Option (List ℕ) → Option (List ℕ) → Result ExitStatus LaunchFault → Type 0

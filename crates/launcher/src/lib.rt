@@ -6,6 +6,7 @@ mod bytes;
 mod closing;
 mod driven;
 mod exit_status;
+mod missing;
 mod program;
 mod replay;
 mod report;

@@ -4,6 +4,7 @@ ghost use Rattle.std.specs.Prelude.{◌≡◌, ◌≤◌, ℕ, [], None, Some, I
 ghost use Rattle.std.specs.Io.KnownBytes.{Keeps};
 ghost use Rattle.descriptor.specs.Nodes.{IsTree};
 ghost use Rattle.launch_options.specs.Asked.{asked_by};
+ghost use Rattle.launcher.specs.Missing.{is_missing};
 ghost use Rattle.launcher.specs.Programs.{FailsProgram, HasJobs, IsProgramRun};
 ghost use Rattle.launcher.specs.Programs.{IsSeenPlanRun, IsSeenProgram, IsSeenProgramRun};
 ghost use Rattle.launcher.specs.Programs.{program_parts, steps_refusal};
@@ -20,8 +21,9 @@ ghost use Rattle.worker_pool.specs.Premises.{JobsMayAnswer};
 ghost use Rattle.worker_pool.specs.Reports.{run_of};
 
 use crate::exit_status::ExitStatus;
+use crate::missing::answer_unless;
 use crate::report::{Output, program_report};
-use crate::run::{broken_off, crewed_plan, form_for, outlet_for, settings_over};
+use crate::run::{SelectedPlan, broken_off, crewed_plan, form_for, outlet_for, settings_over};
 use crate::warning_lines::head_text;
 use crate::watched_feed::WatchedFeed;
 use config_params::{Params, Settings};
@@ -46,11 +48,13 @@ pub struct Program<B> {
     pub jobs: Jobs<B>,
 }
 
-/// The settings and the plan of a program, and the lines of the settings' warnings.
+/// The settings and the plan of a program, whether something had to be selected and is not, and the lines of the
+/// settings' warnings.
 #[derive(Drop)]
 struct PlannedProgram {
     settings: Settings,
     plan: Plan,
+    is_missing: bool,
     head: String,
 }
 
@@ -82,16 +86,19 @@ fn planned_program(
     ensures steps { IfOk result (λ _. steps_refusal options.now.schedule (asked_by options.now).replay options.now.drive ≡ None) }
     ensures ready { IfOk result (λ planned. IsReady (asked_by options.now) (program_parts tree properties)
         planned.settings planned.plan []) }
+    ensures missing { IfOk result (λ planned. planned.is_missing ≡ is_missing (asked_by options.now) tree) }
     ensures head { IfOk result (λ planned. string_bytes planned.head ≡ head_of options.now.details planned.settings.warnings) }
     ensures refused { IfErr result (FailsProgram (asked_by options.now) (program_parts tree properties)) }
 {
     refuse_steps(options)?;
     let settings = settings_over(options, properties)?;
-    let plan = crewed_plan(alloc, options, &settings, tree)?;
+    let selected = crewed_plan(alloc, options, &settings, tree)?;
     let head = head_text(alloc, options.details, settings.warnings)?;
+    let SelectedPlan { plan, is_missing } = selected;
     Ok(PlannedProgram {
         settings,
         plan,
+        is_missing,
         head,
     })
 }
@@ -211,11 +218,12 @@ pub fn run_jobs_watched<B: Job + Send, T: Threads + Wait + Sync, W: Write, V: Wa
     let PlannedProgram {
         settings,
         plan,
+        is_missing,
         head,
     } = planned_program(alloc, options, properties, tree)?;
     // and that of `tree`, that what is selected is one
     let _ = plan.tree();
-    run_planned(
+    let answer = run_planned(
         rt,
         alloc,
         options,
@@ -225,7 +233,8 @@ pub fn run_jobs_watched<B: Job + Send, T: Threads + Wait + Sync, W: Write, V: Wa
         head.as_str(),
         writer,
         watcher,
-    )
+    );
+    answer_unless(is_missing, answer)
 }
 
 /// Runs a program's jobs as `run_jobs_watched` does, where nobody watches.

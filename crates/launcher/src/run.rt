@@ -10,7 +10,8 @@ ghost use Rattle.suite_text.specs.Reading.Bytes.{suite_read};
 ghost use Rattle.suite_text.specs.Reading.Parts.{SuiteParts};
 ghost use Rattle.suite_text.specs.Suites.{suite_parts};
 ghost use Rattle.launcher.specs.Runs.{IsReady, IsRun, IsSuiteRun, IsUnrun, FailsSuite, ReadsSuite, TakesFrom};
-ghost use Rattle.launcher.specs.Runs.{IsSeenOutput, IsSeenRun, IsSeenSuiteRun};
+ghost use Rattle.launcher.specs.Missing.{is_missing as is_missing_in};
+ghost use Rattle.launcher.specs.Runs.{IsSeenOutput, IsSeenReadyRun, IsSeenRun, IsSeenSuiteRun};
 ghost use Rattle.launcher.specs.Runs.{TakesMemory, answers_of as answers_in, fault_in, is_writing};
 ghost use Rattle.launcher.specs.Runs.{driven_by, plan_of as plan_in, plan_refusal, selection_refusal, workers_refusal};
 ghost use Rattle.resource_locks.specs.Declarations.{declared_of};
@@ -25,6 +26,7 @@ ghost use Rattle.live.specs.LiveFeeds.{IsFront};
 
 use crate::bytes::{ReadFault, read_front};
 use crate::exit_status::ExitStatus;
+use crate::missing::{answer_unless, is_missing};
 use crate::report::{Output, report_of};
 use crate::scripted::spins_of;
 use crate::warning_lines::head_text;
@@ -36,7 +38,7 @@ use live::{LineForm, LiveFeed, Outlet};
 use plan_events::MOST_WORKERS;
 use resource_locks::Plan;
 use sched_core::Answers;
-use selectors::discover;
+use selectors::{Found, discover};
 use std::alloc::{AllocError, Global};
 use std::io::{Read, Write};
 use std::sync::Wait;
@@ -71,6 +73,13 @@ fn answers_of(alloc: Global, scripts: Vec<Script>) -> Result<Answers, AllocError
     Ok(Answers::of(replies))
 }
 
+/// A plan, and whether something had to be selected and is not.
+#[derive(Drop)]
+pub(crate) struct SelectedPlan {
+    pub(crate) plan: Plan,
+    pub(crate) is_missing: bool,
+}
+
 /// The plan of what the request selects of a tree: modes by the settings, locks hoisted, failing fast
 /// where the options say so. Refused are a selector that covers nothing (41), which is judged before
 /// any memory is taken, and more than 256 keys (50).
@@ -79,27 +88,29 @@ fn plan_of(
     options: &Options,
     settings: &Settings,
     tree: Tree,
-) -> Result<Plan, LaunchFault>
-    ensures plan { IfOk result (λ plan. plan ≡ plan_in options.now.fail_fast settings.now
+) -> Result<SelectedPlan, LaunchFault>
+    ensures plan { IfOk result (λ selected. selected.plan ≡ plan_in options.now.fail_fast settings.now
         (answer tree options.now.request)) }
-    ensures guarded { IfOk result (λ plan. IsGuarded (declared_of plan.tree) plan) }
+    ensures missing { IfOk result (λ selected. selected.is_missing ≡ is_missing_in (asked_by options.now) tree) }
+    ensures guarded { IfOk result (λ selected. IsGuarded (declared_of selected.plan.tree) selected.plan) }
     ensures accepted { IfOk result (λ _. plan_refusal tree options.now.request ≡ None) }
     ensures refused { IfErr result (λ fault. fault ≢ LaunchFault.NoMemory →
         plan_refusal tree options.now.request ≡ Some fault) }
     ensures no_memory { IfErr result
         (λ fault. fault ≡ LaunchFault.NoMemory → selection_refusal tree options.now.request ≡ None) }
     // Whatever its workers do first, it can still be brought to its end.
-    ensures never_stuck { IfOk result (λ plan. HasBareSpares tree → NeverStuck plan) }
+    ensures never_stuck { IfOk result (λ selected. HasBareSpares tree → NeverStuck selected.plan) }
 {
     // the contract of `len` tells that it is a tree
     let _ = tree.len();
-    let tree = discover(alloc, tree, &options.request)?;
+    let Found { tree, is_nothing } = discover(alloc, tree, &options.request)?;
+    let is_missing = is_missing(options, is_nothing);
     let modes = modes(alloc, &tree, settings)?;
     let plan = Plan::of(alloc, tree, modes)?;
     let plan = plan.with_fail_fast(options.fail_fast);
     // and that of `tree`, that this is a plan
     let _ = plan.tree();
-    Ok(plan)
+    Ok(SelectedPlan { plan, is_missing })
 }
 
 /// Refused are more than 64 workers (61).
@@ -116,13 +127,14 @@ fn judge_workers(workers: u32) -> Result<(), LaunchFault>
 }
 
 /// What a suite comes to by the options: the settings of its run, its plan, what its bodies answer,
-/// and how far they count.
+/// how far they count, and whether something had to be selected and is not.
 #[derive(Drop)]
 struct ReadyRun {
     settings: Settings,
     plan: Plan,
     answers: Answers,
     spins: Vec<u32>,
+    is_missing: bool,
 }
 
 /// The settings of the configuration where a suite, or a program, has these properties.
@@ -161,10 +173,11 @@ pub(crate) fn crewed_plan(
     options: &Options,
     settings: &Settings,
     tree: Tree,
-) -> Result<Plan, LaunchFault>
-    ensures plan { IfOk result (λ plan. plan ≡ plan_in options.now.fail_fast settings.now
+) -> Result<SelectedPlan, LaunchFault>
+    ensures plan { IfOk result (λ selected. selected.plan ≡ plan_in options.now.fail_fast settings.now
         (answer tree options.now.request)) }
-    ensures guarded { IfOk result (λ plan. IsGuarded (declared_of plan.tree) plan) }
+    ensures missing { IfOk result (λ selected. selected.is_missing ≡ is_missing_in (asked_by options.now) tree) }
+    ensures guarded { IfOk result (λ selected. IsGuarded (declared_of selected.plan.tree) selected.plan) }
     ensures accepted { IfOk result (λ _. plan_refusal tree options.now.request ≡ None) }
     ensures count { IfOk result (λ _. workers_refusal settings.now.workers ≡ None) }
     ensures few { IfOk result (λ _. settings.now.workers ≤ 64) }
@@ -172,24 +185,26 @@ pub(crate) fn crewed_plan(
         option_or (plan_refusal tree options.now.request) (workers_refusal settings.now.workers) ≡ Some fault) }
     ensures no_memory { IfErr result
         (λ fault. fault ≡ LaunchFault.NoMemory → selection_refusal tree options.now.request ≡ None) }
-    ensures never_stuck { IfOk result (λ plan. HasBareSpares tree → NeverStuck plan) }
+    ensures never_stuck { IfOk result (λ selected. HasBareSpares tree → NeverStuck selected.plan) }
 {
-    let plan = plan_of(alloc, options, settings, tree)?;
+    let selected = plan_of(alloc, options, settings, tree)?;
     judge_workers(settings.workers)?;
-    Ok(plan)
+    Ok(selected)
 }
 
 /// What the scripts say goes with settings and a plan.
 fn with_scripts(
     alloc: Global,
     settings: Settings,
-    plan: Plan,
+    selected: SelectedPlan,
     scripts: Vec<Script>,
 ) -> Result<ReadyRun, AllocError>
     ensures settings { IfOk result (λ ready. ready.settings ≡ settings) }
-    ensures plan { IfOk result (λ ready. ready.plan ≡ plan) }
+    ensures plan { IfOk result (λ ready. ready.plan ≡ selected.plan) }
+    ensures missing { IfOk result (λ ready. ready.is_missing ≡ selected.is_missing) }
     ensures answers { IfOk result (λ ready. ready.answers ≡ answers_in scripts.items) }
 {
+    let SelectedPlan { plan, is_missing } = selected;
     let spins = spins_of(alloc, scripts.as_slice())?;
     let answers = answers_of(alloc, scripts)?;
     Ok(ReadyRun {
@@ -197,6 +212,7 @@ fn with_scripts(
         plan,
         answers,
         spins,
+        is_missing,
     })
 }
 
@@ -204,6 +220,7 @@ fn with_scripts(
 fn ready_run(alloc: Global, options: &Options, suite: Suite) -> Result<ReadyRun, LaunchFault>
     ensures ready { IfOk result (λ ready. IsReady (asked_by options.now) (suite_parts suite) ready.settings ready.plan
         ready.answers) }
+    ensures missing { IfOk result (λ ready. ready.is_missing ≡ is_missing_in (asked_by options.now) (suite_parts suite).tree) }
     ensures refused { IfErr result (FailsSuite (asked_by options.now) (suite_parts suite)) }
 {
     // taken apart, so that each part ends where it is used
@@ -213,8 +230,8 @@ fn ready_run(alloc: Global, options: &Options, suite: Suite) -> Result<ReadyRun,
         properties,
     } = suite;
     let settings = settings_over(options, properties)?;
-    let plan = crewed_plan(alloc, options, &settings, tree)?;
-    Ok(with_scripts(alloc, settings, plan, scripts)?)
+    let selected = crewed_plan(alloc, options, &settings, tree)?;
+    Ok(with_scripts(alloc, settings, selected, scripts)?)
 }
 
 /// Whether lines are printed while the run goes on: those of events are.
@@ -283,6 +300,7 @@ fn shown_report<T: Threads + Wait + Sync, W: Write, V: Watcher>(
         plan,
         answers,
         spins,
+        is_missing: _,
     } = ready;
     report_of(
         rt,
@@ -336,7 +354,7 @@ fn run_ready<T: Threads + Wait + Sync, W: Write, V: Watcher>(
     requires guarded { IsGuarded (declared_of ready.plan.tree) ready.plan }
     requires head { head.now ≡ head_of options.now.details ready.settings.warnings }
     ensures exact { (suite : SuiteParts) → IsReady (asked_by options.now) suite ready.settings ready.plan ready.answers
-        → IsSeenSuiteRun V.saw watcher.old watcher.new (asked_by options.now) suite (W.contents writer.old)
+        → IsSeenReadyRun V.saw watcher.old watcher.new (asked_by options.now) suite (W.contents writer.old)
         (W.contents writer.new) result }
     ensures quiet { IfErr result (λ fault. is_writing fault ≡ false →
         Keeps (W.contents writer.old) (W.contents writer.new)) }
@@ -381,8 +399,10 @@ pub fn run_suite_watched<T: Threads + Wait + Sync, W: Write, V: Watcher>(
         (W.contents writer.old) (W.contents writer.new) result }
 {
     let ready = ready_run(alloc, options, suite)?;
+    let is_missing = ready.is_missing;
     let head = head_text(alloc, options.details, ready.settings.warnings)?;
-    run_ready(rt, alloc, options, ready, head.as_str(), writer, watcher)
+    let answer = run_ready(rt, alloc, options, ready, head.as_str(), writer, watcher);
+    answer_unless(is_missing, answer)
 }
 
 /// Runs a suite as `run_suite_watched` does, where nobody watches.

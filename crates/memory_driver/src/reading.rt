@@ -6,7 +6,7 @@ use crate::printer::Printer;
 use crate::said::Said;
 use crate::values::push_suite;
 use descriptor::Tree;
-use selectors::{Request, SelectFault, Selector, SelectorKind, discover};
+use selectors::{Found, Request, SelectFault, Selector, SelectorKind, discover};
 use std::alloc::{AllocError, Global};
 use std::io::Write;
 use suite_text::{Suite, SuiteFault};
@@ -66,7 +66,11 @@ impl Call for Finds {
 
     fn make(self, alloc: Global, request: &Request) -> Result<Tree, SelectFault> {
         let Finds { tree } = self;
-        discover(alloc, tree, request)
+        let Found {
+            tree,
+            is_nothing: _,
+        } = discover(alloc, tree, request)?;
+        Ok(tree)
     }
 
     fn push(said: &mut Said, tree: &Result<Tree, SelectFault>) {

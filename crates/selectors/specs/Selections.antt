@@ -1,5 +1,5 @@
 -- The tests and factories that are selected, and the tree of those.
-use Rattle.std.specs.Prelude.{ℕ, ◌&&◌, ◌++◌, not, Bool, Option}
+use Rattle.std.specs.Prelude.{ℕ, ◌==◌, ◌&&◌, ◌++◌, not, Bool, Option}
 use Rattle.std.specs.Option.{option_map}
 use Rattle.descriptor.specs.Nodes.{Nodes, size, kind_of, role_of}
 use Rattle.descriptor.specs.Pruned.{pruned}
@@ -25,6 +25,10 @@ is_selected t request n = is_selectable (kind_of t n) (role_of t n) && (is_asked
 -- the tree of the nodes that stay, which are node 0, each node that a selected node is at or below, and the spares of a selected factory, in their order
 abbrev pub selection : Nodes → Request → Nodes
 selection t request = pruned t (truths (stays t (is_selected t request)) (size t))
+
+-- whether nothing is selected: that tree is the plan alone
+abbrev pub selects_nothing : Nodes → Request → Bool
+selects_nothing t request = size (selection t request) == 1
 
 -- what discovery finds: that tree, or the shard of it that the request asks for
 abbrev pub answer : Nodes → Request → Nodes

@@ -8,12 +8,13 @@ ghost use Rattle.selectors.specs.ClassNames.{class_name, last_segment, name_belo
 ghost use Rattle.selectors.specs.Filters.{tags_together, IsTagged};
 ghost use Rattle.selectors.specs.Keeping.{stays, Stays};
 ghost use Rattle.selectors.specs.Names.{covers, names, Covers, HasIdOrSpare, HasMatchingName};
-ghost use Rattle.selectors.specs.Selections.{answer, is_selected, refusal};
+ghost use Rattle.selectors.specs.Selections.{answer, is_selected, refusal, selects_nothing};
 ghost use Rattle.selectors.specs.Shards.{shard_or_all};
 ghost use Rattle.selectors.specs.declared.selector.Selector.{Selector};
 ghost use Rattle.selectors.specs.declared.selector.Selector.TheVariants.{Uid, Name};
 ghost use Rattle.unique_id.specs.declared.unique_id.Segment.{Segment};
 
+use crate::found::Found;
 use crate::kept::kept;
 use crate::refusal::first_unmatched;
 use crate::request::Request;
@@ -27,15 +28,16 @@ use std::alloc::{AllocError, Global};
 /// The tree of the tests and factories that the request selects, of the spares of these factories
 /// and of what they are below, its nodes numbered anew, in their order and with their bodies. Where
 /// all nodes are that, it is the same tree, and nothing is copied. Where the request asks for a shard,
-/// the shard of that tree.
+/// the shard of that tree; that nothing is selected is told of the whole.
 ///
 /// Errors: refusal 41 for the first selector, and then for the first name, that covers no node of
 /// the whole tree, at its number, names counted behind selectors; and else want of memory. An
 /// exclusion that covers no node is none.
-pub fn discover(alloc: Global, tree: Tree, request: &Request) -> Result<Tree, SelectFault>
-    ensures ok { IfOk result (λ found. found ≡ answer tree request.now) }
-    ensures tree { IfOk result (λ found. IsTree found) }
-    ensures children { IfOk result (λ found. (n : ℕ) → ListsChildren found n) }
+pub fn discover(alloc: Global, tree: Tree, request: &Request) -> Result<Found, SelectFault>
+    ensures ok { IfOk result (λ found. found.tree ≡ answer tree request.now) }
+    ensures nothing { IfOk result (λ found. found.is_nothing ≡ selects_nothing tree request.now) }
+    ensures tree { IfOk result (λ found. IsTree found.tree) }
+    ensures children { IfOk result (λ found. (n : ℕ) → ListsChildren found.tree n) }
     ensures accepted { IfOk result (λ _. refusal tree request.now ≡ None) }
     ensures refused { IfErr result (λ fault. fault ≢ SelectFault.NoMemory → refusal tree request.now ≡ Some fault) }
     ensures no_memory { IfErr result (λ fault. fault ≡ SelectFault.NoMemory → refusal tree request.now ≡ None) }
@@ -55,7 +57,7 @@ pub fn discover(alloc: Global, tree: Tree, request: &Request) -> Result<Tree, Se
 {
     // the contract of `len` tells that it is a tree
     let _ = tree.len();
-    found(alloc, tree, request)
+    find(alloc, tree, request)
 }
 
 /// The shard that is asked for, or the whole tree where none is.
@@ -71,11 +73,12 @@ fn shard_or_all(alloc: Global, tree: Tree, shard: &Option<Shard>) -> Result<Tree
 }
 
 /// What the request finds in a tree.
-fn found(alloc: Global, tree: Tree, request: &Request) -> Result<Tree, SelectFault>
+fn find(alloc: Global, tree: Tree, request: &Request) -> Result<Found, SelectFault>
     requires { IsTree tree }
-    ensures ok { IfOk result (λ found. found ≡ answer tree request.now) }
-    ensures tree { IfOk result (λ found. IsTree found) }
-    ensures children { IfOk result (λ found. (n : ℕ) → ListsChildren found n) }
+    ensures ok { IfOk result (λ found. found.tree ≡ answer tree request.now) }
+    ensures nothing { IfOk result (λ found. found.is_nothing ≡ selects_nothing tree request.now) }
+    ensures tree { IfOk result (λ found. IsTree found.tree) }
+    ensures children { IfOk result (λ found. (n : ℕ) → ListsChildren found.tree n) }
     ensures accepted { IfOk result (λ _. refusal tree request.now ≡ None) }
     ensures refused { IfErr result (λ fault. fault ≢ SelectFault.NoMemory → refusal tree request.now ≡ Some fault) }
     ensures no_memory { IfErr result (λ fault. fault ≡ SelectFault.NoMemory → refusal tree request.now ≡ None) }
@@ -86,5 +89,7 @@ fn found(alloc: Global, tree: Tree, request: &Request) -> Result<Tree, SelectFau
     let taken = taken(alloc, &tree, request)?;
     let keep = kept(&tree, taken);
     let selection = tree.into_pruned(alloc, keep.as_slice())?;
-    Ok(shard_or_all(alloc, selection, &request.shard)?)
+    let is_nothing = selection.len() == 1;
+    let tree = shard_or_all(alloc, selection, &request.shard)?;
+    Ok(Found { tree, is_nothing })
 }

@@ -7,6 +7,7 @@ mod covered;
 mod dealing;
 mod discovery;
 mod filter;
+mod found;
 mod id_hash;
 mod kept;
 mod name_end;
@@ -23,6 +24,7 @@ mod taken;
 
 pub use dealing::Dealing;
 pub use discovery::discover;
+pub use found::Found;
 pub use request::Request;
 pub use select_fault::SelectFault;
 pub use selector::{Selector, SelectorKind};

@@ -5,7 +5,7 @@ ghost use Rattle.selectors.specs.declared.request.Request.{Request};
 ghost use Rattle.selectors.specs.Selections.{answer};
 
 use descriptor::Tree;
-use selectors::{Request, SelectFault, Selector, discover};
+use selectors::{Found, Request, SelectFault, Selector, discover};
 use std::alloc::Global;
 
 /// The tests and factories that a selector covers, and what they are below.
@@ -26,5 +26,9 @@ pub fn select_by(alloc: Global, tree: Tree, selector: Selector) -> Result<Tree, 
         exclude: Vec::new(alloc),
         shard: None,
     };
-    discover(alloc, tree, &request)
+    let Found {
+        tree,
+        is_nothing: _,
+    } = discover(alloc, tree, &request)?;
+    Ok(tree)
 }

@@ -1,16 +1,19 @@
 -- What is shown of the plan of what is selected is what is answered of the program.
-use Rattle.std.proofs.Common.{refl}
+use Rattle.std.proofs.Common.{◌≡◌, false, refl}
+use Rattle.std.specs.Io.KnownBytes.{Keeps}
 use Rattle.launch_options.specs.Asked.{asked_by}
 use Rattle.launcher.specs.Programs.{program_parts}
+use Rattle.launcher.specs.Runs.{is_writing}
+use Rattle.launcher.proofs.Judging.{still_refused}
 use Rattle.launcher.proofs.ProgramRuns.{fails_memory, no_job_missing, planned_fails, planned_memory, program_run, unseen_run}
 use Rattle.launcher.proofs.program.run_jobs_watched.Goals as goal
 
-pub run_planned-requires-clause-all : goal.run_planned-requires-clause-all
-run_planned-requires-clause-all g c κs within =
+pub run_planned-answer-requires-clause-all : goal.run_planned-answer-requires-clause-all
+run_planned-answer-requires-clause-all g c κs within =
     no_job_missing (asked_by c.args.options.now) (program_parts c.args.program.tree c.args.program.properties) c.in_ok-settings.field-0.settings c.in_ok-settings.field-0.plan c.args.program.jobs.items c.len.ensures.tree c.in_ok-settings.ensures.ready c.requires.all
 
-pub run_planned-requires-clause-jobs : goal.run_planned-requires-clause-jobs
-run_planned-requires-clause-jobs g c κs within = c.requires.jobs c.in_ok-settings.field-0.plan c.in_ok-settings.field-0.settings.workers c.args.options.now.ring
+pub run_planned-answer-requires-clause-jobs : goal.run_planned-answer-requires-clause-jobs
+run_planned-answer-requires-clause-jobs g c κs within = c.requires.jobs c.in_ok-settings.field-0.plan c.in_ok-settings.field-0.settings.workers c.args.options.now.ring
 
 pub returns-in_err-settings-clause-watched : goal.returns-in_err-settings-clause-watched
 returns-in_err-settings-clause-watched g c =
@@ -27,15 +30,19 @@ returns-in_err-settings-clause-no_memory g c =
 
 pub returns-clause-watched : goal.returns-clause-watched
 returns-clause-watched g c =
-    program_run g.B.Job.answers (asked_by c.args.options.now) (program_parts c.args.program.tree c.args.program.properties) c.args.program.jobs.items g.V.Watcher.saw c.args.watcher.now c.run_planned.new.watcher c.in_ok-settings.field-0.settings c.in_ok-settings.field-0.plan c.in_ok-settings.ensures.ready
-    c.in_ok-settings.ensures.steps (g.W.Write.contents c.args.writer.now) _ c.run_planned.result c.run_planned.ensures.exact
+    program_run g.B.Job.answers (asked_by c.args.options.now) (program_parts c.args.program.tree c.args.program.properties) c.args.program.jobs.items g.V.Watcher.saw c.args.watcher.now c.run_planned-answer.new.watcher c.in_ok-settings.field-0.settings c.in_ok-settings.field-0.plan c.in_ok-settings.ensures.ready
+    c.in_ok-settings.ensures.steps c.in_ok-settings.field-0.is_missing c.in_ok-settings.ensures.missing (g.W.Write.contents c.args.writer.now) _ c.run_planned-answer.result c.answer_unless.result c.answer_unless.ensures c.run_planned-answer.ensures.exact
 
 pub returns-clause-exact : goal.returns-clause-exact
 returns-clause-exact g c =
-    unseen_run (asked_by c.args.options.now) (program_parts c.args.program.tree c.args.program.properties) g.B.Job.answers c.args.program.jobs.items g.V.Watcher.saw c.args.watcher.now c.run_planned.new.watcher _ _ c.run_planned.result
-    (program_run g.B.Job.answers (asked_by c.args.options.now) (program_parts c.args.program.tree c.args.program.properties) c.args.program.jobs.items g.V.Watcher.saw c.args.watcher.now c.run_planned.new.watcher c.in_ok-settings.field-0.settings c.in_ok-settings.field-0.plan c.in_ok-settings.ensures.ready
-    c.in_ok-settings.ensures.steps (g.W.Write.contents c.args.writer.now) _ c.run_planned.result c.run_planned.ensures.exact)
+    unseen_run (asked_by c.args.options.now) (program_parts c.args.program.tree c.args.program.properties) g.B.Job.answers c.args.program.jobs.items g.V.Watcher.saw c.args.watcher.now c.run_planned-answer.new.watcher _ _ c.answer_unless.result
+    (program_run g.B.Job.answers (asked_by c.args.options.now) (program_parts c.args.program.tree c.args.program.properties) c.args.program.jobs.items g.V.Watcher.saw c.args.watcher.now c.run_planned-answer.new.watcher c.in_ok-settings.field-0.settings c.in_ok-settings.field-0.plan c.in_ok-settings.ensures.ready
+    c.in_ok-settings.ensures.steps c.in_ok-settings.field-0.is_missing c.in_ok-settings.ensures.missing (g.W.Write.contents c.args.writer.now) _ c.run_planned-answer.result c.answer_unless.result c.answer_unless.ensures c.run_planned-answer.ensures.exact)
 
 pub returns-clause-no_memory : goal.returns-clause-no_memory
 returns-clause-no_memory g c =
-    planned_memory (asked_by c.args.options.now) (program_parts c.args.program.tree c.args.program.properties) c.in_ok-settings.field-0.settings c.in_ok-settings.field-0.plan c.in_ok-settings.ensures.ready c.run_planned.result
+    planned_memory (asked_by c.args.options.now) (program_parts c.args.program.tree c.args.program.properties) c.in_ok-settings.field-0.settings c.in_ok-settings.field-0.plan c.in_ok-settings.ensures.ready c.answer_unless.result
+
+pub returns-clause-quiet : goal.returns-clause-quiet
+returns-clause-quiet g c =
+    still_refused c.in_ok-settings.field-0.is_missing (λ fault. is_writing fault ≡ false → Keeps (g.W.Write.contents c.args.writer.now) (g.W.Write.contents c.run_planned-answer.new.writer)) c.run_planned-answer.result c.answer_unless.result c.answer_unless.ensures c.run_planned-answer.ensures.quiet

@@ -8,16 +8,16 @@ use Rattle.launcher.proofs.run.plan_of.Goals as goal
 
 pub returns-clause-plan : goal.returns-clause-plan
 returns-clause-plan c =
-    plan_made c.args.tree c.in_ok-tree.tree c.args.options.now.request c.args.settings.now c.args.options.now.fail_fast c.in_ok-modes.modes.items c.in_ok-plan.plan c.with_fail_fast-plan.result c.in_ok-tree.ensures.ok c.in_ok-modes.ensures.exact c.in_ok-plan.ensures.same
+    plan_made c.args.tree c.in_ok-tree.field-0.tree c.args.options.now.request c.args.settings.now c.args.options.now.fail_fast c.in_ok-modes.modes.items c.in_ok-plan.plan c.with_fail_fast-plan.result c.in_ok-tree.ensures.ok c.in_ok-modes.ensures.exact c.in_ok-plan.ensures.same
     c.with_fail_fast-plan.ensures.same
 
 pub returns-clause-guarded : goal.returns-clause-guarded
 returns-clause-guarded c =
-    still_guarded c.in_ok-tree.tree c.in_ok-modes.modes.items c.args.options.now.fail_fast c.in_ok-plan.plan c.with_fail_fast-plan.result c.in_ok-plan.ensures.same c.with_fail_fast-plan.ensures.same c.in_ok-plan.ensures.guarded c.with_fail_fast-plan.ensures.guarded
+    still_guarded c.in_ok-tree.field-0.tree c.in_ok-modes.modes.items c.args.options.now.fail_fast c.in_ok-plan.plan c.with_fail_fast-plan.result c.in_ok-plan.ensures.same c.with_fail_fast-plan.ensures.same c.in_ok-plan.ensures.guarded c.with_fail_fast-plan.ensures.guarded
 
 pub returns-in_err-plan-clause-refused : goal.returns-in_err-plan-clause-refused
 returns-in_err-plan-clause-refused c =
-    keys_refused c.args.tree c.args.options.now.request c.in_ok-tree.tree c.in_ok-tree.ensures.ok c.in_ok-tree.ensures.accepted c.in_err-plan.field-0.0 c.from_residual-in_err-plan.result c.from_residual-in_err-plan.ensures.1
+    keys_refused c.args.tree c.args.options.now.request c.in_ok-tree.field-0.tree c.in_ok-tree.ensures.ok c.in_ok-tree.ensures.accepted c.in_err-plan.field-0.0 c.from_residual-in_err-plan.result c.from_residual-in_err-plan.ensures.1
     c.in_err-plan.ensures.refused
 
 pub returns-clause-never_stuck : goal.returns-clause-never_stuck

@@ -3,7 +3,7 @@ use Rattle.std.proofs.Common.{ℕ, List, Err, take, rules, sym, subst}
 use Rattle.std.specs.Io.KnownBytes.{Appends, Keeps}
 use Rattle.live.specs.declared.live_feed.Outlet.{Outlet}
 use Rattle.launch_options.specs.Asked.{asked_by}
-use Rattle.launcher.specs.Runs.{IsReady, IsSeenOutput, IsSeenSuiteOutput, IsSeenSuiteRun}
+use Rattle.launcher.specs.Runs.{IsReady, IsSeenOutput, IsSeenReadyRun, IsSuiteOutputBy}
 use Rattle.suite_text.specs.Reading.Parts.{SuiteParts}
 use Rattle.launcher.specs.Watched.{IsAllOf, IsBrokenOff}
 use Rattle.launcher.proofs.BrokenOff.{quiet}
@@ -24,7 +24,7 @@ returns-in_err-finish-in-Ok-clause-exact g c =
     let part = subst (λ w. Appends (contents w) (contents c.shown_report.new.live.feed.writer.now) (take c.shown_report.new.live.feed.sent c.as_bytes.result.now)) c.new-feed.ensures.writer
     (subst (λ (xs : List ℕ). Appends (contents c.new-feed.result.writer.now) (contents c.shown_report.new.live.feed.writer.now) (take c.shown_report.new.live.feed.sent xs)) (sym c.as_bytes.ensures.value) c.in-Ok.ensures.front.printed) in
     let sent = c.in_err-finish-in-Ok.ensures.whole old part in
-    both_carried {a = new} {c = seen} (search rules) (search rules) (λ new now. (suite : SuiteParts) → IsReady asked suite c.args.ready.settings c.args.ready.plan c.args.ready.answers → IsSeenSuiteRun saw first now asked suite old new c.from_residual.result)
+    both_carried {a = new} {c = seen} (search rules) (search rules) (λ new now. (suite : SuiteParts) → IsReady asked suite c.args.ready.settings c.args.ready.plan c.args.ready.answers → IsSeenReadyRun saw first now asked suite old new c.from_residual.result)
     (λ suite ready. cut saw first seen asked suite old new c.args.ready.settings c.args.ready.plan c.args.ready.answers ready c.as_bytes.result.now report.status c.in_err-finish-in-Ok.field-0.0 c.from_residual.result c.from_residual.ensures.1
     (subst (λ (xs : List ℕ). Prints xs report.status) (sym c.as_bytes.ensures.value) c.in-Ok.ensures.output) sent)
 
@@ -42,7 +42,7 @@ returns-in_ok-finish-in-Ok-clause-exact g c =
     let part = subst (λ w. Appends (contents w) (contents c.shown_report.new.live.feed.writer.now) (take c.shown_report.new.live.feed.sent c.as_bytes.result.now)) c.new-feed.ensures.writer
     (subst (λ (xs : List ℕ). Appends (contents c.new-feed.result.writer.now) (contents c.shown_report.new.live.feed.writer.now) (take c.shown_report.new.live.feed.sent xs)) (sym c.as_bytes.ensures.value) c.in-Ok.ensures.front.printed) in
     let sent = c.in_ok-finish-in-Ok.ensures.whole old part in
-    both_carried {a = new} {c = seen} (search rules) (search rules) (λ new now. (suite : SuiteParts) → IsReady asked suite c.args.ready.settings c.args.ready.plan c.args.ready.answers → IsAllOf (IsSeenSuiteOutput saw first now asked suite) old new report.status)
+    both_carried {a = new} {c = seen} (search rules) (search rules) (λ new now. (suite : SuiteParts) → IsReady asked suite c.args.ready.settings c.args.ready.plan c.args.ready.answers → IsAllOf (IsSuiteOutputBy (IsSeenOutput saw first now asked) asked suite) old new report.status)
     (λ suite ready. whole saw first seen asked suite old new c.args.ready.settings c.args.ready.plan c.args.ready.answers ready c.as_bytes.result.now report.status (subst (λ (xs : List ℕ). Prints xs report.status) (sym c.as_bytes.ensures.value) c.in-Ok.ensures.output) sent)
 
 pub returns-in-Err-clause-exact : goal.returns-in-Err-clause-exact
@@ -57,7 +57,7 @@ returns-in-Err-clause-exact g c =
     let new = contents c.shown_report.new.live.feed.writer.now in
     let off = subst (λ w. IsBrokenOff asked Prints c.shown_report.new.live.feed.outlet (contents w) new c.shown_report.new.live.feed.sent) c.new-feed.ensures.writer c.in-Err.ensures.broken_off in
     let at = subst (λ (o : Outlet). IsBrokenOff asked Prints o old new c.sent.result) (sym c.outlet.ensures) (subst (λ (n : ℕ). IsBrokenOff asked Prints c.shown_report.new.live.feed.outlet old new n) (sym c.sent.ensures) off) in
-    both_carried {a = new} {c = seen} (search rules) (search rules) (λ new now. (suite : SuiteParts) → IsReady asked suite c.args.ready.settings c.args.ready.plan c.args.ready.answers → IsSeenSuiteRun saw first now asked suite old new (Err c.broken_off.result))
+    both_carried {a = new} {c = seen} (search rules) (search rules) (λ new now. (suite : SuiteParts) → IsReady asked suite c.args.ready.settings c.args.ready.plan c.args.ready.answers → IsSeenReadyRun saw first now asked suite old new (Err c.broken_off.result))
     (λ suite ready. broken saw first seen asked suite old new c.args.ready.settings c.args.ready.plan c.args.ready.answers ready c.in-Err.fault c.broken_off.result c.outlet.result c.sent.result c.in-Err.ensures.refused c.in-Err.ensures.seen at c.broken_off.ensures.failed c.broken_off.ensures.some
     c.broken_off.ensures.none)
 

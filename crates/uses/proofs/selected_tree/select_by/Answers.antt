@@ -1,10 +1,7 @@
 -- The request that was made.
 use Rattle.std.proofs.Common.{[], ◌∷◌, ◌++◌, None, refl, ap, ◌∙◌}
-use Rattle.sched_core.proofs.Tracing.{if_ok}
 use Rattle.uses.proofs.selected_tree.select_by.Goals as goal
 
 pub returns : goal.returns
 returns c =
-    if_ok c.discover.result
-    (λ found same. (record { selectors = c.push.new.self; names = c.new.result; exclusions = c.new-2.result; include = c.new-3.result; exclude = c.new-4.result; shard = None }, c.in-Ok.ensures.items ∙ ap (λ l. l ++ c.args.selector ∷ []) c.new-selectors.ensures.items, c.new.ensures.items, c.new-2.ensures.items, c.new-3.ensures.items, c.new-4.ensures.items, refl, same))
-    c.discover.ensures.ok
+    (record { selectors = c.push.new.self; names = c.new.result; exclusions = c.new-2.result; include = c.new-3.result; exclude = c.new-4.result; shard = None }, c.in-Ok.ensures.items ∙ ap (λ l. l ++ c.args.selector ∷ []) c.new-selectors.ensures.items, c.new.ensures.items, c.new-2.ensures.items, c.new-3.ensures.items, c.new-4.ensures.items, refl, c.in_ok-tree.ensures.ok)
