@@ -2,3 +2,5 @@
 pub mod Ending
 pub mod Halves
 pub mod Passing
+pub mod PrunedResults
+pub mod ShardResults

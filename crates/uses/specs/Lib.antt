@@ -1,3 +1,4 @@
 -- The definitions that contracts cite.
 pub mod Ending
 pub mod Passing
+pub mod ShardResults

@@ -3,6 +3,7 @@
 ghost use Rattle.std.specs.Prelude.{◌≡◌, ◌==◌, ◌%◌, IfOk};
 ghost use Rattle.selectors.specs.Shards.{picked, AreApart};
 ghost use Rattle.selectors.specs.Units.{units};
+ghost use Rattle.uses.specs.ShardResults.{EachIsRun, EndsAlike, NoUnitHasAfter};
 
 use descriptor::Tree;
 use selectors::{Dealing, Shard, shard_of};
@@ -16,4 +17,15 @@ pub fn every_other(alloc: Global, tree: Tree) -> Result<Tree, AllocError>
         return Err(AllocError);
     };
     shard_of(alloc, tree, &shard)
+}
+
+/// The tree of a shard. Each of its nodes is expected to end as in a run of the whole, and each node that is run with
+/// all tests and factories is in some shard: so the whole fails just if one of the shards does.
+pub fn share_of(alloc: Global, tree: Tree, shard: &Shard) -> Result<Tree, AllocError>
+    ensures alike { IfOk result (λ found. NoUnitHasAfter tree → EndsAlike tree shard.now found) }
+    ensures each { EachIsRun tree shard.now.count shard.now.dealing }
+{
+    // the contract of `len` tells that it is a tree
+    let _ = tree.len();
+    shard_of(alloc, tree, shard)
 }

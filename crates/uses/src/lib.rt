@@ -32,7 +32,7 @@ pub use boxed_jobs::run_each;
 pub use built_tests::one_test;
 pub use child_of_id::child_text;
 pub use config_word::put_word;
-pub use dealt_tree::every_other;
+pub use dealt_tree::{every_other, share_of};
 pub use ending_runs::every_run_ends;
 pub use event_word::through_word;
 pub use failed_run::failed_summary;
