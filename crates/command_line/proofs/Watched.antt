@@ -18,7 +18,7 @@ use Rattle.launch_options.specs.Asked.{Asked}
 use Rattle.launch_options.specs.declared.fault.CutOutput.{CutOutput}
 use Rattle.launch_options.specs.declared.fault.LaunchFault.{LaunchFault}
 use Rattle.launcher.specs.declared.exit_status.ExitStatus.{ExitStatus}
-use Rattle.launcher.specs.Programs.{FailsProgram, IsPrintedJobs, IsSeenProgramRun, IsSeenSelectedOutput, NothingBehind}
+use Rattle.launcher.specs.Programs.{FailsProgram, IsPrintedJobs, IsSeenProgramRun, IsSeenSelectedOutput}
 use Rattle.launcher.specs.Reports.{IsPrintedRun}
 use Rattle.launcher.specs.Runs.{FailsSuite, IsSeenRun, IsSeenSuiteOutput, IsSeenSuiteRun, RunsLoaded, answers_of, plan_of}
 use Rattle.launcher.specs.Watched.{IsAnswered, IsRefusedBy, SeesRefusal, SeesTextBy, cut_in, is_run}
@@ -64,7 +64,7 @@ module _ {L : Type 0} (saw : PlanParts → L → L → List Telling → Type 0) 
       let Output = IsSeenSelectedOutput answers asked parts jobs saw first now in
       let output : (text : List ℕ) (status : ExitStatus) → Output text status → Holds =
       λ text status out. let p = plan_of asked.fail_fast out.output.settings (answer parts.tree asked.request) in
-      of_text (IsPrintedJobs answers NothingBehind asked out.output.settings p jobs) p (is_run None asked.details) text out.told out.output.output.1 in
+      of_text (IsPrintedJobs answers None asked out.output.settings p jobs) p (is_run None asked.details) text out.told out.output.output.1 in
       of_answer Output output asked (λ fault. FailsProgram asked parts fault × SeesRefusal first now Output fault) old new result (λ fault fails. of_fault Output output fault fails.1) is
 
 module _ {E C : Type 0} (contents : E → Option (List ℕ)) (first now : Progress E C) where

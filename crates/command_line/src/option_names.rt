@@ -319,7 +319,7 @@ fn ending<'a>(alloc: Global, subject: Subject<'_>) -> Result<Command<'a>, AllocE
     )
 }
 
-/// Why a program's own tests have no option that speaks of steps.
+/// Why a program's own tests have no option by which steps are taken.
 const IS_REFUSED: &str = "Is refused: what real tests answer nobody knows before they have run";
 
 /// The program and its options, with the helps that they have where this is run.
@@ -335,7 +335,7 @@ pub(crate) fn command<'a>(alloc: Global, subject: Subject<'_>) -> Result<Command
             help_by(
                 subject,
                 "Prints, behind a run, steps that --replay takes to just what happened",
-                IS_REFUSED,
+                "Prints, behind a run, steps that lead to just what happened",
             ),
         ),
     )?;

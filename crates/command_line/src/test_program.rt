@@ -65,7 +65,7 @@ fn run_test_options<B: Job + Send, T: Threads + Wait + Sync, W: Write, E: Write,
 /// they ask for is printed, as of a suite. Then the line of a refusal is printed, unless the writer
 /// failed, and its message on the other writer, on which what failed is said once more behind a tree
 /// or a summary. Words that give no options are refused as
-/// `read_options` says, and then nothing is run; so is `--schedule` or `--replay`, by 105, since
+/// `read_options` says, and then nothing is run; so is `--replay` or `--drive`, by 105, since
 /// nobody knows beforehand what the tests answer. Each body of the tree has a job, and whatever plan
 /// is made of the tree, the jobs may answer. Who watches is shown the run, as one of two watchers.
 pub fn run_test_words<B: Job + Send, T: Threads + Wait + Sync, W: Write, E: Write, V: Watcher>(

@@ -92,7 +92,7 @@ pub fn run_tests_watched<T: Threads + Wait + Sync, W: Write, E: Write, V: Watche
 
 /// Runs of these tests what the words that the system gave ask for, and says how the program ends:
 /// all that is left to do is to end with the status. The words are those of `console`, but for
-/// `--schedule` and `--replay`, which are refused with 105. What they ask for goes to the writer;
+/// `--replay` and `--drive`, which are refused with 105. What they ask for goes to the writer;
 /// what a refusal is for goes to the other. A refusal, also that of words which are no text, is
 /// status 255. Tests of which something was declared that never came are handed back as a fault, and
 /// nothing is run or written.

@@ -1,5 +1,5 @@
 -- What is printed of a run of a program's jobs.
-use Rattle.std.proofs.Common.{◌≡◌, ℕ, false, List, ◌++◌, refl, subst}
+use Rattle.std.proofs.Common.{◌≡◌, ℕ, Bool, true, false, List, [], ◌++◌, Option, Some, None, refl, subst}
 use Rattle.config_params.specs.declared.settings.Settings.{Settings}
 use Rattle.descriptor.specs.Nodes.{IsTree}
 use Rattle.plan_events.specs.declared.event.Event.{Event}
@@ -22,12 +22,18 @@ use Rattle.worker_pool.specs.Watching.{HasSeenMore}
 use Rattle.launch_options.specs.Asked.{Asked}
 use Rattle.launcher.specs.declared.exit_status.ExitStatus.{ExitStatus}
 use Rattle.launcher.specs.ExitStatuses.{status_of_run}
-use Rattle.launcher.specs.Programs.{one_each, IsHistoryBy, IsPrintedJobs}
+use Rattle.launcher.specs.Programs.{one_each, IsBehindRun, IsHistoryBy, IsPrintedJobs}
+use Rattle.launch_options.specs.declared.details.Details.{Details}
 use Rattle.launcher.specs.Reports.{details_of}
+use Rattle.launcher.specs.ScheduleTexts.{schedule_line}
 use Rattle.launcher.specs.WarningTexts.{head_of}
 use Rattle.launcher.specs.Watched.{HasSeenPrinted, SomeOutput}
 use Rattle.launcher.proofs.Answered.{said, legal_said, said_given, texts_said}
-use Rattle.launcher.proofs.Reporting.{expected_output}
+use Rattle.launcher.proofs.Reporting.{expected_output, schedule_behind}
+
+-- what is printed behind a run of one plan is what is printed behind a run of the same
+pub moved_behind : {p q : PlanParts} (known : Option (List (ℕ × Reply))) (kind : Details) (asks : Bool) (workers : ℕ) (history : List Event) (texts : TextParts) (behind : List ℕ) → p ≡ q → IsBehindRun kind asks workers p known history texts behind → IsBehindRun kind asks workers q known history texts behind
+moved_behind known kind asks workers history texts behind same is = subst (λ (r : PlanParts). IsBehindRun kind asks workers r known history texts behind) same is
 
 module _ {B : Type 0} (answers : B → List Reply) (asked : Asked) (settings : Settings) (p : PlanParts) (tree : IsTree p.tree) (safe : IsGuarded (declared_of p.tree) p) (jobs : List (ℕ × B)) (history : List Event) (texts : TextParts)
     (report : IsReport (run_of p settings.workers asked.ring jobs) (replies_of answers (run_of p settings.workers asked.ring jobs)) history) (told : AreTexts p (replies_of answers (run_of p settings.workers asked.ring jobs)) history texts) where
@@ -56,10 +62,10 @@ module _ {B : Type 0} (answers : B → List Reply) (asked : Asked) (settings : S
   printed_so calm = printed_as_expected p tree answered (one_each answered) (λ job. refl) calm settings.workers history published.legal published.complete texts (texts_said p tree may settings.workers history texts report.legal told)
 
   -- this is what is printed of it
-  pub printed_jobs : (Behind : List Event → List ℕ → Type 0) (left : List (ℕ × B)) → IsBalanced p jobs history left → (behind text : List ℕ) (status : ExitStatus) → Behind history behind
+  pub printed_jobs : (known : Option (List (ℕ × Reply))) (left : List (ℕ × B)) → IsBalanced p jobs history left → (behind text : List ℕ) (status : ExitStatus) → IsBehindRun asked.details asked.schedule settings.workers p known history texts behind
       → text ≡ head_of asked.details settings.warnings ++ (details_of asked.details asked.theme p texts history ++ behind) → status ≡ status_of_run asked.fail_if_no_tests (tests_found p history) (has_failed p history)
-      → IsPrintedJobs answers Behind asked settings p jobs history texts text status
-  printed_jobs Behind left balanced behind text status is_behind printed exits = record {
+      → IsPrintedJobs answers known asked settings p jobs history texts text status
+  printed_jobs known left balanced behind text status is_behind printed exits = record {
     may_be = report.legal;
     may_say = told;
     reply = answered;
@@ -75,14 +81,21 @@ module _ {B : Type 0} (answers : B → List Reply) (asked : Asked) (settings : S
     as_expected = λ calm. expected_output asked settings p answered history texts (printed_so calm) behind text status printed exits;
   }
 
+  -- where there is no memory for a schedule, the line that says so would have been printed
+  some_line : (known : Option (List (ℕ × Reply))) (kind : Details) (asks : Bool) → (behind : List ℕ) × IsBehindRun kind asks settings.workers p known history texts behind
+  some_line (Some replies) kind asks = schedule_behind kind asks settings.workers p replies history
+  some_line None kind false = ([], refl)
+  some_line None kind true = (schedule_line kind None, record { told = []; line = record { found = None; schedule = tt; namable = tt; printed = refl }; explains = tt })
+
   -- whoever watches has seen a run of which no report was made
-  pub jobs_in_vain : {L : Type 0} (saw : PlanParts → L → L → List Telling → Type 0) (first now : L) → HasSeenMore saw p (tellings_of texts history) first now → (left : List (ℕ × B)) → IsBalanced p jobs history left → (Behind : List Event → List ℕ → Type 0)
-      → (behind : List ℕ) × Behind history behind → SomeOutput (HasSeenPrinted saw (IsPrintedJobs answers Behind asked settings p jobs) p first now)
-  jobs_in_vain saw first now seen left balanced Behind some_behind =
+  pub jobs_in_vain : {L : Type 0} (saw : PlanParts → L → L → List Telling → Type 0) (first now : L) → HasSeenMore saw p (tellings_of texts history) first now → (left : List (ℕ × B)) → IsBalanced p jobs history left → (known : Option (List (ℕ × Reply)))
+      → SomeOutput (HasSeenPrinted saw (IsPrintedJobs answers known asked settings p jobs) p first now)
+  jobs_in_vain saw first now seen left balanced known =
+      let some_behind = some_line known asked.details asked.schedule in
       let text = head_of asked.details settings.warnings ++ (details_of asked.details asked.theme p texts history ++ some_behind.0) in
       let status = status_of_run asked.fail_if_no_tests (tests_found p history) (has_failed p history) in
       record {
         text = text;
         status = status;
-        output = record { history = history; texts = texts; prints = printed_jobs Behind left balanced some_behind.0 text status some_behind.1 refl refl; seen = seen };
+        output = record { history = history; texts = texts; prints = printed_jobs known left balanced some_behind.0 text status some_behind.1 refl refl; seen = seen };
       }

@@ -25,8 +25,7 @@ use Rattle.launch_options.specs.declared.fault.LaunchFault.{LaunchFault}
 use Rattle.launch_options.specs.declared.fault.LaunchFault.TheVariants.{NoMemory, Suite as OfSuite, BadWords, BadStep, BadSelector, BadTags, BadPair, BadSettings, NothingMatches, TooManyKeys, TooManyWorkers, NoWorker, Reading, Writing}
 use Rattle.launcher.specs.declared.exit_status.ExitStatus.{ExitStatus}
 use Rattle.launcher.specs.Missing.{IsJudged, answer_unless, is_missing}
-use Rattle.launcher.specs.Programs.{FailsProgram, HasJobs, IsJobsOutput, IsPrintedJobs, IsProgramOutput, IsProgramRun, IsSeenProgram, IsSeenProgramRun, IsSeenSelectedOutput, IsSelectedBy, IsSelectedOutput, NothingBehind, program_refusal, steps_refusal}
-use Rattle.launcher.specs.Reports.{IsBehindDetails}
+use Rattle.launcher.specs.Programs.{FailsProgram, HasJobs, IsJobsOutput, IsPrintedJobs, IsProgramOutput, IsProgramRun, IsSeenProgram, IsSeenProgramRun, IsSeenSelectedOutput, IsSelectedBy, IsSelectedOutput, program_refusal, steps_refusal}
 use Rattle.launcher.specs.Runs.{FailsSuite, IsReady, TakesMemory, crowd_refusal, plan_refusal, run_refusal, settings_in, settings_refusal}
 use Rattle.launcher.specs.Watched.{HasLiveFeed, IsAnswered, LacksBy, SeesRefusal, cut_in, is_run}
 use Rattle.launcher.proofs.BrokenOff.{answered_as, refused}
@@ -42,8 +41,8 @@ no_job_missing asked parts settings p jobs tree ready has =
     all_jobs p jobs (subst (λ (t : Nodes). HasJobs t jobs) (sym same) (selected_jobs parts.tree tree asked.request jobs has))
 
 -- what a run of jobs prints is what is printed of the plan, where this is run
-module _ {B : Type 0} (answers : B → List Reply) (Behind : List Event → List ℕ → Type 0) (asked : Asked) (settings : Settings) (p : PlanParts) (jobs : List (ℕ × B)) where
-  jobs_ran : (kind : Details) → is_run None kind ≡ true → (text : List ℕ) (status : ExitStatus) → IsJobsOutput answers Behind asked settings p jobs text status → IsProgramOutput answers Behind kind asked settings p jobs text status
+module _ {B : Type 0} (answers : B → List Reply) (known : Option (List (ℕ × Reply))) (asked : Asked) (settings : Settings) (p : PlanParts) (jobs : List (ℕ × B)) where
+  jobs_ran : (kind : Details) → is_run None kind ≡ true → (text : List ℕ) (status : ExitStatus) → IsJobsOutput answers known asked settings p jobs text status → IsProgramOutput answers known kind asked settings p jobs text status
   jobs_ran details.None runs text status output = output
   jobs_ran details.Summary runs text status output = output
   jobs_ran details.Tree runs text status output = output
@@ -53,23 +52,22 @@ module _ {B : Type 0} (answers : B → List Reply) (Behind : List Event → List
   jobs_ran details.List runs text status output = absurd (true≢false (sym runs))
   jobs_ran details.Plan runs text status output = absurd (true≢false (sym runs))
 
-  pub program_output_of : is_run None asked.details ≡ true → (text : List ℕ) (status : ExitStatus) → IsJobsOutput answers Behind asked settings p jobs text status → IsProgramOutput answers Behind asked.details asked settings p jobs text status
+  pub program_output_of : is_run None asked.details ≡ true → (text : List ℕ) (status : ExitStatus) → IsJobsOutput answers known asked settings p jobs text status → IsProgramOutput answers known asked.details asked settings p jobs text status
   program_output_of runs text status output = jobs_ran asked.details runs text status output
 
-  pub jobs_text_of : (history : List Event) (texts : TextParts) (text : List ℕ) (status : ExitStatus) → IsPrintedJobs answers Behind asked settings p jobs history texts text status → IsTextOf asked settings p history texts text
+  pub jobs_text_of : (history : List Event) (texts : TextParts) (text : List ℕ) (status : ExitStatus) → IsPrintedJobs answers known asked settings p jobs history texts text status → IsTextOf asked settings p history texts text
   jobs_text_of history texts text status prints = record { ends = prints.published.ends; behind = prints.behind; printed = prints.printed }
 
 -- a plan whose feed is printed while it goes on is run
 pub jobs_feed_runs : (asked : Asked) → HasLiveFeed asked → is_run None asked.details ≡ true
 jobs_feed_runs asked lines = lines_run asked.details lines.0
 
-no_replay : (schedule : Bool) (replay : Option (List Step)) (drive : Option ℕ) → steps_refusal schedule replay drive ≡ None → replay ≡ None
-no_replay true replay drive none = absurd (none-some BadWords (sym none))
-no_replay false None drive none = refl
-no_replay false (Some steps) drive none = absurd (none-some BadWords (sym none))
+no_replay : (replay : Option (List Step)) (drive : Option ℕ) → steps_refusal replay drive ≡ None → replay ≡ None
+no_replay None drive none = refl
+no_replay (Some steps) drive none = absurd (none-some BadWords (sym none))
 
 -- a program whose steps are not asked for
-module _ (asked : Asked) (parts : SuiteParts) (no_steps : steps_refusal asked.schedule asked.replay asked.drive ≡ None) where
+module _ (asked : Asked) (parts : SuiteParts) (no_steps : steps_refusal asked.replay asked.drive ≡ None) where
   -- is refused as a suite is
   same_refusal : program_refusal asked parts ≡ run_refusal asked parts
   same_refusal = ap (λ o. option_or o (run_refusal asked parts)) no_steps
@@ -86,7 +84,7 @@ module _ (asked : Asked) (parts : SuiteParts) (no_steps : steps_refusal asked.sc
   fails_as (NothingMatches n) x = same_refusal ∙ x
   fails_as TooManyKeys x = same_refusal ∙ x
   fails_as TooManyWorkers x = same_refusal ∙ x
-  fails_as NoWorker x = (same_refusal ∙ x.0, sym (ap (λ r. is_run r asked.details) (no_replay asked.schedule asked.replay asked.drive no_steps)) ∙ x.1)
+  fails_as NoWorker x = (same_refusal ∙ x.0, sym (ap (λ r. is_run r asked.details) (no_replay asked.replay asked.drive no_steps)) ∙ x.1)
   fails_as Reading x = absurd x
   fails_as (Writing f) x = absurd x
 
@@ -101,7 +99,7 @@ module _ (asked : Asked) (parts : SuiteParts) (no_steps : steps_refusal asked.sc
 
 module _ (asked : Asked) (parts : SuiteParts) where
   -- steps are asked for
-  pub steps_fail : {X : Type 0} (fault : LaunchFault) (result : Result X LaunchFault) → IsErrAnd result (λ e. e ≡ fault) → fault ≡ BadWords → steps_refusal asked.schedule asked.replay asked.drive ≡ Some fault → IfErr result (FailsProgram asked parts)
+  pub steps_fail : {X : Type 0} (fault : LaunchFault) (result : Result X LaunchFault) → IsErrAnd result (λ e. e ≡ fault) → fault ≡ BadWords → steps_refusal asked.replay asked.drive ≡ Some fault → IfErr result (FailsProgram asked parts)
   steps_fail fault (Ok x) is words why = absurd is
   steps_fail fault (Err e) is words why = rw is (rw words (ap (λ o. option_or o (run_refusal asked parts)) why ∙ ap Some words))
 
@@ -152,38 +150,30 @@ module _ (asked : Asked) (parts : SuiteParts) where
     pub unseen_run : (result : Result ExitStatus LaunchFault) → IsSeenProgramRun answers asked parts jobs saw first now old new result → IsProgramRun answers asked parts jobs old new result
     unseen_run result is = answered_as asked Selects (IsSelectedOutput answers asked parts jobs) Refuses (FailsProgram asked parts) unseen (λ fault fails. fails.0) old new result is
 
-no_schedule : (schedule : Bool) (replay : Option (List Step)) (drive : Option ℕ) → steps_refusal schedule replay drive ≡ None → schedule ≡ false
-no_schedule true replay drive none = absurd (none-some BadWords (sym none))
-no_schedule false replay drive none = refl
-
 pub planned_memory : (asked : Asked) (parts : SuiteParts) (settings : Settings) (p : PlanParts) → IsReady asked parts settings p [] → (result : Result ExitStatus LaunchFault) → IfErr result (λ fault. fault ≡ NoMemory → TakesMemory asked parts)
 planned_memory asked parts settings p ready (Ok status) = tt
 planned_memory asked parts settings p ready (Err fault) = λ same. ready_takes asked parts settings p [] ready
 
 module _ {B L : Type 0} (answers : B → List Reply) (asked : Asked) (parts : SuiteParts) (jobs : List (ℕ × B)) (saw : PlanParts → L → L → List Telling → Type 0) (first now : L) (settings : Settings) (p : PlanParts) (ready : IsReady asked parts settings p [])
-    (no_steps : steps_refusal asked.schedule asked.replay asked.drive ≡ None) where
+    (no_steps : steps_refusal asked.replay asked.drive ≡ None) where
   abbrev Shows : List ℕ → ExitStatus → Type 0
-  Shows = IsSeenProgram answers (IsBehindDetails asked.details asked.schedule settings.workers p []) saw first now asked settings p jobs
+  Shows = IsSeenProgram answers None saw first now asked settings p jobs
 
   abbrev Lacks : LaunchFault → Type 0
   Lacks fault = LacksBy (is_run None asked.details) fault × SeesRefusal first now Shows fault
-
-  -- nothing stands behind, since no schedule is asked for
-  bare : (text : List ℕ) (status : ExitStatus) → Shows text status → IsSeenProgram answers NothingBehind saw first now asked settings p jobs text status
-  bare text status = subst (λ (b : Bool). IsSeenProgram answers (IsBehindDetails asked.details b settings.workers p []) saw first now asked settings p jobs text status) (no_schedule asked.schedule asked.replay asked.drive no_steps)
 
   accepted : program_refusal asked parts ≡ None
   accepted = same_refusal asked parts no_steps ∙ ready.accepted
 
   abbrev Selected : List ℕ → ExitStatus → Type 0
-  Selected = IsSelectedBy (λ settings p. IsSeenProgram answers NothingBehind saw first now asked settings p jobs) asked parts
+  Selected = IsSelectedBy (λ settings p. IsSeenProgram answers None saw first now asked settings p jobs) asked parts
 
   selected : (text : List ℕ) (status : ExitStatus) → Shows text status → Selected text status
   selected text status output = record {
     accepted = accepted;
     settings = settings;
     are = ready.are;
-    output = subst (λ (q : PlanParts). IsSeenProgram answers NothingBehind saw first now asked settings q jobs text status) ready.plan_is (bare text status output);
+    output = subst (λ (q : PlanParts). IsSeenProgram answers None saw first now asked settings q jobs text status) ready.plan_is output;
     never_stuck = λ bare. subst NeverStuck ready.plan_is (ready.never_stuck bare);
   }
 

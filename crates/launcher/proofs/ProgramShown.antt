@@ -1,5 +1,5 @@
 -- What is printed of a program's jobs where neither the list nor the nodes are asked for.
-use Rattle.std.proofs.Common.{◌≡◌, ℕ, Bool, true, false, List, None, Result, Ok, Err, IfOk, refl, inl, inr}
+use Rattle.std.proofs.Common.{◌≡◌, ℕ, Bool, true, false, List, Option, None, Result, Ok, Err, IfOk, refl, inl, inr}
 use Rattle.std.specs.Prelude.{◌⊎◌, string_bytes}
 use Rattle.config_params.specs.declared.settings.Settings.{Settings}
 use Rattle.plan_events.specs.declared.event.Event.{Event}
@@ -29,8 +29,8 @@ runs details.Xml some = refl
 runs details.List some = elim some [ inl q ↦ cc | inr a ↦ elim a [ inl q ↦ cc | inr b ↦ elim b [ inl q ↦ cc | inr d ↦ elim d [ inl q ↦ cc | inr e ↦ elim e [ inl q ↦ cc | inr q ↦ cc ] ] ] ] ]
 runs details.Plan some = elim some [ inl q ↦ cc | inr a ↦ elim a [ inl q ↦ cc | inr b ↦ elim b [ inl q ↦ cc | inr d ↦ elim d [ inl q ↦ cc | inr e ↦ elim e [ inl q ↦ cc | inr q ↦ cc ] ] ] ] ]
 
-module _ {B : Type 0} (answers : B → List Reply) (Behind : List Event → List ℕ → Type 0) (asked : Asked) (settings : Settings) (p : PlanParts) (jobs : List (ℕ × B)) where
-  jobs_shown : (kind : Details) (text : List ℕ) (status : ExitStatus) → Runs kind → IsJobsOutput answers Behind asked settings p jobs text status → IsProgramOutput answers Behind kind asked settings p jobs text status
+module _ {B : Type 0} (answers : B → List Reply) (known : Option (List (ℕ × Reply))) (asked : Asked) (settings : Settings) (p : PlanParts) (jobs : List (ℕ × B)) where
+  jobs_shown : (kind : Details) (text : List ℕ) (status : ExitStatus) → Runs kind → IsJobsOutput answers known asked settings p jobs text status → IsProgramOutput answers known kind asked settings p jobs text status
   jobs_shown details.None text status some is = is
   jobs_shown details.Summary text status some is = is
   jobs_shown details.Tree text status some is = is
@@ -40,7 +40,7 @@ module _ {B : Type 0} (answers : B → List Reply) (Behind : List Event → List
   jobs_shown details.List text status some is = elim some [ inl q ↦ cc | inr a ↦ elim a [ inl q ↦ cc | inr b ↦ elim b [ inl q ↦ cc | inr d ↦ elim d [ inl q ↦ cc | inr e ↦ elim e [ inl q ↦ cc | inr q ↦ cc ] ] ] ] ]
   jobs_shown details.Plan text status some is = elim some [ inl q ↦ cc | inr a ↦ elim a [ inl q ↦ cc | inr b ↦ elim b [ inl q ↦ cc | inr d ↦ elim d [ inl q ↦ cc | inr e ↦ elim e [ inl q ↦ cc | inr q ↦ cc ] ] ] ] ]
 
-  pub program_shown : (kind : Details) (result : Result Output LaunchFault) → Runs kind → IfOk result (λ report. IsJobsOutput answers Behind asked settings p jobs (string_bytes report.text) report.status)
-      → IfOk result (λ report. IsProgramOutput answers Behind kind asked settings p jobs (string_bytes report.text) report.status)
+  pub program_shown : (kind : Details) (result : Result Output LaunchFault) → Runs kind → IfOk result (λ report. IsJobsOutput answers known asked settings p jobs (string_bytes report.text) report.status)
+      → IfOk result (λ report. IsProgramOutput answers known kind asked settings p jobs (string_bytes report.text) report.status)
   program_shown kind (Ok report) some is = jobs_shown kind (string_bytes report.text) report.status some is
   program_shown kind (Err fault) some is = tt

@@ -16,7 +16,7 @@ use Rattle.launch_options.specs.Asked.{Asked}
 use Rattle.launch_options.specs.declared.fault.CutOutput.{CutOutput}
 use Rattle.launch_options.specs.declared.fault.LaunchFault.{LaunchFault}
 use Rattle.launcher.specs.declared.exit_status.ExitStatus.{ExitStatus}
-use Rattle.launcher.specs.Programs.{FailsProgram, IsPrintedJobs, IsSeenProgramRun, IsSeenSelectedOutput, NothingBehind}
+use Rattle.launcher.specs.Programs.{FailsProgram, IsPrintedJobs, IsSeenProgramRun, IsSeenSelectedOutput}
 use Rattle.launcher.specs.Reports.{IsPrintedRun}
 use Rattle.launcher.specs.Runs.{FailsSuite, IsSeenRun, IsSeenSuiteOutput, IsSeenSuiteRun, RunsLoaded, TakesFrom, answers_of}
 use Rattle.launcher.specs.Watched.{IsAnswered, IsRefusedBy, SeesRefusal, SeesTextBy, cut_in, is_run}
@@ -66,7 +66,7 @@ module _ {L : Type 0} (saw : PlanParts → L → L → List Telling → Type 0) 
 
   module _ {B : Type 0} (answers : B → List Reply) (asked : Asked) (parts : SuiteParts) (jobs : List (ℕ × B)) where
     program_shows : (text : List ℕ) (status : ExitStatus) → IsSeenSelectedOutput answers asked parts jobs saw first now text status → SeesSome
-    program_shows text status is = text_seen (IsPrintedJobs answers NothingBehind asked is.output.settings _ jobs) _ (is_run None asked.details) text is.told is.output.output.1
+    program_shows text status is = text_seen (IsPrintedJobs answers None asked is.output.settings _ jobs) _ (is_run None asked.details) text is.told is.output.output.1
 
     pub program_seen : (old new : Option (List ℕ)) (result : Result ExitStatus LaunchFault) → IsSeenProgramRun answers asked parts jobs saw first now old new result → SeesSome
     program_seen old new result is = answer_seen asked (IsSeenSelectedOutput answers asked parts jobs saw first now) (FailsProgram asked parts) program_shows old new result is

@@ -1,5 +1,5 @@
 -- What is printed of a run of a suite's jobs is what is printed of any, by what the suite says.
-use Rattle.std.proofs.Common.{ℕ, List, Result, Ok, Err, IfOk, inl, inr}
+use Rattle.std.proofs.Common.{ℕ, List, Some, Result, Ok, Err, IfOk, inl, inr}
 use Rattle.std.specs.Prelude.{◌⊎◌, string_bytes}
 use Rattle.config_params.specs.declared.settings.Settings.{Settings}
 use Rattle.descriptor.specs.Nodes.{IsTree}
@@ -19,14 +19,14 @@ use Rattle.launcher.specs.declared.exit_status.ExitStatus.{ExitStatus}
 use Rattle.launcher.specs.declared.report.Output.{Output}
 use Rattle.launcher.specs.declared.scripted.ScriptedJob.{ScriptedJob}
 use Rattle.launcher.specs.Programs.{IsPrintedJobs}
-use Rattle.launcher.specs.Reports.{HasHistory, IsBehindDetails, IsPrintedRun, IsRunOutput}
+use Rattle.launcher.specs.Reports.{HasHistory, IsPrintedRun, IsRunOutput}
 use Rattle.launcher.specs.Scripted.{replies_left, AreScripted}
 use Rattle.launcher.specs.Watched.{HasSeenPrinted, Watches}
 use Rattle.launcher.proofs.Reporting.{printed_run, told_of}
 
 module _ (asked : Asked) (settings : Settings) (p : PlanParts) (tree : IsTree p.tree) (safe : IsGuarded (declared_of p.tree) p) (answers : List (ℕ × Reply)) (jobs : List (ℕ × ScriptedJob)) (are : AreScripted p answers (slot_count p) jobs) where
   abbrev JobsPrint : List Event → TextParts → List ℕ → ExitStatus → Type 0
-  JobsPrint = IsPrintedJobs replies_left (IsBehindDetails asked.details asked.schedule settings.workers p answers) asked settings p jobs
+  JobsPrint = IsPrintedJobs replies_left (Some answers) asked settings p jobs
 
   suite_prints : (history : List Event) (texts : TextParts) (text : List ℕ) (status : ExitStatus) → JobsPrint history texts text status → IsPrintedRun asked settings p answers history texts text status
   suite_prints history texts text status out =

@@ -1,12 +1,12 @@
 -- What is run and printed of a program's jobs, of which nobody knows beforehand what they answer.
-use Rattle.std.specs.Prelude.{◌≡◌, ℕ, ◌<◌, ◌⊎◌, Bool, true, false, List, [], ◌∷◌, ◌++◌, Option, Some, None, slice_get, Result, Ok, Err}
+use Rattle.std.specs.Prelude.{◌≡◌, ℕ, ◌<◌, ◌⊎◌, Bool, true, false, List, [], ◌∷◌, ◌++◌, Option, Some, None, IfSome, slice_get, Result, Ok, Err}
 use Rattle.std.specs.Option.{is_some, option_or}
 use Rattle.config_params.specs.Parameters.{Parameters}
 use Rattle.config_params.specs.declared.settings.Settings.{Settings}
 use Rattle.descriptor.specs.Nodes.{Nodes, size, body_of, after_of}
 use Rattle.plan_events.specs.declared.event.Event.{Event}
 use Rattle.plan_events.specs.declared.outcome.Reply.{Reply}
-use Rattle.plan_events.specs.Texts.{TextParts}
+use Rattle.plan_events.specs.Texts.{TextParts, text_at}
 use Rattle.resource_locks.specs.Plans.{PlanParts}
 use Rattle.resource_locks.specs.Spares.{HasBareSpares}
 use Rattle.event_history.specs.Apart.{IsApart}
@@ -18,6 +18,7 @@ use Rattle.event_history.specs.Parts.{EndsInPlan}
 use Rattle.event_history.specs.Plans.{is_same}
 use Rattle.never_stuck.specs.Reaching.{NeverStuck}
 use Rattle.scheduling.specs.declared.step.Step.{Step}
+use Rattle.sched_core.specs.Texts.{AreTexts as AreReplayed}
 use Rattle.selectors.specs.Selections.{answer}
 use Rattle.suite_text.specs.Reading.Parts.{SuiteParts}
 use Rattle.table_rule.specs.Picture.{replies_of}
@@ -34,7 +35,7 @@ use Rattle.launch_options.specs.declared.fault.LaunchFault.TheVariants.{BadSetti
 use Rattle.launcher.specs.declared.exit_status.ExitStatus.{ExitStatus}
 use Rattle.launcher.specs.ExitStatuses.{status_of_run}
 use Rattle.launcher.specs.Missing.{IsJudged, is_missing}
-use Rattle.launcher.specs.Reports.{details_of, HasHistory, IsExpectedOutput, IsListing, IsPlanned}
+use Rattle.launcher.specs.Reports.{details_of, HasHistory, IsBehindDetails, IsExpectedOutput, IsListing, IsPlanned, IsScheduleLine}
 use Rattle.launcher.specs.Runs.{TakesMemory, plan_of, run_refusal, settings_in}
 use Rattle.launcher.specs.WarningTexts.{head_of}
 use Rattle.launcher.specs.Watched.{IsAnswered, LacksBy, SeesRefusal, SeesTextBy, is_run}
@@ -62,11 +63,32 @@ pub record IsHistoryBy (workers : ℕ) (p : PlanParts) (reply : ℕ → Reply) (
   -- and unless the plan fails fast each node ends as it is expected to by these replies, whatever the number of workers
   pub as_expected : p.fail_fast ≡ false → (n : ℕ) → n < size p.tree → IsAsExpected p (one_each reply) history n (expected p reply n)
 
--- nothing is printed behind the details of a run
-abbrev pub NothingBehind : List Event → List ℕ → Type 0
-NothingBehind history behind = behind ≡ []
+-- each node has the text that a replay of this history has where the bodies answer so
+pub record HasTextsBy (p : PlanParts) (told : List (ℕ × Reply)) (history : List Event) (texts : TextParts) : Type 0 where
+  pub replayed : TextParts
+  pub are : AreReplayed p told history replayed
+  pub same : (n : ℕ) → n < size p.tree → text_at replayed n ≡ text_at texts n
 
-module _ {B : Type 0} (answers : B → List Reply) (Behind : List Event → List ℕ → Type 0) where
+-- The line of a schedule of a run of jobs of which nobody knew beforehand what they answer: it names steps by which so many workers
+-- come to just this history where the jobs give these replies, or says that none were found. Where it names steps, the same replies
+-- explain the texts: a suite whose bodies are scripted with them has this history by these steps, with these texts.
+pub record IsJobsSchedule (kind : Details) (workers : ℕ) (p : PlanParts) (history : List Event) (texts : TextParts) (printed : List ℕ) : Type 0 where
+  pub told : List (ℕ × Reply)
+  pub line : IsScheduleLine kind workers p told history printed
+  pub explains : IfSome line.found (λ _. HasTextsBy p told history texts)
+
+-- what is printed behind the details of such a run: nothing, unless a schedule is asked for
+abbrev pub IsBehindJobs : Details → Bool → ℕ → PlanParts → List Event → TextParts → List ℕ → Type 0
+IsBehindJobs kind false workers p history texts behind = behind ≡ []
+IsBehindJobs kind true workers p history texts behind = IsJobsSchedule kind workers p history texts behind
+
+-- the same of any run: of jobs of which it is known beforehand what they answer, as of a suite's, or is not
+abbrev pub IsBehindRun : Details → Bool → ℕ → PlanParts → Option (List (ℕ × Reply)) → List Event → TextParts → List ℕ → Type 0
+IsBehindRun kind asked workers p None history texts behind = IsBehindJobs kind asked workers p history texts behind
+IsBehindRun kind asked workers p (Some known) history texts behind = IsBehindDetails kind asked workers p known history behind
+
+-- of jobs that may answer so, and what is known beforehand of what they do, if it is
+module _ {B : Type 0} (answers : B → List Reply) (known : Option (List (ℕ × Reply))) where
   -- What is printed of this history of a run of these jobs by the settings' workers, with these texts of its nodes. There is one
   -- reply of each job, such that the history is one in which the jobs gave these replies: a line for each warning, then the history as
   -- the options say, and then what is to stand behind it; its failures make the status.
@@ -84,7 +106,7 @@ module _ {B : Type 0} (answers : B → List Reply) (Behind : List Event → List
     pub balanced : IsBalanced p jobs history left
     -- what is printed, to the end
     pub behind : List ℕ
-    pub is_behind : Behind history behind
+    pub is_behind : IsBehindRun asked.details asked.schedule settings.workers p known history texts behind
     pub printed : text ≡ head_of asked.details settings.warnings ++ (details_of asked.details asked.theme p texts history ++ behind)
     pub exits : status ≡ status_of_run asked.fail_if_no_tests (tests_found p history) (has_failed p history)
     -- and unless the plan fails fast all this but a feed and what stands behind is what is expected by these replies, whatever the
@@ -106,10 +128,10 @@ module _ {B : Type 0} (answers : B → List Reply) (Behind : List Event → List
   IsProgramOutput details.List asked settings p jobs text status = IsListing asked.fail_if_no_tests p text status
   IsProgramOutput details.Plan asked settings p jobs text status = IsPlanned asked.fail_if_no_tests settings.warnings p text status
 
-module _ {B : Type 0} (answers : B → List Reply) (Behind : List Event → List ℕ → Type 0) {L : Type 0} (saw : PlanParts → L → L → List Telling → Type 0) (first now : L) (asked : Asked) (settings : Settings) (p : PlanParts) (jobs : List (ℕ × B)) where
+module _ {B : Type 0} (answers : B → List Reply) (known : Option (List (ℕ × Reply))) {L : Type 0} (saw : PlanParts → L → L → List Telling → Type 0) (first now : L) (asked : Asked) (settings : Settings) (p : PlanParts) (jobs : List (ℕ × B)) where
   -- what is printed of a plan; and whoever watches has seen the very history that is printed, or, where nothing is run, nothing
   abbrev pub IsSeenProgram : List ℕ → ExitStatus → Type 0
-  IsSeenProgram text status = IsProgramOutput answers Behind asked.details asked settings p jobs text status × SeesTextBy saw (IsPrintedJobs answers Behind asked settings p jobs) p first now (is_run None asked.details) text status
+  IsSeenProgram text status = IsProgramOutput answers known asked.details asked settings p jobs text status × SeesTextBy saw (IsPrintedJobs answers known asked settings p jobs) p first now (is_run None asked.details) text status
 
   -- the answer of a run of this plan that somebody watches
   abbrev pub IsSeenPlanRun : Option (List ℕ) → Option (List ℕ) → Result ExitStatus LaunchFault → Type 0
@@ -119,21 +141,20 @@ module _ {B : Type 0} (answers : B → List Reply) (Behind : List Event → List
 abbrev pub program_parts : Nodes → Parameters → SuiteParts
 program_parts tree properties = record { tree = tree; scripts = []; properties = properties }
 
--- why steps are refused that are to be printed, replayed, or those of the fixed schedule: nobody knows beforehand what the jobs answer
-abbrev pub steps_refusal : (schedule : Bool) (replay : Option (List Step)) (drive : Option ℕ) → Option LaunchFault
-steps_refusal true replay drive = Some BadWords
-steps_refusal false (Some steps) drive = Some BadWords
-steps_refusal false None (Some workers) = Some BadWords
-steps_refusal false None None = None
+-- why steps are refused that are to be replayed, or those of the fixed schedule: nobody knows beforehand what the jobs answer
+abbrev pub steps_refusal : (replay : Option (List Step)) (drive : Option ℕ) → Option LaunchFault
+steps_refusal (Some steps) drive = Some BadWords
+steps_refusal None (Some workers) = Some BadWords
+steps_refusal None None = None
 
--- why a program is not run: that steps are asked for, and then what a suite is refused for
+-- why a program is not run: that steps are to be taken, and then what a suite is refused for
 abbrev pub program_refusal : Asked → SuiteParts → Option LaunchFault
-program_refusal asked parts = option_or (steps_refusal asked.schedule asked.replay asked.drive) (run_refusal asked parts)
+program_refusal asked parts = option_or (steps_refusal asked.replay asked.drive) (run_refusal asked parts)
 
 -- a program is refused by its first refusal, and want of memory stands in place of none that is judged before; where nothing refuses
 -- it there may be no thread to run it
 abbrev pub FailsProgram : Asked → SuiteParts → LaunchFault → Type 0
-FailsProgram asked parts NoMemory = (steps_refusal asked.schedule asked.replay asked.drive ≡ None) × TakesMemory asked parts
+FailsProgram asked parts NoMemory = (steps_refusal asked.replay asked.drive ≡ None) × TakesMemory asked parts
 FailsProgram asked parts BadWords = program_refusal asked parts ≡ Some BadWords
 FailsProgram asked parts (BadSettings fault) = program_refusal asked parts ≡ Some (BadSettings fault)
 FailsProgram asked parts (NothingMatches number) = program_refusal asked parts ≡ Some (NothingMatches number)
@@ -154,7 +175,7 @@ pub record IsSelectedBy (Prints : Settings → PlanParts → List ℕ → ExitSt
 module _ {B : Type 0} (answers : B → List Reply) (asked : Asked) (parts : SuiteParts) (jobs : List (ℕ × B)) where
   -- what is printed of a program's jobs, and the status, which of a shard says too that nothing is selected
   abbrev pub IsSelectedOutput : List ℕ → ExitStatus → Type 0
-  IsSelectedOutput = IsJudged (is_missing asked parts.tree) (IsSelectedBy (λ settings p. IsProgramOutput answers NothingBehind asked.details asked settings p jobs) asked parts)
+  IsSelectedOutput = IsJudged (is_missing asked parts.tree) (IsSelectedBy (λ settings p. IsProgramOutput answers None asked.details asked settings p jobs) asked parts)
 
   -- the answer of a run of a program's jobs, and what the writer held before and holds after
   abbrev pub IsProgramRun : Option (List ℕ) → Option (List ℕ) → Result ExitStatus LaunchFault → Type 0
@@ -163,7 +184,7 @@ module _ {B : Type 0} (answers : B → List Reply) (asked : Asked) (parts : Suit
   module _ {L : Type 0} (saw : PlanParts → L → L → List Telling → Type 0) (first now : L) where
     -- the same; and whoever watches has seen the very history that is printed, or, where nothing is run, nothing
     abbrev pub IsSeenSelectedOutput : List ℕ → ExitStatus → Type 0
-    IsSeenSelectedOutput = IsJudged (is_missing asked parts.tree) (IsSelectedBy (λ settings p. IsSeenProgram answers NothingBehind saw first now asked settings p jobs) asked parts)
+    IsSeenSelectedOutput = IsJudged (is_missing asked parts.tree) (IsSelectedBy (λ settings p. IsSeenProgram answers None saw first now asked settings p jobs) asked parts)
 
     -- the answer of a run that somebody watches, who was like this at first and is like this in the end
     abbrev pub IsSeenProgramRun : Option (List ℕ) → Option (List ℕ) → Result ExitStatus LaunchFault → Type 0

@@ -71,7 +71,15 @@ pub(crate) fn drive_report<V: Watcher>(
     let trace = fixed_trace(alloc, plan, answers, settings.workers)?;
     let history = trace.published.as_slice();
     let texts = texts_of(alloc, plan, answers, history)?;
-    let report = told_report(alloc, options, settings, plan, answers, history, &texts)?;
+    let report = told_report(
+        alloc,
+        options,
+        settings,
+        plan,
+        Some(answers),
+        history,
+        &texts,
+    )?;
     show_all(watcher, plan, &texts, history);
     Ok(report)
 }

@@ -13,6 +13,7 @@ mod report;
 mod run;
 mod schedule_line;
 mod scripted;
+mod told_replies;
 mod warning_lines;
 mod watched_feed;
 

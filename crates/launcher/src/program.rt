@@ -8,7 +8,6 @@ ghost use Rattle.launcher.specs.Missing.{is_missing};
 ghost use Rattle.launcher.specs.Programs.{FailsProgram, HasJobs, IsProgramRun};
 ghost use Rattle.launcher.specs.Programs.{IsSeenPlanRun, IsSeenProgram, IsSeenProgramRun};
 ghost use Rattle.launcher.specs.Programs.{program_parts, steps_refusal};
-ghost use Rattle.launcher.specs.Reports.{IsBehindDetails};
 ghost use Rattle.launcher.specs.Runs.{IsReady, TakesMemory, is_writing};
 ghost use Rattle.launcher.specs.Watched.{IsBrokenOff, LacksBy, SeesRefusal, form_by, is_run, outlet_by};
 ghost use Rattle.launcher.specs.WarningTexts.{head_of};
@@ -58,15 +57,12 @@ struct PlannedProgram {
     head: String,
 }
 
-/// Refused is that steps are to be printed or replayed, or that they are to be those of the fixed schedule (105).
+/// Refused is that steps are to be replayed, or that they are to be those of the fixed schedule (105).
 fn refuse_steps(options: &Options) -> Result<(), LaunchFault>
-    ensures accepted { IfOk result (λ _. steps_refusal options.now.schedule (asked_by options.now).replay options.now.drive ≡ None) }
+    ensures accepted { IfOk result (λ _. steps_refusal (asked_by options.now).replay options.now.drive ≡ None) }
     ensures refused { IfErr result (λ fault. (fault ≡ LaunchFault.BadWords)
-        × (steps_refusal options.now.schedule (asked_by options.now).replay options.now.drive ≡ Some fault)) }
+        × (steps_refusal (asked_by options.now).replay options.now.drive ≡ Some fault)) }
 {
-    if options.schedule {
-        return Err(LaunchFault::BadWords);
-    }
     match &options.replay {
         Some(_) => Err(LaunchFault::BadWords),
         None => match options.drive {
@@ -83,7 +79,7 @@ fn planned_program(
     properties: Params,
     tree: Tree,
 ) -> Result<PlannedProgram, LaunchFault>
-    ensures steps { IfOk result (λ _. steps_refusal options.now.schedule (asked_by options.now).replay options.now.drive ≡ None) }
+    ensures steps { IfOk result (λ _. steps_refusal (asked_by options.now).replay options.now.drive ≡ None) }
     ensures ready { IfOk result (λ planned. IsReady (asked_by options.now) (program_parts tree properties)
         planned.settings planned.plan []) }
     ensures missing { IfOk result (λ planned. planned.is_missing ≡ is_missing (asked_by options.now) tree) }
@@ -125,18 +121,16 @@ fn shown_program<B: Job + Send, T: Threads + Wait + Sync, W: Write, V: Watcher>(
     requires none { live.old.feed.sent ≡ 0 }
     ensures same { live.new.feed.writer.ghost_name ≡ live.old.feed.writer.ghost_name }
     ensures same_watcher { live.new.watcher.ghost_name ≡ live.old.watcher.ghost_name }
-    ensures output { IfOk result (λ report. IsSeenProgram B.answers (IsBehindDetails options.now.details options.now.schedule
-        settings.now.workers plan []) V.saw live.old.watcher.now live.new.watcher.now (asked_by options.now)
+    ensures output { IfOk result (λ report. IsSeenProgram B.answers None V.saw live.old.watcher.now live.new.watcher.now (asked_by options.now)
         settings.now plan jobs.items (string_bytes report.text) report.status) }
     ensures front { IfOk result (λ report. IsFront (W.contents live.old.feed.writer.now) (W.contents live.new.feed.writer.now)
         live.new.feed.outlet live.new.feed.sent (string_bytes report.text)) }
     ensures refused { IfErr result (LacksBy (is_run None options.now.details)) }
     ensures seen { IfErr result (SeesRefusal live.old.watcher.now live.new.watcher.now (IsSeenProgram B.answers
-        (IsBehindDetails options.now.details options.now.schedule settings.now.workers plan []) V.saw live.old.watcher.now
+        None V.saw live.old.watcher.now
         live.new.watcher.now (asked_by options.now) settings.now plan jobs.items)) }
     ensures broken_off { IfErr result
-        (λ _. IsBrokenOff (asked_by options.now) (IsSeenProgram B.answers (IsBehindDetails options.now.details options.now.schedule
-        settings.now.workers plan []) V.saw live.old.watcher.now live.new.watcher.now (asked_by options.now)
+        (λ _. IsBrokenOff (asked_by options.now) (IsSeenProgram B.answers None V.saw live.old.watcher.now live.new.watcher.now (asked_by options.now)
         settings.now plan jobs.items) live.new.feed.outlet (W.contents live.old.feed.writer.now) (W.contents live.new.feed.writer.now)
         live.new.feed.sent) }
 {
@@ -162,7 +156,7 @@ fn run_planned<B: Job + Send, T: Threads + Wait + Sync, W: Write, V: Watcher>(
     requires jobs { JobsMayAnswer B.answers (run_of plan settings.now.workers options.now.ring jobs.items) }
     requires all { HasAllJobs plan jobs.items }
     requires head { head.now ≡ head_of options.now.details settings.now.warnings }
-    ensures exact { IsSeenPlanRun B.answers (IsBehindDetails options.now.details options.now.schedule settings.now.workers plan []) V.saw
+    ensures exact { IsSeenPlanRun B.answers None V.saw
         watcher.old watcher.new (asked_by options.now) settings.now plan jobs.items (W.contents writer.old)
         (W.contents writer.new) result }
     ensures quiet { IfErr result (λ fault. is_writing fault ≡ false →
@@ -181,8 +175,9 @@ fn run_planned<B: Job + Send, T: Threads + Wait + Sync, W: Write, V: Watcher>(
 }
 
 /// Runs what the request selects of a program's jobs, as `run_suite_watched` does those of a suite, and writes
-/// the same of it. First of all it is refused that steps are to be printed or replayed, or that they
-/// are to be those of the fixed schedule (105): nobody knows beforehand what the jobs answer. Then what a suite is refused for: what gives no settings
+/// the same of it, a schedule by the replies that its history and its texts tell. First of all it is refused that steps
+/// are to be replayed, or that they are to be those of the fixed schedule (105): nobody knows
+/// beforehand what the jobs answer. Then what a suite is refused for: what gives no settings
 /// (34, 32, 33) and a selector that covers nothing (41), which are judged before any memory is
 /// taken; more than 256 keys (50), more than 64 workers (61), that no thread could be started (90),
 /// and an output of which the writer has only the first bytes (81). On any refusal but 81 nothing

@@ -1,6 +1,6 @@
 //! What is printed of a run or of a replay, and its status.
 
-ghost use Rattle.std.specs.Prelude.{◌≡◌, ℕ, ◌≤◌, List, [], ◌++◌, ◌⊎◌, None, IfOk, IfErr, string_bytes};
+ghost use Rattle.std.specs.Prelude.{◌≡◌, ℕ, ◌≤◌, List, ◌++◌, ◌⊎◌, None, option_map, IfOk, IfErr, string_bytes};
 ghost use Rattle.descriptor.specs.Nodes.{IsTree};
 ghost use Rattle.listeners.specs.Counts.{counts_of};
 ghost use Rattle.listeners.specs.Results.{tests_found, has_failed};
@@ -9,8 +9,8 @@ ghost use Rattle.listeners.specs.TreeTexts.{tree_of};
 ghost use Rattle.launch_options.specs.Asked.{asked_by};
 ghost use Rattle.launcher.specs.ExitStatuses.{status_of_run};
 ghost use Rattle.launcher.specs.Faults.{unrun_fault};
-ghost use Rattle.launcher.specs.Reports.{details_of, IsBehindDetails, IsPrintedRun, IsRunOutput, IsReplayOutput};
-ghost use Rattle.launcher.specs.Programs.{IsJobsOutput, IsPrintedJobs, IsProgramOutput};
+ghost use Rattle.launcher.specs.Reports.{details_of, IsPrintedRun, IsRunOutput, IsReplayOutput};
+ghost use Rattle.launcher.specs.Programs.{IsBehindRun, IsJobsOutput, IsPrintedJobs, IsProgramOutput};
 ghost use Rattle.launcher.specs.Reports.{IsListing, IsPlanned, IsPlanOutput, IsOutput};
 ghost use Rattle.launcher.specs.Runs.{IsUnrun};
 ghost use Rattle.launcher.specs.Watched.{LacksBy, LacksMeans, Watches, WatchesBy, is_run};
@@ -24,7 +24,7 @@ ghost use Rattle.worker_pool.specs.Reports.{run_of};
 use crate::driven::drive_report;
 use crate::exit_status::ExitStatus;
 use crate::replay::{ReplayCounts, push_replay_line};
-use crate::schedule_line::behind_details;
+use crate::schedule_line::behind_run;
 use crate::scripted::scripted_jobs;
 use crate::warning_lines::head_text;
 use config_params::{Settings, Warnings};
@@ -175,25 +175,26 @@ pub(crate) fn told_report(
     options: &Options,
     settings: &Settings,
     plan: &Plan,
-    answers: &Answers,
+    known: Option<&Answers>,
     history: &[Event],
     texts: &Texts,
 ) -> Result<Output, AllocError>
-    ensures text { IfOk result (λ report. (schedule : List ℕ) × IsBehindDetails options.now.details options.now.schedule
-        settings.now.workers plan.now answers.now history.now schedule
+    ensures text { IfOk result (λ report. (schedule : List ℕ) × IsBehindRun options.now.details options.now.schedule
+        settings.now.workers plan.now (option_map (λ a. a.now) known.entry) history.now texts.now schedule
         × (string_bytes report.text ≡ head_of options.now.details settings.now.warnings
         ++ (details_of options.now.details options.now.theme plan.now texts.now history.now ++ schedule))) }
     ensures status { IfOk result (λ report. report.status ≡ status_of_run options.now.fail_if_no_tests
         (tests_found plan.now history.now) (has_failed plan.now history.now)) }
 {
-    let schedule = behind_details(
+    let schedule = behind_run(
         alloc,
         options.details,
         options.schedule,
         plan,
-        answers,
+        known,
         settings.workers,
         history,
+        texts,
     )?;
     history_report(
         alloc,
@@ -211,11 +212,11 @@ fn ended_report<B: Job>(
     alloc: Global,
     options: &Options,
     settings: &Settings,
-    answers: &Answers,
+    known: Option<&Answers>,
     ran: &Report<B>,
 ) -> Result<Output, AllocError>
-    ensures text { IfOk result (λ report. (schedule : List ℕ) × IsBehindDetails options.now.details options.now.schedule
-        settings.now.workers ran.now.plan answers.now ran.now.events.items schedule
+    ensures text { IfOk result (λ report. (schedule : List ℕ) × IsBehindRun options.now.details options.now.schedule
+        settings.now.workers ran.now.plan (option_map (λ a. a.now) known.entry) ran.now.events.items ran.now.texts schedule
         × (string_bytes report.text ≡ head_of options.now.details settings.now.warnings
         ++ (details_of options.now.details options.now.theme ran.now.plan ran.now.texts ran.now.events.items
         ++ schedule))) }
@@ -224,7 +225,7 @@ fn ended_report<B: Job>(
 {
     let history = ran.events.as_slice();
     told_report(
-        alloc, options, settings, &ran.plan, answers, history, &ran.texts,
+        alloc, options, settings, &ran.plan, known, history, &ran.texts,
     )
 }
 
@@ -233,22 +234,22 @@ fn output_of<B: Job>(
     alloc: Global,
     options: &Options,
     settings: &Settings,
-    answers: &Answers,
+    known: Option<&Answers>,
     ran: Report<B>,
 ) -> Result<Output, AllocError>
-    ensures text { IfOk result (λ report. (schedule : List ℕ) × IsBehindDetails options.now.details options.now.schedule
-        settings.now.workers ran.plan answers.now ran.events.items schedule
+    ensures text { IfOk result (λ report. (schedule : List ℕ) × IsBehindRun options.now.details options.now.schedule
+        settings.now.workers ran.plan (option_map (λ a. a.now) known.entry) ran.events.items ran.texts schedule
         × (string_bytes report.text ≡ head_of options.now.details settings.now.warnings
         ++ (details_of options.now.details options.now.theme ran.plan ran.texts ran.events.items
         ++ schedule))) }
     ensures status { IfOk result (λ report. report.status ≡ status_of_run options.now.fail_if_no_tests
         (tests_found ran.plan ran.events.items) (has_failed ran.plan ran.events.items)) }
 {
-    ended_report(alloc, options, settings, answers, &ran)
+    ended_report(alloc, options, settings, known, &ran)
 }
 
 /// The report of a run of these jobs by the settings' workers, on threads of their own, which is shown to
-/// whoever watches. What the jobs answer is asked for a schedule alone.
+/// whoever watches. What is known of what the jobs answer is asked for a schedule alone.
 fn ran_report<B: Job + Send, T: Threads + Wait + Sync, V: Watcher>(
     rt: &T,
     alloc: Global,
@@ -256,7 +257,7 @@ fn ran_report<B: Job + Send, T: Threads + Wait + Sync, V: Watcher>(
     settings: &Settings,
     plan: Plan,
     jobs: Jobs<B>,
-    answers: &Answers,
+    known: Option<&Answers>,
     watcher: &mut V,
 ) -> Result<Output, LaunchFault>
     requires some { 1 ≤ settings.now.workers }
@@ -265,11 +266,9 @@ fn ran_report<B: Job + Send, T: Threads + Wait + Sync, V: Watcher>(
     requires tree { IsTree plan.tree }
     requires jobs { JobsMayAnswer B.answers (run_of plan settings.now.workers options.now.ring jobs.items) }
     requires all { HasAllJobs plan jobs.items }
-    ensures output { IfOk result (λ report. IsJobsOutput B.answers (IsBehindDetails options.now.details options.now.schedule
-        settings.now.workers plan answers.now) (asked_by options.now) settings.now plan jobs.items
+    ensures output { IfOk result (λ report. IsJobsOutput B.answers (option_map (λ a. a.now) known.entry) (asked_by options.now) settings.now plan jobs.items
         (string_bytes report.text) report.status) }
-    ensures watched { Watches V.saw (IsPrintedJobs B.answers (IsBehindDetails options.now.details options.now.schedule settings.now.workers
-        plan answers.now) (asked_by options.now) settings.now plan jobs.items) plan watcher.old watcher.new result }
+    ensures watched { Watches V.saw (IsPrintedJobs B.answers (option_map (λ a. a.now) known.entry) (asked_by options.now) settings.now plan jobs.items) plan watcher.old watcher.new result }
     ensures refused { IfErr result LacksMeans }
 {
     let Ok(mut nobody) = Audience::new(Vec::new(alloc)) else {
@@ -285,7 +284,7 @@ fn ran_report<B: Job + Send, T: Threads + Wait + Sync, V: Watcher>(
         &mut nobody,
         watcher,
     ) {
-        Ok(ran) => Ok(output_of(alloc, options, settings, answers, ran)?),
+        Ok(ran) => Ok(output_of(alloc, options, settings, known, ran)?),
         Err(fault) => Err(unrun(fault.cause)),
     }
 }
@@ -311,7 +310,16 @@ fn run_report<T: Threads + Wait + Sync, V: Watcher>(
     ensures refused { IfErr result LacksMeans }
 {
     let jobs = scripted_jobs(alloc, &plan, answers, spins)?;
-    ran_report(rt, alloc, options, settings, plan, jobs, answers, watcher)
+    ran_report(
+        rt,
+        alloc,
+        options,
+        settings,
+        plan,
+        jobs,
+        Some(answers),
+        watcher,
+    )
 }
 
 /// The report of a run of what the suite says: with `--drive` by the fixed schedule, and else on threads; on threads
@@ -480,15 +488,12 @@ pub(crate) fn program_report<B: Job + Send, T: Threads + Wait + Sync, V: Watcher
     requires tree { IsTree plan.tree }
     requires jobs { JobsMayAnswer B.answers (run_of plan settings.now.workers options.now.ring jobs.items) }
     requires all { HasAllJobs plan jobs.items }
-    ensures output { IfOk result (λ report. IsProgramOutput B.answers (IsBehindDetails options.now.details options.now.schedule
-        settings.now.workers plan []) options.now.details (asked_by options.now) settings.now plan jobs.items
+    ensures output { IfOk result (λ report. IsProgramOutput B.answers None options.now.details (asked_by options.now) settings.now plan jobs.items
         (string_bytes report.text) report.status) }
-    ensures watched { WatchesBy V.saw (IsPrintedJobs B.answers (IsBehindDetails options.now.details options.now.schedule settings.now.workers
-        plan []) (asked_by options.now) settings.now plan jobs.items) plan watcher.old watcher.new
+    ensures watched { WatchesBy V.saw (IsPrintedJobs B.answers None (asked_by options.now) settings.now plan jobs.items) plan watcher.old watcher.new
         (is_run None options.now.details) result }
     ensures refused { IfErr result (LacksBy (is_run None options.now.details)) }
 {
-    let nothing_known = Answers::of(Vec::new(alloc));
     match options.details {
         Details::List => Ok(listing(alloc, options.fail_if_no_tests, &plan)?),
         Details::Plan => Ok(planned(alloc, options, settings, &plan)?),
@@ -497,15 +502,6 @@ pub(crate) fn program_report<B: Job + Send, T: Threads + Wait + Sync, V: Watcher
         | Details::Tree
         | Details::Testfeed
         | Details::Json
-        | Details::Xml => ran_report(
-            rt,
-            alloc,
-            options,
-            settings,
-            plan,
-            jobs,
-            &nothing_known,
-            watcher,
-        ),
+        | Details::Xml => ran_report(rt, alloc, options, settings, plan, jobs, None, watcher),
     }
 }

@@ -3,12 +3,14 @@
 ghost use Rattle.std.specs.Prelude.{◌≡◌, ◌++◌, IfOk, IfSome, OnOk, option_map, string_bytes};
 ghost use Rattle.schedules.specs.Schedules.{IsSchedule};
 ghost use Rattle.step_text.specs.StepSpelling.{AreNamable};
+ghost use Rattle.launcher.specs.Programs.{HasTextsBy, IsBehindJobs, IsBehindRun};
 ghost use Rattle.launcher.specs.Reports.{IsBehindDetails};
 ghost use Rattle.launcher.specs.ScheduleTexts.{line_by, schedule_line as line_of, schedule_member as member_of};
 ghost use Rattle.launcher.specs.ScheduleTexts.{schedule_text as text_of};
 
+use crate::told_replies::{are_texts, told_answers};
 use launch_options::Details;
-use plan_events::Event;
+use plan_events::{Event, Texts};
 use reports::push_note;
 use resource_locks::Plan;
 use sched_core::Answers;
@@ -33,6 +35,31 @@ fn namable_schedule(
         return Ok(None);
     };
     if are_namable(steps.as_slice()) {
+        Ok(Some(steps))
+    } else {
+        Ok(None)
+    }
+}
+
+/// The same of a history with these texts, if they too are those of jobs that answer so.
+fn explaining_schedule(
+    alloc: Global,
+    plan: &Plan,
+    told: &Answers,
+    workers: u32,
+    history: &[Event],
+    texts: &Texts,
+) -> Result<Option<Vec<Step>>, AllocError>
+    ensures schedule { IfOk result (λ found. IfSome (option_map (λ steps. steps.items) found)
+        (IsSchedule plan.now told.now workers history.now)) }
+    ensures namable { IfOk result (λ found. IfSome (option_map (λ steps. steps.items) found) AreNamable) }
+    ensures texts { IfOk result (λ found. IfSome (option_map (λ steps. steps.items) found)
+        (λ _. HasTextsBy plan.now told.now history.now texts.now)) }
+{
+    let Some(steps) = namable_schedule(alloc, plan, told, workers, history)? else {
+        return Ok(None);
+    };
+    if are_texts(alloc, plan, told, history, texts)? {
         Ok(Some(steps))
     } else {
         Ok(None)
@@ -92,8 +119,9 @@ fn schedule_line(
     Ok(line)
 }
 
-/// What is printed behind the details of a run: nothing, unless a schedule is asked for.
-pub(crate) fn behind_details(
+/// What is printed behind the details of a run of jobs of which it is known what they answer: nothing, unless a schedule
+/// is asked for.
+fn behind_details(
     alloc: Global,
     details: Details,
     asked: bool,
@@ -110,4 +138,45 @@ pub(crate) fn behind_details(
     }
     let found = namable_schedule(alloc, plan, answers, workers, history)?;
     schedule_line(alloc, details, found)
+}
+
+/// The same of jobs of which nobody knew that beforehand: what they answered is read off the history and its texts.
+fn behind_jobs(
+    alloc: Global,
+    details: Details,
+    asked: bool,
+    plan: &Plan,
+    workers: u32,
+    history: &[Event],
+    texts: &Texts,
+) -> Result<String, AllocError>
+    ensures { IfOk result (λ text. IsBehindJobs details asked workers plan.now history.now texts.now
+        (string_bytes text)) }
+{
+    if !asked {
+        return Ok(String::new(alloc));
+    }
+    let told = told_answers(alloc, plan, history, texts)?;
+    let found = explaining_schedule(alloc, plan, &told, workers, history, texts)?;
+    schedule_line(alloc, details, found)
+}
+
+/// What is printed behind the details of a run, of whose jobs it is known what they answer, or is not.
+pub(crate) fn behind_run(
+    alloc: Global,
+    details: Details,
+    asked: bool,
+    plan: &Plan,
+    known: Option<&Answers>,
+    workers: u32,
+    history: &[Event],
+    texts: &Texts,
+) -> Result<String, AllocError>
+    ensures { IfOk result (λ text. IsBehindRun details asked workers plan.now (option_map (λ a. a.now) known.entry)
+        history.now texts.now (string_bytes text)) }
+{
+    match known {
+        Some(answers) => behind_details(alloc, details, asked, plan, answers, workers, history),
+        None => behind_jobs(alloc, details, asked, plan, workers, history, texts),
+    }
 }

@@ -12,7 +12,7 @@ use crate::subject::Subject;
 use config_params::ParamsFault;
 use launch_options::option_names::{
     CONFIG, DETAILS, DETAILS_THEME, DRIVE, EXCLUDE_TAG, INCLUDE_TAG, PROCESSORS, REPLAY, RING,
-    SCHEDULE, SHARD, WORKERS,
+    SHARD, WORKERS,
 };
 use launch_options::{
     Details, Given, drive_named, has_long_key, processors_named, ring_named, shard_named,
@@ -140,11 +140,9 @@ pub(crate) fn push_words(
     }
 }
 
-/// Appends which option asks for the steps of a run whose bodies nobody has scripted.
+/// Appends which option has steps taken in a run whose bodies nobody has scripted.
 pub(crate) fn push_step_option(text: &mut String, given: &Given<'_>) -> Result<(), AllocError> {
-    let option = if given.schedule {
-        SCHEDULE
-    } else if given.replay.is_some() {
+    let option = if given.replay.is_some() {
         REPLAY
     } else {
         DRIVE

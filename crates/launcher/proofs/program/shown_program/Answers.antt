@@ -2,7 +2,6 @@
 use Rattle.std.proofs.Common.{None, []}
 use Rattle.launch_options.specs.Asked.{asked_by}
 use Rattle.launcher.specs.Programs.{IsPrintedJobs, IsProgramOutput}
-use Rattle.launcher.specs.Reports.{IsBehindDetails}
 use Rattle.launcher.specs.Watched.{is_run}
 use Rattle.launcher.proofs.ProgramRuns.{jobs_feed_runs, jobs_text_of, program_output_of}
 use Rattle.launcher.proofs.Showing.{same_watcher, shown_broken, shown_front, shown_output, shown_refusal, still_same}
@@ -14,10 +13,9 @@ returns-clause-same g c =
     let settings = c.args.settings.now in
     let p = c.args.plan in
     let jobs = c.args.jobs.items in
-    let behind = IsBehindDetails asked.details asked.schedule settings.workers p [] in
     let answers = g.B.Job.answers in
-    still_same g.W.Write.contents g.V.Watcher.saw asked settings p (IsPrintedJobs answers behind asked settings p jobs) (IsProgramOutput answers behind asked.details asked settings p jobs) (is_run None asked.details) (program_output_of answers behind asked settings p jobs)
-    (jobs_text_of answers behind asked settings p jobs) (jobs_feed_runs asked) c.args.live.now c.program_report.new.watcher c.requires.head c.requires.form c.requires.outlet c.requires.none c.program_report.result c.program_report.ensures.watched
+    still_same g.W.Write.contents g.V.Watcher.saw asked settings p (IsPrintedJobs answers None asked settings p jobs) (IsProgramOutput answers None asked.details asked settings p jobs) (is_run None asked.details) (program_output_of answers None asked settings p jobs)
+    (jobs_text_of answers None asked settings p jobs) (jobs_feed_runs asked) c.args.live.now c.program_report.new.watcher c.requires.head c.requires.form c.requires.outlet c.requires.none c.program_report.result c.program_report.ensures.watched
 
 pub returns-clause-same_watcher : goal.returns-clause-same_watcher
 returns-clause-same_watcher g c =
@@ -25,10 +23,9 @@ returns-clause-same_watcher g c =
     let settings = c.args.settings.now in
     let p = c.args.plan in
     let jobs = c.args.jobs.items in
-    let behind = IsBehindDetails asked.details asked.schedule settings.workers p [] in
     let answers = g.B.Job.answers in
-    same_watcher g.W.Write.contents g.V.Watcher.saw asked settings p (IsPrintedJobs answers behind asked settings p jobs) (IsProgramOutput answers behind asked.details asked settings p jobs) (is_run None asked.details) (program_output_of answers behind asked settings p jobs)
-    (jobs_text_of answers behind asked settings p jobs) (jobs_feed_runs asked) c.args.live.now c.program_report.new.watcher c.requires.head c.requires.form c.requires.outlet c.requires.none c.program_report.result c.program_report.ensures.watched
+    same_watcher g.W.Write.contents g.V.Watcher.saw asked settings p (IsPrintedJobs answers None asked settings p jobs) (IsProgramOutput answers None asked.details asked settings p jobs) (is_run None asked.details) (program_output_of answers None asked settings p jobs)
+    (jobs_text_of answers None asked settings p jobs) (jobs_feed_runs asked) c.args.live.now c.program_report.new.watcher c.requires.head c.requires.form c.requires.outlet c.requires.none c.program_report.result c.program_report.ensures.watched
 
 pub returns-clause-output : goal.returns-clause-output
 returns-clause-output g c =
@@ -36,10 +33,9 @@ returns-clause-output g c =
     let settings = c.args.settings.now in
     let p = c.args.plan in
     let jobs = c.args.jobs.items in
-    let behind = IsBehindDetails asked.details asked.schedule settings.workers p [] in
     let answers = g.B.Job.answers in
-    shown_output g.W.Write.contents g.V.Watcher.saw asked settings p (IsPrintedJobs answers behind asked settings p jobs) (IsProgramOutput answers behind asked.details asked settings p jobs) (is_run None asked.details) (program_output_of answers behind asked settings p jobs)
-    (jobs_text_of answers behind asked settings p jobs) (jobs_feed_runs asked) c.args.live.now c.program_report.new.watcher c.requires.head c.requires.form c.requires.outlet c.requires.none c.program_report.result c.program_report.ensures.watched c.program_report.ensures.output
+    shown_output g.W.Write.contents g.V.Watcher.saw asked settings p (IsPrintedJobs answers None asked settings p jobs) (IsProgramOutput answers None asked.details asked settings p jobs) (is_run None asked.details) (program_output_of answers None asked settings p jobs)
+    (jobs_text_of answers None asked settings p jobs) (jobs_feed_runs asked) c.args.live.now c.program_report.new.watcher c.requires.head c.requires.form c.requires.outlet c.requires.none c.program_report.result c.program_report.ensures.watched c.program_report.ensures.output
 
 pub returns-clause-front : goal.returns-clause-front
 returns-clause-front g c =
@@ -47,10 +43,9 @@ returns-clause-front g c =
     let settings = c.args.settings.now in
     let p = c.args.plan in
     let jobs = c.args.jobs.items in
-    let behind = IsBehindDetails asked.details asked.schedule settings.workers p [] in
     let answers = g.B.Job.answers in
-    shown_front g.W.Write.contents g.V.Watcher.saw asked settings p (IsPrintedJobs answers behind asked settings p jobs) (IsProgramOutput answers behind asked.details asked settings p jobs) (is_run None asked.details) (program_output_of answers behind asked settings p jobs)
-    (jobs_text_of answers behind asked settings p jobs) (jobs_feed_runs asked) c.args.live.now c.program_report.new.watcher c.requires.head c.requires.form c.requires.outlet c.requires.none c.program_report.result c.program_report.ensures.watched
+    shown_front g.W.Write.contents g.V.Watcher.saw asked settings p (IsPrintedJobs answers None asked settings p jobs) (IsProgramOutput answers None asked.details asked settings p jobs) (is_run None asked.details) (program_output_of answers None asked settings p jobs)
+    (jobs_text_of answers None asked settings p jobs) (jobs_feed_runs asked) c.args.live.now c.program_report.new.watcher c.requires.head c.requires.form c.requires.outlet c.requires.none c.program_report.result c.program_report.ensures.watched
 
 pub returns-clause-seen : goal.returns-clause-seen
 returns-clause-seen g c =
@@ -58,10 +53,9 @@ returns-clause-seen g c =
     let settings = c.args.settings.now in
     let p = c.args.plan in
     let jobs = c.args.jobs.items in
-    let behind = IsBehindDetails asked.details asked.schedule settings.workers p [] in
     let answers = g.B.Job.answers in
-    shown_refusal g.W.Write.contents g.V.Watcher.saw asked settings p (IsPrintedJobs answers behind asked settings p jobs) (IsProgramOutput answers behind asked.details asked settings p jobs) (is_run None asked.details) (program_output_of answers behind asked settings p jobs)
-    (jobs_text_of answers behind asked settings p jobs) (jobs_feed_runs asked) c.args.live.now c.program_report.new.watcher c.requires.head c.requires.form c.requires.outlet c.requires.none c.program_report.result c.program_report.ensures.watched
+    shown_refusal g.W.Write.contents g.V.Watcher.saw asked settings p (IsPrintedJobs answers None asked settings p jobs) (IsProgramOutput answers None asked.details asked settings p jobs) (is_run None asked.details) (program_output_of answers None asked settings p jobs)
+    (jobs_text_of answers None asked settings p jobs) (jobs_feed_runs asked) c.args.live.now c.program_report.new.watcher c.requires.head c.requires.form c.requires.outlet c.requires.none c.program_report.result c.program_report.ensures.watched
 
 pub returns-clause-broken_off : goal.returns-clause-broken_off
 returns-clause-broken_off g c =
@@ -69,7 +63,6 @@ returns-clause-broken_off g c =
     let settings = c.args.settings.now in
     let p = c.args.plan in
     let jobs = c.args.jobs.items in
-    let behind = IsBehindDetails asked.details asked.schedule settings.workers p [] in
     let answers = g.B.Job.answers in
-    shown_broken g.W.Write.contents g.V.Watcher.saw asked settings p (IsPrintedJobs answers behind asked settings p jobs) (IsProgramOutput answers behind asked.details asked settings p jobs) (is_run None asked.details) (program_output_of answers behind asked settings p jobs)
-    (jobs_text_of answers behind asked settings p jobs) (jobs_feed_runs asked) c.args.live.now c.program_report.new.watcher c.requires.head c.requires.form c.requires.outlet c.requires.none c.program_report.result c.program_report.ensures.watched
+    shown_broken g.W.Write.contents g.V.Watcher.saw asked settings p (IsPrintedJobs answers None asked settings p jobs) (IsProgramOutput answers None asked.details asked settings p jobs) (is_run None asked.details) (program_output_of answers None asked settings p jobs)
+    (jobs_text_of answers None asked settings p jobs) (jobs_feed_runs asked) c.args.live.now c.program_report.new.watcher c.requires.head c.requires.form c.requires.outlet c.requires.none c.program_report.result c.program_report.ensures.watched

@@ -6,17 +6,16 @@ use Rattle.listeners.specs.Results.{tests_found, has_failed}
 use Rattle.launch_options.specs.Asked.{asked_by}
 use Rattle.launcher.specs.ExitStatuses.{status_of_run}
 use Rattle.launcher.specs.Programs.{IsPrintedJobs}
-use Rattle.launcher.specs.Reports.{details_of, IsBehindDetails}
+use Rattle.launcher.specs.Reports.{details_of}
 use Rattle.launcher.specs.WarningTexts.{head_of}
-use Rattle.launcher.proofs.JobsRan.{jobs_in_vain, printed_jobs}
-use Rattle.launcher.proofs.Reporting.{schedule_behind, unrun, watches_in_vain}
+use Rattle.launcher.proofs.JobsRan.{jobs_in_vain, moved_behind, printed_jobs}
+use Rattle.launcher.proofs.Reporting.{unrun, watches_in_vain}
 use Rattle.launcher.proofs.report.ran_report.Goals as goal
 
 pub returns-in-Ok-run_watched-clause-output : goal.returns-in-Ok-run_watched-clause-output
 returns-in-Ok-run_watched-clause-output g c =
     let asked = asked_by c.args.options.now in
     let settings = c.args.settings.now in
-    let answers = c.args.answers.now in
     let over = c.in-Ok-run_watched.ran in
     let report = c.in_ok-output_of-in-Ok-run_watched.field-0 in
     let made = c.in_ok-output_of-in-Ok-run_watched.ensures in
@@ -25,8 +24,8 @@ returns-in-Ok-run_watched-clause-output g c =
     record {
       history = events;
       texts = over.texts;
-      prints = printed_jobs g.B.Job.answers asked settings c.args.plan c.requires.tree c.requires.guarded c.args.jobs.items events over.texts q.report q.texts (IsBehindDetails asked.details asked.schedule settings.workers c.args.plan answers) over.unused_jobs.items q.balanced made.text.0
-          (string_bytes report.text) report.status (subst (λ (p : PlanParts). IsBehindDetails asked.details asked.schedule settings.workers p answers events made.text.0) q.plan made.text.1)
+      prints = printed_jobs g.B.Job.answers asked settings c.args.plan c.requires.tree c.requires.guarded c.args.jobs.items events over.texts q.report q.texts _ over.unused_jobs.items q.balanced made.text.0
+          (string_bytes report.text) report.status (moved_behind _ asked.details asked.schedule settings.workers events over.texts made.text.0 q.plan made.text.1)
           (subst (λ (p : PlanParts). string_bytes report.text ≡ head_of asked.details settings.warnings ++ (details_of asked.details asked.theme p over.texts events ++ made.text.0)) q.plan made.text.2)
           (subst (λ (p : PlanParts). report.status ≡ status_of_run asked.fail_if_no_tests (tests_found p events) (has_failed p events)) q.plan made.status);
     }
@@ -35,7 +34,6 @@ pub returns-in-Ok-run_watched-clause-watched : goal.returns-in-Ok-run_watched-cl
 returns-in-Ok-run_watched-clause-watched g c =
     let asked = asked_by c.args.options.now in
     let settings = c.args.settings.now in
-    let answers = c.args.answers.now in
     let over = c.in-Ok-run_watched.ran in
     let report = c.in_ok-output_of-in-Ok-run_watched.field-0 in
     let made = c.in_ok-output_of-in-Ok-run_watched.ensures in
@@ -44,8 +42,8 @@ returns-in-Ok-run_watched-clause-watched g c =
     record {
       history = events;
       texts = over.texts;
-      prints = printed_jobs g.B.Job.answers asked settings c.args.plan c.requires.tree c.requires.guarded c.args.jobs.items events over.texts q.report q.texts (IsBehindDetails asked.details asked.schedule settings.workers c.args.plan answers) over.unused_jobs.items q.balanced made.text.0
-          (string_bytes report.text) report.status (subst (λ (p : PlanParts). IsBehindDetails asked.details asked.schedule settings.workers p answers events made.text.0) q.plan made.text.1)
+      prints = printed_jobs g.B.Job.answers asked settings c.args.plan c.requires.tree c.requires.guarded c.args.jobs.items events over.texts q.report q.texts _ over.unused_jobs.items q.balanced made.text.0
+          (string_bytes report.text) report.status (moved_behind _ asked.details asked.schedule settings.workers events over.texts made.text.0 q.plan made.text.1)
           (subst (λ (p : PlanParts). string_bytes report.text ≡ head_of asked.details settings.warnings ++ (details_of asked.details asked.theme p over.texts events ++ made.text.0)) q.plan made.text.2)
           (subst (λ (p : PlanParts). report.status ≡ status_of_run asked.fail_if_no_tests (tests_found p events) (has_failed p events)) q.plan made.status);
       seen = q.seen;
@@ -55,14 +53,11 @@ pub returns-in_err-output_of-in-Ok-run_watched-clause-watched : goal.returns-in_
 returns-in_err-output_of-in-Ok-run_watched-clause-watched g c =
     let asked = asked_by c.args.options.now in
     let settings = c.args.settings.now in
-    let answers = c.args.answers.now in
-    let behind = IsBehindDetails asked.details asked.schedule settings.workers c.args.plan answers in
     let over = c.in-Ok-run_watched.ran in
     let events = over.events.items in
     let q = c.in-Ok-run_watched.ensures in
-    watches_in_vain g.V.Watcher.saw (IsPrintedJobs g.B.Job.answers behind asked settings c.args.plan c.args.jobs.items) c.args.plan c.args.watcher.now c.run_watched.new.watcher _ c.from_residual.ensures.1
-    (jobs_in_vain g.B.Job.answers asked settings c.args.plan c.requires.tree c.requires.guarded c.args.jobs.items events over.texts q.report q.texts g.V.Watcher.saw c.args.watcher.now c.run_watched.new.watcher q.seen over.unused_jobs.items q.balanced behind
-    (schedule_behind asked.details asked.schedule settings.workers c.args.plan answers events))
+    watches_in_vain g.V.Watcher.saw (IsPrintedJobs g.B.Job.answers _ asked settings c.args.plan c.args.jobs.items) c.args.plan c.args.watcher.now c.run_watched.new.watcher _ c.from_residual.ensures.1
+    (jobs_in_vain g.B.Job.answers asked settings c.args.plan c.requires.tree c.requires.guarded c.args.jobs.items events over.texts q.report q.texts g.V.Watcher.saw c.args.watcher.now c.run_watched.new.watcher q.seen over.unused_jobs.items q.balanced _)
 
 pub unrun-requires : goal.unrun-requires
 unrun-requires g c =
