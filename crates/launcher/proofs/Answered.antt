@@ -1,24 +1,22 @@
 -- A history that is legal by what its jobs may answer is legal by one reply of each: what the job has answered.
-use Rattle.std.proofs.Common.{◌≡◌, ◌∙◌, ℕ, ◌+◌, ◌-◌, ◌<◌, cond, nat_lt, Bool, true, false, List, [], ◌∷◌, Option, Some, None, slice_get, refl, sym, ap, subst, arith, inl, inr}
-use Rattle.std.specs.Prelude.{◌⊎◌}
+use Rattle.std.proofs.Common.{◌≡◌, ◌∙◌, ℕ, ◌+◌, ◌-◌, ◌<◌, cond, Bool, true, false, List, [], Option, Some, None, slice_get, refl, sym, ap, subst, arith, inl, inr}
 use Rattle.std.proofs.lemmas.Bool.{false≢true, true≢false, lt-ltb}
 use Rattle.std.proofs.lemmas.Option.{none-some, same_Some}
 use Rattle.descriptor.specs.Nodes.{IsTree, size, body_of, after_of}
 use Rattle.plan_events.specs.declared.event.Event.{Event}
 use Rattle.plan_events.specs.declared.event.EventKind.TheVariants.{Finished}
-use Rattle.plan_events.specs.declared.outcome.Outcome.{Outcome}
 use Rattle.plan_events.specs.declared.outcome.Reply.{Reply}
 use Rattle.plan_events.specs.declared.status.Status.{Status}
 use Rattle.plan_events.specs.declared.status.Status.TheVariants.{Successful}
 use Rattle.plan_events.specs.Texts.{TextParts, text_at}
 use Rattle.resource_locks.specs.Plans.{PlanParts}
-use Rattle.event_history.specs.History.{HasResult, IsLegal, IsStopped, IsTextOf, StoppedIs}
+use Rattle.event_history.specs.History.{HasResult, IsLegal, IsStopped, StoppedIs}
 use Rattle.event_history.specs.Places.{StandsAt, has}
 use Rattle.event_history.specs.Plans.{Sort, Leaf, Holder, Maker, sort_of, spare_count}
-use Rattle.event_history.specs.Results.{Jobs, NoJob, Alone, Pulled, Around, jobs_by, jobs_of, after_run, HasReply, HasAnswer, EndsAfter, Ends}
+use Rattle.event_history.specs.Results.{Jobs, NoJob, Alone, Pulled, Around, jobs_by, jobs_of, after_run, HasReply, Ends}
 use Rattle.event_history.proofs.Places.{has_at, has_stands, stands_has}
 use Rattle.scheduling.specs.Choices.{after_job}
-use Rattle.table_rule.specs.Slots.{slot_count, is_body_slot, after_slot, job_at}
+use Rattle.table_rule.specs.Slots.{is_body_slot, after_slot}
 use Rattle.table_rule.proofs.Jobs.{body_job, after_job_at, after_is, far}
 use Rattle.run_table.specs.Balance.{IsUsed}
 use Rattle.run_table.specs.Prepared.{slot_of}

@@ -1,6 +1,5 @@
 -- From what a run has shown, or how it broke off, to what is answered.
 use Rattle.std.proofs.Common.{◌≡◌, ◌≢◌, ◌∙◌, ℕ, zero, suc, ◌<◌, Bool, true, false, List, [], length, take, Option, Some, None, Result, Ok, Err, refl, sym, ap, subst, append-nil, inl, inr, arith}
-use Rattle.std.specs.Prelude.{◌⊎◌}
 use Rattle.std.specs.Io.KnownBytes.{Appends, Keeps}
 use Rattle.std.proofs.lemmas.Bool.{true≢false}
 use Rattle.std.specs.Result.{IsErrAnd}
@@ -11,10 +10,10 @@ use Rattle.launch_options.specs.Asked.{Asked}
 use Rattle.launch_options.specs.Faults.{cut_by_memory, cut_by_writer}
 use Rattle.launch_options.specs.declared.fault.CutOutput.{CutOutput}
 use Rattle.launch_options.specs.declared.fault.LaunchFault.{LaunchFault}
-use Rattle.launch_options.specs.declared.fault.LaunchFault.TheVariants.{NoMemory, NoWorker, Writing}
+use Rattle.launch_options.specs.declared.fault.LaunchFault.TheVariants.{Writing}
 use Rattle.launcher.specs.declared.exit_status.ExitStatus.{ExitStatus}
 use Rattle.launcher.specs.Runs.{is_writing}
-use Rattle.launcher.specs.Watched.{IsAllOf, IsAnswered, IsBrokenOff, IsPartOf, IsRefusedBy, LacksBy, LacksMeans, cut_in}
+use Rattle.launcher.specs.Watched.{IsAllOf, IsAnswered, IsBrokenOff, IsRefusedBy, LacksBy, LacksMeans, cut_in}
 
 -- who lacks means has nothing to tell of an output
 uncut : (fault : LaunchFault) → LacksMeans fault → cut_in fault ≡ None

@@ -1,5 +1,5 @@
 -- From the refusals of each part of a run to the first one of all, and to the plan that is run.
-use Rattle.std.proofs.Common.{◌≡◌, ◌≢◌, ℕ, ◌<◌, ◌≤◌, List, length, Bool, true, false, Option, Some, None, option_map, Result, Ok, Err, IfErr, refl, sym, ap, subst, ◌∙◌, arith, inl, inr}
+use Rattle.std.proofs.Common.{◌≡◌, ◌≢◌, ℕ, ◌<◌, ◌≤◌, List, length, Bool, true, false, Option, Some, None, option_map, Result, Ok, Err, IfErr, refl, sym, ap, subst, ◌∙◌, inl, inr}
 use Rattle.std.specs.Prelude.{nat_lt, if◌then◌else◌, unwrap_or}
 use Rattle.std.specs.Option.{option_or}
 use Rattle.std.specs.Result.{IsErrAnd}
@@ -26,7 +26,7 @@ use Rattle.selectors.specs.declared.select_fault.SelectFault.{SelectFault}
 use Rattle.selectors.specs.declared.select_fault.SelectFault.TheVariants as selections
 use Rattle.suite_text.specs.Reading.Parts.{SuiteParts}
 use Rattle.launch_options.specs.Asked.{Asked}
-use Rattle.launch_options.specs.Faults.{IsPlanFault, IsSelectFault}
+use Rattle.launch_options.specs.Faults.{IsPlanFault}
 use Rattle.launcher.specs.Watched.{LacksBy, is_run}
 use Rattle.launcher.specs.Runs.{FailsSuite, IsReady, IsSuiteOutputBy, IsUnrun, TakesMemory, answers_of, crowd_refusal, keys_refusal, plan_of, plan_refusal, run_refusal, selection_fault, selection_refusal, settings_in, settings_refusal, workers_refusal}
 use Rattle.launcher.specs.declared.exit_status.ExitStatus.{ExitStatus}

@@ -1,8 +1,7 @@
 -- What is printed of a program's jobs where neither the list nor the nodes are asked for.
-use Rattle.std.proofs.Common.{◌≡◌, ℕ, Bool, true, false, List, Option, None, Result, Ok, Err, IfOk, refl, inl, inr}
+use Rattle.std.proofs.Common.{◌≡◌, ℕ, true, List, Option, None, Result, Ok, Err, IfOk, refl, inl, inr}
 use Rattle.std.specs.Prelude.{◌⊎◌, string_bytes}
 use Rattle.config_params.specs.declared.settings.Settings.{Settings}
-use Rattle.plan_events.specs.declared.event.Event.{Event}
 use Rattle.plan_events.specs.declared.outcome.Reply.{Reply}
 use Rattle.resource_locks.specs.Plans.{PlanParts}
 use Rattle.launch_options.specs.Asked.{Asked}

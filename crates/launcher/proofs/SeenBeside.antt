@@ -1,9 +1,8 @@
 -- One event more is printed by a feed, and seen by one who watches beside it.
-use Rattle.std.proofs.Common.{◌≡◌, ◌∙◌, ℕ, List, [], ◌∷◌, ◌++◌, Option, sym, subst, append_assoc}
+use Rattle.std.proofs.Common.{◌≡◌, ◌∙◌, ℕ, List, [], ◌∷◌, ◌++◌, Option, subst, append_assoc}
 use Rattle.resource_locks.specs.Plans.{PlanParts}
-use Rattle.listeners.specs.Listeners.{Telling, HasHeardMore}
+use Rattle.listeners.specs.Listeners.{Telling}
 use Rattle.live.specs.LiveFeeds.{IsPrinted}
-use Rattle.live.specs.declared.live_feed.LiveFeed.{LiveFeed}
 use Rattle.worker_pool.specs.Watching.{HasSeenMore, KeepsSight}
 use Rattle.launcher.specs.Beside.{SeesBeside}
 use Rattle.launcher.specs.declared.watched_feed.WatchedFeed.{WatchedFeed}

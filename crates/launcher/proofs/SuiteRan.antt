@@ -1,6 +1,6 @@
 -- What is printed of a run of a suite's jobs is what is printed of any, by what the suite says.
 use Rattle.std.proofs.Common.{ℕ, List, Some, Result, Ok, Err, IfOk, inl, inr}
-use Rattle.std.specs.Prelude.{◌⊎◌, string_bytes}
+use Rattle.std.specs.Prelude.{string_bytes}
 use Rattle.config_params.specs.declared.settings.Settings.{Settings}
 use Rattle.descriptor.specs.Nodes.{IsTree}
 use Rattle.plan_events.specs.declared.event.Event.{Event}

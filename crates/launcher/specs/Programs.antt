@@ -1,5 +1,5 @@
 -- What is run and printed of a program's jobs, of which nobody knows beforehand what they answer.
-use Rattle.std.specs.Prelude.{◌≡◌, ℕ, ◌<◌, ◌⊎◌, Bool, true, false, List, [], ◌∷◌, ◌++◌, Option, Some, None, IfSome, slice_get, Result, Ok, Err}
+use Rattle.std.specs.Prelude.{◌≡◌, ℕ, ◌<◌, ◌⊎◌, Bool, true, false, List, [], ◌∷◌, ◌++◌, Option, Some, None, IfSome, slice_get, Result, Ok}
 use Rattle.std.specs.Option.{is_some, option_or}
 use Rattle.config_params.specs.Parameters.{Parameters}
 use Rattle.config_params.specs.declared.settings.Settings.{Settings}

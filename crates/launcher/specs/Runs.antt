@@ -1,5 +1,5 @@
 -- What a run reads and what it writes.
-use Rattle.std.specs.Prelude.{◌≡◌, ℕ, ◌<◌, ◌≤◌, ◌⊎◌, nat_lt, List, length, take, map, Bool, true, false, if◌then◌else◌, Option, Some, None, option_map, IfErr, Result, Ok, Err}
+use Rattle.std.specs.Prelude.{◌≡◌, ℕ, ◌<◌, ◌≤◌, nat_lt, List, length, map, Bool, true, false, if◌then◌else◌, Option, Some, None, option_map, IfErr, Result, Ok, Err}
 use Rattle.std.specs.Option.{option_or}
 use Rattle.std.specs.Io.KnownBytes.{Consumes, IsAtEnd}
 use Rattle.config_params.specs.Settings.{settings_of}

@@ -2,7 +2,7 @@
 use Rattle.std.proofs.Common.{List, string_bytes, sym, subst}
 use Rattle.plan_events.specs.declared.event.Event.{Event}
 use Rattle.launch_options.specs.Asked.{asked_by}
-use Rattle.launcher.specs.Reports.{IsHistory, IsPrintedRun}
+use Rattle.launcher.specs.Reports.{IsHistory}
 use Rattle.launcher.proofs.Reporting.{printed_run}
 use Rattle.launcher.proofs.driven.drive_report.Goals as goal
 

@@ -1,5 +1,4 @@
 -- Steps, settings, plan and workers are judged in this order, and memory runs out only behind the first three.
-use Rattle.std.proofs.Common.{sym, subst}
 use Rattle.launch_options.specs.Asked.{asked_by}
 use Rattle.launcher.specs.Programs.{program_parts}
 use Rattle.launcher.proofs.Planning.{made_ready, memory_fails, plan_fails}

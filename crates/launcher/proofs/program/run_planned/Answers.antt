@@ -1,5 +1,5 @@
 -- What was printed while the run went on, and what was printed behind it, is its output.
-use Rattle.std.proofs.Common.{ℕ, List, [], Err, None, take, rules, sym, subst}
+use Rattle.std.proofs.Common.{ℕ, List, Err, None, take, rules, sym, subst}
 use Rattle.std.specs.Io.KnownBytes.{Appends, Keeps}
 use Rattle.live.specs.declared.live_feed.Outlet.{Outlet}
 use Rattle.launch_options.specs.Asked.{asked_by}

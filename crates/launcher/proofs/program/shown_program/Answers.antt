@@ -1,5 +1,5 @@
 -- What the feed has printed is a front of the output, and who watches beside it has seen what is printed.
-use Rattle.std.proofs.Common.{None, []}
+use Rattle.std.proofs.Common.{None}
 use Rattle.launch_options.specs.Asked.{asked_by}
 use Rattle.launcher.specs.Programs.{IsPrintedJobs, IsProgramOutput}
 use Rattle.launcher.specs.Watched.{is_run}

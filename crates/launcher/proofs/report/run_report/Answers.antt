@@ -1,6 +1,5 @@
 -- The jobs are those that a run asks for, and what it reports is a history of what the suite says.
-use Rattle.std.proofs.Common.{◌≡◌, ℕ, List, Result, Ok, Err, IfOk, subst}
-use Rattle.std.specs.Prelude.{string_bytes}
+use Rattle.std.proofs.Common.{◌≡◌, subst}
 use Rattle.descriptor.specs.Nodes.{IsTree}
 use Rattle.resource_locks.specs.Plans.{PlanParts}
 use Rattle.launch_options.specs.Asked.{asked_by}
