@@ -1,0 +1,69 @@
+//! What a report holds.
+
+ghost use Rattle.std.specs.Prelude.{◌≡◌, ◌++◌, IfOk, string_bytes};
+ghost use Rattle.launcher.specs.Reports.{details_of};
+ghost use Rattle.listeners.specs.Counts.{counts_of};
+ghost use Rattle.listeners.specs.SummaryTexts.{summary_of};
+ghost use Rattle.listeners.specs.TreeTexts.{tree_of};
+
+use crate::recording::ToldRun;
+use launch_options::Details;
+use listeners::{Results, Theme, feed_text};
+use plan_events::Texts;
+use reports::{json_text, junit_text, list_text, plan_text};
+use std::alloc::{AllocError, Global};
+
+/// The counts of a run.
+fn summary_text(alloc: Global, told: &ToldRun) -> Result<String, AllocError>
+    ensures { IfOk result (λ text. string_bytes text ≡ summary_of (counts_of told.now.plan told.now.events)) }
+{
+    let results = Results::of(alloc, told.plan(), told.events())?;
+    results.summary_text(alloc)
+}
+
+/// The tree of these results, and the summary behind it.
+fn tree_and_summary(
+    alloc: Global,
+    theme: Theme,
+    results: &Results<'_>,
+    texts: &Texts,
+) -> Result<String, AllocError>
+    ensures { IfOk result (λ text. string_bytes text ≡ tree_of theme results.now.plan texts.now results.now.events
+        ++ summary_of (counts_of results.now.plan results.now.events)) }
+{
+    let mut text = results.tree_text(alloc, texts, theme)?;
+    let summary = results.summary_text(alloc)?;
+    text.push_str(summary.as_str())?;
+    Ok(text)
+}
+
+/// The tree of a run, and its counts.
+fn tree_text(alloc: Global, theme: Theme, told: &ToldRun) -> Result<String, AllocError>
+    ensures { IfOk result (λ text. string_bytes text ≡ tree_of theme told.now.plan told.now.texts told.now.events
+        ++ summary_of (counts_of told.now.plan told.now.events)) }
+{
+    let results = Results::of(alloc, told.plan(), told.events())?;
+    tree_and_summary(alloc, theme, &results, told.texts())
+}
+
+/// The text of this form of a run.
+pub(crate) fn report_text(
+    alloc: Global,
+    form: Details,
+    theme: Theme,
+    told: &ToldRun,
+) -> Result<String, AllocError>
+    ensures { IfOk result (λ text. string_bytes text ≡ details_of form theme told.now.plan told.now.texts
+        told.now.events) }
+{
+    match form {
+        Details::None => Ok(String::new(alloc)),
+        Details::Summary => summary_text(alloc, told),
+        Details::Tree => tree_text(alloc, theme, told),
+        Details::Testfeed => feed_text(alloc, told.plan(), told.events(), told.texts()),
+        Details::Json => json_text(alloc, told.plan(), told.events(), told.texts()),
+        Details::Xml => junit_text(alloc, told.plan(), told.events(), told.texts()),
+        Details::List => list_text(alloc, told.plan()),
+        Details::Plan => plan_text(alloc, told.plan()),
+    }
+}

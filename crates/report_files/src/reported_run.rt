@@ -1,0 +1,88 @@
+//! A run of which reports are written besides what it prints.
+
+ghost use Rattle.std.specs.Prelude.{◌≡◌, IfOk, IfErr, IfSome, false, take, true};
+ghost use Rattle.std.specs.Io.KnownBytes.{Keeps};
+ghost use Rattle.launch_options.specs.Asked.{asked_by};
+ghost use Rattle.launcher.specs.Runs.{IsRun, TakesFrom, fault_in, is_writing};
+ghost use Rattle.launcher.specs.Watched.{is_run};
+ghost use Rattle.suite_text.specs.Reading.Bytes.{suite_read};
+ghost use Rattle.report_files.specs.ReportedRuns.{HasSeenSome, IsRecordedRun, IsReportedRun};
+
+use crate::beside::Beside;
+use crate::recording::{Recorded, Recording};
+use crate::report::{Report, write_reports};
+use launch_options::{LaunchFault, Options};
+use launcher::{ExitStatus, run_options_watched};
+use std::alloc::Global;
+use std::io::{Read, Write};
+use std::sync::Wait;
+use std::thread::Threads;
+use worker_pool::Watcher;
+
+/// Runs what these options ask for, and records what is told of it.
+fn run_recorded<T: Threads + Wait + Sync, R: Read, W: Write, V: Watcher>(
+    rt: &T,
+    alloc: Global,
+    options: &Options,
+    reader: &mut R,
+    writer: &mut W,
+    beside: &mut Beside<'_, V, Recording>,
+) -> Result<ExitStatus, LaunchFault>
+    requires fresh { beside.old.other.recorded ≡ Recorded.Nothing }
+    ensures same { beside.new.watcher.ghost_name ≡ beside.old.watcher.ghost_name }
+    ensures exact { IfSome (R.remaining reader.old)
+        (λ bytes. IsRun (asked_by options.now) (suite_read (take 1048577 bytes)) (W.contents writer.old)
+        (W.contents writer.new) result) }
+    ensures reads { TakesFrom (R.remaining reader.old) (R.remaining reader.new) (fault_in result)
+        (λ bytes. IsRun (asked_by options.now) (suite_read bytes) (W.contents writer.old) (W.contents writer.new)
+        result) }
+    ensures quiet { IfErr result (λ fault. is_writing fault ≡ false →
+        Keeps (W.contents writer.old) (W.contents writer.new)) }
+    ensures seen { HasSeenSome V.saw beside.old.watcher.now beside.new.watcher.now }
+    ensures recorded { is_run (asked_by options.now).replay (asked_by options.now).details ≡ true →
+        TakesFrom (R.remaining reader.old) (R.remaining reader.new) (fault_in result)
+        (λ bytes. IfOk result (λ status. IsRecordedRun (asked_by options.now) (suite_read bytes) (W.contents writer.old)
+        (W.contents writer.new) status beside.new.other.recorded)) }
+{
+    run_options_watched(rt, alloc, options, reader, writer, beside)
+}
+
+/// Runs what these options ask for, as `run_options_watched` does, records what is told of it, and writes each report
+/// when the run is over: there is one history that is printed and
+/// that the reports are of, with the texts that were told with it. How the writing of each went stands in it.
+/// Of what is refused no report is written, and its writer is left alone.
+pub fn run_reported<T: Threads + Wait + Sync, R: Read, W: Write, V: Watcher, F: Write + Drop>(
+    rt: &T,
+    alloc: Global,
+    options: &Options,
+    reports: &mut [Report<F>],
+    reader: &mut R,
+    writer: &mut W,
+    beside: &mut Beside<'_, V, Recording>,
+) -> Result<ExitStatus, LaunchFault>
+    requires fresh { beside.old.other.recorded ≡ Recorded.Nothing }
+    ensures same { beside.new.watcher.ghost_name ≡ beside.old.watcher.ghost_name }
+    ensures exact { IfSome (R.remaining reader.old)
+        (λ bytes. IsRun (asked_by options.now) (suite_read (take 1048577 bytes)) (W.contents writer.old)
+        (W.contents writer.new) result) }
+    ensures reads { TakesFrom (R.remaining reader.old) (R.remaining reader.new) (fault_in result)
+        (λ bytes. IsRun (asked_by options.now) (suite_read bytes) (W.contents writer.old) (W.contents writer.new)
+        result) }
+    ensures quiet { IfErr result (λ fault. is_writing fault ≡ false →
+        Keeps (W.contents writer.old) (W.contents writer.new)) }
+    ensures watched { HasSeenSome V.saw beside.old.watcher.now beside.new.watcher.now }
+    // One history witnesses what is printed and every report.
+    ensures reported { is_run (asked_by options.now).replay (asked_by options.now).details ≡ true →
+        TakesFrom (R.remaining reader.old) (R.remaining reader.new) (fault_in result)
+        (λ bytes. IfOk result (λ status. IsReportedRun F.contents (asked_by options.now) (suite_read bytes)
+        (W.contents writer.old) (W.contents writer.new) status reports.old reports.new)) }
+    ensures refused { IfErr result (λ _. reports.new ≡ reports.old) }
+{
+    match run_recorded(rt, alloc, options, reader, writer, &mut *beside) {
+        Ok(status) => {
+            write_reports(alloc, options.theme, &beside.other.recorded, reports);
+            Ok(status)
+        }
+        Err(fault) => Err(fault),
+    }
+}
