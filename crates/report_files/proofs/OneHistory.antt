@@ -39,25 +39,27 @@ module _ {L : Type 0} (saw : PlanParts → L → L → List Telling → Type 0) 
   printed_seen Prints p false text status is sees = cc
 
   module _ (Holds : PlanParts → List Event → TextParts → Type 0) (always : (p : PlanParts) (history : List Event) (texts : TextParts) → HasSeenMore saw p (tellings_of texts history) first now → Holds p history texts) (asked : Asked) (read : Result SuiteParts SuiteFault) (old new : Option (List ℕ)) (runs : is_run asked.replay asked.details ≡ true) where
-    of_output : (status : ExitStatus) (suite : SuiteParts) → read ≡ Ok suite → (text : List ℕ) → Appends old new text → (out : IsSeenSuiteOutput saw first now asked suite text status) → HasSeenPrinted saw (IsPrintedRun asked out.settings (plan_of asked.fail_fast out.settings (answer suite.tree asked.request)) (answers_of suite.scripts)) (plan_of asked.fail_fast out.settings (answer suite.tree asked.request)) first now text status
+    of_output : (status : ExitStatus) (suite : SuiteParts) → read ≡ Ok suite → (text : List ℕ) → Appends old new text → (out : IsSeenSuiteOutput saw first now asked suite text status) → HasSeenPrinted saw (IsPrintedRun asked out.output.settings (plan_of asked.fail_fast out.output.settings (answer suite.tree asked.request)) (answers_of suite.scripts)) (plan_of asked.fail_fast out.output.settings (answer suite.tree asked.request)) first now text out.told
         → IsRunWith Holds asked read old new status
     of_output status suite is text written out seen = record {
       suite = suite;
       is = is;
-      settings = out.settings;
-      are = out.are;
+      settings = out.output.settings;
+      are = out.output.are;
       history = seen.history;
       texts = seen.texts;
       text = text;
+      told = out.told;
       printed = seen.prints;
+      exits = out.exits;
       written = written;
-      holds = always (plan_of asked.fail_fast out.settings (answer suite.tree asked.request)) seen.history seen.texts seen.seen;
+      holds = always (plan_of asked.fail_fast out.output.settings (answer suite.tree asked.request)) seen.history seen.texts seen.seen;
     }
 
     of_suite_run : (suite : SuiteParts) → read ≡ Ok suite → (result : Result ExitStatus LaunchFault) → IsSeenSuiteRun saw first now asked suite old new result → IfOk result (λ status. IsRunWith Holds asked read old new status)
     of_suite_run suite is (Ok status) run =
-        let p = plan_of asked.fail_fast run.output.settings (answer suite.tree asked.request) in
-        of_output status suite is run.text run.written run.output (printed_seen (IsPrintedRun asked run.output.settings p (answers_of suite.scripts)) p (is_run asked.replay asked.details) run.text status runs run.output.output.1)
+        let p = plan_of asked.fail_fast run.output.output.settings (answer suite.tree asked.request) in
+        of_output status suite is run.text run.written run.output (printed_seen (IsPrintedRun asked run.output.output.settings p (answers_of suite.scripts)) p (is_run asked.replay asked.details) run.text run.output.told runs run.output.output.output.1)
     of_suite_run suite is (Err fault) run = tt
 
     of_loaded_run : (loaded : Result suites.Suite LaunchFault) (result : Result ExitStatus LaunchFault) → ReadsSuite read loaded → RunsLoaded (λ suite. IsSeenSuiteRun saw first now asked suite old new) loaded result → IfOk result (λ status. IsRunWith Holds asked read old new status)
@@ -111,7 +113,9 @@ module _ {F : Type 0} (contents : F → Option (List ℕ)) where
     history = is.history;
     texts = is.texts;
     text = is.text;
+    told = is.told;
     printed = is.printed;
+    exits = is.exits;
     written = is.written;
     holds = reports_of asked.theme (plan_of asked.fail_fast is.settings (answer is.suite.tree asked.request)) is.history is.texts recorded was now is.holds each;
   }

@@ -41,8 +41,8 @@ module _ {L : Type 0} (saw : PlanParts → L → L → List Telling → Type 0) 
   of_suite asked suite old new result is =
       let Output = IsSeenSuiteOutput saw first now asked suite in
       let output : (text : List ℕ) (status : ExitStatus) → Output text status → Holds =
-      λ text status out. let p = plan_of asked.fail_fast out.settings (answer suite.tree asked.request) in
-      of_text (IsPrintedRun asked out.settings p (answers_of suite.scripts)) p (is_run asked.replay asked.details) text status out.output.1 in
+      λ text status out. let p = plan_of asked.fail_fast out.output.settings (answer suite.tree asked.request) in
+      of_text (IsPrintedRun asked out.output.settings p (answers_of suite.scripts)) p (is_run asked.replay asked.details) text out.told out.output.output.1 in
       of_answer Output output asked (λ fault. FailsSuite asked suite fault × SeesRefusal first now Output fault) old new result (λ fault fails. of_fault Output output fault fails.1) is
 
   of_loaded : (asked : Asked) (loaded : Result suites.Suite LaunchFault) (old new : Option (List ℕ)) (result : Result ExitStatus LaunchFault) → RunsLoaded (λ suite. IsSeenSuiteRun saw first now asked suite old new) loaded result → IfErr loaded (λ fault. now ≡ first) → Holds

@@ -10,6 +10,7 @@ use Rattle.suite_text.specs.Reading.Parts.{SuiteParts}
 use Rattle.suite_text.specs.declared.suite.fault.SuiteFault.{SuiteFault}
 use Rattle.launch_options.specs.Asked.{Asked}
 use Rattle.launcher.specs.declared.exit_status.ExitStatus.{ExitStatus}
+use Rattle.launcher.specs.Missing.{is_missing, status_unless}
 use Rattle.launcher.specs.Reports.{IsPrintedRun}
 use Rattle.launcher.specs.Runs.{answers_of, plan_of, settings_in}
 use Rattle.listeners.specs.Listeners.{EachPlace, Telling, tellings_of}
@@ -35,7 +36,9 @@ pub record IsRunWith (Holds : PlanParts → List Event → TextParts → Type 0)
   pub history : List Event
   pub texts : TextParts
   pub text : List ℕ
-  pub printed : IsPrintedRun asked settings (plan_of asked.fail_fast settings (answer suite.tree asked.request)) (answers_of suite.scripts) history texts text status
+  pub told : ExitStatus
+  pub printed : IsPrintedRun asked settings (plan_of asked.fail_fast settings (answer suite.tree asked.request)) (answers_of suite.scripts) history texts text told
+  pub exits : status ≡ status_unless (is_missing asked suite.tree) told
   pub written : Appends old new text
   pub holds : Holds (plan_of asked.fail_fast settings (answer suite.tree asked.request)) history texts
 
