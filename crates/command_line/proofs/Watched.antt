@@ -1,5 +1,5 @@
 -- What follows of one who watched a run, whatever was run.
-use Rattle.std.proofs.Common.{◌≡◌, ℕ, Bool, true, false, List, [], Option, Some, None, IfErr, Result, Ok, Err, inl, inr, refl, sym, subst}
+use Rattle.std.proofs.Common.{◌≡◌, ℕ, Bool, true, false, List, [], Option, Some, None, IfErr, Result, Ok, Err, inl, inr, refl, sym, ap, subst}
 use Rattle.plan_events.specs.declared.event.Event.{Event}
 use Rattle.plan_events.specs.declared.outcome.Reply.{Reply}
 use Rattle.plan_events.specs.Texts.{TextParts}
@@ -22,6 +22,8 @@ use Rattle.launcher.specs.Programs.{FailsProgram, IsPrintedJobs, IsSeenProgramRu
 use Rattle.launcher.specs.Reports.{IsPrintedRun}
 use Rattle.launcher.specs.Runs.{FailsSuite, IsSeenRun, IsSeenSuiteOutput, IsSeenSuiteRun, RunsLoaded, answers_of, plan_of}
 use Rattle.launcher.specs.Watched.{IsAnswered, IsRefusedBy, SeesRefusal, SeesTextBy, cut_in, is_run}
+use Rattle.command_line.specs.DrawnRuns.{HasDrawn}
+use Rattle.command_line.specs.declared.watched_progress.WatchedProgress.{WatchedProgress}
 
 module _ {L : Type 0} (saw : PlanParts → L → L → List Telling → Type 0) (first now : L) (Holds : Type 0) (same : now ≡ first → Holds) (seen : (p : PlanParts) (ts : List Telling) → HasSeenMore saw p ts first now → Holds) where
   -- of a text that was printed of a run, or of none
@@ -78,13 +80,16 @@ module _ {E C : Type 0} (contents : E → Option (List ℕ)) (first now : Progre
   pub drawn_by_run : (asked : Asked) (read : Result SuiteParts SuiteFault) (old new : Option (List ℕ)) (result : Result ExitStatus LaunchFault) → IsSeenRun (HasFollowed contents) first now asked read old new result → IsDrawnOn contents first now
   drawn_by_run asked read old new result is = of_run (HasFollowed contents) first now (IsDrawnOn contents first now) unseen followed asked read old new result is
 
-  pub drawn_by_program : {B : Type 0} (answers : B → List Reply) (asked : Asked) (parts : SuiteParts) (jobs : List (ℕ × B)) (old new : Option (List ℕ)) (result : Result ExitStatus LaunchFault) → IsSeenProgramRun answers asked parts jobs (HasFollowed contents) first now old new result
-      → IsDrawnOn contents first now
-  drawn_by_program answers asked parts jobs old new result is = of_program (HasFollowed contents) first now (IsDrawnOn contents first now) unseen followed answers asked parts jobs old new result is
-
   -- and so there are drawings behind what it held
   pub drawn_behind_it : IsDrawnOn contents first now → IsDrawnBehind (contents first.terminal.now) (contents now.terminal.now)
   drawn_behind_it is = drawn_still (contents first.terminal.now) (contents now.terminal.now) (is_done now) true true_is_false is.drawn
     where
       true_is_false : true ≡ false → is_done now ≡ false
       true_is_false never = cc
+
+-- one that draws was drawn on where another watched too
+pub drawn_by_program : {E C V B : Type 0} (contents : E → Option (List ℕ)) (first now : WatchedProgress E C V) (answers : B → List Reply) (asked : Asked) (parts : SuiteParts) (jobs : List (ℕ × B)) (old new : Option (List ℕ)) (result : Result ExitStatus LaunchFault)
+    → IsSeenProgramRun answers asked parts jobs (HasDrawn contents) first now old new result → IsDrawnOn contents first.progress now.progress
+drawn_by_program {E} {C} {V} {B} contents first now answers asked parts jobs old new result is =
+    of_program (HasDrawn contents) first now (IsDrawnOn contents first.progress now.progress) (λ same. unseen contents first.progress now.progress (ap (λ (w : WatchedProgress E C V). w.progress) same))
+    (λ p ts more. (more first [] (begun contents p first.progress)).drawn) answers asked parts jobs old new result is

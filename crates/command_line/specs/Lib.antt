@@ -1,4 +1,5 @@
 pub mod Commands
+pub mod DrawnRuns
 pub mod Found
 pub mod GivenWords
 pub mod Runs

@@ -1,5 +1,5 @@
 -- What a program with tests of its own does by the words of its command line.
-use Rattle.std.specs.Prelude.{◌≡◌, ℕ, false, List, Option, IfErr, Result, Ok, Err}
+use Rattle.std.specs.Prelude.{◌≡◌, ℕ, Bool, true, false, List, Option, IfErr, Result, Ok, Err}
 use Rattle.std.specs.Io.KnownBytes.{Keeps}
 use Rattle.clap.specs.Words.{Text}
 use Rattle.plan_events.specs.declared.outcome.Reply.{Reply}
@@ -43,3 +43,8 @@ module _ {B W E : Type 0} (answers : B → List Reply) (contents : W → Option 
     pub drawn : E
     pub draws : IsDrawnBehind (said first) (said drawn)
     pub run : IsTestRun words old new drawn last ending
+
+  -- the program, where standard error is a terminal that can be drawn on, or is none
+  abbrev pub IsTestMainRun : Bool → List Text → (old new : W) → (first last : E) → Ending → Type 0
+  IsTestMainRun true words old new first last ending = IsTestRunOnTerminal words old new first last ending
+  IsTestMainRun false words old new first last ending = IsTestRun words old new first last ending

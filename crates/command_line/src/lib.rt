@@ -4,6 +4,7 @@
 
 mod both;
 mod closing;
+mod drawn_on;
 mod found;
 mod kept;
 mod main_body;
@@ -14,9 +15,11 @@ mod system_words;
 mod terminal;
 mod test_program;
 mod tests_on_terminal;
+mod watched_progress;
 mod words;
 
 pub use closing::Ending;
+pub use drawn_on::is_drawn_on;
 pub use main_body::run_main;
 pub use program::{run_console, run_program, run_words};
 pub use said::message_of;

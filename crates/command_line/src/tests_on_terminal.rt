@@ -18,6 +18,7 @@ ghost use Rattle.command_line.specs.Words.{ReadsWords};
 use crate::closing::{Ending, close_run, close_with_failures, refuse};
 use crate::system_words::given_words;
 use crate::terminal::prints_lines;
+use crate::watched_progress::WatchedProgress;
 use crate::words::read_options;
 use launcher::{ExitStatus, LaunchFault, Options, Program, run_jobs_watched};
 use listeners::Summary;
@@ -30,30 +31,46 @@ use std::io::{self, Write};
 use std::sync::Wait;
 use std::thread::Threads;
 use std::time::Clock;
+use worker_pool::Watcher;
 
-/// Runs these jobs as the options say; this one draws how far the run has come.
-fn run_jobs_followed<B: Job + Send, T: Threads + Wait + Sync, C: Clock + Drop, W: Write, E: Write>(
+/// Runs these jobs as the options say; one of these who watch draws how far the run has come.
+fn run_jobs_followed<
+    B: Job + Send,
+    T: Threads + Wait + Sync,
+    C: Clock + Drop,
+    W: Write,
+    E: Write,
+    V: Watcher,
+>(
     rt: &T,
     alloc: Global,
     options: &Options,
     program: Program<B>,
     writer: &mut W,
-    progress: &mut Progress<'_, '_, '_, '_, E, C>,
+    watched: &mut WatchedProgress<'_, '_, '_, '_, '_, E, C, V>,
 ) -> Result<ExitStatus, LaunchFault>
     requires jobs { (plan : PlanParts) (workers ring : ℕ) → JobsMayAnswer B.answers
         (run_of plan workers ring program.jobs.items) }
     requires all { HasJobs program.tree program.jobs.items }
-    ensures same { progress.new.terminal.ghost_name ≡ progress.old.terminal.ghost_name }
-    ensures draws { IsDrawnBehind (E.contents progress.old.terminal.now) (E.contents progress.new.terminal.now) }
+    ensures same { watched.new.progress.terminal.ghost_name ≡ watched.old.progress.terminal.ghost_name }
+    ensures draws { IsDrawnBehind (E.contents watched.old.progress.terminal.now)
+        (E.contents watched.new.progress.terminal.now) }
     ensures runs { RunsJobs B.answers (program_parts program.tree program.properties) program.jobs.items
         (asked_by options.now) (W.contents writer.old) (W.contents writer.new) result }
 {
-    run_jobs_watched(rt, alloc, options, program, writer, progress)
+    run_jobs_watched(rt, alloc, options, program, writer, watched)
 }
 
 /// Runs these jobs as the options say, and draws on a terminal how far the run has come. The nodes
 /// that failed are kept in this list.
-fn run_jobs_shown<B: Job + Send, T: Threads + Wait + Sync, C: Clock + Drop, W: Write, E: Write>(
+fn run_jobs_shown<
+    B: Job + Send,
+    T: Threads + Wait + Sync,
+    C: Clock + Drop,
+    W: Write,
+    E: Write,
+    V: Watcher,
+>(
     rt: &T,
     clock: C,
     alloc: Global,
@@ -62,6 +79,7 @@ fn run_jobs_shown<B: Job + Send, T: Threads + Wait + Sync, C: Clock + Drop, W: W
     writer: &mut W,
     errors: &mut E,
     failures: &mut Failures,
+    watcher: &mut V,
 ) -> Result<ExitStatus, LaunchFault>
     requires jobs { (plan : PlanParts) (workers ring : ℕ) → JobsMayAnswer B.answers
         (run_of plan workers ring program.jobs.items) }
@@ -72,7 +90,7 @@ fn run_jobs_shown<B: Job + Send, T: Threads + Wait + Sync, C: Clock + Drop, W: W
 {
     let mut summary = Summary::new(alloc);
     let mut running = Running::new(alloc);
-    let mut progress = Progress::new(
+    let progress = Progress::new(
         alloc,
         errors,
         &clock,
@@ -81,12 +99,20 @@ fn run_jobs_shown<B: Job + Send, T: Threads + Wait + Sync, C: Clock + Drop, W: W
         failures,
         &mut running,
     );
-    run_jobs_followed(rt, alloc, options, program, writer, &mut progress)
+    let mut watched = WatchedProgress { progress, watcher };
+    run_jobs_followed(rt, alloc, options, program, writer, &mut watched)
 }
 
 /// Runs these jobs as the options say, draws how far the run has come, and says what there is to say
 /// of the answer and of what failed.
-fn run_tests_drawn<B: Job + Send, T: Threads + Wait + Sync, C: Clock + Drop, W: Write, E: Write>(
+fn run_tests_drawn<
+    B: Job + Send,
+    T: Threads + Wait + Sync,
+    C: Clock + Drop,
+    W: Write,
+    E: Write,
+    V: Watcher,
+>(
     rt: &T,
     clock: C,
     alloc: Global,
@@ -95,6 +121,7 @@ fn run_tests_drawn<B: Job + Send, T: Threads + Wait + Sync, C: Clock + Drop, W: 
     program: Program<B>,
     writer: &mut W,
     errors: &mut E,
+    watcher: &mut V,
 ) -> Ending
     requires jobs { (plan : PlanParts) (workers ring : ℕ) → JobsMayAnswer B.answers
         (run_of plan workers ring program.jobs.items) }
@@ -114,6 +141,7 @@ fn run_tests_drawn<B: Job + Send, T: Threads + Wait + Sync, C: Clock + Drop, W: 
         &mut *writer,
         &mut *errors,
         &mut failures,
+        watcher,
     );
     let tests = Subject::Tests(said.as_str());
     let ending = close_with_failures(
@@ -124,13 +152,15 @@ fn run_tests_drawn<B: Job + Send, T: Threads + Wait + Sync, C: Clock + Drop, W: 
 }
 
 /// Does what `run_test_words` does, where the other writer is a terminal. On it stands meanwhile what
-/// `run_words_on_terminal` draws of a suite's run, and behind a tree or a summary what failed.
+/// `run_words_on_terminal` draws of a suite's run, and behind a tree or a summary what failed. Who watches is shown the
+/// run, as one of two watchers.
 pub fn run_test_words_on_terminal<
     B: Job + Send,
     T: Threads + Wait + Sync,
     C: Clock + Drop,
     W: Write,
     E: Write,
+    V: Watcher,
 >(
     rt: &T,
     clock: C,
@@ -139,6 +169,7 @@ pub fn run_test_words_on_terminal<
     program: Program<B>,
     writer: &mut W,
     errors: &mut E,
+    watcher: &mut V,
 ) -> Ending
     requires jobs { (plan : PlanParts) (workers ring : ℕ) → JobsMayAnswer B.answers
         (run_of plan workers ring program.jobs.items) }
@@ -147,7 +178,9 @@ pub fn run_test_words_on_terminal<
         program.jobs.items (map string_bytes words.now) writer.old writer.new errors.old errors.new result }
 {
     match read_options(alloc, words) {
-        Ok(options) => run_tests_drawn(rt, clock, alloc, options, words, program, writer, errors),
+        Ok(options) => run_tests_drawn(
+            rt, clock, alloc, options, words, program, writer, errors, watcher,
+        ),
         Err(fault) => {
             drop(program);
             close_run(alloc, Err(fault), words, Subject::Tests(""), writer, errors)
@@ -163,6 +196,7 @@ pub fn run_test_program_on_terminal<
     C: Clock + Drop,
     W: Write,
     E: Write,
+    V: Watcher,
 >(
     rt: &T,
     clock: C,
@@ -171,6 +205,7 @@ pub fn run_test_program_on_terminal<
     program: Program<B>,
     writer: &mut W,
     errors: &mut E,
+    watcher: &mut V,
 ) -> Ending
     requires jobs { (plan : PlanParts) (workers ring : ℕ) → JobsMayAnswer B.answers
         (run_of plan workers ring program.jobs.items) }
@@ -191,6 +226,7 @@ pub fn run_test_program_on_terminal<
             program,
             writer,
             errors,
+            watcher,
         ),
         Err(fault) => {
             drop(program);

@@ -5,13 +5,15 @@ mod exit;
 mod job;
 mod run;
 
-pub use command_line::Ending;
+pub use command_line::{Ending, is_drawn_on};
 pub use descriptor::{LockMode, Mode, NodeId};
 pub use exit::exit_code;
 pub use job::TestJob;
 pub use plan_events::{Event, EventKind, Status, Texts};
 pub use resource_locks::Plan;
-pub use run::{run_tests, run_tests_by_words, run_tests_on_terminal, run_tests_watched};
+pub use run::{
+    run_tests, run_tests_by_words, run_tests_main, run_tests_on_terminal, run_tests_watched,
+};
 pub use test_bodies::{Checked, Stop, TestBox, TestFn, assume, check, check_same};
 pub use test_tree::{BuildFault, ClassId, EngineId, FactoryId, Tests};
 pub use worker_pool::{Nobody, Watcher};

@@ -5,7 +5,8 @@ mod shelf;
 
 use crate::shelf::Shelf;
 use harness::{
-    BuildFault, Checked, Ending, LockMode, TestBox, Tests, check, check_same, exit_code, run_tests,
+    BuildFault, Checked, Ending, LockMode, Nobody, TestBox, Tests, check, check_same, exit_code,
+    is_drawn_on, run_tests_main,
 };
 use std::alloc::Global;
 use std::env::Args;
@@ -13,6 +14,7 @@ use std::io::{self, Write};
 use std::process::ExitCode;
 use std::sync::Wait;
 use std::thread::Threads;
+use std::time::Clock;
 
 fn holds(_alloc: Global) -> Checked {
     let mut shelf = Shelf::with_places(3);
@@ -24,10 +26,11 @@ fn fits(_alloc: Global) -> Checked {
     check(Shelf::with_places(3).put(3), "three books have room")
 }
 
-fn run<T: Threads + Wait + Sync, W: Write, E: Write>(
+fn run<T: Threads + Wait + Sync + Clock, W: Write, E: Write>(
     rt: &T,
     alloc: Global,
     words: io::Result<Args>,
+    is_terminal: bool,
     writer: &mut W,
     errors: &mut E,
 ) -> Result<Ending, BuildFault> {
@@ -39,11 +42,14 @@ fn run<T: Threads + Wait + Sync, W: Write, E: Write>(
     let factory = tests.factory(class, "fits()", fits)?;
     let three: TestBox = Box::new(alloc, move |alloc: Global| fits(alloc))?;
     tests.dynamic(factory, "three", three)?;
-    run_tests(rt, alloc, words, tests, writer, errors)
+    let nobody = &mut Nobody;
+    run_tests_main(rt, rt, alloc, words, is_terminal, tests, writer, errors, nobody)
 }
 
 fn main(rt: HostRuntime) -> ExitCode {
     let (words, errors) = (std::env::args(&rt), &mut rt.stderr());
-    let run = run(&rt, rt.alloc(), words, &mut io::writer(&rt), errors);
+    let is_terminal = is_drawn_on(&rt, errors);
+    let writer = &mut io::writer(&rt);
+    let run = run(&rt, rt.alloc(), words, is_terminal, writer, errors);
     exit_code(run, errors)
 }
