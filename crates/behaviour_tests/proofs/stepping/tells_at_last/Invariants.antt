@@ -5,7 +5,7 @@ use Rattle.table_rule.specs.Plays.{dispatcher}
 use Rattle.run_table.specs.Seats.{IsSeatOf}
 use Rattle.test_jobs.specs.Acting.{replies_left}
 use Rattle.worker_pool.specs.Telling.{KeepsTexts, left_to_read}
-use Rattle.thread_tests.proofs.stepping.tells_at_last.Given as goal
+use Rattle.behaviour_tests.proofs.stepping.tells_at_last.Given as goal
 
 abbrev pub invariant-loop-call : goal.invariant-loop-call
 invariant-loop-call g l = record {
