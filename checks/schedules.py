@@ -5,7 +5,8 @@ checks/schedules.py [SUITES] [SEED]   100 suites and the seed 1 where they are n
   --program PATH                      another program than crates/console/out/console
 Each suite is made at random, and run by 2, 4 and 8 workers on threads, and then by --drive. Its steps are split
 off and replayed: none may be passed over, and the feeds have to be the same bytes. What --drive prints has to be the
-same a second time. The last line is 'N passed, M failed': the runs.
+same a second time. So are the steps of shelf_tests and semver_tests by four workers, which a suite of the same ids
+and answers replays. The last line is 'N passed, M failed': the runs.
 """
 
 import argparse
@@ -14,10 +15,37 @@ from random import Random
 
 sys.dont_write_bytecode = True
 
-from programs import Hangs, built_console, config, ran
+from programs import Hangs, built, built_console, config, ran
 from suites import Maker, text_of
 
 WORKERS = [2, 4, 8]
+# Programs with tests of their own, and for each a suite of the same ids and answers.
+OWN_TESTS = {
+    "shelf_tests": b"""engine shelf
+  class shelf.Books lock=shelf
+    test holds() fail got 2, want 3
+    factory fits() pass
+      dyn three pass
+""",
+    "semver_tests": b"""property junit.jupiter.execution.parallel.enabled=true
+property junit.jupiter.execution.parallel.mode.default=concurrent
+engine semver
+  class semver.Versions
+    test reads() pass
+    test refuses() pass
+    test reads_wrongly() #wrong fail Error("unexpected character 'x' while parsing minor version number")
+    test compares_wrongly() #wrong fail got 20, want 2
+    test needs_a_network() abort there is no network
+    after pass
+  class semver.Requirements lock=table:r
+    test orders() pass
+    test lexes() disabled until there is a lexer
+    factory caret() pass
+      dyn 1.2.0 pass
+      dyn 1.1.0 pass
+""",
+}
+RUNS_OF_OWN = 50
 SECONDS_A_RUN = 60
 MOST_SHOWN = 10
 
@@ -36,9 +64,9 @@ def settings(random, workers):
 
 
 def split(text):
-    """A text without its last line, and that line without its end."""
-    front, _, last = text[:-1].rpartition(b"\n")
-    return front + b"\n", last
+    """A feed, and the line behind it without its end: a listener of the program's own may print more."""
+    front, finish, rest = text.partition(b" plan finished\n")
+    return front + finish, rest.partition(b"\n")[0]
 
 
 class Schedules:
@@ -48,16 +76,16 @@ class Schedules:
         self.program = program
         self.passed = self.failed = 0
 
-    def text(self, words, suite):
-        """What the program prints."""
-        status, text, said = ran(self.program, words, suite, SECONDS_A_RUN)
+    def text(self, words, suite, program=None):
+        """What the program prints, or another."""
+        status, text, said = ran(program or self.program, words, suite, SECONDS_A_RUN)
         if said or status not in (0, 1) or not text.endswith(b"\n"):
             raise Wrong(f"status {status}: {said.decode(errors='replace')}")
         return text
 
-    def replay(self, words, suite):
-        """Runs a suite, and replays its steps."""
-        feed, steps = split(self.text([*words, "--schedule", "--details", "testfeed"], suite))
+    def replay(self, words, suite, program=None):
+        """Runs a suite, or a program of the same tests, and replays its steps."""
+        feed, steps = split(self.text([*words, "--schedule", "--details", "testfeed"], suite, program))
         if steps == b"no schedule was found":
             raise Wrong("no schedule was found")
         again, counts = split(self.text([*words, "--replay", steps.decode()], suite))
@@ -94,6 +122,12 @@ class Schedules:
             self.judge(what, lambda: self.replay(words, suite))
             self.judge(f"{what}, driven", lambda: self.drive([*words, "--drive", str(workers)], suite))
 
+    def own_tests(self, crate, suite):
+        """Judges runs of a crate's own tests by four workers."""
+        program = built(crate)
+        for number in range(RUNS_OF_OWN):
+            self.judge(f"{crate}, run {number}", lambda: self.replay(["--workers", "4"], suite, program))
+
 
 def main():
     words = argparse.ArgumentParser(description=__doc__, formatter_class=argparse.RawDescriptionHelpFormatter)
@@ -104,6 +138,8 @@ def main():
     schedules = Schedules(given.program or built_console())
     for number in range(1, given.suites + 1):
         schedules.suite(given.seed, number)
+    for crate, suite in OWN_TESTS.items():
+        schedules.own_tests(crate, suite)
     print(f"{schedules.passed} passed, {schedules.failed} failed")
     return 1 if schedules.failed else 0
 
