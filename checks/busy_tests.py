@@ -3,7 +3,7 @@
 
 checks/busy_tests.py [ROUNDS] [BUSY]   100 rounds beside 8 programs where they are not given
   --tests PATH     the program of a crate's tests, as the gate leaves it in crates/CRATE/out/CRATE_tests; may be given
-                   more than once. Without it those of thread_tests and behaviour_tests
+                   more than once. Without it those of behaviour_tests
   --only WORD      the tests alone that have this word in their names
   --seconds N      so long a run may take, 60 where it is not given
 Behind the runs stands how long each test took at most. The last line is 'N passed, M failed': the runs.
@@ -20,7 +20,7 @@ sys.dont_write_bytecode = True
 
 from programs import TOP, Hangs, ran
 
-CRATES = ("thread_tests", "behaviour_tests")
+CRATES = ("behaviour_tests",)
 COUNTING = [sys.executable, "-c", "while True:\n    pass"]
 
 

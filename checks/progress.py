@@ -8,7 +8,7 @@ at the end, also where the output goes to the same terminal, and where that is n
 that it names, if one has been running for two seconds, is the one that runs longest by the feed on that terminal.
 A file, a terminal that is dumb and one of an unknown kind get nothing of it. What failed is said once more, on a terminal and in a file, at most twenty
 of it, and the words that are said select just that, or the first ten of it.
-Suites made at random print the same with a terminal and without one.
+Suites made at random print the same with a terminal and without one, and so do shelf_tests and semver_tests.
 The last line is 'N passed, M failed': the runs.
 """
 
@@ -30,7 +30,7 @@ from random import Random
 
 sys.dont_write_bytecode = True
 
-from programs import built_console
+from programs import built, built_console
 from suites import Maker, text_of
 
 TESTS = 1_200
@@ -303,6 +303,14 @@ def judge_random(program, seed, number):
         raise Wrong(f"status {run.status} and {alone.status}, printed {run.output!r} and {alone.output!r}")
 
 
+def judge_own_tests(program):
+    """A program's own tests print on a terminal what they print without one, and say what failed."""
+    run, alone = Run(program, b"", []), Run(program, b"", [], errors="pipe")
+    said = DRAWN.sub(b"", run.errors).replace(ERASED, b"")
+    if (run.status, run.output, said) != (1, alone.output, alone.errors) or not said.startswith(b"Failures ("):
+        raise Wrong(f"status {run.status}, said {run.errors!r}, without a terminal {alone.errors!r}")
+
+
 def main():
     words = argparse.ArgumentParser(description=__doc__, formatter_class=argparse.RawDescriptionHelpFormatter)
     words.add_argument("suites", nargs="?", type=int, default=20)
@@ -319,6 +327,7 @@ def main():
     said = {"tree": True, "summary": True, "testfeed": False, "none": False, "json": False}
     cases += [(f"failures behind {details}", judge_failures, (program, details, FAILING, is_said)) for details, is_said in said.items()]
     cases += [(f"many failures behind {details}", judge_failures, (program, details, MANY, True)) for details in ("tree", "summary")]
+    cases += [(f"the tests of {crate}", judge_own_tests, (built(crate),)) for crate in ("shelf_tests", "semver_tests")]
     cases += [(f"suite {n} of seed {given.seed}", judge_random, (program, given.seed, n)) for n in range(1, given.suites + 1)]
     passed = failed = 0
     for what, judge, arguments in cases:
