@@ -190,17 +190,10 @@ pub fn run_tests_on_terminal<T: Threads + Wait + Sync, C: Clock + Drop, W: Write
 }
 
 /// All of a program of one's own tests but the handles that `main` gets of the system: what
-/// `run_tests_on_terminal` does if the other writer is a terminal that can be drawn on (`is_drawn_on`), and else what
-/// `run_tests` does. The watcher is shown the run, as by `run_tests_watched`; who has none hands in `Nobody`.
-pub fn run_tests_main<
-    T: Threads + Wait + Sync,
-    C: Clock + Drop,
-    W: Write,
-    E: Write,
-    V: Watcher,
->(
+/// `run_tests_on_terminal` does by its clock if the other writer is a terminal that can be drawn on (`is_drawn_on`), and
+/// else what `run_tests` does. The watcher is shown the run, as by `run_tests_watched`; who has none hands in `Nobody`.
+pub fn run_tests_main<T: Threads + Wait + Sync + Clock, W: Write, E: Write, V: Watcher>(
     rt: &T,
-    clock: C,
     alloc: Global,
     words: io::Result<Args>,
     is_terminal: bool,
@@ -221,9 +214,7 @@ pub fn run_tests_main<
         × (errors.new ≡ errors.old) × (watcher.new ≡ watcher.old)) }
 {
     if is_terminal {
-        run_tests_drawn(
-            rt, clock, alloc, words, tests, writer, errors, watcher,
-        )
+        run_tests_drawn(rt, rt, alloc, words, tests, writer, errors, watcher)
     } else {
         run_tests_watched(rt, alloc, words, tests, writer, errors, watcher)
     }

@@ -63,7 +63,7 @@ fn run<T: Threads + Wait + Sync + Clock, W: Write, E: Write>(
     rt: &T,
     alloc: Global,
     words: io::Result<Args>,
-    is_terminal: bool,
+    is_drawn: bool,
     writer: &mut W,
     errors: &mut E,
     failures: &mut FailuresByClass,
@@ -94,24 +94,14 @@ fn run<T: Threads + Wait + Sync + Clock, W: Write, E: Write>(
     tests.dynamic(caret, "1.2.0", two)?;
     let one: TestBox = Box::new(alloc, move |alloc: Global| matches(alloc, 1, false))?;
     tests.dynamic(caret, "1.1.0", one)?;
-    run_tests_main(
-        rt,
-        rt,
-        alloc,
-        words,
-        is_terminal,
-        tests,
-        writer,
-        errors,
-        failures,
-    )
+    run_tests_main(rt, alloc, words, is_drawn, tests, writer, errors, failures)
 }
 
 fn main(rt: HostRuntime) -> ExitCode {
     let (words, writer, errors) = (std::env::args(&rt), &mut io::writer(&rt), &mut rt.stderr());
-    let is_terminal = is_drawn_on(&rt, errors);
+    let is_drawn = is_drawn_on(&rt, errors);
     let mut failures = FailuresByClass::new(rt.alloc());
-    let run = run(&rt, rt.alloc(), words, is_terminal, writer, errors, &mut failures);
+    let run = run(&rt, rt.alloc(), words, is_drawn, writer, errors, &mut failures);
     failures.print(writer);
     exit_code(run, errors)
 }

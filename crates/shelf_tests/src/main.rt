@@ -30,7 +30,7 @@ fn run<T: Threads + Wait + Sync + Clock, W: Write, E: Write>(
     rt: &T,
     alloc: Global,
     words: io::Result<Args>,
-    is_terminal: bool,
+    is_drawn: bool,
     writer: &mut W,
     errors: &mut E,
 ) -> Result<Ending, BuildFault> {
@@ -43,13 +43,12 @@ fn run<T: Threads + Wait + Sync + Clock, W: Write, E: Write>(
     let three: TestBox = Box::new(alloc, move |alloc: Global| fits(alloc))?;
     tests.dynamic(factory, "three", three)?;
     let nobody = &mut Nobody;
-    run_tests_main(rt, rt, alloc, words, is_terminal, tests, writer, errors, nobody)
+    run_tests_main(rt, alloc, words, is_drawn, tests, writer, errors, nobody)
 }
 
 fn main(rt: HostRuntime) -> ExitCode {
-    let (words, errors) = (std::env::args(&rt), &mut rt.stderr());
-    let is_terminal = is_drawn_on(&rt, errors);
-    let writer = &mut io::writer(&rt);
-    let run = run(&rt, rt.alloc(), words, is_terminal, writer, errors);
+    let (words, writer, errors) = (std::env::args(&rt), &mut io::writer(&rt), &mut rt.stderr());
+    let is_drawn = is_drawn_on(&rt, errors);
+    let run = run(&rt, rt.alloc(), words, is_drawn, writer, errors);
     exit_code(run, errors)
 }
