@@ -1,6 +1,6 @@
 //! What the program does with a row.
 
-use crate::cutting::Cutting;
+use crate::output::Output;
 use crate::own_tests::run_own_tests;
 use crate::rows::push_line;
 use crate::still_clock::StillClock;
@@ -23,6 +23,24 @@ enum Asks {
     SecondWorker,
     /// What stands on standard error, where tests of the table's own are run.
     OwnTests,
+}
+
+impl Asks {
+    /// How many bytes the output takes.
+    fn room(self) -> usize {
+        match self {
+            Asks::Cut(room) => room,
+            _ => usize::MAX,
+        }
+    }
+
+    /// Whether what stands on standard error follows.
+    fn shows_errors(self) -> bool {
+        match self {
+            Asks::Nothing | Asks::SecondWorker => false,
+            Asks::Errors | Asks::Terminal | Asks::Cut(_) | Asks::OwnTests => true,
+        }
+    }
 }
 
 /// The words of a row, and what it asks for, if the line begins one.
@@ -65,25 +83,28 @@ fn end_line(alloc: Global, ending: Ending) -> Result<String, AllocError> {
 }
 
 /// Appends how a run ended, where no line of a refusal says so.
-fn push_end(alloc: Global, answers: &mut Vec<u8>, ending: Ending) -> Result<(), AllocError> {
+fn push_end(alloc: Global, answers: &mut Output, ending: Ending) -> Result<(), AllocError> {
     if ending.status == 255 && ending.is_printed && ending.is_told {
         return Ok(());
     }
-    answers.extend_from_slice(end_line(alloc, ending)?.as_bytes())
+    answers.push(end_line(alloc, ending)?.as_bytes())
 }
 
 /// Runs the program with these words on a suite, as `main` does where standard error is a terminal or
 /// is none, and appends what it writes, and how it ends. On a terminal nothing is drawn by the time.
+/// Behind an output that takes so many bytes stands how it ended in any case.
 fn push_run<T: Threads + Wait + Sync>(
     rt: &T,
     alloc: Global,
-    answers: &mut Vec<u8>,
+    answers: &mut Output,
     errors: &mut Vec<u8>,
     words: Vec<String>,
-    is_terminal: bool,
     mut suite: &[u8],
+    asks: Asks,
 ) -> Result<(), AllocError> {
+    let is_terminal = asks == Asks::Terminal;
     let (clock, words) = (StillClock, Ok(words.into_iter()));
+    answers.room = asks.room();
     let ending = run_main(
         rt,
         clock,
@@ -94,49 +115,24 @@ fn push_run<T: Threads + Wait + Sync>(
         answers,
         errors,
     );
-    push_end(alloc, answers, ending)
-}
-
-/// What `push_run` does without a terminal, with an output that takes so many bytes, and then fails.
-fn push_cut<T: Threads + Wait + Sync>(
-    rt: &T,
-    alloc: Global,
-    answers: &mut Vec<u8>,
-    errors: &mut Vec<u8>,
-    words: Vec<String>,
-    mut suite: &[u8],
-    room: usize,
-) -> Result<(), AllocError> {
-    let mut output = Cutting {
-        taken: Vec::new(alloc),
-        room,
-    };
-    let (clock, words) = (StillClock, Ok(words.into_iter()));
-    let ending = run_main(
-        rt,
-        clock,
-        alloc,
-        words,
-        false,
-        &mut suite,
-        &mut output,
-        errors,
-    );
-    answers.extend_from_slice(output.taken.as_slice())?;
-    answers.extend_from_slice(end_line(alloc, ending)?.as_bytes())
+    match asks {
+        Asks::Cut(_) => answers.push(end_line(alloc, ending)?.as_bytes()),
+        _ => push_end(alloc, answers, ending),
+    }
 }
 
 /// What `push_run` does, with tests of the table's own in place of a suite.
 fn push_own_tests<T: Threads + Wait + Sync>(
     rt: &T,
     alloc: Global,
-    answers: &mut Vec<u8>,
+    answers: &mut Output,
     errors: &mut Vec<u8>,
     words: &[String],
 ) -> Result<(), AllocError> {
+    answers.room = usize::MAX;
     match run_own_tests(rt, alloc, words, answers, errors) {
         Ok(ending) => push_end(alloc, answers, ending),
-        Err(_) => answers.extend_from_slice(b"not built\n"),
+        Err(_) => answers.push(b"not built\n"),
     }
 }
 
@@ -148,74 +144,74 @@ fn is_of_second(feed: &[u8]) -> bool {
     }
 }
 
-/// Whether the feed of one of so many runs has a line of the second worker.
+/// Whether the feed of one of a hundred runs has a line of the second worker.
 fn has_second<T: Threads + Wait + Sync>(
     rt: &T,
     alloc: Global,
     words: &[String],
     suite: &[u8],
-    runs: u32,
-) -> Result<bool, AllocError> {
-    for _ in 0..runs {
-        let mut feed = Vec::new(alloc);
+) -> bool {
+    for _ in 0..100 {
+        let mut feed = Output::new(alloc);
         let mut errors = Vec::new(alloc);
         run_words(rt, alloc, words, &mut &*suite, &mut feed, &mut errors);
-        if is_of_second(feed.as_slice()) {
-            return Ok(true);
+        if is_of_second(feed.taken.as_slice()) {
+            return true;
         }
     }
-    Ok(false)
+    false
+}
+
+/// Appends whether a second worker does something.
+fn push_second<T: Threads + Wait + Sync>(
+    rt: &T,
+    alloc: Global,
+    answers: &mut Output,
+    words: &[String],
+    suite: &[u8],
+) -> Result<(), AllocError> {
+    let said = if has_second(rt, alloc, words, suite) {
+        "a second worker\n"
+    } else {
+        "no second worker\n"
+    };
+    answers.push(said.as_bytes())
 }
 
 /// Appends what a row asks for.
 fn push_asked<T: Threads + Wait + Sync>(
     rt: &T,
     alloc: Global,
-    answers: &mut Vec<u8>,
+    answers: &mut Output,
     words: Vec<String>,
     suite: &[u8],
     asks: Asks,
 ) -> Result<(), AllocError> {
     let mut errors = Vec::new(alloc);
     match asks {
-        Asks::Nothing => push_run(rt, alloc, answers, &mut errors, words, false, suite),
-        Asks::Errors | Asks::Terminal => {
-            let is_terminal = asks == Asks::Terminal;
-            push_run(rt, alloc, answers, &mut errors, words, is_terminal, suite)?;
-            answers.extend_from_slice(errors.as_slice())
-        }
-        Asks::Cut(room) => {
-            push_cut(rt, alloc, answers, &mut errors, words, suite, room)?;
-            answers.extend_from_slice(errors.as_slice())
-        }
-        Asks::SecondWorker => {
-            let said = if has_second(rt, alloc, words.as_slice(), suite, 100)? {
-                "a second worker\n"
-            } else {
-                "no second worker\n"
-            };
-            answers.extend_from_slice(said.as_bytes())
-        }
-        Asks::OwnTests => {
-            push_own_tests(rt, alloc, answers, &mut errors, words.as_slice())?;
-            answers.extend_from_slice(errors.as_slice())
-        }
+        Asks::SecondWorker => push_second(rt, alloc, answers, words.as_slice(), suite)?,
+        Asks::OwnTests => push_own_tests(rt, alloc, answers, &mut errors, words.as_slice())?,
+        _ => push_run(rt, alloc, answers, &mut errors, words, suite, asks)?,
     }
+    if asks.shows_errors() {
+        answers.push(errors.as_slice())?;
+    }
+    Ok(())
 }
 
 /// Appends a row's line, and what it asks for.
 pub(crate) fn push_answer<T: Threads + Wait + Sync>(
     rt: &T,
     alloc: Global,
-    answers: &mut Vec<u8>,
+    answers: &mut Output,
     line: &str,
     suite: &[u8],
 ) -> Result<(), AllocError> {
     let Some((said, asks)) = row_of(line) else {
         return Ok(());
     };
-    answers.extend_from_slice(line.as_bytes())?;
-    answers.push(b'\n')?;
+    answers.push(line.as_bytes())?;
+    answers.push(b"\n")?;
     let mut words = Vec::new(alloc);
     push_line(alloc, &mut words, said)?;
     push_asked(rt, alloc, answers, words, suite, asks)

@@ -8,7 +8,7 @@
 #![tactic(auto)]
 
 mod answers;
-mod cutting;
+mod output;
 mod own_tests;
 mod rows;
 mod still_clock;

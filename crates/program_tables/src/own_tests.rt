@@ -1,8 +1,9 @@
 //! Tests of the table's own.
 
-use command_line::Ending;
+use crate::output::Output;
 use harness::{
-    BuildFault, Checked, LockMode, Mode, TestBox, Tests, assume, check_same, run_tests_by_words,
+    BuildFault, Checked, Ending, LockMode, Mode, TestBox, Tests, assume, check_same,
+    run_tests_by_words,
 };
 use std::alloc::Global;
 use std::sync::Wait;
@@ -25,7 +26,7 @@ pub(crate) fn run_own_tests<T: Threads + Wait + Sync>(
     rt: &T,
     alloc: Global,
     words: &[String],
-    answers: &mut Vec<u8>,
+    answers: &mut Output,
     errors: &mut Vec<u8>,
 ) -> Result<Ending, BuildFault> {
     let mut tests = Tests::new(alloc)?;

@@ -1,6 +1,7 @@
 //! What was read and answered so far.
 
 use crate::answers::{begins_row, push_answer};
+use crate::output::Output;
 use crate::rows::push_suite_line;
 use std::alloc::{AllocError, Global};
 use std::sync::Wait;
@@ -11,7 +12,7 @@ use std::thread::Threads;
 pub(crate) struct Table {
     row: String,
     suite: Vec<u8>,
-    answers: Vec<u8>,
+    answers: Output,
 }
 
 impl Table {
@@ -20,7 +21,7 @@ impl Table {
         Table {
             row: String::new(alloc),
             suite: Vec::new(alloc),
-            answers: Vec::new(alloc),
+            answers: Output::new(alloc),
         }
     }
 
@@ -55,8 +56,8 @@ impl Table {
         title: &str,
     ) -> Result<(), AllocError> {
         self.begin(rt, alloc, "")?;
-        self.answers.extend_from_slice(title.as_bytes())?;
-        self.answers.extend_from_slice(b"\n")
+        self.answers.push(title.as_bytes())?;
+        self.answers.push(b"\n")
     }
 
     /// Reads a line: a title, that of the next row, or one of the row's suite.
@@ -77,6 +78,6 @@ impl Table {
 
     /// The answers.
     pub(crate) fn answers(&self) -> &[u8] {
-        self.answers.as_slice()
+        self.answers.taken.as_slice()
     }
 }
