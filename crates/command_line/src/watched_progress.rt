@@ -16,8 +16,7 @@ pub(crate) struct WatchedProgress<'e, 'c, 's, 'f, 'v, E: Write, C: Clock, V: Wat
 }
 
 impl<'e, 'c, 's, 'f, 'v, E: Write, C: Clock, V: Watcher> Watcher
-    for WatchedProgress<'e, 'c, 's, 'f, 'v, E, C, V>
-{
+    for WatchedProgress<'e, 'c, 's, 'f, 'v, E, C, V> {
     ghost use Rattle.command_line.specs.DrawnRuns.{HasDrawn};
 
     ghost saw = { HasDrawn E.contents };

@@ -155,9 +155,7 @@ fn run_tests_drawn<T: Threads + Wait + Sync, C: Clock + Drop, W: Write, E: Write
         × (errors.new ≡ errors.old) × (watcher.new ≡ watcher.old)) }
 {
     let program = program_of(alloc, tests)?;
-    Ok(run_test_program_on_terminal(
-        rt, clock, alloc, words, program, writer, errors, watcher,
-    ))
+    Ok(run_test_program_on_terminal(rt, clock, alloc, words, program, writer, errors, watcher))
 }
 
 /// Does what `run_tests` does, where the other writer is a terminal. On it stands how far the run has
@@ -184,9 +182,7 @@ pub fn run_tests_on_terminal<T: Threads + Wait + Sync, C: Clock + Drop, W: Write
         × (errors.new ≡ errors.old)) }
 {
     let mut nobody = Nobody;
-    run_tests_drawn(
-        rt, clock, alloc, words, tests, writer, errors, &mut nobody,
-    )
+    run_tests_drawn(rt, clock, alloc, words, tests, writer, errors, &mut nobody)
 }
 
 /// All of a program of one's own tests but the handles that `main` gets of the system: what

@@ -101,7 +101,15 @@ fn main(rt: HostRuntime) -> ExitCode {
     let (words, writer, errors) = (std::env::args(&rt), &mut io::writer(&rt), &mut rt.stderr());
     let is_drawn = is_drawn_on(&rt, errors);
     let mut failures = FailuresByClass::new(rt.alloc());
-    let run = run(&rt, rt.alloc(), words, is_drawn, writer, errors, &mut failures);
+    let run = run(
+        &rt,
+        rt.alloc(),
+        words,
+        is_drawn,
+        writer,
+        errors,
+        &mut failures,
+    );
     failures.print(writer);
     exit_code(run, errors)
 }
