@@ -6,7 +6,8 @@ ghost use Rattle.scheduling.specs.Rows.{is_of_hand as is_of_hand_of};
 ghost use Rattle.scheduling.specs.declared.status.NodeStatus.TheVariants.{Settled};
 ghost use Rattle.scheduling.specs.declared.task.Task.TheVariants.{Free};
 ghost use Rattle.table_rule.specs.Moments.{HasFound};
-ghost use Rattle.table_rule.specs.Plays.{worker, claimed_seat, finds_over};
+ghost use Rattle.table_rule.specs.Plays.{claimed_seat, finds_over};
+ghost use Rattle.run_table.specs.Handles.{plan_at, view_at, worker_at};
 ghost use Rattle.run_table.specs.Reading.{status_read};
 ghost use Rattle.run_table.specs.Seats.{IsSeatOf, IsMove, SameSeat, seated};
 
@@ -26,8 +27,8 @@ impl<B: Job> WorkerSeat<B> {
         requires { IsSeatOf table.now.table self.old.seat }
         ensures same { SameSeat self.old.seat self.new.seat }
         ensures done { IfOk result (λ t. (self.old.task ≡ Free) × (self.old.hand ≡ None)
-            × (node < size self.old.seat.me.0.about.plan.tree) × IsMove self.old.seat self.new.seat
-            (claimed_seat self.old.seat.me.0.about.plan (seated self.old.task self.old.hand) node) t) }
+            × (node < size (plan_at self.old.seat).tree) × IsMove self.old.seat self.new.seat
+            (claimed_seat (plan_at self.old.seat) (seated self.old.task self.old.hand) node) t) }
         ensures refused { IfErr result (λ _. self.new.seat.me ≡ self.old.seat.me) }
     {
         let (Task::Free, None) = (self.task, self.hand) else {
@@ -57,9 +58,9 @@ impl<B: Job> WorkerSeat<B> {
         requires { IsSeatOf table.now.table self.old.seat }
         ensures same { SameSeat self.old.seat self.new.seat }
         ensures done { IfOk result (λ t. (self.old.task ≡ Free)
-            × (is_of_hand_of self.old.seat.me.0.about.plan self.old.hand node ≡ true)
-            × (node < size self.old.seat.me.0.about.plan.tree) × IsMove self.old.seat self.new.seat
-            (claimed_seat self.old.seat.me.0.about.plan (seated self.old.task self.old.hand) node) t) }
+            × (is_of_hand_of (plan_at self.old.seat) self.old.hand node ≡ true)
+            × (node < size (plan_at self.old.seat).tree) × IsMove self.old.seat self.new.seat
+            (claimed_seat (plan_at self.old.seat) (seated self.old.task self.old.hand) node) t) }
         ensures refused { IfErr result (λ _. self.new.seat.me ≡ self.old.seat.me) }
     {
         let Task::Free = self.task else {
@@ -88,11 +89,11 @@ impl<B: Job> WorkerSeat<B> {
         requires { IsSeatOf table.now.table self.old.seat }
         ensures same { SameSeat self.old.seat self.new.seat }
         ensures done { IfOk result (λ s. (word : ℕ) × (s ≡ status_read word)
-            × (worker self.new.seat.me.0 ≡ finds_over ((node == 0) && (word == 1)) (worker self.old.seat.me.0))) }
-        ensures found { IfOk result (λ s. HasFound B.answers self.new.seat.me.0 node s) }
-        ensures over { IfOk result (λ s. node ≡ 0 → s ≡ Settled → (worker self.new.seat.me.0).over ≡ true) }
+            × (worker_at self.new.seat ≡ finds_over ((node == 0) && (word == 1)) (worker_at self.old.seat))) }
+        ensures found { IfOk result (λ s. HasFound B.answers (view_at self.new.seat) node s) }
+        ensures over { IfOk result (λ s. node ≡ 0 → s ≡ Settled → (worker_at self.new.seat).over ≡ true) }
         ensures refused { IfErr result (λ _. (self.new.seat.me ≡ self.old.seat.me)
-            × (self.old.task ≡ Free → node < size self.old.seat.me.0.about.plan.tree → ⊥)) }
+            × (self.old.task ≡ Free → node < size (plan_at self.old.seat).tree → ⊥)) }
     {
         let Task::Free = self.task else {
             return Err(NotEnabled);

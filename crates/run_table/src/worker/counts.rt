@@ -10,9 +10,10 @@ ghost use Rattle.scheduling.specs.declared.task.Opening.TheVariants.{Registering
 ghost use Rattle.scheduling.specs.declared.task.Closing.TheVariants.{AwaitingAfter, CountingOff};
 ghost use Rattle.scheduling.specs.declared.task.Task.TheVariants.{Free, Opens, Closes};
 ghost use Rattle.scheduling.specs.Due.{IsChildDue};
-ghost use Rattle.table_rule.specs.Plays.{worker, outstanding_in, result_in, ready_in, Guard, guard_due, ended_seat};
+ghost use Rattle.table_rule.specs.Plays.{outstanding_in, result_in, Guard, guard_due, ended_seat};
 ghost use Rattle.table_rule.specs.Slots.{after_slot, made_of};
 ghost use Rattle.table_rule.specs.declared.view.Shelf.TheVariants.{Unmoved};
+ghost use Rattle.run_table.specs.Handles.{plan_at, ready_at, worker_at};
 ghost use Rattle.run_table.specs.Seats.{IsSeatOf, IsMove, SameSeat, seated, IsReadyMove, IsDone, guard_to};
 ghost use Rattle.plan_events.specs.declared.status.Status.TheVariants.{Successful};
 ghost use Rattle.table_rule.specs.Words.{result_number};
@@ -33,12 +34,12 @@ impl<B: Job> WorkerSeat<B> {
         requires { IsSeatOf table.now.table self.old.seat }
         ensures same { SameSeat self.old.seat self.new.seat }
         ensures done { IfOk result (λ t. (h : HandValue) × (n : ℕ) × (self.old.task ≡ Free) × (self.old.hand ≡ Some h)
-            × (h.waiting ≡ None) × (next_spare_of self.old.seat.me.0.about.plan h.factory h.registered ≡ Some n)
+            × (h.waiting ≡ None) × (next_spare_of (plan_at self.old.seat) h.factory h.registered ≡ Some n)
             × IsMove self.old.seat self.new.seat
             (with_task (seated self.old.task self.old.hand) (Opens n Registering)) t) }
         ensures refused { IfErr result (λ _. (self.new.seat.me ≡ self.old.seat.me)
             × ((h : HandValue) (n : ℕ) → self.old.task ≡ Free → self.old.hand ≡ Some h → h.waiting ≡ None →
-            next_spare_of self.old.seat.me.0.about.plan h.factory h.registered ≡ Some n → ⊥)) }
+            next_spare_of (plan_at self.old.seat) h.factory h.registered ≡ Some n → ⊥)) }
     {
         let Some((held, child)) = due_child(&table.plan, self.task, self.hand) else {
             return Err(NotEnabled);
@@ -51,10 +52,10 @@ impl<B: Job> WorkerSeat<B> {
     pub fn add_child_due(&mut self, table: &RunTable<B>)
         requires table { IsSeatOf table.now.table self.old.seat }
         requires due { (h : HandValue) × (n : ℕ)
-            × IsChildDue self.old.seat.me.0.about.plan self.old.task self.old.hand h n }
+            × IsChildDue (plan_at self.old.seat) self.old.task self.old.hand h n }
         ensures same { SameSeat self.old.seat self.new.seat }
         ensures done { (h : HandValue) × (n : ℕ)
-            × IsChildDue self.old.seat.me.0.about.plan self.old.task self.old.hand h n
+            × IsChildDue (plan_at self.old.seat) self.old.task self.old.hand h n
             × IsMove self.old.seat self.new.seat
             (with_task (seated self.old.task self.old.hand) (Opens n Registering)) self.new.task }
     {
@@ -67,7 +68,7 @@ impl<B: Job> WorkerSeat<B> {
     /// Registers this dynamic test, the next one of the factory in hand.
     fn add_next(&mut self, table: &RunTable<B>, held: &Hand, child: NodeId)
         requires table { IsSeatOf table.now.table self.old.seat }
-        requires due { IsChildDue self.old.seat.me.0.about.plan self.old.task self.old.hand held.now child }
+        requires due { IsChildDue (plan_at self.old.seat) self.old.task self.old.hand held.now child }
         ensures same { SameSeat self.old.seat self.new.seat }
         ensures done { IsMove self.old.seat self.new.seat
             (with_task (seated self.old.task self.old.hand) (Opens child Registering)) self.new.task }
@@ -87,10 +88,10 @@ impl<B: Job> WorkerSeat<B> {
         ensures same { SameSeat self.old.seat self.new.seat }
         ensures done { (n word : ℕ) × (self.old.task ≡ Closes n CountingOff) × IsMove self.old.seat self.new.seat
             (with_task (seated self.old.task self.old.hand)
-            (ends_or_free_of self.old.seat.me.0.about.plan (parent_of self.old.seat.me.0.about.plan.tree n)
+            (ends_or_free_of (plan_at self.old.seat) (parent_of (plan_at self.old.seat).tree n)
             (result_in word) (outstanding_in word))) self.new.task }
-        ensures after { (n : ℕ) → self.new.task ≡ Closes n AwaitingAfter → made_of (worker self.old.seat.me.0).slots
-            (after_slot self.old.seat.me.0.about.plan n) ≡ Unmoved }
+        ensures after { (n : ℕ) → self.new.task ≡ Closes n AwaitingAfter → made_of (worker_at self.old.seat).slots
+            (after_slot (plan_at self.old.seat) n) ≡ Unmoved }
     {
         let Some(node) = counted_off(self.task) else {
             unreachable!()
@@ -105,10 +106,10 @@ impl<B: Job> WorkerSeat<B> {
         ensures same { SameSeat self.old.seat self.new.seat }
         ensures done { (word : ℕ) × IsMove self.old.seat self.new.seat
             (with_task (seated self.old.task self.old.hand)
-            (ends_or_free_of self.old.seat.me.0.about.plan (parent_of self.old.seat.me.0.about.plan.tree node)
+            (ends_or_free_of (plan_at self.old.seat) (parent_of (plan_at self.old.seat).tree node)
             (result_in word) (outstanding_in word))) self.new.task }
-        ensures after { (n : ℕ) → self.new.task ≡ Closes n AwaitingAfter → made_of (worker self.old.seat.me.0).slots
-            (after_slot self.old.seat.me.0.about.plan n) ≡ Unmoved }
+        ensures after { (n : ℕ) → self.new.task ≡ Closes n AwaitingAfter → made_of (worker_at self.old.seat).slots
+            (after_slot (plan_at self.old.seat) n) ≡ Unmoved }
     {
         let Some(parent) = table.plan.tree().parent(node) else {
             unreachable!()
@@ -128,14 +129,14 @@ impl<B: Job> WorkerSeat<B> {
     fn give_good_guard(&mut self, table: &RunTable<B>, node: NodeId, hand: Option<Hand>)
         requires table { IsSeatOf table.now.table self.old.seat }
         requires inside { node < size table.now.plan.tree }
-        requires due { guard_due self.old.seat.me.0.about.plan (ready_in self.old.seat.me.0).answer
-            (ready_in self.old.seat.me.0).seat (ready_in self.old.seat.me.0).seat.task ≡ Some
+        requires due { guard_due (plan_at self.old.seat) (ready_at self.old.seat).answer
+            (ready_at self.old.seat).seat (ready_at self.old.seat).seat.task ≡ Some
             (guard_to node Successful hand) }
         ensures same { SameSeat self.old.seat self.new.seat }
         ensures done { (outstanding : ℕ) × IsReadyMove self.old.seat self.new.seat
-            (ended_seat self.old.seat.me.0.about.plan (guard_to node Successful hand) outstanding) self.new.task }
-        ensures after { (n : ℕ) → self.new.task ≡ Closes n AwaitingAfter → made_of (worker self.old.seat.me.0).slots
-            (after_slot self.old.seat.me.0.about.plan n) ≡ Unmoved }
+            (ended_seat (plan_at self.old.seat) (guard_to node Successful hand) outstanding) self.new.task }
+        ensures after { (n : ℕ) → self.new.task ≡ Closes n AwaitingAfter → made_of (worker_at self.old.seat).slots
+            (after_slot (plan_at self.old.seat) n) ≡ Unmoved }
     {
         let word = table
             .table
@@ -158,15 +159,15 @@ impl<B: Job> WorkerSeat<B> {
     )
         requires table { IsSeatOf table.now.table self.old.seat }
         requires inside { node < size table.now.plan.tree }
-        requires due { guard_due self.old.seat.me.0.about.plan (ready_in self.old.seat.me.0).answer
-            (ready_in self.old.seat.me.0).seat (ready_in self.old.seat.me.0).seat.task ≡ Some
+        requires due { guard_due (plan_at self.old.seat) (ready_at self.old.seat).answer
+            (ready_at self.old.seat).seat (ready_at self.old.seat).seat.task ≡ Some
             (guard_to node ending hand) }
         requires more { more + 1 ≡ 65536 * result_number ending }
         ensures same { SameSeat self.old.seat self.new.seat }
         ensures done { (outstanding : ℕ) × IsReadyMove self.old.seat self.new.seat
-            (ended_seat self.old.seat.me.0.about.plan (guard_to node ending hand) outstanding) self.new.task }
-        ensures after { (n : ℕ) → self.new.task ≡ Closes n AwaitingAfter → made_of (worker self.old.seat.me.0).slots
-            (after_slot self.old.seat.me.0.about.plan n) ≡ Unmoved }
+            (ended_seat (plan_at self.old.seat) (guard_to node ending hand) outstanding) self.new.task }
+        ensures after { (n : ℕ) → self.new.task ≡ Closes n AwaitingAfter → made_of (worker_at self.old.seat).slots
+            (after_slot (plan_at self.old.seat) n) ≡ Unmoved }
     {
         let word = table
             .table
@@ -182,14 +183,14 @@ impl<B: Job> WorkerSeat<B> {
     fn give_guard(&mut self, table: &RunTable<B>, node: NodeId, ending: Status, hand: Option<Hand>)
         requires table { IsSeatOf table.now.table self.old.seat }
         requires inside { node < size table.now.plan.tree }
-        requires due { guard_due self.old.seat.me.0.about.plan (ready_in self.old.seat.me.0).answer
-            (ready_in self.old.seat.me.0).seat (ready_in self.old.seat.me.0).seat.task ≡ Some
+        requires due { guard_due (plan_at self.old.seat) (ready_at self.old.seat).answer
+            (ready_at self.old.seat).seat (ready_at self.old.seat).seat.task ≡ Some
             (guard_to node ending hand) }
         ensures same { SameSeat self.old.seat self.new.seat }
         ensures done { (outstanding : ℕ) × IsReadyMove self.old.seat self.new.seat
-            (ended_seat self.old.seat.me.0.about.plan (guard_to node ending hand) outstanding) self.new.task }
-        ensures after { (n : ℕ) → self.new.task ≡ Closes n AwaitingAfter → made_of (worker self.old.seat.me.0).slots
-            (after_slot self.old.seat.me.0.about.plan n) ≡ Unmoved }
+            (ended_seat (plan_at self.old.seat) (guard_to node ending hand) outstanding) self.new.task }
+        ensures after { (n : ℕ) → self.new.task ≡ Closes n AwaitingAfter → made_of (worker_at self.old.seat).slots
+            (after_slot (plan_at self.old.seat) n) ≡ Unmoved }
     {
         match ending {
             Status::Successful => self.give_good_guard(table, node, hand),
@@ -201,16 +202,16 @@ impl<B: Job> WorkerSeat<B> {
     /// Gives up the guard that is due.
     pub fn give_guard_due(&mut self, table: &RunTable<B>)
         requires table { IsSeatOf table.now.table self.old.seat }
-        requires due { guard_due self.old.seat.me.0.about.plan (ready_in self.old.seat.me.0).answer
-            (ready_in self.old.seat.me.0).seat (ready_in self.old.seat.me.0).seat.task ≢ None }
+        requires due { guard_due (plan_at self.old.seat) (ready_at self.old.seat).answer
+            (ready_at self.old.seat).seat (ready_at self.old.seat).seat.task ≢ None }
         ensures same { SameSeat self.old.seat self.new.seat }
         ensures done { (g : Guard) × (outstanding : ℕ)
-            × (guard_due self.old.seat.me.0.about.plan (ready_in self.old.seat.me.0).answer
-            (ready_in self.old.seat.me.0).seat (ready_in self.old.seat.me.0).seat.task ≡ Some g)
+            × (guard_due (plan_at self.old.seat) (ready_at self.old.seat).answer
+            (ready_at self.old.seat).seat (ready_at self.old.seat).seat.task ≡ Some g)
             × IsReadyMove self.old.seat self.new.seat
-            (ended_seat self.old.seat.me.0.about.plan g outstanding) self.new.task }
-        ensures after { (n : ℕ) → self.new.task ≡ Closes n AwaitingAfter → made_of (worker self.old.seat.me.0).slots
-            (after_slot self.old.seat.me.0.about.plan n) ≡ Unmoved }
+            (ended_seat (plan_at self.old.seat) g outstanding) self.new.task }
+        ensures after { (n : ℕ) → self.new.task ≡ Closes n AwaitingAfter → made_of (worker_at self.old.seat).slots
+            (after_slot (plan_at self.old.seat) n) ≡ Unmoved }
     {
         let Some(due) = due_guard(&table.plan, self.answer, self.ready_task(table), self.hand)
         else {
@@ -228,12 +229,12 @@ impl<B: Job> WorkerSeat<B> {
         ensures same { SameSeat self.old.seat self.new.seat }
         ensures done { IfOk result (λ t. IsDone self.old.seat self.new.seat self.old.task self.old.hand t) }
         ensures after { IfOk result (λ t. (n : ℕ) → t ≡ Closes n AwaitingAfter →
-            made_of (worker self.old.seat.me.0).slots (after_slot self.old.seat.me.0.about.plan n) ≡ Unmoved) }
+            made_of (worker_at self.old.seat).slots (after_slot (plan_at self.old.seat) n) ≡ Unmoved) }
         ensures refused { IfErr result (λ _. self.new.seat.me ≡ self.old.seat.me) }
         ensures counts { IfErr result (λ _. (n : ℕ) → self.old.task ≡ Closes n CountingOff → ⊥) }
-        ensures guards { IfErr result (λ _. guard_due self.old.seat.me.0.about.plan
-            (ready_in self.old.seat.me.0).answer (ready_in self.old.seat.me.0).seat
-            (ready_in self.old.seat.me.0).seat.task ≡ None) }
+        ensures guards { IfErr result (λ _. guard_due (plan_at self.old.seat)
+            (ready_at self.old.seat).answer (ready_at self.old.seat).seat
+            (ready_at self.old.seat).seat.task ≡ None) }
     {
         if let Some(node) = counted_off(self.task) {
             self.count_off(table, node);

@@ -6,8 +6,9 @@ ghost use Rattle.resource_locks.specs.Plans.{PlanParts};
 ghost use Rattle.scheduling.specs.Choices.{awaited as awaited_of};
 ghost use Rattle.table_rule.specs.Slots.{made_of, slot_due, job_at, slot_count, job_with};
 ghost use Rattle.table_rule.specs.Picture.{replies_in};
-ghost use Rattle.table_rule.specs.Plays.{worker, makes};
+ghost use Rattle.table_rule.specs.Plays.{makes};
 ghost use Rattle.table_rule.specs.declared.view.Shelf.TheVariants.{Unmoved, Out, Left, Noted};
+ghost use Rattle.run_table.specs.Handles.{about_at, plan_at, worker_at};
 ghost use Rattle.run_table.specs.Moved.{is_moved, job_slot as job_slot_of};
 ghost use Rattle.run_table.specs.Seats.{IsSeatOf, SameSeat, seated};
 ghost use Rattle.plan_events.specs.declared.outcome.Reply.{Reply as ReplyValue};
@@ -46,7 +47,7 @@ impl<B: Job> WorkerSeat<B> {
     /// Whether it has moved this slot.
     fn has_moved(&self, slot: usize) -> bool
         requires { slot < 8192 }
-        ensures { result ≡ is_moved (made_of (worker self.now.seat.me.0).slots slot) }
+        ensures { result ≡ is_moved (made_of (worker_at self.now.seat).slots slot) }
     {
         self.moved.has(slot)
     }
@@ -55,16 +56,16 @@ impl<B: Job> WorkerSeat<B> {
     fn take_job(&mut self, table: &RunTable<B>, slot: usize) -> B
         requires table { IsSeatOf table.now.table self.old.seat }
         requires small { slot < 8192 }
-        requires inside { slot < slot_count self.old.seat.me.0.about.plan }
-        requires due { slot_due self.old.seat.me.0.about.plan (worker self.old.seat.me.0).seat
-            (worker self.old.seat.me.0).seat.task ≡ Some slot }
-        requires unmoved { made_of (worker self.old.seat.me.0).slots slot ≡ Unmoved }
-        requires job { (number : ℕ) × (job_at self.old.seat.me.0.about.plan slot ≡ Some number) }
+        requires inside { slot < slot_count (plan_at self.old.seat) }
+        requires due { slot_due (plan_at self.old.seat) (worker_at self.old.seat).seat
+            (worker_at self.old.seat).seat.task ≡ Some slot }
+        requires unmoved { made_of (worker_at self.old.seat).slots slot ≡ Unmoved }
+        requires job { (number : ℕ) × (job_at (plan_at self.old.seat) slot ≡ Some number) }
         ensures same { SameSeat self.old.seat self.new.seat }
-        ensures job { (number : ℕ) × (job_at self.old.seat.me.0.about.plan slot ≡ Some number)
-            × (job_with self.old.seat.me.0.about.jobs number ≡ Some result) }
-        ensures left { worker self.new.seat.me.0 ≡ makes slot Left None
-            (makes slot Out None (worker self.old.seat.me.0)) }
+        ensures job { (number : ℕ) × (job_at (plan_at self.old.seat) slot ≡ Some number)
+            × (job_with (about_at self.old.seat).jobs number ≡ Some result) }
+        ensures left { worker_at self.new.seat ≡ makes slot Left None
+            (makes slot Out None (worker_at self.old.seat)) }
         ensures task { self.new.task ≡ self.old.task }
         ensures hand { self.new.hand ≡ self.old.hand }
     {
@@ -90,18 +91,18 @@ impl<B: Job> WorkerSeat<B> {
         ensures task { self.new.task ≡ self.old.task }
         ensures hand { self.new.hand ≡ self.old.hand }
         ensures some { IfSome result (λ b. (slot : ℕ) × (number : ℕ)
-            × (job_slot_of self.old.seat.me.0.about.plan self.old.task self.old.hand node ≡ Some slot)
-            × (made_of (worker self.old.seat.me.0).slots slot ≡ Unmoved)
-            × (awaited_of self.old.seat.me.0.about.plan (seated self.old.task self.old.hand) self.old.task ≡ Some
-            number) × (job_with self.old.seat.me.0.about.jobs number ≡ Some b)
-            × (worker self.new.seat.me.0 ≡ makes slot Left None (makes slot Out None (worker self.old.seat.me.0)))) }
+            × (job_slot_of (plan_at self.old.seat) self.old.task self.old.hand node ≡ Some slot)
+            × (made_of (worker_at self.old.seat).slots slot ≡ Unmoved)
+            × (awaited_of (plan_at self.old.seat) (seated self.old.task self.old.hand) self.old.task ≡ Some
+            number) × (job_with (about_at self.old.seat).jobs number ≡ Some b)
+            × (worker_at self.new.seat ≡ makes slot Left None (makes slot Out None (worker_at self.old.seat)))) }
         ensures replies { IfSome result
-            (λ b. (number : ℕ) → awaited_of self.old.seat.me.0.about.plan (seated self.old.task self.old.hand)
-            self.old.task ≡ Some number → replies_in B.answers self.old.seat.me.0.about.jobs number ≡ B.answers b) }
+            (λ b. (number : ℕ) → awaited_of (plan_at self.old.seat) (seated self.old.task self.old.hand)
+            self.old.task ≡ Some number → replies_in B.answers (about_at self.old.seat).jobs number ≡ B.answers b) }
         ensures none { IfNone result ((self.new.seat.me ≡ self.old.seat.me)
-            × ((slot number : ℕ) → job_slot_of self.old.seat.me.0.about.plan self.old.task self.old.hand node ≡ Some
-            slot → awaited_of self.old.seat.me.0.about.plan (seated self.old.task self.old.hand) self.old.task ≡ Some
-            number → made_of (worker self.old.seat.me.0).slots slot ≡ Unmoved → ⊥)) }
+            × ((slot number : ℕ) → job_slot_of (plan_at self.old.seat) self.old.task self.old.hand node ≡ Some
+            slot → awaited_of (plan_at self.old.seat) (seated self.old.task self.old.hand) self.old.task ≡ Some
+            number → made_of (worker_at self.old.seat).slots slot ≡ Unmoved → ⊥)) }
     {
         let Some(slot) = job_slot(table.nodes(), self.task, self.hand, node) else {
             return None;
@@ -158,17 +159,17 @@ impl<B: Job> WorkerSeat<B> {
     )
         requires table { IsSeatOf table.now.table self.old.seat }
         requires small { slot < 8192 }
-        requires inside { slot < slot_count self.old.seat.me.0.about.plan }
-        requires due { slot_due self.old.seat.me.0.about.plan (seated self.old.task self.old.hand)
+        requires inside { slot < slot_count (plan_at self.old.seat) }
+        requires due { slot_due (plan_at self.old.seat) (seated self.old.task self.old.hand)
             self.old.task ≡ Some slot }
-        requires answer { MayTell self.old.seat.me.0.about.plan (replies_in B.answers self.old.seat.me.0.about.jobs)
-            (worker self.old.seat.me.0).slots (seated self.old.task self.old.hand) slot status note }
+        requires answer { MayTell (plan_at self.old.seat) (replies_in B.answers (about_at self.old.seat).jobs)
+            (worker_at self.old.seat).slots (seated self.old.task self.old.hand) slot status note }
         requires pulls { pulls ≡ noted_pulls (registered_by self.old.task self.old.hand) note }
         ensures same { SameSeat self.old.seat self.new.seat }
-        ensures told { (reply : ReplyValue) × IsToldAs self.old.seat.me.0.about.plan
+        ensures told { (reply : ReplyValue) × IsToldAs (plan_at self.old.seat)
             (seated self.old.task self.old.hand) reply status note
-            × (worker self.new.seat.me.0 ≡ makes slot (Noted reply) (Some reply)
-            (makes slot Out None (worker self.old.seat.me.0))) }
+            × (worker_at self.new.seat ≡ makes slot (Noted reply) (Some reply)
+            (makes slot Out None (worker_at self.old.seat))) }
         ensures task { self.new.task ≡ self.old.task }
         ensures hand { self.new.hand ≡ self.old.hand }
     {
@@ -195,20 +196,20 @@ impl<B: Job> WorkerSeat<B> {
         note: Note,
     ) -> Result<(), NotEnabled>
         requires table { IsSeatOf table.now.table self.old.seat }
-        requires answer { (slot : ℕ) → job_slot_of self.old.seat.me.0.about.plan self.old.task self.old.hand
-            node ≡ Some slot → MayTell self.old.seat.me.0.about.plan
-            (replies_in B.answers self.old.seat.me.0.about.jobs) (worker self.old.seat.me.0).slots
+        requires answer { (slot : ℕ) → job_slot_of (plan_at self.old.seat) self.old.task self.old.hand
+            node ≡ Some slot → MayTell (plan_at self.old.seat)
+            (replies_in B.answers (about_at self.old.seat).jobs) (worker_at self.old.seat).slots
             (seated self.old.task self.old.hand) slot status note }
         ensures same { SameSeat self.old.seat self.new.seat }
         ensures task { self.new.task ≡ self.old.task }
         ensures hand { self.new.hand ≡ self.old.hand }
         ensures told { IfOk result (λ _. (slot : ℕ) × (reply : ReplyValue)
-            × (job_slot_of self.old.seat.me.0.about.plan self.old.task self.old.hand node ≡ Some slot)
-            × IsToldAs self.old.seat.me.0.about.plan (seated self.old.task self.old.hand) reply status note
-            × (worker self.new.seat.me.0 ≡ makes slot (Noted reply) (Some reply)
-            (makes slot Out None (worker self.old.seat.me.0)))) }
+            × (job_slot_of (plan_at self.old.seat) self.old.task self.old.hand node ≡ Some slot)
+            × IsToldAs (plan_at self.old.seat) (seated self.old.task self.old.hand) reply status note
+            × (worker_at self.new.seat ≡ makes slot (Noted reply) (Some reply)
+            (makes slot Out None (worker_at self.old.seat)))) }
         ensures refused { IfErr result (λ _. (self.new.seat.me ≡ self.old.seat.me)
-            × (job_slot_of self.old.seat.me.0.about.plan self.old.task self.old.hand node ≡ None)) }
+            × (job_slot_of (plan_at self.old.seat) self.old.task self.old.hand node ≡ None)) }
     {
         let Some(slot) = job_slot(table.nodes(), self.task, self.hand, node) else {
             return Err(NotEnabled);
