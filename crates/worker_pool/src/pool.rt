@@ -2,8 +2,7 @@
 
 ghost use Rattle.std.specs.Prelude.{◌≡◌, ◌<◌, ◌≤◌, ◌+◌, ◌↔◌, true, false, IfOk, length, vec_len};
 ghost use Rattle.std.specs.Prelude.{vec_capacity};
-ghost use Rattle.table_rule.specs.Picture.{about_of};
-ghost use Rattle.table_rule.specs.Plays.{dispatcher};
+ghost use Rattle.run_table.specs.Handles.{about_at, about_in, dispatcher_at};
 ghost use Rattle.run_table.specs.Seats.{IsSeatOf, IsOf};
 ghost use Rattle.worker_pool.specs.Premises.{MayAnswer};
 
@@ -41,9 +40,9 @@ fn deal_seat<B: Job, M: TableBrand<B>, R: Wait>(
 )
     requires { IsSeatOf shared.now.table.table seat.old.seat }
     ensures same { IsOf seat.old.seat seat.new.seat }
-    ensures read { (dispatcher seat.new.seat.me.0).read ≡ (dispatcher seat.old.seat.me.0).read }
-    ensures deals { (dispatcher seat.old.seat.me.0).dealt < seat.old.seat.me.0.about.workers
-        → (dispatcher seat.new.seat.me.0).dealt ≡ (dispatcher seat.old.seat.me.0).dealt + 1 }
+    ensures read { (dispatcher_at seat.new.seat).read ≡ (dispatcher_at seat.old.seat).read }
+    ensures deals { (dispatcher_at seat.old.seat).dealt < (about_at seat.old.seat).workers
+        → (dispatcher_at seat.new.seat).dealt ≡ (dispatcher_at seat.old.seat).dealt + 1 }
 {
     let idle = match seat.split(&shared.table) {
         Some(dealt) => Some(FreeSeat::new(dealt)),
@@ -65,7 +64,7 @@ pub struct Pool<'s, E, B: Job, M: TableBrand<B>, R> {
     gates: &'s [Gate<B, M>],
     /// Those that were started, in order.
     pub started: Vec<JoinHandle<Option<FinishedSeat<B, M>>>>,
-    ghost jobs: { MayAnswer B.answers (about_of shared.now.table.table.shared.key) },
+    ghost jobs: { MayAnswer B.answers (about_in shared.now.table.table) },
     ghost enough: { length gates.now ≤ vec_capacity started },
 }
 
@@ -84,7 +83,7 @@ impl<'s, E, B: Job + Send, M: TableBrand<B> + Send + Sync, R: Threads + Wait + S
         shared: &'s SharedTable<B, M>,
         gates: &'s [Gate<B, M>],
     ) -> Result<Pool<'s, E, B, M, R>, AllocError>
-        requires { MayAnswer B.answers (about_of shared.now.table.table.shared.key) }
+        requires { MayAnswer B.answers (about_in shared.now.table.table) }
         ensures none { IfOk result (λ p. vec_len p.started ≡ 0) }
     {
         let started = Vec::with_capacity(alloc, gates.len())?;
@@ -102,12 +101,12 @@ impl<'s, E, B: Job + Send, M: TableBrand<B> + Send + Sync, R: Threads + Wait + S
     pub fn start_next(&mut self, shared: &SharedTable<B, M>, seat: &mut DispatcherSeat<B>) -> bool
         requires { IsSeatOf shared.now.table.table seat.old.seat }
         ensures same { IsOf seat.old.seat seat.new.seat }
-        ensures read { (dispatcher seat.new.seat.me.0).read ≡ (dispatcher seat.old.seat.me.0).read }
+        ensures read { (dispatcher_at seat.new.seat).read ≡ (dispatcher_at seat.old.seat).read }
         ensures more { vec_len self.old.started ≤ vec_len self.new.started }
         ensures none { vec_len self.new.started ≡ 0 → seat.new ≡ seat.old }
         ensures one { result ≡ true → vec_len self.new.started ≡ vec_len self.old.started + 1 }
-        ensures deals { result ≡ true → (dispatcher seat.old.seat.me.0).dealt < seat.old.seat.me.0.about.workers
-            → (dispatcher seat.new.seat.me.0).dealt ≡ (dispatcher seat.old.seat.me.0).dealt + 1 }
+        ensures deals { result ≡ true → (dispatcher_at seat.old.seat).dealt < (about_at seat.old.seat).workers
+            → (dispatcher_at seat.new.seat).dealt ≡ (dispatcher_at seat.old.seat).dealt + 1 }
         ensures failed { result ≡ false → (self.new ≡ self.old) × (seat.new ≡ seat.old) }
         ensures gates { self.new.gates ≡ self.old.gates }
     {
@@ -118,7 +117,7 @@ impl<'s, E, B: Job + Send, M: TableBrand<B> + Send + Sync, R: Threads + Wait + S
         let its = self.shared;
         let Ok(handle) = self.scope.spawn(
             move || -> Option<FinishedSeat<B, M>>
-                requires { MayAnswer B.answers (about_of its.now.table.table.shared.key) }
+                requires { MayAnswer B.answers (about_in its.now.table.table) }
             { serve(rt, its, gate) },
         )
         else {
@@ -134,7 +133,7 @@ impl<'s, E, B: Job + Send, M: TableBrand<B> + Send + Sync, R: Threads + Wait + S
     pub fn start_first(&mut self, shared: &SharedTable<B, M>, seat: &mut DispatcherSeat<B>) -> usize
         requires { IsSeatOf shared.now.table.table seat.old.seat }
         ensures same { IsOf seat.old.seat seat.new.seat }
-        ensures read { (dispatcher seat.new.seat.me.0).read ≡ (dispatcher seat.old.seat.me.0).read }
+        ensures read { (dispatcher_at seat.new.seat).read ≡ (dispatcher_at seat.old.seat).read }
         ensures none { vec_len self.new.started ≡ 0 → seat.new ≡ seat.old }
         ensures all_failed { vec_len self.new.started ≡ 0 → result ≡ length self.old.gates.now }
     {
