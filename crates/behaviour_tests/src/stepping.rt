@@ -5,8 +5,7 @@ ghost use Rattle.std.specs.List.{All};
 ghost use Rattle.descriptor.specs.Nodes.{IsTree};
 ghost use Rattle.plan_events.specs.declared.outcome.Reply.{Reply};
 ghost use Rattle.scheduling.specs.declared.task.Task.TheVariants.{Free};
-ghost use Rattle.table_rule.specs.Picture.{about_of};
-ghost use Rattle.table_rule.specs.Plays.{dispatcher};
+ghost use Rattle.run_table.specs.Handles.{about_in, dispatcher_at, view_at};
 ghost use Rattle.run_table.specs.Seats.{IsSeatOf};
 ghost use Rattle.test_jobs.specs.Acting.{replies_left};
 ghost use Rattle.worker_pool.specs.Premises.{JobsMayAnswer, MayAnswer};
@@ -87,10 +86,11 @@ fn starts_are_told_when_shown(
 ) -> bool
     requires worker { IsSeatOf table.now.table worker.old.seat }
     requires dispatcher_seat { IsSeatOf table.now.table dispatcher_seat.old.seat }
-    requires told { All (λ l. got (l.vtable, l.value) ≡ (dispatcher dispatcher_seat.old.seat.me.0).read)
+    requires told { All (λ l. got (l.vtable, l.value) ≡ (dispatcher_at dispatcher_seat.old.seat).read)
         audience.old.listeners.items }
-    requires room { All (λ l. left_to_read dispatcher_seat.old.seat.me.0 ≤ room (l.vtable, l.value)) audience.old.listeners.items }
-    requires texts { KeepsTexts replies_left dispatcher_seat.old.seat.me.0 texts.old }
+    requires room { All (λ l. left_to_read (view_at dispatcher_seat.old.seat) ≤ room (l.vtable, l.value))
+        audience.old.listeners.items }
+    requires texts { KeepsTexts replies_left (view_at dispatcher_seat.old.seat) texts.old }
 {
     let is_drawn = worker.claim(table, NodeId::ROOT).is_ok() && worker.draw(table).is_ok();
     let early = dispatch_one(table, dispatcher_seat, audience, texts);
@@ -119,10 +119,11 @@ fn tells_at_last(
     calls: usize,
 ) -> bool
     requires dispatcher_seat { IsSeatOf table.now.table dispatcher_seat.old.seat }
-    requires told { All (λ l. got (l.vtable, l.value) ≡ (dispatcher dispatcher_seat.old.seat.me.0).read)
+    requires told { All (λ l. got (l.vtable, l.value) ≡ (dispatcher_at dispatcher_seat.old.seat).read)
         audience.old.listeners.items }
-    requires room { All (λ l. left_to_read dispatcher_seat.old.seat.me.0 ≤ room (l.vtable, l.value)) audience.old.listeners.items }
-    requires texts { KeepsTexts replies_left dispatcher_seat.old.seat.me.0 texts.old }
+    requires room { All (λ l. left_to_read (view_at dispatcher_seat.old.seat) ≤ room (l.vtable, l.value))
+        audience.old.listeners.items }
+    requires texts { KeepsTexts replies_left (view_at dispatcher_seat.old.seat) texts.old }
 {
     let mut is_told = false;
     for _call in 0..calls {
@@ -146,7 +147,7 @@ fn is_worked<R: Wait>(
     table: &RunTable<Actor>,
     worker: &mut WorkerSeat<Actor>,
 ) -> Option<()>
-    requires jobs { MayAnswer replies_left (about_of table.now.table.shared.key) }
+    requires jobs { MayAnswer replies_left (about_in table.now.table) }
     requires worker { IsSeatOf table.now.table worker.old.seat }
     requires free { worker.old.task ≡ Free }
     requires empty { worker.old.hand ≡ None }
@@ -168,15 +169,16 @@ fn is_told_at<R: Wait>(
     texts: &mut Texts,
     course: Course,
 ) -> bool
-    requires jobs { MayAnswer replies_left (about_of table.now.table.shared.key) }
+    requires jobs { MayAnswer replies_left (about_in table.now.table) }
     requires worker { IsSeatOf table.now.table worker.old.seat }
     requires free { worker.old.task ≡ Free }
     requires empty { worker.old.hand ≡ None }
     requires dispatcher_seat { IsSeatOf table.now.table dispatcher_seat.old.seat }
-    requires told { All (λ l. got (l.vtable, l.value) ≡ (dispatcher dispatcher_seat.old.seat.me.0).read)
+    requires told { All (λ l. got (l.vtable, l.value) ≡ (dispatcher_at dispatcher_seat.old.seat).read)
         audience.old.listeners.items }
-    requires room { All (λ l. left_to_read dispatcher_seat.old.seat.me.0 ≤ room (l.vtable, l.value)) audience.old.listeners.items }
-    requires texts { KeepsTexts replies_left dispatcher_seat.old.seat.me.0 texts.old }
+    requires room { All (λ l. left_to_read (view_at dispatcher_seat.old.seat) ≤ room (l.vtable, l.value))
+        audience.old.listeners.items }
+    requires texts { KeepsTexts replies_left (view_at dispatcher_seat.old.seat) texts.old }
 {
     match course {
         Course::Begins => starts_are_told_when_shown(
