@@ -9,8 +9,8 @@ use Rattle.scheduling.specs.declared.status.NodeStatus.{NodeStatus}
 use Rattle.scheduling.specs.declared.status.NodeStatus.TheVariants.{Hidden, Ready, Claimed, Settled}
 use Rattle.scheduling.specs.State.{status_at}
 use Rattle.table_rule.specs.declared.view.View.{View}
-use Rattle.table_rule.specs.declared.view.Working.{Working}
-use Rattle.table_rule.specs.declared.view.Place.TheVariants.{Worker}
+use Rattle.table_rule.specs.declared.view.WorkerFacts.{WorkerFacts}
+use Rattle.table_rule.specs.declared.view.SeatOwner.TheVariants.{Worker}
 use Rattle.table_rule.specs.Moments.{IsSight, HasFound, HasFoundRoom, FindsWord}
 use Rattle.table_rule.specs.Picture.{replies_of}
 use Rattle.table_rule.specs.Words.{status_word, read_place}
@@ -34,7 +34,7 @@ read_back (Claimed o) few =
     let word : ℕ = 3 + 4 * (o + 1) in
     by_parts word 3 (suc o) (ne_eqb word 1 (λ e. omega (arith, e))) (omega arith) (omega (arith, low))
 
-module _ {B : Type 0} (answers : B → List Reply) (v : View B) (w : Working) (is : v.place ≡ Worker w) where
+module _ {B : Type 0} (answers : B → List Reply) (v : View B) (w : WorkerFacts) (is : v.owner ≡ Worker w) where
   pub status_found : (n word : ℕ) (s : NodeStatus) → s ≡ status_read word → n < size v.about.plan.tree → FindsWord answers v n word → HasFound answers v n s
   status_found n word s read low finds =
       let x = finds w is in record {

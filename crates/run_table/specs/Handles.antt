@@ -5,21 +5,21 @@ use Rattle.atomic_table.specs.declared.shared.Seat.{Seat as TableSeat}
 use Rattle.resource_locks.specs.Plans.{PlanParts}
 use Rattle.table_rule.specs.declared.rule.Law.{Law}
 use Rattle.table_rule.specs.declared.view.About.{About}
-use Rattle.table_rule.specs.declared.view.Dispatching.{Dispatching}
+use Rattle.table_rule.specs.declared.view.DispatcherFacts.{DispatcherFacts}
 use Rattle.table_rule.specs.declared.view.Slot.{Slot}
-use Rattle.table_rule.specs.declared.view.Told.{Told}
+use Rattle.table_rule.specs.declared.view.TableKey.{TableKey}
 use Rattle.table_rule.specs.declared.view.View.{View}
-use Rattle.table_rule.specs.declared.view.Working.{Working}
+use Rattle.table_rule.specs.declared.view.WorkerFacts.{WorkerFacts}
 use Rattle.table_rule.specs.Picture.{about_of}
 use Rattle.table_rule.specs.Plays.{worker, dispatcher, ready_in}
 
 module _ {B A : Type 0} where
   -- the run that a table is for: its plan, how many workers it has, the length of the ring, and the jobs
-  abbrev pub about_in : Table (Slot B) (View B) (Told B) Law A → About B
+  abbrev pub about_in : Table (Slot B) (View B) (TableKey B) Law A → About B
   about_in t = about_of t.shared.key
 
   -- how many words the ring has
-  abbrev pub ring_in : Table (Slot B) (View B) (Told B) Law A → ℕ
+  abbrev pub ring_in : Table (Slot B) (View B) (TableKey B) Law A → ℕ
   ring_in t = t.shared.key.ring
 
 module _ {B : Type 0} where
@@ -36,13 +36,13 @@ module _ {B : Type 0} where
   plan_at s = s.me.0.about.plan
 
   -- what the worker of a seat knows
-  abbrev pub worker_at : TableSeat (Slot B) (View B) → Working
+  abbrev pub worker_at : TableSeat (Slot B) (View B) → WorkerFacts
   worker_at s = worker s.me.0
 
   -- the same, once the answer of the job that it waits for is made use of
-  abbrev pub ready_at : TableSeat (Slot B) (View B) → Working
+  abbrev pub ready_at : TableSeat (Slot B) (View B) → WorkerFacts
   ready_at s = ready_in s.me.0
 
   -- what the dispatcher knows, whose seat it is
-  abbrev pub dispatcher_at : TableSeat (Slot B) (View B) → Dispatching
+  abbrev pub dispatcher_at : TableSeat (Slot B) (View B) → DispatcherFacts
   dispatcher_at s = dispatcher s.me.0

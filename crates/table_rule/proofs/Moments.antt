@@ -26,11 +26,11 @@ use Rattle.never_stuck.proofs.Asked.{on_as_asked}
 use Rattle.table_rule.specs.declared.view.About.{About}
 use Rattle.table_rule.specs.declared.view.View.{View}
 use Rattle.table_rule.specs.declared.view.Slot.{Slot}
-use Rattle.table_rule.specs.declared.view.Place.{Place}
-use Rattle.table_rule.specs.declared.view.Place.TheVariants.{Dispatcher}
+use Rattle.table_rule.specs.declared.view.SeatOwner.{SeatOwner}
+use Rattle.table_rule.specs.declared.view.SeatOwner.TheVariants.{Dispatcher}
 use Rattle.table_rule.specs.Endings.{IsNotStuckWithin}
-use Rattle.table_rule.specs.Picture.{Dealt, AreAmong, AnswerOnce, DispatcherFits, PlaceFits, Names, IsPictureOf, Ruled, opener, dispatcher_view, replies_of}
-use Rattle.table_rule.specs.declared.view.Shelf.TheVariants.{Unmoved}
+use Rattle.table_rule.specs.Picture.{Dealt, AreAmong, AnswerOnce, DispatcherFits, OwnerFits, Names, IsPictureOf, Ruled, opener, dispatcher_view, replies_of}
+use Rattle.table_rule.specs.declared.view.SlotState.TheVariants.{Unmoved}
 use Rattle.table_rule.specs.Rings.{mark_in, event_in, empty_ring}
 use Rattle.table_rule.specs.Words.{status_word, words_of, read_place}
 use Rattle.table_rule.specs.Slots.{after_slot, made_of, slot_count, fresh}
@@ -115,19 +115,19 @@ module _ {B : Type 0} where
 
   -- a dispatcher that has read as much at least
   abbrev pub HasReadOn : Me (Slot B) (View B) → Me (Slot B) (View B) → Type 0
-  HasReadOn m n = (n.0.place ≡ Dispatcher (dispatcher n.0)) × (length (dispatcher m.0).read ≤ length (dispatcher n.0).read)
+  HasReadOn m n = (n.0.owner ≡ Dispatcher (dispatcher n.0)) × (length (dispatcher m.0).read ≤ length (dispatcher n.0).read)
 
   -- A look at the next place leaves the dispatcher one, with no less than it had read.
-  pub after_look : (m : Me (Slot B) (View B)) (r : ℕ) (n : Me (Slot B) (View B)) → MatchBool (mark_in r == length (dispatcher m.0).read + 1) (IsHit m r n) (n ≡ m) → m.0.place ≡ Dispatcher (dispatcher m.0) → HasReadOn m n
-  after_look m r n told desk = by (mark_in r == length (dispatcher m.0).read + 1) told
+  pub after_look : (m : Me (Slot B) (View B)) (r : ℕ) (n : Me (Slot B) (View B)) → MatchBool (mark_in r == length (dispatcher m.0).read + 1) (IsHit m r n) (n ≡ m) → m.0.owner ≡ Dispatcher (dispatcher m.0) → HasReadOn m n
+  after_look m r n told is = by (mark_in r == length (dispatcher m.0).read + 1) told
     where
       by : (b : Bool) → MatchBool b (IsHit m r n) (n ≡ m) → HasReadOn m n
       by true t = (
-        ap (λ (u : Me (Slot B) (View B)). u.0.place) t.3 ∙ sym (ap (λ (u : Me (Slot B) (View B)). Dispatcher (dispatcher u.0)) t.3),
+        ap (λ (u : Me (Slot B) (View B)). u.0.owner) t.3 ∙ sym (ap (λ (u : Me (Slot B) (View B)). Dispatcher (dispatcher u.0)) t.3),
         (let more = length-append (dispatcher m.0).read (t.0 ∷ []) in let now = ap (λ (u : Me (Slot B) (View B)). length (dispatcher u.0).read) t.3 in omega (arith, more, now)),
       )
       by false t = (
-        ap (λ (u : Me (Slot B) (View B)). u.0.place) t ∙ desk ∙ sym (ap (λ (u : Me (Slot B) (View B)). Dispatcher (dispatcher u.0)) t),
+        ap (λ (u : Me (Slot B) (View B)). u.0.owner) t ∙ is ∙ sym (ap (λ (u : Me (Slot B) (View B)). Dispatcher (dispatcher u.0)) t),
         (let now = ap (λ (u : Me (Slot B) (View B)). length (dispatcher u.0).read) t in omega (arith, now)),
       )
 
@@ -135,9 +135,9 @@ module _ {B : Type 0} where
     pub moment_at : (s : TableState (Slot B) (View B)) → Ruled (replies_of answers key) key s → (id : ℕ) (v : View B) → get_elem? s.views id ≡ some v → IsMomentOf answers v
     moment_at s rule id v at d is =
         let view = rule.picture.is.views id v at in
-        let about : v.about ≡ key = subst (λ (place : Place). Names key v.about place) is view.names in
-        let fits : DispatcherFits rule.picture.core rule.picture.dealt id d = subst (λ (place : Place). PlaceFits key.plan rule.told rule.picture.core rule.picture.dealt id place) is view.fits in
-        let whole : v ≡ dispatcher_view key d = λ k. record { about = about k; place = is k } in
+        let about : v.about ≡ key = subst (λ (owner : SeatOwner). Names key v.about owner) is view.names in
+        let fits : DispatcherFits rule.picture.core rule.picture.dealt id d = subst (λ (owner : SeatOwner). OwnerFits key.plan rule.told rule.picture.core rule.picture.dealt id owner) is view.fits in
+        let whole : v ≡ dispatcher_view key d = λ k. record { about = about k; owner = is k } in
         let told = published_told rule.told key rule.picture.core rule.picture.dealt s rule.picture.is id d (subst (λ (u : View B). get_elem? s.views id ≡ some u) whole at) in
         subst (λ (a : About B). IsMoment (replies_of answers a) a d.dealt d.read) (sym about)
         (moment_by (replies_of answers key) rule.told key rule.picture.core rule.picture.dealt s rule.among rule.once rule.picture.is d.dealt (sym fits.many) d.read (sym fits.read) told)
@@ -152,7 +152,7 @@ module _ {B : Type 0} where
     -- A worker that is at the table where the rule holds, with what stands in a word then.
     pub sight_at : (s : TableState (Slot B) (View B)) → Ruled (replies_of answers key) key s → (id : ℕ) (v : View B) → get_elem? s.views id ≡ some v → (i word : ℕ) → get_or s.words i 0 ≡ word → FindsWord answers v i word
     sight_at s rule id v at i word found w is =
-        let about : v.about ≡ key = subst (λ (place : Place). Names key v.about place) is (rule.picture.is.views id v at).names in
+        let about : v.about ≡ key = subst (λ (owner : SeatOwner). Names key v.about owner) is (rule.picture.is.views id v at).names in
         subst (λ (a : About B). (x : IsSight (replies_of answers a) a v) × (get_or x.table.words i 0 ≡ word)) (sym about)
         (record { table = s; core = rule.picture.core; dealt = rule.picture.dealt; told = rule.told; among = rule.among; once = rule.once; is = rule.picture.is; id = id; here = at }, found)
 

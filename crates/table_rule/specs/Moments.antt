@@ -14,11 +14,11 @@ use Rattle.scheduling.specs.Runs.{opening, IsRight}
 use Rattle.scheduling.specs.declared.status.NodeStatus.{NodeStatus}
 use Rattle.scheduling.specs.State.{State, status_at}
 use Rattle.table_rule.specs.declared.view.About.{About}
-use Rattle.table_rule.specs.declared.view.Dispatching.{Dispatching}
-use Rattle.table_rule.specs.declared.view.Place.TheVariants.{Worker, Dispatcher}
+use Rattle.table_rule.specs.declared.view.DispatcherFacts.{DispatcherFacts}
+use Rattle.table_rule.specs.declared.view.SeatOwner.TheVariants.{Worker, Dispatcher}
 use Rattle.table_rule.specs.declared.view.Slot.{Slot}
 use Rattle.table_rule.specs.declared.view.View.{View}
-use Rattle.table_rule.specs.declared.view.Working.{Working}
+use Rattle.table_rule.specs.declared.view.WorkerFacts.{WorkerFacts}
 use Rattle.table_rule.specs.Endings.{IsNotStuckWithin}
 use Rattle.table_rule.specs.Picture.{Dealt, AreAmong, AnswerOnce, IsPictureOf, replies_of}
 use Rattle.table_rule.specs.Plays.{dispatcher}
@@ -60,7 +60,7 @@ module _ {B : Type 0} where
 
   -- of what the dispatcher has read whose view this is
   abbrev pub IsMomentOf : (B → List Reply) → View B → Type 0
-  IsMomentOf answers v = (d : Dispatching) → v.place ≡ Dispatcher d → IsMoment (replies_of answers v.about) v.about d.dealt d.read
+  IsMomentOf answers v = (d : DispatcherFacts) → v.owner ≡ Dispatcher d → IsMoment (replies_of answers v.about) v.about d.dealt d.read
 
   abbrev pub IsMomentAt : (B → List Reply) → View B → Type 0
   IsMomentAt answers v = IsMoment (replies_of answers v.about) v.about (dispatcher v).dealt (dispatcher v).read
@@ -93,7 +93,7 @@ module _ {B : Type 0} where
 
   -- this stood in a word at such a moment, if the view is a worker's
   abbrev pub FindsWord : (B → List Reply) → View B → (i word : ℕ) → Type 0
-  FindsWord answers v i word = (w : Working) → v.place ≡ Worker w → (x : IsSight (replies_of answers v.about) v.about v) × (get_or x.table.words i 0 ≡ word)
+  FindsWord answers v i word = (w : WorkerFacts) → v.owner ≡ Worker w → (x : IsSight (replies_of answers v.about) v.about v) × (get_or x.table.words i 0 ≡ word)
 
   -- a look that tells this, and that its word stood so
   abbrev pub at_sight : (B → List Reply) → (Step (Slot B) → Me (Slot B) (View B) → ℕ → Me (Slot B) (View B) → Type 0) → Step (Slot B) → Me (Slot B) (View B) → ℕ → Me (Slot B) (View B) → Type 0

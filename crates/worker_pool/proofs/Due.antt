@@ -11,7 +11,7 @@ use Rattle.scheduling.specs.declared.task.Task.{Task}
 use Rattle.scheduling.specs.declared.task.Task.TheVariants.{Opens, Closes}
 use Rattle.table_rule.specs.declared.view.View.{View}
 use Rattle.table_rule.specs.declared.view.Slot.{Slot}
-use Rattle.table_rule.specs.declared.view.Shelf.TheVariants.{Unmoved}
+use Rattle.table_rule.specs.declared.view.SlotState.TheVariants.{Unmoved}
 use Rattle.table_rule.specs.Slots.{made_of, after_slot}
 use Rattle.table_rule.specs.Plays.{worker, ready_in, ready, ready_seat, goes_on, draws_on, event_due, drawn_seat, offer_due, admitted_seat, Offer, back_due, given_seat, Back, guard_due, ended_seat, Guard}
 use Rattle.run_table.specs.Seats.{seated, IsDraw, IsMove, IsReadyMove}

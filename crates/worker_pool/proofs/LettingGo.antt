@@ -11,8 +11,8 @@ use Rattle.scheduling.specs.declared.task.Task.TheVariants.{Free}
 use Rattle.table_rule.specs.declared.view.About.{About}
 use Rattle.table_rule.specs.declared.view.View.{View}
 use Rattle.table_rule.specs.declared.view.Slot.{Slot}
-use Rattle.table_rule.specs.declared.view.Shelf.TheVariants.{Out, Noted}
-use Rattle.table_rule.specs.declared.view.Working.{Working}
+use Rattle.table_rule.specs.declared.view.SlotState.TheVariants.{Out, Noted}
+use Rattle.table_rule.specs.declared.view.WorkerFacts.{WorkerFacts}
 use Rattle.table_rule.specs.Picture.{replies_in}
 use Rattle.table_rule.specs.Plays.{worker, makes, ready, ready_in, guard_due}
 use Rattle.run_table.specs.Seats.{seated}
@@ -32,6 +32,6 @@ module _ {B : Type 0} (old new : TableSeat (Slot B) (View B)) (f asked : ℕ) (t
   let_go_due seat_is kept free idle about told =
       let p = old.me.0.about.plan in
       let h = kept.hand in
-      let w : Working = makes told.slot (Noted told.reply) (Some told.reply) (makes told.slot Out None (worker old.me.0)) in
-      subst (λ (z : About B × Working). guard_due z.0.plan (ready z.0.plan z.1).answer (ready z.0.plan z.1).seat (ready z.0.plan z.1).seat.task ≢ None) (λ k. (sym about k, sym told.now k))
+      let w : WorkerFacts = makes told.slot (Noted told.reply) (Some told.reply) (makes told.slot Out None (worker old.me.0)) in
+      subst (λ (z : About B × WorkerFacts). guard_due z.0.plan (ready z.0.plan z.1).answer (ready z.0.plan z.1).seat (ready z.0.plan z.1).seat.task ≢ None) (λ k. (sym about k, sym told.now k))
       (told_due p w h told.reply (ap (λ (s : Seat). s.task) seat_is ∙ free) (ap (λ (s : Seat). s.hand) seat_is ∙ kept.held) refl (idle h kept.held) (is_pulled_by p h told.reply told.status told.note task hand free kept.held told.told_as))

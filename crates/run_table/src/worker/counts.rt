@@ -12,7 +12,7 @@ ghost use Rattle.scheduling.specs.declared.task.Task.TheVariants.{Free, Opens, C
 ghost use Rattle.scheduling.specs.Due.{IsChildDue};
 ghost use Rattle.table_rule.specs.Plays.{outstanding_in, result_in, Guard, guard_due, ended_seat};
 ghost use Rattle.table_rule.specs.Slots.{after_slot, made_of};
-ghost use Rattle.table_rule.specs.declared.view.Shelf.TheVariants.{Unmoved};
+ghost use Rattle.table_rule.specs.declared.view.SlotState.TheVariants.{Unmoved};
 ghost use Rattle.run_table.specs.Handles.{plan_at, ready_at, worker_at};
 ghost use Rattle.run_table.specs.Seats.{IsSeatOf, IsMove, SameSeat, seated, IsReadyMove, IsDone, guard_to};
 ghost use Rattle.plan_events.specs.declared.status.Status.TheVariants.{Successful};

@@ -7,7 +7,7 @@ ghost use Rattle.scheduling.specs.Choices.{awaited as awaited_of};
 ghost use Rattle.table_rule.specs.Slots.{made_of, slot_due, job_at, slot_count, job_with};
 ghost use Rattle.table_rule.specs.Picture.{replies_in};
 ghost use Rattle.table_rule.specs.Plays.{makes};
-ghost use Rattle.table_rule.specs.declared.view.Shelf.TheVariants.{Unmoved, Out, Left, Noted};
+ghost use Rattle.table_rule.specs.declared.view.SlotState.TheVariants.{Unmoved, Out, Left, Noted};
 ghost use Rattle.run_table.specs.Handles.{about_at, plan_at, worker_at};
 ghost use Rattle.run_table.specs.Moved.{is_moved, job_slot as job_slot_of};
 ghost use Rattle.run_table.specs.Seats.{IsSeatOf, SameSeat, seated};

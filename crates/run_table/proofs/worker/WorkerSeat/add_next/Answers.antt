@@ -36,5 +36,5 @@ invariant_of-self g c =
     let now = told.0 c.args.held.now c.args.child (ap (λ s. s.hand) it.seat_is ∙ due.1) due.3 in
     record {
       at_work = works _ self.seat.me _ _ _ _ _ it now (λ k. record { task = Opens c.args.child Registering; hand = (it.seat_is k).hand });
-      within = within_now c.fetch_add.new.seat.me self.seat.me _ (ap (λ u. u.0.place) now) told.1;
+      within = within_now c.fetch_add.new.seat.me self.seat.me _ (ap (λ u. u.0.owner) now) told.1;
     }
