@@ -51,7 +51,7 @@ fn deal_seat<B: Job, M: TableBrand<B>, R: Wait>(
     gate.open(rt, idle);
 }
 
-/// The threads of one scope that work at a table of this room, and the gates at which they get
+/// The threads of one scope that work at a table of this brand, and the gates at which they get
 /// their seats: that of each thread has its place. The first are started at once, and one more
 /// whenever the dispatcher has nothing to read while all of them are busy. A thread that could not be
 /// started is tried again when one more is wanted.
