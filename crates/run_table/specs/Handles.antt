@@ -1,5 +1,5 @@
 -- What clauses say of a seat and of a table.
-use Rattle.std.specs.Prelude.{ℕ}
+use Rattle.std.specs.Prelude.{◌≡◌, ℕ}
 use Rattle.atomic_table.specs.declared.owned.Table.{Table}
 use Rattle.atomic_table.specs.declared.shared.Seat.{Seat as TableSeat}
 use Rattle.resource_locks.specs.Plans.{PlanParts}
@@ -46,3 +46,7 @@ module _ {B : Type 0} where
   -- what the dispatcher knows, whose seat it is
   abbrev pub dispatcher_at : TableSeat (Slot B) (View B) → DispatcherFacts
   dispatcher_at s = dispatcher s.me.0
+
+  -- it knows what it knew, and holds what it held
+  abbrev pub IsUnchanged : (old new : TableSeat (Slot B) (View B)) → Type 0
+  IsUnchanged old new = new.me ≡ old.me

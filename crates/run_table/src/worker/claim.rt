@@ -7,7 +7,7 @@ ghost use Rattle.scheduling.specs.declared.status.NodeStatus.TheVariants.{Settle
 ghost use Rattle.scheduling.specs.declared.task.Task.TheVariants.{Free};
 ghost use Rattle.table_rule.specs.Moments.{HasFound};
 ghost use Rattle.table_rule.specs.Plays.{claimed_seat, finds_over};
-ghost use Rattle.run_table.specs.Handles.{plan_at, view_at, worker_at};
+ghost use Rattle.run_table.specs.Handles.{plan_at, view_at, worker_at, IsUnchanged};
 ghost use Rattle.run_table.specs.Reading.{status_read};
 ghost use Rattle.run_table.specs.Seats.{IsSeatOf, IsMove, SameSeat, seated};
 
@@ -29,7 +29,7 @@ impl<B: Job> WorkerSeat<B> {
         ensures done { IfOk result (λ t. (self.old.task ≡ Free) × (self.old.hand ≡ None)
             × (node < size (plan_at self.old.seat).tree) × IsMove self.old.seat self.new.seat
             (claimed_seat (plan_at self.old.seat) (seated self.old.task self.old.hand) node) t) }
-        ensures refused { IfErr result (λ _. self.new.seat.me ≡ self.old.seat.me) }
+        ensures refused { IfErr result (λ _. IsUnchanged self.old.seat self.new.seat) }
     {
         let (Task::Free, None) = (self.task, self.hand) else {
             return Err(NotEnabled);
@@ -61,7 +61,7 @@ impl<B: Job> WorkerSeat<B> {
             × (is_of_hand_of (plan_at self.old.seat) self.old.hand node ≡ true)
             × (node < size (plan_at self.old.seat).tree) × IsMove self.old.seat self.new.seat
             (claimed_seat (plan_at self.old.seat) (seated self.old.task self.old.hand) node) t) }
-        ensures refused { IfErr result (λ _. self.new.seat.me ≡ self.old.seat.me) }
+        ensures refused { IfErr result (λ _. IsUnchanged self.old.seat self.new.seat) }
     {
         let Task::Free = self.task else {
             return Err(NotEnabled);
@@ -92,7 +92,7 @@ impl<B: Job> WorkerSeat<B> {
             × (worker_at self.new.seat ≡ finds_over ((node == 0) && (word == 1)) (worker_at self.old.seat))) }
         ensures found { IfOk result (λ s. HasFound B.answers (view_at self.new.seat) node s) }
         ensures over { IfOk result (λ s. node ≡ 0 → s ≡ Settled → (worker_at self.new.seat).over ≡ true) }
-        ensures refused { IfErr result (λ _. (self.new.seat.me ≡ self.old.seat.me)
+        ensures refused { IfErr result (λ _. IsUnchanged self.old.seat self.new.seat
             × (self.old.task ≡ Free → node < size (plan_at self.old.seat).tree → ⊥)) }
     {
         let Task::Free = self.task else {

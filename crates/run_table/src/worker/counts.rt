@@ -13,7 +13,7 @@ ghost use Rattle.scheduling.specs.Due.{IsChildDue};
 ghost use Rattle.table_rule.specs.Plays.{outstanding_in, result_in, Guard, guard_due, ended_seat};
 ghost use Rattle.table_rule.specs.Slots.{after_slot, made_of};
 ghost use Rattle.table_rule.specs.declared.view.SlotState.TheVariants.{Unmoved};
-ghost use Rattle.run_table.specs.Handles.{plan_at, ready_at, worker_at};
+ghost use Rattle.run_table.specs.Handles.{plan_at, ready_at, worker_at, IsUnchanged};
 ghost use Rattle.run_table.specs.Seats.{IsSeatOf, IsMove, SameSeat, seated, IsReadyMove, IsDone, guard_to};
 ghost use Rattle.plan_events.specs.declared.status.Status.TheVariants.{Successful};
 ghost use Rattle.table_rule.specs.Words.{result_number};
@@ -37,7 +37,7 @@ impl<B: Job> WorkerSeat<B> {
             × (h.waiting ≡ None) × (next_spare_of (plan_at self.old.seat) h.factory h.registered ≡ Some n)
             × IsMove self.old.seat self.new.seat
             (with_task (seated self.old.task self.old.hand) (Opens n Registering)) t) }
-        ensures refused { IfErr result (λ _. (self.new.seat.me ≡ self.old.seat.me)
+        ensures refused { IfErr result (λ _. IsUnchanged self.old.seat self.new.seat
             × ((h : HandValue) (n : ℕ) → self.old.task ≡ Free → self.old.hand ≡ Some h → h.waiting ≡ None →
             next_spare_of (plan_at self.old.seat) h.factory h.registered ≡ Some n → ⊥)) }
     {
@@ -230,7 +230,7 @@ impl<B: Job> WorkerSeat<B> {
         ensures done { IfOk result (λ t. IsDone self.old.seat self.new.seat self.old.task self.old.hand t) }
         ensures after { IfOk result (λ t. (n : ℕ) → t ≡ Closes n AwaitingAfter →
             made_of (worker_at self.old.seat).slots (after_slot (plan_at self.old.seat) n) ≡ Unmoved) }
-        ensures refused { IfErr result (λ _. self.new.seat.me ≡ self.old.seat.me) }
+        ensures refused { IfErr result (λ _. IsUnchanged self.old.seat self.new.seat) }
         ensures counts { IfErr result (λ _. (n : ℕ) → self.old.task ≡ Closes n CountingOff → ⊥) }
         ensures guards { IfErr result (λ _. guard_due (plan_at self.old.seat)
             (ready_at self.old.seat).answer (ready_at self.old.seat).seat

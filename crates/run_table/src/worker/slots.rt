@@ -8,7 +8,7 @@ ghost use Rattle.table_rule.specs.Slots.{made_of, slot_due, job_at, slot_count, 
 ghost use Rattle.table_rule.specs.Picture.{replies_in};
 ghost use Rattle.table_rule.specs.Plays.{makes};
 ghost use Rattle.table_rule.specs.declared.view.SlotState.TheVariants.{Unmoved, Out, Left, Noted};
-ghost use Rattle.run_table.specs.Handles.{about_at, plan_at, worker_at};
+ghost use Rattle.run_table.specs.Handles.{about_at, plan_at, worker_at, IsUnchanged};
 ghost use Rattle.run_table.specs.Moved.{is_moved, job_slot as job_slot_of};
 ghost use Rattle.run_table.specs.Seats.{IsSeatOf, SameSeat, seated};
 ghost use Rattle.plan_events.specs.declared.outcome.Reply.{Reply as ReplyValue};
@@ -99,7 +99,7 @@ impl<B: Job> WorkerSeat<B> {
         ensures replies { IfSome result
             (λ b. (number : ℕ) → awaited_of (plan_at self.old.seat) (seated self.old.task self.old.hand)
             self.old.task ≡ Some number → replies_in B.answers (about_at self.old.seat).jobs number ≡ B.answers b) }
-        ensures none { IfNone result ((self.new.seat.me ≡ self.old.seat.me)
+        ensures none { IfNone result (IsUnchanged self.old.seat self.new.seat
             × ((slot number : ℕ) → job_slot_of (plan_at self.old.seat) self.old.task self.old.hand node ≡ Some
             slot → awaited_of (plan_at self.old.seat) (seated self.old.task self.old.hand) self.old.task ≡ Some
             number → made_of (worker_at self.old.seat).slots slot ≡ Unmoved → ⊥)) }
@@ -208,7 +208,7 @@ impl<B: Job> WorkerSeat<B> {
             × IsToldAs (plan_at self.old.seat) (seated self.old.task self.old.hand) reply status note
             × (worker_at self.new.seat ≡ makes slot (Noted reply) (Some reply)
             (makes slot Out None (worker_at self.old.seat)))) }
-        ensures refused { IfErr result (λ _. (self.new.seat.me ≡ self.old.seat.me)
+        ensures refused { IfErr result (λ _. IsUnchanged self.old.seat self.new.seat
             × (job_slot_of (plan_at self.old.seat) self.old.task self.old.hand node ≡ None)) }
     {
         let Some(slot) = job_slot(table.nodes(), self.task, self.hand, node) else {
