@@ -3,7 +3,7 @@ use Rattle.std.proofs.Common.{◌≡◌, length, ◌∙◌, ap, arith}
 use Rattle.descriptor.specs.Nodes.{size}
 use Rattle.table_rule.specs.Slots.{slot_count}
 use Rattle.run_table.proofs.Gathered.{start_filled}
-use Rattle.run_table.proofs.prepare.RunMemory.furnish.Goals as goal
+use Rattle.run_table.proofs.prepare.RunMemory.reserve.Goals as goal
 
 pub returns-clause-slots : goal.returns-clause-slots
 returns-clause-slots g c =
