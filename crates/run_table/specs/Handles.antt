@@ -1,7 +1,8 @@
 -- What clauses say of a seat and of a table.
-use Rattle.std.specs.Prelude.{◌≡◌, ℕ}
+use Rattle.std.specs.Prelude.{◌≡◌, ℕ, Option}
 use Rattle.atomic_table.specs.declared.owned.Table.{Table}
 use Rattle.atomic_table.specs.declared.shared.Seat.{Seat as TableSeat}
+use Rattle.plan_events.specs.declared.event.Event.{Event}
 use Rattle.resource_locks.specs.Plans.{PlanParts}
 use Rattle.table_rule.specs.declared.rule.Law.{Law}
 use Rattle.table_rule.specs.declared.view.About.{About}
@@ -11,7 +12,7 @@ use Rattle.table_rule.specs.declared.view.TableKey.{TableKey}
 use Rattle.table_rule.specs.declared.view.View.{View}
 use Rattle.table_rule.specs.declared.view.WorkerFacts.{WorkerFacts}
 use Rattle.table_rule.specs.Picture.{about_of}
-use Rattle.table_rule.specs.Plays.{worker, dispatcher, ready_in}
+use Rattle.table_rule.specs.Plays.{Guard, Offer, worker, dispatcher, ready_in, event_due, guard_due, offer_due}
 
 module _ {B A : Type 0} where
   -- the run that a table is for: its plan, how many workers it has, the length of the ring, and the jobs
@@ -42,6 +43,16 @@ module _ {B : Type 0} where
   -- the same, once the answer of the job that it waits for is made use of
   abbrev pub ready_at : TableSeat (Slot B) (View B) → WorkerFacts
   ready_at s = ready_in s.me.0
+
+  -- what is due of its task then: the event that it draws, the node that it offers, the guard that it gives up
+  abbrev pub event_due_at : TableSeat (Slot B) (View B) → Option Event
+  event_due_at s = event_due (worker_at s).number (ready_at s).seat.task
+
+  abbrev pub offer_due_at : TableSeat (Slot B) (View B) → Option Offer
+  offer_due_at s = offer_due (plan_at s) (worker_at s).number (ready_at s).seat.task
+
+  abbrev pub guard_due_at : TableSeat (Slot B) (View B) → Option Guard
+  guard_due_at s = guard_due (plan_at s) (ready_at s).answer (ready_at s).seat (ready_at s).seat.task
 
   -- what the dispatcher knows, whose seat it is
   abbrev pub dispatcher_at : TableSeat (Slot B) (View B) → DispatcherFacts

@@ -10,10 +10,10 @@ ghost use Rattle.scheduling.specs.declared.task.Opening.TheVariants.{Registering
 ghost use Rattle.scheduling.specs.declared.task.Closing.TheVariants.{AwaitingAfter, CountingOff};
 ghost use Rattle.scheduling.specs.declared.task.Task.TheVariants.{Free, Opens, Closes};
 ghost use Rattle.scheduling.specs.Due.{IsChildDue};
-ghost use Rattle.table_rule.specs.Plays.{outstanding_in, result_in, Guard, guard_due, ended_seat};
+ghost use Rattle.table_rule.specs.Plays.{outstanding_in, result_in, Guard, ended_seat};
 ghost use Rattle.table_rule.specs.Slots.{after_slot, made_of};
 ghost use Rattle.table_rule.specs.declared.view.SlotState.TheVariants.{Unmoved};
-ghost use Rattle.run_table.specs.Handles.{plan_at, ready_at, worker_at, IsUnchanged};
+ghost use Rattle.run_table.specs.Handles.{guard_due_at, plan_at, worker_at, IsUnchanged};
 ghost use Rattle.run_table.specs.Seats.{IsSeatOf, IsMove, SameSeat, seated, IsReadyMove, IsDone, guard_to};
 ghost use Rattle.plan_events.specs.declared.status.Status.TheVariants.{Successful};
 ghost use Rattle.table_rule.specs.Words.{result_number};
@@ -129,9 +129,7 @@ impl<B: Job> WorkerSeat<B> {
     fn give_good_guard(&mut self, table: &RunTable<B>, node: NodeId, hand: Option<Hand>)
         requires table { IsSeatOf table.now.table self.old.seat }
         requires inside { node < size table.now.plan.tree }
-        requires due { guard_due (plan_at self.old.seat) (ready_at self.old.seat).answer
-            (ready_at self.old.seat).seat (ready_at self.old.seat).seat.task ≡ Some
-            (guard_to node Successful hand) }
+        requires due { guard_due_at self.old.seat ≡ Some (guard_to node Successful hand) }
         ensures same { SameSeat self.old.seat self.new.seat }
         ensures done { (outstanding : ℕ) × IsReadyMove self.old.seat self.new.seat
             (ended_seat (plan_at self.old.seat) (guard_to node Successful hand) outstanding) self.new.task }
@@ -159,9 +157,7 @@ impl<B: Job> WorkerSeat<B> {
     )
         requires table { IsSeatOf table.now.table self.old.seat }
         requires inside { node < size table.now.plan.tree }
-        requires due { guard_due (plan_at self.old.seat) (ready_at self.old.seat).answer
-            (ready_at self.old.seat).seat (ready_at self.old.seat).seat.task ≡ Some
-            (guard_to node ending hand) }
+        requires due { guard_due_at self.old.seat ≡ Some (guard_to node ending hand) }
         requires more { more + 1 ≡ 65536 * result_number ending }
         ensures same { SameSeat self.old.seat self.new.seat }
         ensures done { (outstanding : ℕ) × IsReadyMove self.old.seat self.new.seat
@@ -183,9 +179,7 @@ impl<B: Job> WorkerSeat<B> {
     fn give_guard(&mut self, table: &RunTable<B>, node: NodeId, ending: Status, hand: Option<Hand>)
         requires table { IsSeatOf table.now.table self.old.seat }
         requires inside { node < size table.now.plan.tree }
-        requires due { guard_due (plan_at self.old.seat) (ready_at self.old.seat).answer
-            (ready_at self.old.seat).seat (ready_at self.old.seat).seat.task ≡ Some
-            (guard_to node ending hand) }
+        requires due { guard_due_at self.old.seat ≡ Some (guard_to node ending hand) }
         ensures same { SameSeat self.old.seat self.new.seat }
         ensures done { (outstanding : ℕ) × IsReadyMove self.old.seat self.new.seat
             (ended_seat (plan_at self.old.seat) (guard_to node ending hand) outstanding) self.new.task }
@@ -202,12 +196,10 @@ impl<B: Job> WorkerSeat<B> {
     /// Gives up the guard that is due.
     pub fn give_guard_due(&mut self, table: &RunTable<B>)
         requires table { IsSeatOf table.now.table self.old.seat }
-        requires due { guard_due (plan_at self.old.seat) (ready_at self.old.seat).answer
-            (ready_at self.old.seat).seat (ready_at self.old.seat).seat.task ≢ None }
+        requires due { guard_due_at self.old.seat ≢ None }
         ensures same { SameSeat self.old.seat self.new.seat }
         ensures done { (g : Guard) × (outstanding : ℕ)
-            × (guard_due (plan_at self.old.seat) (ready_at self.old.seat).answer
-            (ready_at self.old.seat).seat (ready_at self.old.seat).seat.task ≡ Some g)
+            × (guard_due_at self.old.seat ≡ Some g)
             × IsReadyMove self.old.seat self.new.seat
             (ended_seat (plan_at self.old.seat) g outstanding) self.new.task }
         ensures after { (n : ℕ) → self.new.task ≡ Closes n AwaitingAfter → made_of (worker_at self.old.seat).slots
@@ -232,9 +224,7 @@ impl<B: Job> WorkerSeat<B> {
             made_of (worker_at self.old.seat).slots (after_slot (plan_at self.old.seat) n) ≡ Unmoved) }
         ensures refused { IfErr result (λ _. IsUnchanged self.old.seat self.new.seat) }
         ensures counts { IfErr result (λ _. (n : ℕ) → self.old.task ≡ Closes n CountingOff → ⊥) }
-        ensures guards { IfErr result (λ _. guard_due (plan_at self.old.seat)
-            (ready_at self.old.seat).answer (ready_at self.old.seat).seat
-            (ready_at self.old.seat).seat.task ≡ None) }
+        ensures guards { IfErr result (λ _. guard_due_at self.old.seat ≡ None) }
     {
         if let Some(node) = counted_off(self.task) {
             self.count_off(table, node);
