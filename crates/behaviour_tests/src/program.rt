@@ -51,6 +51,7 @@ fn feed_options(alloc: Global) -> Options {
         request: Request {
             selectors: Vec::new(alloc),
             names: Vec::new(alloc),
+            rerun: Vec::new(alloc),
             exclusions: Vec::new(alloc),
             include: Vec::new(alloc),
             exclude: Vec::new(alloc),

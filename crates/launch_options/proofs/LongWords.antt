@@ -27,6 +27,7 @@ in_other_words given asked are number is = record {
   selectors = are.selectors;
   names = are.names;
   exclusions = are.exclusions;
+  rerun = are.rerun;
   include = are.include;
   exclude = are.exclude;
   shard = are.shard;

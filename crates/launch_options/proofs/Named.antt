@@ -6,7 +6,8 @@ use Rattle.listeners.specs.declared.theme.Theme.{Theme}
 use Rattle.listeners.specs.declared.theme.Theme.TheVariants as themes
 use Rattle.launch_options.specs.declared.details.Details.{Details}
 use Rattle.launch_options.specs.declared.details.Details.TheVariants as details
-use Rattle.launch_options.specs.Asked.{all_details, all_themes, theme_text}
+use Rattle.launch_options.specs.Asked.{all_themes, theme_text}
+use Rattle.launch_options.specs.DetailsTexts.{all_details}
 
 pub each_details : (kind : Details) → Contains all_details kind
 each_details details.None = (0, omega arith, refl)

@@ -16,13 +16,14 @@ use Rattle.tag_expr.specs.Grammar.{or_phrase, Spells}
 use Rattle.tag_expr.specs.Tokens.{tokens, token_of}
 use Rattle.tag_expr.specs.ExpressionFaults.{expression_refusal}
 use Rattle.launch_options.specs.declared.details.Details.{Details}
-use Rattle.launch_options.specs.declared.details.Details.TheVariants as details
 use Rattle.launch_options.specs.declared.asked.Options.{Options}
 use Rattle.launch_options.specs.declared.fault.LaunchFault.{LaunchFault}
 use Rattle.launch_options.specs.declared.fault.LaunchFault.TheVariants.{BadWords, BadStep, BadSelector, BadTags}
 use Rattle.step_text.specs.StepTexts.{steps_of}
+use Rattle.launch_options.specs.DetailsTexts.{details_named}
 use Rattle.launch_options.specs.Given.{Text, Values}
 use Rattle.launch_options.specs.Parameters.{processors_named, ring_named, drive_named, params_refusal}
+use Rattle.launch_options.specs.ReportTexts.{reports_refusal}
 use Rattle.launch_options.specs.ShardTexts.{shard_named}
 use Rattle.launch_options.specs.Workers.{params_said, unless_twice, workers_asked}
 
@@ -62,46 +63,6 @@ asked_by options = record {
   replay = option_map (λ steps. steps.items) options.replay;
   drive = options.drive;
 }
-
--- what `--details` asks for: there are eight, and it is the tree where it is not given
-abbrev pub details_named : Option Text → Option Details
-details_named None = Some details.Tree
-details_named (Some name) =
-    if bytes_eq name (codes "none") then Some details.None
-    else (if bytes_eq name (codes "summary") then Some details.Summary
-    else (if bytes_eq name (codes "tree") then Some details.Tree
-    else (if bytes_eq name (codes "testfeed") then Some details.Testfeed
-    else (if bytes_eq name (codes "json") then Some details.Json
-    else (if bytes_eq name (codes "xml") then Some details.Xml
-    else (if bytes_eq name (codes "list") then Some details.List
-    else (if bytes_eq name (codes "plan") then Some details.Plan else None)))))))
-
--- the name of what is printed
-abbrev pub details_text : Details → Text
-details_text details.None = codes "none"
-details_text details.Summary = codes "summary"
-details_text details.Tree = codes "tree"
-details_text details.Testfeed = codes "testfeed"
-details_text details.Json = codes "json"
-details_text details.Xml = codes "xml"
-details_text details.List = codes "list"
-details_text details.Plan = codes "plan"
-
--- all that may be printed
-abbrev pub all_details : List Details
-all_details =
-    details.None ∷ details.Summary ∷ details.Tree ∷ details.Testfeed ∷ details.Json ∷ details.Xml ∷ details.List ∷ details.Plan ∷ []
-
--- whether they are lines of events, so that each can be printed when its event is told
-abbrev pub prints_live : Details → Bool
-prints_live details.None = false
-prints_live details.Summary = false
-prints_live details.Tree = false
-prints_live details.Testfeed = true
-prints_live details.Json = true
-prints_live details.Xml = false
-prints_live details.List = false
-prints_live details.Plan = false
 
 -- what `--details-theme` asks for: there are two, and it is Unicode where it is not given
 abbrev pub theme_named : Option Text → Option Theme
@@ -173,12 +134,14 @@ AreExpressions [] [] = Unit {0}
 AreExpressions (text ∷ texts) (e ∷ expressions) = IsExpression text e × AreExpressions texts expressions
 AreExpressions texts expressions = ⊥
 
--- why texts of selectors are refused: those that select are counted before names, and both before exclusions
+-- why texts of selectors are refused: those that select are counted before names, these before exclusions, and all of them before what
+-- is to be run again
 abbrev pub asked_refusal : Values → Option LaunchFault
 asked_refusal given =
     option_or (selectors_refusal 1 given.selectors) (
     option_or (selectors_refusal (length given.selectors + 1) given.names) (
-    selectors_refusal (length given.selectors + length given.names + 1) given.exclusions))
+    option_or (selectors_refusal (length given.selectors + length given.names + 1) given.exclusions) (
+    selectors_refusal (length given.selectors + length given.names + length given.exclusions + 1) given.rerun)))
 
 -- why the texts that are read are refused: what names no step, what spells no selector, and what is the matter with a tag
 -- expression
@@ -207,15 +170,16 @@ shard_refusal given = unless_named (shard_named given.shard)
 abbrev pub workers_refusal : Values → Option LaunchFault
 workers_refusal given = option_or (unless_named (workers_asked given)) (unless_twice given.workers given.config)
 
--- why the values are refused: what is asked for by a name or by a number, then a number of workers, then a shard, then the texts
--- that are read, and what says no pair
+-- why the values are refused: what is asked for by a name or by a number, then a number of workers, then a shard, then reports, then
+-- the texts that are read, and what says no pair
 abbrev pub refusal_of : Values → Option LaunchFault
 refusal_of given =
     option_or (names_refusal given) (
     option_or (workers_refusal given) (
     option_or (shard_refusal given) (
+    option_or (reports_refusal given.reports given.replay (details_named given.details)) (
     option_or (texts_refusal given) (
-    params_refusal given))))
+    params_refusal given)))))
 
 -- the values ask for this
 pub record AreAsked (given : Values) (asked : Asked) : Type 0 where
@@ -234,6 +198,7 @@ pub record AreAsked (given : Values) (asked : Asked) : Type 0 where
   pub selectors : asked.request.selectors.items ≡ filter_map spelled given.selectors
   pub names : asked.request.names.items ≡ filter_map spelled given.names
   pub exclusions : asked.request.exclusions.items ≡ filter_map spelled given.exclusions
+  pub rerun : asked.request.rerun.items ≡ filter_map spelled given.rerun
   pub include : AreExpressions given.include_tags asked.request.include.items
   pub exclude : AreExpressions given.exclude_tags asked.request.exclude.items
   pub shard : shard_named given.shard ≡ Some asked.request.shard

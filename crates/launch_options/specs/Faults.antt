@@ -19,7 +19,7 @@ use Rattle.tag_expr.specs.declared.fault.TagFault.TheVariants as tags
 use Rattle.launch_options.specs.declared.fault.CutCause.TheVariants.{Writer, Memory}
 use Rattle.launch_options.specs.declared.fault.CutOutput.{CutOutput}
 use Rattle.launch_options.specs.declared.fault.LaunchFault.{LaunchFault}
-use Rattle.launch_options.specs.declared.fault.LaunchFault.TheVariants.{NoMemory, Suite, BadWords, BadStep, BadSelector, BadTags, BadPair, BadSettings, NothingMatches, TooManyKeys, TooManyWorkers, NoWorker, Reading, Writing}
+use Rattle.launch_options.specs.declared.fault.LaunchFault.TheVariants.{NoMemory, Suite, BadWords, BadStep, BadSelector, BadTags, BadPair, BadSettings, NothingMatches, TooManyKeys, TooManyWorkers, NoWorker, Reading, BadReport, CutReport, UnreadRun, BadSavedLine, UnreadWords, Writing}
 
 -- the number that is printed behind `error`
 abbrev pub number_of : LaunchFault → ℕ
@@ -36,6 +36,11 @@ number_of TooManyKeys = 50
 number_of TooManyWorkers = 61
 number_of NoWorker = 90
 number_of Reading = 106
+number_of (BadReport number) = 107
+number_of (CutReport number) = 82
+number_of UnreadRun = 108
+number_of (BadSavedLine number) = 109
+number_of (UnreadWords number) = 110
 number_of (Writing cut) = 81
 
 -- the place that is printed behind `at`, if there is one
@@ -46,6 +51,10 @@ place_of (BadSelector refused) = Some refused.number
 place_of (BadTags fault) = tag_faults.place fault
 place_of (BadPair fault) = params_faults.place fault
 place_of (NothingMatches number) = Some number
+place_of (BadReport number) = Some number
+place_of (CutReport number) = Some number
+place_of (BadSavedLine number) = Some number
+place_of (UnreadWords number) = Some number
 place_of (Writing cut) = Some cut.sent
 place_of _ = None
 

@@ -7,16 +7,18 @@ use Rattle.launch_options.specs.declared.given.Given.{Given}
 abbrev pub Text : Type 0
 Text = List ℕ
 
--- what is given to the options: the texts of selectors, of names and of exclusions with their kinds, in the order of their numbers; all values of
+-- what is given to the options: the texts of selectors, of names, of exclusions and of what is to be run again with their kinds, in the order of their numbers; all values of
 -- another option that may be given again, in their order; and the value of any other, if it is given
 pub record Values : Type 0 where
   pub selectors : List (SelectorKind × Text)
   pub names : List (SelectorKind × Text)
   pub exclusions : List (SelectorKind × Text)
+  pub rerun : List (SelectorKind × Text)
   pub include_tags : List Text
   pub exclude_tags : List Text
   pub config : List Text
   pub system : List Text
+  pub reports : List Text
   pub processors : Option Text
   pub workers : Option Text
   pub ring : Option Text
@@ -47,10 +49,12 @@ values_of given = record {
   selectors = texts_of given.selectors.items;
   names = texts_of given.names.items;
   exclusions = texts_of given.exclusions.items;
+  rerun = texts_of given.rerun.items;
   include_tags = behind given.include_tags.items;
   exclude_tags = behind given.exclude_tags.items;
   config = behind given.config.items;
   system = behind given.system.items;
+  reports = behind given.reports.items;
   processors = maybe_behind given.processors;
   workers = maybe_behind given.workers;
   ring = maybe_behind given.ring;

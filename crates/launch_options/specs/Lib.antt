@@ -1,7 +1,9 @@
 pub mod Asked
+pub mod DetailsTexts
 pub mod Faults
 pub mod Given
 pub mod Parameters
+pub mod ReportTexts
 pub mod SettingKeys
 pub mod ShardTexts
 pub mod Workers

@@ -3,7 +3,7 @@
 ghost use Rattle.std.specs.Prelude.{◌≡◌, Some, map};
 ghost use Rattle.std.specs.List.{Contains};
 ghost use Rattle.unique_id.specs.Answers.{texts};
-ghost use Rattle.launch_options.specs.Asked.{all_details, details_text, details_named, prints_live};
+ghost use Rattle.launch_options.specs.DetailsTexts.{all_details, details_text, details_named, prints_live};
 ghost use Rattle.launch_options.specs.declared.details.Details.{Details};
 
 const NONE: &str = "none";

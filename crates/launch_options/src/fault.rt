@@ -70,6 +70,18 @@ pub enum LaunchFault {
     NoWorker,
     /// Refusal 106: the reader failed.
     Reading,
+    /// Refusal 107: the file of the report of this number, from 1, could not be opened.
+    BadReport(usize),
+    /// Refusal 82: the report of this number, from 1, could not be written whole. The run is over, and
+    /// all that it prints was printed.
+    CutReport(usize),
+    /// Refusal 108: the file of a saved run could not be read.
+    UnreadRun,
+    /// Refusal 109: this line of a saved run, from 1, is no line of a feed, nor of its JSON.
+    BadSavedLine(usize),
+    /// Refusal 110: the file that the word of this number names, from 1, of those that name files of
+    /// words, could not be read, or is no list of words.
+    UnreadWords(usize),
     /// Refusal 81, at the number of bytes that the writer took.
     Writing(CutOutput),
 }
@@ -200,20 +212,28 @@ impl LaunchFault {
             LaunchFault::TooManyWorkers => 61,
             LaunchFault::NoWorker => 90,
             LaunchFault::Reading => 106,
+            LaunchFault::BadReport(_) => 107,
+            LaunchFault::CutReport(_) => 82,
+            LaunchFault::UnreadRun => 108,
+            LaunchFault::BadSavedLine(_) => 109,
+            LaunchFault::UnreadWords(_) => 110,
             LaunchFault::Writing(_) => 81,
         }
     }
 
-    /// The line of the suite, or the number of the step, the selector or the pair, from 1, or the
-    /// place in the tag expression, or how many bytes went out.
+    /// The line of the suite or of a saved run, or the number of the step, the selector, the pair, the
+    /// report or the word, from 1, or the place in the tag expression, or how many bytes went out.
     pub fn place(&self) -> Option<u64>
         ensures { result ≡ place_of self.now }
     {
         match self {
             LaunchFault::Suite(fault) => fault.place(),
-            LaunchFault::BadStep(number) | LaunchFault::NothingMatches(number) => {
-                Some(*number as u64)
-            }
+            LaunchFault::BadStep(number)
+            | LaunchFault::NothingMatches(number)
+            | LaunchFault::BadReport(number)
+            | LaunchFault::CutReport(number)
+            | LaunchFault::BadSavedLine(number)
+            | LaunchFault::UnreadWords(number) => Some(*number as u64),
             LaunchFault::BadSelector(refused) => Some(refused.number as u64),
             LaunchFault::BadTags(fault) => fault.place().map(|place| place as u64),
             LaunchFault::BadPair(fault) => fault.place(),

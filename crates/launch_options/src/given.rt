@@ -14,6 +14,8 @@ pub struct Given<'a> {
     /// `--exclude-name`, `--exclude-unique-id`, `--exclude-class`, `--exclude-method` and
     /// `--exclude-package`, numbered behind these.
     pub exclusions: Vec<(SelectorKind, &'a str)>,
+    /// `--rerun`, numbered behind these.
+    pub rerun: Vec<(SelectorKind, &'a str)>,
     /// `--include-tag`, in the order of the words, as with each that may be given again.
     pub include_tags: Vec<&'a str>,
     /// `--exclude-tag`.
@@ -22,6 +24,8 @@ pub struct Given<'a> {
     pub config: Vec<&'a str>,
     /// `--system`.
     pub system: Vec<&'a str>,
+    /// `--report`.
+    pub reports: Vec<&'a str>,
     /// `--processors`.
     pub processors: Option<&'a str>,
     /// `--workers`.

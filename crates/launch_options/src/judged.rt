@@ -72,7 +72,8 @@ fn judge_selectors(
     Ok(())
 }
 
-/// Judges the selectors, then the names, then the exclusions, which are numbered in this order.
+/// Judges the selectors, then the names, then the exclusions, then what is to be run again, which are
+/// numbered in this order.
 fn judge_all_selectors(alloc: Global, given: &Given<'_>) -> Result<(), LaunchFault>
     ensures accepted { OnOk result (asked_refusal (values_of given.now) ≡ None) }
     ensures refused { IfErr result (λ fault. asked_refusal (values_of given.now) ≡ Some fault) }
@@ -82,8 +83,10 @@ fn judge_all_selectors(alloc: Global, given: &Given<'_>) -> Result<(), LaunchFau
     let names = given.names.as_slice();
     judge_selectors(alloc, 0, selectors)?;
     judge_selectors(alloc, selectors.len(), names)?;
+    let exclusions = given.exclusions.as_slice();
     let before = selectors.len() + names.len();
-    judge_selectors(alloc, before, given.exclusions.as_slice())
+    judge_selectors(alloc, before, exclusions)?;
+    judge_selectors(alloc, before + exclusions.len(), given.rerun.as_slice())
 }
 
 /// Judges the text of a tag expression.

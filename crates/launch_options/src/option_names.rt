@@ -20,6 +20,8 @@ pub const EXCLUDE_METHOD: &str = "exclude-method";
 
 pub const EXCLUDE_PACKAGE: &str = "exclude-package";
 
+pub const RERUN: &str = "rerun";
+
 pub const INCLUDE_TAG: &str = "include-tag";
 
 pub const EXCLUDE_TAG: &str = "exclude-tag";
@@ -39,6 +41,8 @@ pub const SHARD: &str = "shard";
 pub const DETAILS: &str = "details";
 
 pub const DETAILS_THEME: &str = "details-theme";
+
+pub const REPORT: &str = "report";
 
 pub const FAIL_IF_NO_TESTS: &str = "fail-if-no-tests";
 

@@ -5,7 +5,8 @@ ghost use Rattle.std.specs.List.{filter_map};
 ghost use Rattle.std.specs.Option.{is_some, option_or};
 ghost use Rattle.launch_options.specs.declared.fault.LaunchFault.TheVariants.{NoMemory};
 ghost use Rattle.launch_options.specs.Given.{behind, maybe_behind, texts_of, values_of};
-ghost use Rattle.launch_options.specs.Asked.{asked_by, details_named as details_of_name, theme_named as theme_of_name};
+ghost use Rattle.launch_options.specs.Asked.{asked_by, theme_named as theme_of_name};
+ghost use Rattle.launch_options.specs.DetailsTexts.{details_named as details_of_name};
 ghost use Rattle.launch_options.specs.Asked.{unless_named, IsReplay, refusal_of, AreAsked, spelled, IsExpression};
 ghost use Rattle.launch_options.specs.Asked.{AreExpressions, names_refusal, texts_refusal};
 ghost use Rattle.launch_options.specs.Parameters.{drive_named as drive_of_name, IsRightDrive, params_refusal};
@@ -20,6 +21,7 @@ use crate::fault::LaunchFault;
 use crate::given::Given;
 use crate::judged::judge_texts;
 use crate::parameters::{drive_named, judge_params, params_given, processors_named, ring_named};
+use crate::reports::judge_reports;
 use crate::shards::shard_named;
 use crate::themes::theme_of;
 use crate::workers::{spread_given, workers_given};
@@ -123,6 +125,8 @@ fn request_of(alloc: Global, given: &Given<'_>, shard: Option<Shard>) -> Result<
         (λ request. request.names.items ≡ filter_map spelled (texts_of given.now.names.items)) }
     ensures exclusions { IfOk result
         (λ request. request.exclusions.items ≡ filter_map spelled (texts_of given.now.exclusions.items)) }
+    ensures rerun { IfOk result
+        (λ request. request.rerun.items ≡ filter_map spelled (texts_of given.now.rerun.items)) }
     ensures include { IfOk result (λ request. AreExpressions (behind given.now.include_tags.items)
         request.include.items) }
     ensures exclude { IfOk result (λ request. AreExpressions (behind given.now.exclude_tags.items)
@@ -132,6 +136,7 @@ fn request_of(alloc: Global, given: &Given<'_>, shard: Option<Shard>) -> Result<
         selectors: selectors_of(alloc, given.selectors.as_slice())?,
         names: selectors_of(alloc, given.names.as_slice())?,
         exclusions: selectors_of(alloc, given.exclusions.as_slice())?,
+        rerun: selectors_of(alloc, given.rerun.as_slice())?,
         include: expressions_of(alloc, given.include_tags.as_slice())?,
         exclude: expressions_of(alloc, given.exclude_tags.as_slice())?,
         shard,
@@ -253,13 +258,14 @@ impl Options {
     /// 105, and so is what is no number of processors from 1 to 1,024, what is no number of places of
     /// the ring from 1 to 16,384, what is no number of workers of the fixed schedule from 1 to 64,
     /// what is no number of workers from 1 to 64 and not `auto`, or stands beside one of its keys in
-    /// `--config`, and what names no shard; then a word in the text of `--replay` that names no
+    /// `--config`, what names no shard, and what asks for no report, for two in one file, or for one of
+    /// nothing that is run; then a word in the text of `--replay` that names no
     /// step is refusal 104, at its number; then a text that spells no selector is refusal 40, and an
     /// empty pattern of names refusal 43, at its number; then an expression of `--include-tag`, and then of `--exclude-tag`,
     /// is one of 20 to 26, at a place in it; then a word of `--config` or `--system` that has no
     /// equals sign or an empty key is refusal 30 or 31, at its number, those of `--config` counted
-    /// first. Selectors, names and exclusions are numbered
-    /// from 1 in the order of `Given`. All of these are judged before
+    /// first. Selectors, names, exclusions
+    /// and what is to be run again are numbered from 1 in the order of `Given`. All of these are judged before
     /// any of them is kept, so want of memory stands in their place nowhere.
     pub fn of(alloc: Global, given: &Given<'_>) -> Result<Options, LaunchFault>
         ensures asked { IfOk result (λ options. AreAsked (values_of given.now) (asked_by options)) }
@@ -273,6 +279,7 @@ impl Options {
         let choices = choices_of(given)?;
         let workers = workers_given(given, choices.processors)?;
         let shard = shard_named(given.shard)?;
+        judge_reports(given, choices.details)?;
         judge_values(alloc, given)?;
         Ok(options_of(alloc, given, choices, workers, shard)?)
     }

@@ -22,7 +22,7 @@ use Rattle.launcher.specs.declared.bytes.ReadFault.{ReadFault}
 use Rattle.launcher.specs.declared.bytes.ReadFault.TheVariants as reads
 use Rattle.launcher.specs.declared.exit_status.ExitStatus.{ExitStatus}
 use Rattle.launch_options.specs.declared.fault.LaunchFault.{LaunchFault}
-use Rattle.launch_options.specs.declared.fault.LaunchFault.TheVariants.{NoMemory, Suite as OfSuite, BadWords, BadStep, BadSelector, BadTags, BadPair, BadSettings, NothingMatches, TooManyKeys, TooManyWorkers, NoWorker, Reading, Writing}
+use Rattle.launch_options.specs.declared.fault.LaunchFault.TheVariants.{NoMemory, Suite as OfSuite, BadWords, BadStep, BadReport, CutReport, UnreadRun, BadSavedLine, UnreadWords, BadSelector, BadTags, BadPair, BadSettings, NothingMatches, TooManyKeys, TooManyWorkers, NoWorker, Reading, Writing}
 
 module _ (asked : Asked) (old new : Option (List ℕ)) where
   -- a suite was read, and this is the answer of its run
@@ -41,6 +41,11 @@ ends_whole (Some NoMemory) count new other few end = few refl
 ends_whole (Some (OfSuite f)) count new other few end = end
 ends_whole (Some BadWords) count new other few end = end
 ends_whole (Some (BadStep n)) count new other few end = end
+ends_whole (Some (BadReport n)) count new other few end = end
+ends_whole (Some (CutReport n)) count new other few end = end
+ends_whole (Some UnreadRun) count new other few end = end
+ends_whole (Some (BadSavedLine n)) count new other few end = end
+ends_whole (Some (UnreadWords n)) count new other few end = end
 ends_whole (Some (BadSelector n)) count new other few end = end
 ends_whole (Some (BadTags f)) count new other few end = end
 ends_whole (Some (BadPair f)) count new other few end = end
@@ -109,6 +114,11 @@ module _ (old new : Option (List ℕ)) where
   ends_run asked suite was is (Err (OfSuite f)) run same = cc
   ends_run asked suite was is (Err BadWords) run same = cc
   ends_run asked suite was is (Err (BadStep n)) run same = cc
+  ends_run asked suite was is (Err (BadReport n)) run same = cc
+  ends_run asked suite was is (Err (CutReport n)) run same = cc
+  ends_run asked suite was is (Err UnreadRun) run same = cc
+  ends_run asked suite was is (Err (BadSavedLine n)) run same = cc
+  ends_run asked suite was is (Err (UnreadWords n)) run same = cc
   ends_run asked suite was is (Err (BadSelector n)) run same = cc
   ends_run asked suite was is (Err (BadTags f)) run same = cc
   ends_run asked suite was is (Err (BadPair f)) run same = cc

@@ -31,7 +31,7 @@ use Rattle.launcher.specs.Watched.{LacksBy, is_run}
 use Rattle.launcher.specs.Runs.{FailsSuite, IsReady, IsSuiteOutputBy, IsUnrun, TakesMemory, answers_of, crowd_refusal, keys_refusal, plan_of, plan_refusal, run_refusal, selection_fault, selection_refusal, settings_in, settings_refusal, workers_refusal}
 use Rattle.launcher.specs.declared.exit_status.ExitStatus.{ExitStatus}
 use Rattle.launch_options.specs.declared.fault.LaunchFault.{LaunchFault}
-use Rattle.launch_options.specs.declared.fault.LaunchFault.TheVariants.{NoMemory, Suite as OfSuite, BadWords, BadStep, BadSelector, BadTags, BadPair, BadSettings, NothingMatches, TooManyKeys, TooManyWorkers, NoWorker, Reading, Writing}
+use Rattle.launch_options.specs.declared.fault.LaunchFault.TheVariants.{NoMemory, Suite as OfSuite, BadWords, BadStep, BadReport, CutReport, UnreadRun, BadSavedLine, UnreadWords, BadSelector, BadTags, BadPair, BadSettings, NothingMatches, TooManyKeys, TooManyWorkers, NoWorker, Reading, Writing}
 
 or_none : {A : Type 0} (a b : Option A) → option_or a b ≡ None → a ≡ None
 or_none None b is = refl
@@ -99,6 +99,11 @@ module _ (asked : Asked) (suite : SuiteParts) where
   fails_by (OfSuite f) refused memory = absurd (run_kind (OfSuite f) (refused (λ same. cc)))
   fails_by BadWords refused memory = absurd (run_kind BadWords (refused (λ same. cc)))
   fails_by (BadStep n) refused memory = absurd (run_kind (BadStep n) (refused (λ same. cc)))
+  fails_by (BadReport n) refused memory = absurd (run_kind (BadReport n) (refused (λ same. cc)))
+  fails_by (CutReport n) refused memory = absurd (run_kind (CutReport n) (refused (λ same. cc)))
+  fails_by UnreadRun refused memory = absurd (run_kind UnreadRun (refused (λ same. cc)))
+  fails_by (BadSavedLine n) refused memory = absurd (run_kind (BadSavedLine n) (refused (λ same. cc)))
+  fails_by (UnreadWords n) refused memory = absurd (run_kind (UnreadWords n) (refused (λ same. cc)))
   fails_by (BadSelector n) refused memory = absurd (run_kind (BadSelector n) (refused (λ same. cc)))
   fails_by (BadTags f) refused memory = absurd (run_kind (BadTags f) (refused (λ same. cc)))
   fails_by (BadPair f) refused memory = absurd (run_kind (BadPair f) (refused (λ same. cc)))

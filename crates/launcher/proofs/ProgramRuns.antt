@@ -21,7 +21,7 @@ use Rattle.launch_options.specs.Asked.{Asked}
 use Rattle.launch_options.specs.declared.details.Details.{Details}
 use Rattle.launch_options.specs.declared.details.Details.TheVariants as details
 use Rattle.launch_options.specs.declared.fault.LaunchFault.{LaunchFault}
-use Rattle.launch_options.specs.declared.fault.LaunchFault.TheVariants.{NoMemory, Suite as OfSuite, BadWords, BadStep, BadSelector, BadTags, BadPair, BadSettings, NothingMatches, TooManyKeys, TooManyWorkers, NoWorker, Reading, Writing}
+use Rattle.launch_options.specs.declared.fault.LaunchFault.TheVariants.{NoMemory, Suite as OfSuite, BadWords, BadStep, BadReport, CutReport, UnreadRun, BadSavedLine, UnreadWords, BadSelector, BadTags, BadPair, BadSettings, NothingMatches, TooManyKeys, TooManyWorkers, NoWorker, Reading, Writing}
 use Rattle.launcher.specs.declared.exit_status.ExitStatus.{ExitStatus}
 use Rattle.launcher.specs.Missing.{IsJudged, answer_unless, is_missing}
 use Rattle.launcher.specs.Programs.{FailsProgram, HasJobs, IsJobsOutput, IsPrintedJobs, IsProgramOutput, IsProgramRun, IsSeenProgram, IsSeenProgramRun, IsSeenSelectedOutput, IsSelectedBy, IsSelectedOutput, program_refusal, steps_refusal}
@@ -76,6 +76,11 @@ module _ (asked : Asked) (parts : SuiteParts) (no_steps : steps_refusal asked.re
   fails_as (OfSuite f) x = absurd x
   fails_as BadWords x = absurd x
   fails_as (BadStep n) x = absurd x
+  fails_as (BadReport n) x = absurd x
+  fails_as (CutReport n) x = absurd x
+  fails_as UnreadRun x = absurd x
+  fails_as (BadSavedLine n) x = absurd x
+  fails_as (UnreadWords n) x = absurd x
   fails_as (BadSelector n) x = absurd x
   fails_as (BadTags f) x = absurd x
   fails_as (BadPair f) x = absurd x
@@ -113,6 +118,11 @@ module _ (asked : Asked) (parts : SuiteParts) where
   program_uncut (OfSuite f) x = refl
   program_uncut BadWords x = refl
   program_uncut (BadStep n) x = refl
+  program_uncut (BadReport n) x = refl
+  program_uncut (CutReport n) x = refl
+  program_uncut UnreadRun x = refl
+  program_uncut (BadSavedLine n) x = refl
+  program_uncut (UnreadWords n) x = refl
   program_uncut (BadSelector n) x = refl
   program_uncut (BadTags f) x = refl
   program_uncut (BadPair f) x = refl

@@ -22,12 +22,13 @@ use Rattle.live.specs.declared.live_feed.Outlet.{Outlet}
 use Rattle.live.specs.declared.live_feed.Outlet.TheVariants.{Waiting, Open, Closed, Failed}
 use Rattle.live.proofs.Fronts.{IsShort, front, front_short}
 use Rattle.suite_text.specs.Reading.Parts.{SuiteParts}
-use Rattle.launch_options.specs.Asked.{Asked, prints_live}
+use Rattle.launch_options.specs.Asked.{Asked}
+use Rattle.launch_options.specs.DetailsTexts.{prints_live}
 use Rattle.launch_options.specs.Faults.{cut_by_memory, cut_by_writer}
 use Rattle.launch_options.specs.declared.details.Details.{Details}
 use Rattle.launch_options.specs.declared.details.Details.TheVariants as details
 use Rattle.launch_options.specs.declared.fault.LaunchFault.{LaunchFault}
-use Rattle.launch_options.specs.declared.fault.LaunchFault.TheVariants.{NoMemory, Suite as OfSuite, BadWords, BadStep, BadSelector, BadTags, BadPair, BadSettings, NothingMatches, TooManyKeys, TooManyWorkers, NoWorker, Reading, Writing}
+use Rattle.launch_options.specs.declared.fault.LaunchFault.TheVariants.{NoMemory, Suite as OfSuite, BadWords, BadStep, BadReport, CutReport, UnreadRun, BadSavedLine, UnreadWords, BadSelector, BadTags, BadPair, BadSettings, NothingMatches, TooManyKeys, TooManyWorkers, NoWorker, Reading, Writing}
 use Rattle.launcher.specs.declared.exit_status.ExitStatus.{ExitStatus}
 use Rattle.launcher.specs.declared.report.Output.{Output}
 use Rattle.launcher.specs.declared.watched_feed.WatchedFeed.{WatchedFeed}
@@ -328,6 +329,11 @@ suite_uncut asked suite NoMemory fails = refl
 suite_uncut asked suite (OfSuite f) fails = refl
 suite_uncut asked suite BadWords fails = refl
 suite_uncut asked suite (BadStep n) fails = refl
+suite_uncut asked suite (BadReport n) fails = refl
+suite_uncut asked suite (CutReport n) fails = refl
+suite_uncut asked suite UnreadRun fails = refl
+suite_uncut asked suite (BadSavedLine n) fails = refl
+suite_uncut asked suite (UnreadWords n) fails = refl
 suite_uncut asked suite (BadSelector n) fails = refl
 suite_uncut asked suite (BadTags f) fails = refl
 suite_uncut asked suite (BadPair f) fails = refl

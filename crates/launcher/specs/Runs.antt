@@ -17,7 +17,7 @@ use Rattle.resource_locks.specs.Spares.{HasBareSpares}
 use Rattle.never_stuck.specs.Reaching.{NeverStuck}
 use Rattle.launcher.specs.declared.exit_status.ExitStatus.{ExitStatus}
 use Rattle.launch_options.specs.declared.fault.LaunchFault.{LaunchFault}
-use Rattle.launch_options.specs.declared.fault.LaunchFault.TheVariants.{NoMemory, Suite, BadWords, BadStep, BadSelector, BadTags, BadPair, BadSettings, NothingMatches, TooManyKeys, TooManyWorkers, NoWorker, Reading, Writing}
+use Rattle.launch_options.specs.declared.fault.LaunchFault.TheVariants.{NoMemory, Suite, BadWords, BadStep, BadReport, CutReport, UnreadRun, BadSavedLine, UnreadWords, BadSelector, BadTags, BadPair, BadSettings, NothingMatches, TooManyKeys, TooManyWorkers, NoWorker, Reading, Writing}
 use Rattle.selectors.specs.declared.request.Request.{Request}
 use Rattle.selectors.specs.declared.select_fault.SelectFault.{SelectFault}
 use Rattle.selectors.specs.declared.select_fault.SelectFault.TheVariants as selections
@@ -168,6 +168,11 @@ FailsToRead read NoMemory = Unit {0}
 FailsToRead read (Suite fault) = read ≡ Err fault
 FailsToRead read BadWords = ⊥
 FailsToRead read (BadStep number) = ⊥
+FailsToRead read (BadReport number) = ⊥
+FailsToRead read (CutReport number) = ⊥
+FailsToRead read UnreadRun = ⊥
+FailsToRead read (BadSavedLine number) = ⊥
+FailsToRead read (UnreadWords number) = ⊥
 FailsToRead read (BadSelector number) = ⊥
 FailsToRead read (BadTags fault) = ⊥
 FailsToRead read (BadPair fault) = ⊥

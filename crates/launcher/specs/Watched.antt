@@ -20,7 +20,8 @@ use Rattle.launch_options.specs.declared.fault.CutOutput.{CutOutput}
 use Rattle.launch_options.specs.declared.fault.LaunchFault.{LaunchFault}
 use Rattle.launch_options.specs.declared.fault.LaunchFault.TheVariants.{NoMemory, NoWorker, Writing}
 use Rattle.launcher.specs.declared.report.Output.{Output}
-use Rattle.launch_options.specs.Asked.{Asked, prints_live}
+use Rattle.launch_options.specs.Asked.{Asked}
+use Rattle.launch_options.specs.DetailsTexts.{prints_live}
 
 -- whether lines are printed while a run goes on: those of events are, unless steps are replayed
 abbrev pub outlet_by : Details → Option (List Step) → Outlet

@@ -11,7 +11,7 @@ use launch_options::LaunchFault;
 #[derive(Clone, Copy, Debug, PartialEq, Eq)]
 pub struct Closing {
     /// The refusal whose line is printed. Where the output failed there is none, since a line on it
-    /// is of no use.
+    /// is of no use; and where a report did, since the output is whole.
     pub line: Option<LaunchFault>,
     pub status: ExitStatus,
 }
@@ -23,7 +23,7 @@ impl Closing {
         ensures status { result.status ≡ status_after answer }
     {
         let line = match answer {
-            Ok(_) | Err(LaunchFault::Writing(_)) => None,
+            Ok(_) | Err(LaunchFault::Writing(_)) | Err(LaunchFault::CutReport(_)) => None,
             Err(fault) => Some(fault),
         };
         Closing {

@@ -86,6 +86,7 @@ pub(crate) fn find<W: Write>(alloc: Global, out: &mut Printer<W>) -> Result<(), 
     let mut request = Request {
         selectors: Vec::new(alloc),
         names: Vec::new(alloc),
+        rerun: Vec::new(alloc),
         exclusions: Vec::new(alloc),
         include: Vec::new(alloc),
         exclude: Vec::new(alloc),

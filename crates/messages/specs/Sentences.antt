@@ -91,6 +91,11 @@ sentence_of launches.TooManyKeys = codes "the nodes that are to run declare too 
 sentence_of launches.TooManyWorkers = codes "the configuration asks for too many workers"
 sentence_of launches.NoWorker = codes "no thread could be started"
 sentence_of launches.Reading = codes "standard input could not be read"
+sentence_of (launches.BadReport number) = codes "the file of a report could not be opened"
+sentence_of (launches.CutReport number) = codes "a report could not be written whole"
+sentence_of launches.UnreadRun = codes "the saved run could not be read"
+sentence_of (launches.BadSavedLine line) = codes "a line of the saved run is none of a feed"
+sentence_of (launches.UnreadWords number) = codes "a file of words could not be read"
 sentence_of (launches.Writing cut) = of_cut cut.cause
 
 -- and where tests of a program's own are

@@ -11,7 +11,8 @@ use crate::settings::push_settings;
 use crate::subject::Subject;
 use crate::suite::push_suite;
 use crate::values::{
-    push_covering, push_pair, push_selector, push_step, push_step_option, push_tags, push_words,
+    push_covering, push_pair, push_report, push_selector, push_step, push_step_option, push_tags,
+    push_words,
 };
 use config_params::SettingsFault;
 use launch_options::{CutCause, CutOutput, Given, LaunchFault};
@@ -57,6 +58,14 @@ impl Message {
         }
     }
 }
+
+/// What it takes to open the file of a report.
+const UNOPENED: &str =
+    "Its folder has to be there, and to be one that files may be made in. Nothing was run.\n";
+
+/// What is there all the same if a report is not kept.
+const UNKEPT: &str =
+    "The run is over. Standard output is whole, and so is each other report that is there.\n";
 
 /// Appends why words that clap took give no options, or none that tests of a program's own can follow.
 fn push_refused_words(
@@ -139,6 +148,11 @@ fn push_details(
         LaunchFault::Reading => {
             text.push_str("The suite is read from there: give it as in `./console < FILE`.\n")
         }
+        LaunchFault::BadReport(number) => push_report(alloc, text, number, given, UNOPENED),
+        LaunchFault::CutReport(number) => push_report(alloc, text, number, given, UNKEPT),
+        LaunchFault::UnreadRun | LaunchFault::BadSavedLine(_) | LaunchFault::UnreadWords(_) => Ok(
+            (),
+        ),
         LaunchFault::Writing(cut) => push_cut(text, cut),
     }
 }

@@ -116,6 +116,11 @@ fn sentence_of(fault: LaunchFault) -> &'static str
         LaunchFault::TooManyWorkers => "the configuration asks for too many workers",
         LaunchFault::NoWorker => "no thread could be started",
         LaunchFault::Reading => "standard input could not be read",
+        LaunchFault::BadReport(_) => "the file of a report could not be opened",
+        LaunchFault::CutReport(_) => "a report could not be written whole",
+        LaunchFault::UnreadRun => "the saved run could not be read",
+        LaunchFault::BadSavedLine(_) => "a line of the saved run is none of a feed",
+        LaunchFault::UnreadWords(_) => "a file of words could not be read",
         LaunchFault::Writing(cut) => of_cut(cut.cause),
     }
 }

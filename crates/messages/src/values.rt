@@ -11,12 +11,12 @@ use crate::options::{exclusion_of, form_of, option_of, pair_option};
 use crate::subject::Subject;
 use config_params::ParamsFault;
 use launch_options::option_names::{
-    CONFIG, DETAILS, DETAILS_THEME, DRIVE, EXCLUDE_TAG, INCLUDE_TAG, PROCESSORS, REPLAY, RING,
-    SHARD, WORKERS,
+    CONFIG, DETAILS, DETAILS_THEME, DRIVE, EXCLUDE_TAG, INCLUDE_TAG, PROCESSORS, REPLAY, REPORT,
+    RERUN, RING, SHARD, WORKERS,
 };
 use launch_options::{
-    Details, Given, drive_named, has_long_key, processors_named, ring_named, shard_named,
-    theme_names, theme_of, workers_named,
+    Details, Given, drive_named, has_long_key, processors_named, report_in, ring_named,
+    shard_named, theme_names, theme_of, workers_named,
 };
 use selectors::SelectorKind;
 use std::alloc::{AllocError, Global};
@@ -67,7 +67,47 @@ fn push_range(
     push_option(alloc, text, option, value, 0)
 }
 
-/// Appends why `--shard` is refused, if it is: it names no shard.
+/// Appends a word of `--report`.
+fn push_report_word(alloc: Global, text: &mut String, word: &str) -> Result<(), AllocError> {
+    push_option(alloc, text, REPORT, word, 0)
+}
+
+/// Appends why `--report` is refused: a text asks for none, or two for one file, or nothing is run.
+fn push_reports(alloc: Global, text: &mut String, given: &Given<'_>) -> Result<(), AllocError> {
+    for word in given.reports.as_slice() {
+        if report_in(word).is_none() {
+            text.push_str(
+                "--report is FORM=FILE, with summary, tree, testfeed, json, xml or list as FORM\n",
+            )?;
+            return push_report_word(alloc, text, word);
+        }
+    }
+    match given.reports.as_slice().last() {
+        Some(word) => {
+            text.push_str(
+                "--report names each FILE once, and is of a suite that is run: not with --replay, nor with --details list or plan\n",
+            )?;
+            push_report_word(alloc, text, word)
+        }
+        None => Ok(()),
+    }
+}
+
+/// Appends which report a refusal is about, by its number from 1, and what it takes to write one.
+pub(crate) fn push_report(
+    alloc: Global,
+    text: &mut String,
+    number: usize,
+    given: &Given<'_>,
+    why: &str,
+) -> Result<(), AllocError> {
+    if let Some(word) = given.reports.as_slice().get(number.saturating_sub(1)) {
+        push_report_word(alloc, text, word)?;
+    }
+    text.push_str(why)
+}
+
+/// Appends why `--shard` is refused, if it is: it names no shard; and else why `--report` is.
 fn push_shard(alloc: Global, text: &mut String, given: &Given<'_>) -> Result<(), AllocError> {
     match given.shard {
         Some(value) if shard_named(given.shard).is_err() => {
@@ -76,7 +116,7 @@ fn push_shard(alloc: Global, text: &mut String, given: &Given<'_>) -> Result<(),
             )?;
             push_option(alloc, text, SHARD, value, 0)
         }
-        Some(_) | None => Ok(()),
+        Some(_) | None => push_reports(alloc, text, given),
     }
 }
 
@@ -103,7 +143,8 @@ fn push_workers(
 }
 
 /// Appends which of the values that stand for something is none: what `--details`, then `--details-theme`, then
-/// `--processors`, then `--ring`, then `--drive`, then `--workers`, and then `--shard` may be.
+/// `--processors`, then `--ring`, then `--drive`, then `--workers`, then `--shard`, and then `--report`
+/// may be.
 pub(crate) fn push_words(
     alloc: Global,
     text: &mut String,
@@ -195,9 +236,22 @@ struct Text<'a> {
     value: &'a str,
 }
 
-/// The exclusion at this place, from 0.
+/// What is to be run again at this place, from 0.
+fn rerun_at<'a>(given: &Given<'a>, place: usize) -> Option<Text<'a>> {
+    let (kind, value) = given.rerun.as_slice().get(place)?;
+    Some(Text {
+        option: RERUN,
+        kind: *kind,
+        value: *value,
+    })
+}
+
+/// The exclusion at this place, from 0; behind exclusions comes what is to be run again.
 fn exclusion_at<'a>(given: &Given<'a>, place: usize) -> Option<Text<'a>> {
-    let (kind, value) = given.exclusions.as_slice().get(place)?;
+    let exclusions = given.exclusions.as_slice();
+    let Some((kind, value)) = exclusions.get(place) else {
+        return rerun_at(given, place.saturating_sub(exclusions.len()));
+    };
     Some(Text {
         option: exclusion_of(*kind),
         kind: *kind,

@@ -12,10 +12,14 @@ use Rattle.selectors.specs.Keeping.{stays}
 use Rattle.selectors.specs.Shards.{shard_or_all}
 use Rattle.selectors.specs.Units.{is_selectable}
 
--- whether a request takes node n by its place and its name: one of the selectors covers it or there are none, one of the names covers it or there
--- are none, and none of the exclusions covers it
+-- whether a request takes node n by its place and its name: of the selectors, of the names, and of what is to be run again, one covers it or
+-- there are none, and none of the exclusions covers it
 abbrev pub is_asked_for : Nodes → Request → ℕ → Bool
-is_asked_for t request n = is_covered t request.selectors.items n && (is_covered t request.names.items n && not (is_excluded t request.exclusions.items n))
+is_asked_for t request n =
+    is_covered t request.selectors.items n
+    && (is_covered t request.names.items n
+    && (is_covered t request.rerun.items n
+    && not (is_excluded t request.exclusions.items n)))
 
 -- whether node n is selected: it is a factory or a test that is no spare, the request takes it by its place and its name, and the tag filter keeps
 -- its tags together with all above it

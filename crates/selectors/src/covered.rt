@@ -89,6 +89,15 @@ fn is_excluded(tree: &Tree, exclusions: &[Selector], node: NodeId) -> bool
     false
 }
 
+/// Whether one of these selectors covers the node, or there are none. Takes no memory.
+fn is_within(tree: &Tree, selectors: &[Selector], node: NodeId) -> bool
+    requires tree { IsTree tree.now }
+    requires inside { node < size tree.now }
+    ensures { result ≡ is_covered tree.now selectors.now node }
+{
+    selectors.is_empty() || is_excluded(tree, selectors, node)
+}
+
 /// Whether the request takes the node by its place and its name, where it is known whether one of
 /// its selectors covers it.
 pub(crate) fn is_asked_for(tree: &Tree, request: &Request, covered: bool, node: NodeId) -> bool
@@ -97,9 +106,8 @@ pub(crate) fn is_asked_for(tree: &Tree, request: &Request, covered: bool, node: 
     requires covered { covered ≡ is_covered tree.now request.now.selectors.items node }
     ensures { result ≡ is_asked_for tree.now request.now node }
 {
-    let names = request.names.as_slice();
-    if !covered || !names.is_empty() && !is_excluded(tree, names, node) {
-        return false;
-    }
-    !is_excluded(tree, request.exclusions.as_slice(), node)
+    covered
+        && is_within(tree, request.names.as_slice(), node)
+        && is_within(tree, request.rerun.as_slice(), node)
+        && !is_excluded(tree, request.exclusions.as_slice(), node)
 }

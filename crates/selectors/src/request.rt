@@ -5,14 +5,16 @@ use crate::shard::Shard;
 use tag_expr::TagExpr;
 
 /// What a request asks for: tests and factories that one of the selectors covers, or all where there
-/// is none, that are asked for by their names and not left out, and that the tag filter keeps. The
-/// spares come with their factory.
+/// is none, that are asked for by their names, are among those to be run again and not left out, and
+/// that the tag filter keeps. The spares come with their factory.
 #[derive(Debug, Drop)]
 pub struct Request {
     /// What to cover.
     pub selectors: Vec<Selector>,
     /// Of which one has to cover it too, where there is one.
     pub names: Vec<Selector>,
+    /// Of which one has to cover it too, where there is one; one that covers nothing is no refusal.
+    pub rerun: Vec<Selector>,
     /// Of which none may cover it.
     pub exclusions: Vec<Selector>,
     /// Of which one has to be true of the tags, where there is one.

@@ -11,7 +11,7 @@ use std::alloc::Global;
 /// The tests and factories that a selector covers, and what they are below.
 pub fn select_by(alloc: Global, tree: Tree, selector: Selector) -> Result<Tree, SelectFault>
     ensures { IfOk result (λ found. (request : Request) × (request.selectors.items ≡ selector ∷ [])
-        × (request.names.items ≡ []) × (request.exclusions.items ≡ [])
+        × (request.names.items ≡ []) × (request.rerun.items ≡ []) × (request.exclusions.items ≡ [])
         × (request.include.items ≡ []) × (request.exclude.items ≡ []) × (request.shard ≡ None) × (found ≡ answer tree request)) }
 {
     let mut selectors = Vec::new(alloc);
@@ -21,6 +21,7 @@ pub fn select_by(alloc: Global, tree: Tree, selector: Selector) -> Result<Tree, 
     let request = Request {
         selectors,
         names: Vec::new(alloc),
+        rerun: Vec::new(alloc),
         exclusions: Vec::new(alloc),
         include: Vec::new(alloc),
         exclude: Vec::new(alloc),
