@@ -17,6 +17,7 @@ mod plans;
 mod repeats;
 mod run;
 mod runs;
+mod saved;
 mod selection;
 mod settings;
 mod suites;

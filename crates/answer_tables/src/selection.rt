@@ -65,6 +65,7 @@ pub(crate) fn push_found(alloc: Global, answer: &mut String, tree: &Tree, words:
     let mut request = Request {
         selectors: Vec::new(alloc),
         names: Vec::new(alloc),
+        rerun: Vec::new(alloc),
         exclusions: Vec::new(alloc),
         include: Vec::new(alloc),
         exclude: Vec::new(alloc),

@@ -1,0 +1,4 @@
+-- The definitions that contracts cite.
+pub mod Expansions
+pub mod Roles
+pub mod Words

@@ -1,0 +1,175 @@
+//! What the system tells, as words of options.
+
+ghost use Rattle.std.specs.Prelude.{◌≡◌, ◌++◌, ◌∷◌, [], false, map, string_bytes, IfOk, OnOk};
+ghost use Rattle.launch_options.specs.Given.{maybe_behind};
+ghost use Rattle.word_files.specs.Told.{asks_for_all, asks_here, has_option, index_text, name_of, shard_text};
+ghost use Rattle.word_files.specs.Told.{with_processors, with_shard, with_told};
+
+use std::alloc::{AllocError, Global};
+use suite_text::number_up_to;
+
+/// The option for which the system tells how many processors there are.
+const WORKERS: &str = "--workers";
+
+/// Its value that asks for a worker for each processor.
+const AUTO: &str = "auto";
+
+/// Both in one word.
+const WORKERS_AUTO: &str = "--workers=auto";
+
+/// The option that says how many processors there are.
+const PROCESSORS: &str = "--processors";
+
+/// The option that says which part of the tests is run.
+const SHARD: &str = "--shard";
+
+/// The greatest number of processors that the option takes.
+const MOST_PROCESSORS: u32 = 1024;
+
+/// The greatest index of a shard.
+const GREATEST_INDEX: u32 = 4094;
+
+/// What the system tells.
+#[derive(Clone, Copy)]
+pub struct Facts<'a> {
+    /// How many processors there are.
+    pub processors: Option<u32>,
+    /// In how many shards a build server has the tests run: Bazel's `TEST_TOTAL_SHARDS`.
+    pub total_shards: Option<&'a str>,
+    /// Which of these is run, from 0: Bazel's `TEST_SHARD_INDEX`.
+    pub shard_index: Option<&'a str>,
+}
+
+/// What stands before the first equals sign of a word, or all of it.
+fn name_of(word: &str) -> &str
+    ensures { result.now ≡ name_of word.now }
+{
+    match word.split_once('=') {
+        Some((name, _)) => name,
+        None => word,
+    }
+}
+
+/// Whether this option is among the words, with its value in the same word or in the next one.
+fn has_option(words: &[String], name: &str) -> bool
+    ensures { result ≡ has_option name.now (map string_bytes words.now) }
+{
+    for word in words {
+        if name_of(word.as_str()) == name {
+            return true;
+        }
+    }
+    false
+}
+
+/// Whether a word asks for a worker for each processor; before it may stand the option that has its value
+/// in this word.
+fn asks_here(is_value: bool, word: &str) -> bool
+    ensures { result ≡ asks_here is_value word.now }
+{
+    word == WORKERS_AUTO || is_value && word == AUTO
+}
+
+/// Whether the words ask for a worker for each processor.
+fn asks_for_all(words: &[String]) -> bool
+    ensures { result ≡ asks_for_all false (map string_bytes words.now) }
+{
+    let mut is_value = false;
+    for word in words {
+        if asks_here(is_value, word.as_str()) {
+            return true;
+        }
+        is_value = word.as_str() == WORKERS;
+    }
+    false
+}
+
+/// Puts an option and its value behind these words.
+fn push_option(
+    alloc: Global,
+    words: &mut Vec<String>,
+    name: &str,
+    value: String,
+) -> Result<(), AllocError>
+    ensures { OnOk result (map string_bytes words.new.items ≡ map string_bytes words.old.items
+        ++ name.now ∷ string_bytes value ∷ []) }
+{
+    words.push(String::from_str(alloc, name)?)?;
+    words.push(value)?;
+    Ok(())
+}
+
+/// Puts behind these words how many processors there are, where they ask for a worker for each, and
+/// do not say that themselves.
+fn push_processors(
+    alloc: Global,
+    words: &mut Vec<String>,
+    processors: Option<u32>,
+) -> Result<(), AllocError>
+    ensures { OnOk result (map string_bytes words.new.items ≡ with_processors processors
+        (map string_bytes words.old.items)) }
+{
+    let Some(number) = processors else {
+        return Ok(());
+    };
+    if !asks_for_all(words.as_slice()) || has_option(words.as_slice(), PROCESSORS) {
+        return Ok(());
+    }
+    let number = number.min(MOST_PROCESSORS);
+    push_option(alloc, words, PROCESSORS, format!(in alloc; "{number}")?)
+}
+
+/// The number of the shard of this index: one more; and of a text that is no index a text that is no
+/// number.
+fn index_text(alloc: Global, index: &str) -> Result<String, AllocError>
+    ensures { IfOk result (λ text. string_bytes text ≡ index_text index.now) }
+{
+    match number_up_to(GREATEST_INDEX, index) {
+        Some(number) => {
+            let next = number + 1;
+            format!(in alloc; "{next}")
+        }
+        None => format!(in alloc; "TEST_SHARD_INDEX={index}"),
+    }
+}
+
+/// The value of the option for the shard of this index among so many.
+fn shard_text(alloc: Global, index: &str, total: &str) -> Result<String, AllocError>
+    ensures { IfOk result (λ text. string_bytes text ≡ shard_text index.now total.now) }
+{
+    let number = index_text(alloc, index)?;
+    format!(in alloc; "{number}/{total}")
+}
+
+/// Puts behind these words which shard is run, where a build server says it, and they do not.
+fn push_shard(
+    alloc: Global,
+    words: &mut Vec<String>,
+    index: Option<&str>,
+    total: Option<&str>,
+) -> Result<(), AllocError>
+    ensures { OnOk result (map string_bytes words.new.items ≡ with_shard (maybe_behind index.entry)
+        (maybe_behind total.entry) (map string_bytes words.old.items)) }
+{
+    let (Some(index), Some(total)) = (index, total) else {
+        return Ok(());
+    };
+    if has_option(words.as_slice(), SHARD) {
+        return Ok(());
+    }
+    let value = shard_text(alloc, index, total)?;
+    push_option(alloc, words, SHARD, value)
+}
+
+/// Puts behind these words what the system tells, where they ask for it.
+pub(crate) fn push_told(
+    alloc: Global,
+    words: &mut Vec<String>,
+    facts: &Facts<'_>,
+) -> Result<(), AllocError>
+    ensures { OnOk result (map string_bytes words.new.items ≡ with_told facts.now
+        (map string_bytes words.old.items)) }
+{
+    push_processors(alloc, words, facts.processors)?;
+    push_shard(alloc, words, facts.shard_index, facts.total_shards)
+}
