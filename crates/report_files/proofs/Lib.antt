@@ -1,4 +1,7 @@
--- Why what is recorded is what is printed.
+-- Why what is recorded is what is printed, and what is kept is of that.
+pub mod FiledAnswers
+pub mod Filing
+pub mod OneFiling
 pub mod OneHistory
 pub mod Recordings
 pub mod Watched

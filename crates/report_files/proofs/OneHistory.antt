@@ -62,7 +62,7 @@ module _ {L : Type 0} (saw : PlanParts → L → L → List Telling → Type 0) 
         of_output status suite is run.text run.written run.output (printed_seen (IsPrintedRun asked run.output.output.settings p (answers_of suite.scripts)) p (is_run asked.replay asked.details) run.text run.output.told runs run.output.output.output.1)
     of_suite_run suite is (Err fault) run = tt
 
-    of_loaded_run : (loaded : Result suites.Suite LaunchFault) (result : Result ExitStatus LaunchFault) → ReadsSuite read loaded → RunsLoaded (λ suite. IsSeenSuiteRun saw first now asked suite old new) loaded result → IfOk result (λ status. IsRunWith Holds asked read old new status)
+    pub of_loaded_run : (loaded : Result suites.Suite LaunchFault) (result : Result ExitStatus LaunchFault) → ReadsSuite read loaded → RunsLoaded (λ suite. IsSeenSuiteRun saw first now asked suite old new) loaded result → IfOk result (λ status. IsRunWith Holds asked read old new status)
     of_loaded_run (Ok suite) result reads is = of_suite_run (suite_parts suite) reads result is.1
     of_loaded_run (Err fault) result reads is = subst (λ (r : Result ExitStatus LaunchFault). IfOk r (λ status. IsRunWith Holds asked read old new status)) (sym is) tt
 
@@ -71,13 +71,13 @@ module _ {V : Type 0} (saw : PlanParts → V → V → List Telling → Type 0) 
   Both = BothSaw saw HasRecorded
 
   both_begun : (p : PlanParts) → Both p first first []
-  both_begun p = record { same = refl; seen = nothing_seen saw p first.watcher.now; other = nothing_seen HasRecorded p first.other }
+  both_begun p = record { same = refl; seen = nothing_seen saw p first.watcher.now; other = nothing_seen HasRecorded p first.other.now }
 
   both_seen : (p : PlanParts) (ts : List Telling) → HasSeenMore Both p ts first now → Both p first now ts
   both_seen p ts more = more first [] (both_begun p)
 
-  recorded_of : (p : PlanParts) (ts : List Telling) → first.other.recorded ≡ Nothing → HasSeenMore Both p ts first now → IsRecorded p ts now.other.recorded
-  recorded_of p ts fresh more = (both_seen p ts more).other first.other [] (subst (λ (r : Recorded). IsRecorded p [] r) (sym fresh) refl)
+  recorded_of : (p : PlanParts) (ts : List Telling) → first.other.now.recorded ≡ Nothing → HasSeenMore Both p ts first now → IsRecorded p ts now.other.now.recorded
+  recorded_of p ts fresh more = (both_seen p ts more).other first.other.now [] (subst (λ (r : Recorded). IsRecorded p [] r) (sym fresh) refl)
 
   module _ (asked : Asked) (read : Result SuiteParts SuiteFault) (old new : Option (List ℕ)) where
     pub still_same : (result : Result ExitStatus LaunchFault) → IsSeenRun Both first now asked read old new result → now.watcher.ghost_name ≡ first.watcher.ghost_name
@@ -87,10 +87,10 @@ module _ {V : Type 0} (saw : PlanParts → V → V → List Telling → Type 0) 
     some_seen result is =
         of_run Both first now (HasSeenSome saw first.watcher.now now.watcher.now) (λ same. inl (ap (λ (b : Beside V Recording). b.watcher.now) same)) (λ p ts more. inr (p, ts, (both_seen p ts more).seen)) asked read old new result is
 
-    module _ (fresh : first.other.recorded ≡ Nothing) (runs : is_run asked.replay asked.details ≡ true) where
-      pub run_recorded : (result : Result ExitStatus LaunchFault) → IsSeenRun Both first now asked read old new result → IfOk result (λ status. IsRecordedRun asked read old new status now.other.recorded)
+    module _ (fresh : first.other.now.recorded ≡ Nothing) (runs : is_run asked.replay asked.details ≡ true) where
+      pub run_recorded : (result : Result ExitStatus LaunchFault) → IsSeenRun Both first now asked read old new result → IfOk result (λ status. IsRecordedRun asked read old new status now.other.now.recorded)
       run_recorded result is =
-          of_loaded_run Both first now (λ p history texts. IsRecorded p (tellings_of texts history) now.other.recorded) (λ p history texts. recorded_of p (tellings_of texts history) fresh) asked read old new runs is.loaded result is.reads is.runs
+          of_loaded_run Both first now (λ p history texts. IsRecorded p (tellings_of texts history) now.other.now.recorded) (λ p history texts. recorded_of p (tellings_of texts history) fresh) asked read old new runs is.loaded result is.reads is.runs
 
 events_back : (texts : TextParts) (events : List Event) → map (λ (t : Telling). t.event) (tellings_of texts events) ≡ events
 events_back texts [] = refl

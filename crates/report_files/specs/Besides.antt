@@ -6,8 +6,8 @@ use Rattle.report_files.specs.declared.beside.Beside.{Beside}
 use Rattle.worker_pool.specs.Watching.{HasSeenMore}
 
 module _ {V B : Type 0} (saw : PlanParts → V → V → List Telling → Type 0) (beside : PlanParts → B → B → List Telling → Type 0) where
-  -- the one that was lent, who is still the same, and the other have seen these events, whoever each was at first
+  -- the first, who is still the same, and the other have seen these events, whoever each was at first
   pub record BothSaw (p : PlanParts) (first now : Beside V B) (ts : List Telling) : Type 0 where
     pub same : now.watcher.ghost_name ≡ first.watcher.ghost_name
     pub seen : HasSeenMore saw p ts first.watcher.now now.watcher.now
-    pub other : HasSeenMore beside p ts first.other now.other
+    pub other : HasSeenMore beside p ts first.other.now now.other.now

@@ -2,9 +2,9 @@
 use Rattle.std.specs.Prelude.{◌≡◌, ◌<◌, ℕ, List, [], length, take, Option}
 use Rattle.std.specs.Io.KnownBytes.{Appends}
 use Rattle.launch_options.specs.declared.fault.CutCause.TheVariants.{Writer, Memory}
-use Rattle.launcher.specs.Reports.{details_of}
 use Rattle.listeners.specs.Listeners.{EachPlace}
 use Rattle.listeners.specs.declared.theme.Theme.{Theme}
+use Rattle.report_files.specs.ReportTexts.{report_of}
 use Rattle.report_files.specs.Told.{ToldParts}
 use Rattle.report_files.specs.declared.recording.Recorded.{Recorded}
 use Rattle.report_files.specs.declared.recording.Recorded.TheVariants as recordings
@@ -30,7 +30,7 @@ module _ {F : Type 0} (contents : F → Option (List ℕ)) (theme : Theme) where
   -- a report is written of this run, in its form
   pub record IsReported (told : ToldParts) (old new : Report F) : Type 0 where
     pub form : new.form ≡ old.form
-    pub stands : StandsBehind new.outcome (contents old.file) (contents new.file) (details_of old.form theme told.plan told.texts told.events)
+    pub stands : StandsBehind new.outcome (contents old.file) (contents new.file) (report_of old.form theme told)
 
   -- each report is written of what was recorded; and if not all was, there was no memory for any
   abbrev pub IsRecordedIn : Recorded → List (Report F) → List (Report F) → Type 0

@@ -1,6 +1,6 @@
 //! A report on its way to its writer.
 
-ghost use Rattle.std.specs.Prelude.{◌≡◌};
+ghost use Rattle.std.specs.Prelude.{◌≡◌, length};
 ghost use Rattle.listeners.specs.Listeners.{EachPlace};
 ghost use Rattle.report_files.specs.Reports.{IsLacking, IsRecordedIn, IsReported};
 
@@ -50,7 +50,8 @@ fn report_all<F: Write + Drop>(
     told: &ToldRun,
     reports: &mut [Report<F>],
 )
-    ensures { EachPlace (IsReported F.contents theme told.now) reports.old reports.new }
+    ensures each { EachPlace (IsReported F.contents theme told.now) reports.old reports.new }
+    ensures many { length reports.new ≡ length reports.old }
 {
     for index in 0..reports.len() {
         report_run(alloc, theme, told, &mut reports[index]);
@@ -66,7 +67,8 @@ fn miss<F: Write + Drop>(report: &mut Report<F>)
 
 /// Says of each report that there was no memory for it.
 fn miss_all<F: Write + Drop>(reports: &mut [Report<F>])
-    ensures { EachPlace IsLacking reports.old reports.new }
+    ensures each { EachPlace IsLacking reports.old reports.new }
+    ensures many { length reports.new ≡ length reports.old }
 {
     for index in 0..reports.len() {
         miss(&mut reports[index]);
@@ -80,7 +82,8 @@ pub(crate) fn write_reports<F: Write + Drop>(
     recorded: &Recorded,
     reports: &mut [Report<F>],
 )
-    ensures { IsRecordedIn F.contents theme recorded.now reports.old reports.new }
+    ensures recorded { IsRecordedIn F.contents theme recorded.now reports.old reports.new }
+    ensures many { length reports.new ≡ length reports.old }
 {
     match recorded {
         Recorded::Told(told) => report_all(alloc, theme, told, reports),

@@ -2,9 +2,11 @@
 
 ghost use Rattle.std.specs.Prelude.{◌≡◌, ◌++◌, IfOk, string_bytes};
 ghost use Rattle.launcher.specs.Reports.{details_of};
+ghost use Rattle.launcher.specs.WarningTexts.{beginning};
 ghost use Rattle.listeners.specs.Counts.{counts_of};
 ghost use Rattle.listeners.specs.SummaryTexts.{summary_of};
 ghost use Rattle.listeners.specs.TreeTexts.{tree_of};
+ghost use Rattle.report_files.specs.ReportTexts.{report_of};
 
 use crate::recording::ToldRun;
 use launch_options::Details;
@@ -47,7 +49,7 @@ fn tree_text(alloc: Global, theme: Theme, told: &ToldRun) -> Result<String, Allo
 }
 
 /// The text of this form of a run.
-pub(crate) fn report_text(
+fn form_text(
     alloc: Global,
     form: Details,
     theme: Theme,
@@ -66,4 +68,28 @@ pub(crate) fn report_text(
         Details::List => list_text(alloc, told.plan()),
         Details::Plan => plan_text(alloc, told.plan()),
     }
+}
+
+/// What a report of this form begins with.
+fn beginning(form: Details) -> &'static str
+    ensures { result.now ≡ beginning form }
+{
+    match form {
+        Details::Xml => "<?xml version=\"1.0\" encoding=\"UTF-8\"?>\n",
+        _ => "",
+    }
+}
+
+/// The report of this form of a run.
+pub(crate) fn report_text(
+    alloc: Global,
+    form: Details,
+    theme: Theme,
+    told: &ToldRun,
+) -> Result<String, AllocError>
+    ensures { IfOk result (λ text. string_bytes text ≡ report_of form theme told.now) }
+{
+    let mut text = String::from_str(alloc, beginning(form))?;
+    text.push_str(form_text(alloc, form, theme, told)?.as_str())?;
+    Ok(text)
 }

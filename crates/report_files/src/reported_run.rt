@@ -1,6 +1,6 @@
 //! A run of which reports are written besides what it prints.
 
-ghost use Rattle.std.specs.Prelude.{◌≡◌, IfOk, IfErr, IfSome, false, take, true};
+ghost use Rattle.std.specs.Prelude.{◌≡◌, IfOk, IfErr, IfSome, false, length, take, true};
 ghost use Rattle.std.specs.Io.KnownBytes.{Keeps};
 ghost use Rattle.launch_options.specs.Asked.{asked_by};
 ghost use Rattle.launcher.specs.Runs.{IsRun, TakesFrom, fault_in, is_writing};
@@ -26,9 +26,9 @@ fn run_recorded<T: Threads + Wait + Sync, R: Read, W: Write, V: Watcher>(
     options: &Options,
     reader: &mut R,
     writer: &mut W,
-    beside: &mut Beside<'_, V, Recording>,
+    beside: &mut Beside<'_, '_, V, Recording>,
 ) -> Result<ExitStatus, LaunchFault>
-    requires fresh { beside.old.other.recorded ≡ Recorded.Nothing }
+    requires fresh { beside.old.other.now.recorded ≡ Recorded.Nothing }
     ensures same { beside.new.watcher.ghost_name ≡ beside.old.watcher.ghost_name }
     ensures exact { IfSome (R.remaining reader.old)
         (λ bytes. IsRun (asked_by options.now) (suite_read (take 1048577 bytes)) (W.contents writer.old)
@@ -42,7 +42,7 @@ fn run_recorded<T: Threads + Wait + Sync, R: Read, W: Write, V: Watcher>(
     ensures recorded { is_run (asked_by options.now).replay (asked_by options.now).details ≡ true →
         TakesFrom (R.remaining reader.old) (R.remaining reader.new) (fault_in result)
         (λ bytes. IfOk result (λ status. IsRecordedRun (asked_by options.now) (suite_read bytes) (W.contents writer.old)
-        (W.contents writer.new) status beside.new.other.recorded)) }
+        (W.contents writer.new) status beside.new.other.now.recorded)) }
 {
     run_options_watched(rt, alloc, options, reader, writer, beside)
 }
@@ -58,9 +58,9 @@ pub fn run_reported<T: Threads + Wait + Sync, R: Read, W: Write, V: Watcher, F: 
     reports: &mut [Report<F>],
     reader: &mut R,
     writer: &mut W,
-    beside: &mut Beside<'_, V, Recording>,
+    beside: &mut Beside<'_, '_, V, Recording>,
 ) -> Result<ExitStatus, LaunchFault>
-    requires fresh { beside.old.other.recorded ≡ Recorded.Nothing }
+    requires fresh { beside.old.other.now.recorded ≡ Recorded.Nothing }
     ensures same { beside.new.watcher.ghost_name ≡ beside.old.watcher.ghost_name }
     ensures exact { IfSome (R.remaining reader.old)
         (λ bytes. IsRun (asked_by options.now) (suite_read (take 1048577 bytes)) (W.contents writer.old)
@@ -77,6 +77,7 @@ pub fn run_reported<T: Threads + Wait + Sync, R: Read, W: Write, V: Watcher, F: 
         (λ bytes. IfOk result (λ status. IsReportedRun F.contents (asked_by options.now) (suite_read bytes)
         (W.contents writer.old) (W.contents writer.new) status reports.old reports.new)) }
     ensures refused { IfErr result (λ _. reports.new ≡ reports.old) }
+    ensures many { length reports.new ≡ length reports.old }
 {
     match run_recorded(rt, alloc, options, reader, writer, &mut *beside) {
         Ok(status) => {

@@ -10,5 +10,8 @@ loop-index-init g c = stepped_none _ c.args.reports.now
 pub loop-index-preserved : goal.loop-index-preserved
 loop-index-preserved g c = stepped_more _ c.args.reports.now c.loop-index.index c.loop-index.reports _ c.miss.new.report c.loop-index.invariant (grind (arith, common_steps)) (ap (get_or c.loop-index.reports c.loop-index.index) c.index-reports-index.is) c.miss.ensures
 
-pub returns : goal.returns
-returns g c = stepped_all _ c.args.reports.now c.loop-index.index c.loop-index.reports (grind (arith, common_steps)) c.loop-index.invariant
+pub returns-clause-many : goal.returns-clause-many
+returns-clause-many g c = c.loop-index.invariant.same
+
+pub returns-clause-each : goal.returns-clause-each
+returns-clause-each g c = stepped_all _ c.args.reports.now c.loop-index.index c.loop-index.reports (grind (arith, common_steps)) c.loop-index.invariant

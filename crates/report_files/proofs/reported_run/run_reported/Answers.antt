@@ -13,5 +13,5 @@ returns-in-Ok-clause-reported g c runs =
       fits = run.fits;
       ends = run.ends;
       judged =
-          run_reported g.F.Write.contents (asked_by c.args.options.now) (suite_read run.bytes) (g.W.Write.contents c.args.writer.now) (g.W.Write.contents c.run_recorded.new.writer) c.in-Ok.status c.run_recorded.new.beside.other.recorded c.args.reports.now c.write_reports.new.reports c.write_reports.ensures run.judged;
+          run_reported g.F.Write.contents (asked_by c.args.options.now) (suite_read run.bytes) (g.W.Write.contents c.args.writer.now) (g.W.Write.contents c.run_recorded.new.writer) c.in-Ok.status c.run_recorded.new.beside.other.now.recorded c.args.reports.now c.write_reports.new.reports c.write_reports.ensures.recorded run.judged;
     }
