@@ -6,4 +6,5 @@ pub mod Listing
 pub mod Running
 pub mod TestsTold
 pub mod Told
+pub mod Wanting
 pub mod Watched

@@ -9,6 +9,7 @@ use Rattle.messages.specs.Sentences.{tests_sentence_of}
 use Rattle.command_line.specs.Runs.{Closes}
 use Rattle.command_line.specs.TestRuns.{IsTestRun, IsTestRunOnTerminal}
 use Rattle.command_line.specs.declared.closing.Ending.{Ending}
+use Rattle.command_line.proofs.Wanting.{unread}
 use Rattle.live.proofs.Drawing.{none_drawn}
 
 module _ {B W E G X F : Type 0} (answers : B → List Reply) (contents : W → Option (List ℕ)) (said : E → Option (List ℕ)) (given : G → List X) (text : X → Text) (parts : SuiteParts) (jobs : List (ℕ × B)) where
@@ -23,7 +24,7 @@ module _ {B W E G X F : Type 0} (answers : B → List Reply) (contents : W → O
       → IfOk words (λ some. IsTestRun answers contents said parts jobs (map text (given some)) old new quiet told ending)
   told_no_test_words (Ok some) fault old new quiet told ending memory closed = record {
     options = Err fault;
-    reads = record { cut = Err fault; cuts = λ other. absurd (other memory); asks = refl };
+    reads = unread (map text (given some)) fault memory;
     answer = Err fault;
     between = old;
     runs = (refl, refl);

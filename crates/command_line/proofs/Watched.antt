@@ -1,73 +1,32 @@
 -- What follows of one who watched a run, whatever was run.
-use Rattle.std.proofs.Common.{◌≡◌, ℕ, Bool, true, false, List, [], Option, Some, None, IfErr, Result, Ok, Err, inl, inr, refl, sym, ap, subst}
-use Rattle.plan_events.specs.declared.event.Event.{Event}
+use Rattle.std.proofs.Common.{◌≡◌, ℕ, true, false, List, [], Option, None, Result, inl, inr, refl, sym, subst}
 use Rattle.plan_events.specs.declared.outcome.Reply.{Reply}
-use Rattle.plan_events.specs.Texts.{TextParts}
 use Rattle.resource_locks.specs.Plans.{PlanParts}
-use Rattle.listeners.specs.Listeners.{Telling, tellings_of}
+use Rattle.listeners.specs.Listeners.{Telling}
 use Rattle.worker_pool.specs.Watching.{HasSeenMore}
 use Rattle.live.proofs.Drawing.{begun, drawn_still, left}
 use Rattle.live.specs.Terminals.{HasFollowed, IsDrawnBehind, IsDrawnOn, is_done}
 use Rattle.live.specs.declared.progress.Progress.{Progress}
+use Rattle.report_files.proofs.Watched.{of_answer, of_fault, of_text}
+use Rattle.report_files.specs.ReportedRuns.{HasSeenSome}
 use Rattle.suite_text.specs.Reading.Parts.{SuiteParts}
-use Rattle.suite_text.specs.Suites.{suite_parts}
-use Rattle.suite_text.specs.declared.suite.Suite as suites
-use Rattle.suite_text.specs.declared.suite.fault.SuiteFault.{SuiteFault}
 use Rattle.selectors.specs.Selections.{answer}
 use Rattle.launch_options.specs.Asked.{Asked}
-use Rattle.launch_options.specs.declared.fault.CutOutput.{CutOutput}
 use Rattle.launch_options.specs.declared.fault.LaunchFault.{LaunchFault}
 use Rattle.launcher.specs.declared.exit_status.ExitStatus.{ExitStatus}
 use Rattle.launcher.specs.Programs.{FailsProgram, IsPrintedJobs, IsSeenProgramRun, IsSeenSelectedOutput}
-use Rattle.launcher.specs.Reports.{IsPrintedRun}
-use Rattle.launcher.specs.Runs.{FailsSuite, IsSeenRun, IsSeenSuiteOutput, IsSeenSuiteRun, RunsLoaded, answers_of, plan_of}
-use Rattle.launcher.specs.Watched.{IsAnswered, IsRefusedBy, SeesRefusal, SeesTextBy, cut_in, is_run}
-use Rattle.command_line.specs.DrawnRuns.{HasDrawn}
-use Rattle.command_line.specs.declared.watched_progress.WatchedProgress.{WatchedProgress}
+use Rattle.launcher.specs.Runs.{plan_of}
+use Rattle.launcher.specs.Watched.{SeesRefusal, is_run}
 
 module _ {L : Type 0} (saw : PlanParts → L → L → List Telling → Type 0) (first now : L) (Holds : Type 0) (same : now ≡ first → Holds) (seen : (p : PlanParts) (ts : List Telling) → HasSeenMore saw p ts first now → Holds) where
-  -- of a text that was printed of a run, or of none
-  of_text : (Prints : List Event → TextParts → List ℕ → ExitStatus → Type 0) (p : PlanParts) (runs : Bool) (text : List ℕ) (status : ExitStatus) → SeesTextBy saw Prints p first now runs text status → Holds
-  of_text Prints p true text status sees = seen p (tellings_of sees.texts sees.history) sees.seen
-  of_text Prints p false text status sees = same sees
-
-  module _ (Output : List ℕ → ExitStatus → Type 0) (output : (text : List ℕ) (status : ExitStatus) → Output text status → Holds) where
-    of_fault : (fault : LaunchFault) → SeesRefusal first now Output fault → Holds
-    of_fault fault (inl none) = same none
-    of_fault fault (inr some) = output some.1.text some.1.status some.1.output
-
-    of_refusal : (asked : Asked) (Fails : LaunchFault → Type 0) (cut : Option CutOutput) (fault : LaunchFault) (old new : Option (List ℕ)) → (Fails fault → Holds) → IsRefusedBy asked Output Fails cut fault old new → Holds
-    of_refusal asked Fails (Some cut) fault old new fails is = output is.0.text is.0.status is.0.output
-    of_refusal asked Fails None fault old new fails is = fails is
-
-    of_answer : (asked : Asked) (Fails : LaunchFault → Type 0) (old new : Option (List ℕ)) (result : Result ExitStatus LaunchFault) → ((fault : LaunchFault) → Fails fault → Holds) → IsAnswered asked Output Fails old new result → Holds
-    of_answer asked Fails old new (Ok status) fails is = output is.text status is.output
-    of_answer asked Fails old new (Err fault) fails is = of_refusal asked Fails (cut_in fault) fault old new (fails fault) is
-
-  of_suite : (asked : Asked) (suite : SuiteParts) (old new : Option (List ℕ)) (result : Result ExitStatus LaunchFault) → IsSeenSuiteRun saw first now asked suite old new result → Holds
-  of_suite asked suite old new result is =
-      let Output = IsSeenSuiteOutput saw first now asked suite in
-      let output : (text : List ℕ) (status : ExitStatus) → Output text status → Holds =
-      λ text status out. let p = plan_of asked.fail_fast out.output.settings (answer suite.tree asked.request) in
-      of_text (IsPrintedRun asked out.output.settings p (answers_of suite.scripts)) p (is_run asked.replay asked.details) text out.told out.output.output.1 in
-      of_answer Output output asked (λ fault. FailsSuite asked suite fault × SeesRefusal first now Output fault) old new result (λ fault fails. of_fault Output output fault fails.1) is
-
-  of_loaded : (asked : Asked) (loaded : Result suites.Suite LaunchFault) (old new : Option (List ℕ)) (result : Result ExitStatus LaunchFault) → RunsLoaded (λ suite. IsSeenSuiteRun saw first now asked suite old new) loaded result → IfErr loaded (λ fault. now ≡ first) → Holds
-  of_loaded asked (Ok suite) old new result runs unread = of_suite asked (suite_parts suite) old new result runs.1
-  of_loaded asked (Err fault) old new result runs unread = same unread
-
-  -- of a suite that was read and run
-  pub of_run : (asked : Asked) (read : Result SuiteParts SuiteFault) (old new : Option (List ℕ)) (result : Result ExitStatus LaunchFault) → IsSeenRun saw first now asked read old new result → Holds
-  of_run asked read old new result is = of_loaded asked is.loaded old new result is.runs is.unread
-
   -- of a program's jobs that were run
-  pub of_program : {B : Type 0} (answers : B → List Reply) (asked : Asked) (parts : SuiteParts) (jobs : List (ℕ × B)) (old new : Option (List ℕ)) (result : Result ExitStatus LaunchFault) → IsSeenProgramRun answers asked parts jobs saw first now old new result → Holds
+  of_program : {B : Type 0} (answers : B → List Reply) (asked : Asked) (parts : SuiteParts) (jobs : List (ℕ × B)) (old new : Option (List ℕ)) (result : Result ExitStatus LaunchFault) → IsSeenProgramRun answers asked parts jobs saw first now old new result → Holds
   of_program answers asked parts jobs old new result is =
       let Output = IsSeenSelectedOutput answers asked parts jobs saw first now in
       let output : (text : List ℕ) (status : ExitStatus) → Output text status → Holds =
       λ text status out. let p = plan_of asked.fail_fast out.output.settings (answer parts.tree asked.request) in
-      of_text (IsPrintedJobs answers None asked out.output.settings p jobs) p (is_run None asked.details) text out.told out.output.output.1 in
-      of_answer Output output asked (λ fault. FailsProgram asked parts fault × SeesRefusal first now Output fault) old new result (λ fault fails. of_fault Output output fault fails.1) is
+      of_text saw first now Holds same seen (IsPrintedJobs answers None asked out.output.settings p jobs) p (is_run None asked.details) text out.told out.output.output.1 in
+      of_answer saw first now Holds same seen Output output asked (λ fault. FailsProgram asked parts fault × SeesRefusal first now Output fault) old new result (λ fault fails. of_fault saw first now Holds same seen Output output fault fails.1) is
 
 module _ {E C : Type 0} (contents : E → Option (List ℕ)) (first now : Progress E C) where
   unseen : now ≡ first → IsDrawnOn contents first now
@@ -77,8 +36,13 @@ module _ {E C : Type 0} (contents : E → Option (List ℕ)) (first now : Progre
   followed p ts more = (more first [] (begun contents p first)).drawn
 
   -- one that draws was drawn on
-  pub drawn_by_run : (asked : Asked) (read : Result SuiteParts SuiteFault) (old new : Option (List ℕ)) (result : Result ExitStatus LaunchFault) → IsSeenRun (HasFollowed contents) first now asked read old new result → IsDrawnOn contents first now
-  drawn_by_run asked read old new result is = of_run (HasFollowed contents) first now (IsDrawnOn contents first now) unseen followed asked read old new result is
+  pub drawn_by_some : HasSeenSome (HasFollowed contents) first now → IsDrawnOn contents first now
+  drawn_by_some (inl same) = unseen same
+  drawn_by_some (inr seen) = followed seen.0 seen.1 seen.2
+
+  pub drawn_by_program : {B : Type 0} (answers : B → List Reply) (asked : Asked) (parts : SuiteParts) (jobs : List (ℕ × B)) (old new : Option (List ℕ)) (result : Result ExitStatus LaunchFault) → IsSeenProgramRun answers asked parts jobs (HasFollowed contents) first now old new result
+      → IsDrawnOn contents first now
+  drawn_by_program answers asked parts jobs old new result is = of_program (HasFollowed contents) first now (IsDrawnOn contents first now) unseen followed answers asked parts jobs old new result is
 
   -- and so there are drawings behind what it held
   pub drawn_behind_it : IsDrawnOn contents first now → IsDrawnBehind (contents first.terminal.now) (contents now.terminal.now)
@@ -86,10 +50,3 @@ module _ {E C : Type 0} (contents : E → Option (List ℕ)) (first now : Progre
     where
       true_is_false : true ≡ false → is_done now ≡ false
       true_is_false never = cc
-
--- one that draws was drawn on where another watched too
-pub drawn_by_program : {E C V B : Type 0} (contents : E → Option (List ℕ)) (first now : WatchedProgress E C V) (answers : B → List Reply) (asked : Asked) (parts : SuiteParts) (jobs : List (ℕ × B)) (old new : Option (List ℕ)) (result : Result ExitStatus LaunchFault)
-    → IsSeenProgramRun answers asked parts jobs (HasDrawn contents) first now old new result → IsDrawnOn contents first.progress now.progress
-drawn_by_program {E} {C} {V} {B} contents first now answers asked parts jobs old new result is =
-    of_program (HasDrawn contents) first now (IsDrawnOn contents first.progress now.progress) (λ same. unseen contents first.progress now.progress (ap (λ (w : WatchedProgress E C V). w.progress) same))
-    (λ p ts more. (more first [] (begun contents p first.progress)).drawn) answers asked parts jobs old new result is

@@ -31,13 +31,14 @@ naming = fold with_rule selecting (
     ∷ repeated (codes "exclude-name")
     ∷ [])
 
--- and those that leave nodes out
+-- and those that leave nodes out, or all but those that are to be run again
 abbrev pub excluding : App
 excluding = fold with_rule naming (
     repeated (codes "exclude-unique-id")
     ∷ repeated (codes "exclude-class")
     ∷ repeated (codes "exclude-method")
     ∷ repeated (codes "exclude-package")
+    ∷ repeated (codes "rerun")
     ∷ [])
 
 -- and those that say which tags run, and which shard
@@ -63,6 +64,7 @@ abbrev pub printing : App
 printing = fold with_rule configuring (
     single (codes "details")
     ∷ single (codes "details-theme")
+    ∷ repeated (codes "report")
     ∷ [])
 
 -- and those that say how it ends

@@ -49,16 +49,22 @@ exclusions_found rows =
     ++ of_kind kinds.Method (codes "exclude-method") rows
     ++ of_kind kinds.Package (codes "exclude-package") rows
 
+-- the ids of what is to be run again, numbered behind these
+abbrev pub rerun_found : List Row → List (SelectorKind × Text)
+rerun_found rows = of_kind kinds.UniqueId (codes "rerun") rows
+
 -- what clap finds for the options
 abbrev pub values_in : List Row → Values
 values_in rows = record {
   selectors = selectors_found rows;
   names = names_found rows;
   exclusions = exclusions_found rows;
+  rerun = rerun_found rows;
   include_tags = all_found (codes "include-tag") rows;
   exclude_tags = all_found (codes "exclude-tag") rows;
   config = all_found (codes "config") rows;
   system = all_found (codes "system") rows;
+  reports = all_found (codes "report") rows;
   processors = first_of (codes "processors") rows;
   workers = first_of (codes "workers") rows;
   ring = first_of (codes "ring") rows;
@@ -78,10 +84,12 @@ nothing_given = record {
   selectors = [];
   names = [];
   exclusions = [];
+  rerun = [];
   include_tags = [];
   exclude_tags = [];
   config = [];
   system = [];
+  reports = [];
   processors = None;
   workers = None;
   ring = None;

@@ -1,7 +1,8 @@
 pub mod Commands
-pub mod DrawnRuns
 pub mod Found
+pub mod GivenRuns
 pub mod GivenWords
+pub mod Launches
 pub mod Runs
 pub mod TestRuns
 pub mod Words

@@ -6,7 +6,6 @@ use Rattle.launch_options.specs.Asked.{Asked, asked_by}
 use Rattle.launcher.specs.Closings.{line_after}
 use Rattle.launcher.specs.ExitStatuses.{number_of, status_after}
 use Rattle.launch_options.specs.Faults.{refusal_text}
-use Rattle.launcher.specs.Runs.{IsRun, TakesFrom, fault_in, is_writing}
 use Rattle.launch_options.specs.declared.asked.Options.{Options}
 use Rattle.launcher.specs.declared.exit_status.ExitStatus.{ExitStatus}
 use Rattle.launch_options.specs.declared.fault.LaunchFault.{LaunchFault}
@@ -18,16 +17,11 @@ use Rattle.messages.specs.declared.message.Message.{Message}
 use Rattle.live.specs.FailedTexts.{failed_of}
 use Rattle.live.specs.Terminals.{IsDrawnBehind}
 use Rattle.live.specs.declared.failures.Failures.{Failures}
-use Rattle.suite_text.specs.Reading.Bytes.{suite_read}
-use Rattle.command_line.specs.Words.{ReadsWords}
+use Rattle.report_files.specs.Deeds.{Deed}
+use Rattle.report_files.specs.FiledReports.{Wanted}
+use Rattle.report_files.specs.FiledRuns.{RunsAsked, RunsFiled}
+use Rattle.command_line.specs.Words.{ReadsWords, reports_wanted}
 use Rattle.command_line.specs.declared.closing.Ending.{Ending}
-
--- what is asked for is run: what the reader held, or, whatever it tells of its bytes, what it gave is what is judged; and nothing is
--- written on a refusal but that the writer failed
-pub record RunsAsked (asked : Asked) (before after old new : Option (List ℕ)) (result : Result ExitStatus LaunchFault) : Type 0 where
-  pub exact : IfSome before (λ bytes. IsRun asked (suite_read (take 1048577 bytes)) old new result)
-  pub reads : TakesFrom before after (fault_in result) (λ bytes. IsRun asked (suite_read bytes) old new result)
-  pub quiet : IfErr result (λ fault. is_writing fault ≡ false → Keeps old new)
 
 module _ {R W : Type 0} (remaining : R → Option (List ℕ)) (contents : W → Option (List ℕ)) where
   -- what is done with what the words gave: options are run, and this is left to read; a refusal is answered, and neither reader nor
@@ -41,6 +35,18 @@ module _ {R W : Type 0} (remaining : R → Option (List ℕ)) (contents : W → 
     pub options : Result Options LaunchFault
     pub reads : ReadsWords words options
     pub runs : RunsOptions options before after left old new result
+
+module _ {R W K : Type 0} (remaining : R → Option (List ℕ)) (contents : W → Option (List ℕ)) (deeds : K → Option (List Deed)) where
+  -- the same, with these reports, which are kept in files: of what is refused no file is touched
+  abbrev pub FilesOptions : Result Options LaunchFault → List Wanted → (before after : R) → (left : Option (List ℕ)) → (old new : W) → (was now : K) → Result ExitStatus LaunchFault → Type 0
+  FilesOptions (Ok options) wanted before after left old new was now result = RunsFiled (asked_by options) wanted (remaining before) left (contents old) (contents new) (deeds was) (deeds now) result
+  FilesOptions (Err fault) wanted before after left old new was now result = (result ≡ Err fault) × (after ≡ before) × (new ≡ old) × (now ≡ was)
+
+  -- the words are read, and what that gave is run, with the reports that they ask for
+  pub record IsFiledConsoleRun (words : List Text) (before after : R) (left : Option (List ℕ)) (old new : W) (was now : K) (result : Result ExitStatus LaunchFault) : Type 0 where
+    pub options : Result Options LaunchFault
+    pub reads : ReadsWords words options
+    pub runs : FilesOptions options (reports_wanted words) before after left old new was now result
 
 -- the message that stands there after this answer: none where nothing was refused, and else one that begins with the refusal's sentence
 -- among these
@@ -99,23 +105,24 @@ module _ {W E : Type 0} (sentence : Sentences) (contents : W → Option (List �
     pub message : SaysWhy said sentence answer quiet told ending.is_told
     pub status : ending.status ≡ number_of (status_after answer)
 
-module _ {R W E : Type 0} (remaining : R → Option (List ℕ)) (contents : W → Option (List ℕ)) (said : E → Option (List ℕ)) where
-  -- the program: what `run_console` does, which leaves this to read and the writer like this, and then what is done after its answer
-  pub record IsProgramRun (words : List Text) (before after : R) (old new : W) (quiet told : E) (ending : Ending) : Type 0 where
+module _ {R W E K : Type 0} (remaining : R → Option (List ℕ)) (contents : W → Option (List ℕ)) (said : E → Option (List ℕ)) (deeds : K → Option (List Deed)) where
+  -- the program: what `run_console` does, with the reports that are asked for, which leaves this to read and the writer like this, and then
+  -- what is done after its answer
+  pub record IsProgramRun (words : List Text) (before after : R) (old new : W) (quiet told : E) (was now : K) (ending : Ending) : Type 0 where
     pub answer : Result ExitStatus LaunchFault
     pub left : Option (List ℕ)
     pub between : W
-    pub run : IsConsoleRun remaining contents words before after left old between answer
+    pub run : IsFiledConsoleRun remaining contents deeds words before after left old between was now answer
     pub closed : Closes sentence_of contents said answer between new quiet told ending
 
   -- the same on a terminal: behind what it held stands what was drawn of how far the run has come, and behind that what is said of
   -- the answer
-  pub record IsTerminalRun (words : List Text) (before after : R) (old new : W) (first last : E) (ending : Ending) : Type 0 where
+  pub record IsTerminalRun (words : List Text) (before after : R) (old new : W) (first last : E) (was now : K) (ending : Ending) : Type 0 where
     pub drawn : E
     pub draws : IsDrawnBehind (said first) (said drawn)
-    pub run : IsProgramRun words before after old new drawn last ending
+    pub run : IsProgramRun words before after old new drawn last was now ending
 
   -- the program, where standard error is a terminal that can be drawn on, or is none
-  abbrev pub IsMainRun : Bool → List Text → (before after : R) → (old new : W) → (first last : E) → Ending → Type 0
-  IsMainRun true words before after old new first last ending = IsTerminalRun words before after old new first last ending
-  IsMainRun false words before after old new first last ending = IsProgramRun words before after old new first last ending
+  abbrev pub IsMainRun : Bool → List Text → (before after : R) → (old new : W) → (first last : E) → (was now : K) → Ending → Type 0
+  IsMainRun true words before after old new first last was now ending = IsTerminalRun words before after old new first last was now ending
+  IsMainRun false words before after old new first last was now ending = IsProgramRun words before after old new first last was now ending

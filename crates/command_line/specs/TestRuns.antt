@@ -13,7 +13,7 @@ use Rattle.launcher.specs.declared.exit_status.ExitStatus.{ExitStatus}
 use Rattle.messages.specs.Sentences.{tests_sentence_of}
 use Rattle.live.specs.Terminals.{IsDrawnBehind}
 use Rattle.command_line.specs.Runs.{Closes}
-use Rattle.command_line.specs.Words.{ReadsWords}
+use Rattle.command_line.specs.Words.{ReadsUnreported}
 use Rattle.command_line.specs.declared.closing.Ending.{Ending}
 
 -- what is asked for is run with these jobs; and nothing is written on a refusal but that the writer failed
@@ -31,7 +31,7 @@ module _ {B W E : Type 0} (answers : B → List Reply) (contents : W → Option 
   -- which is said of the answer of a suite
   pub record IsTestRun (words : List Text) (old new : W) (quiet told : E) (ending : Ending) : Type 0 where
     pub options : Result Options LaunchFault
-    pub reads : ReadsWords words options
+    pub reads : ReadsUnreported words options
     pub answer : Result ExitStatus LaunchFault
     pub between : W
     pub runs : RunsTests options old between answer

@@ -1,10 +1,13 @@
 -- What the words of the command line ask for, and why they ask for nothing.
 use Rattle.std.specs.Prelude.{◌≡◌, ◌≢◌, List, [], ◌∷◌, Option, Some, None, Result, Ok, Err}
+use Rattle.std.specs.List.{filter_map}
 use Rattle.clap.specs.Words.{Kinds, Text, fault_of, matches_of}
 use Rattle.clap.specs.declared.error.kind.ErrorKind.{ErrorKind}
 use Rattle.clap.specs.declared.error.kind.ErrorKind.TheVariants as kinds
 use Rattle.launch_options.specs.Asked.{AreAsked, asked_by, refusal_of}
 use Rattle.launch_options.specs.Given.{Values}
+use Rattle.launch_options.specs.ReportTexts.{report_in}
+use Rattle.launch_options.specs.declared.details.Details.{Details}
 use Rattle.launch_options.specs.declared.asked.Options.{Options}
 use Rattle.launch_options.specs.declared.fault.LaunchFault.{LaunchFault}
 use Rattle.launch_options.specs.declared.fault.LaunchFault.TheVariants.{NoMemory, BadWords}
@@ -28,6 +31,10 @@ values_given words = values_in (matches_of program words)
 -- why the words are refused, if they are
 abbrev pub words_refusal : List Text → Option LaunchFault
 words_refusal words = where_faultless (fault_of program words) (refusal_of (values_given words))
+
+-- the reports that the words ask for, each with its form and the name under which it is to stand
+abbrev pub reports_wanted : List Text → List (Details × Text)
+reports_wanted words = filter_map report_in (values_given words).reports
 
 -- what clap says of the words: the values of the options, or a refusal
 abbrev pub CutsWords : List Text → Result Values LaunchFault → Type 0
@@ -54,3 +61,15 @@ pub record ReadsWords (words : List Text) (options : Result Options LaunchFault)
   pub cut : Result Values LaunchFault
   pub cuts : CutsWords words cut
   pub asks : AsksCut cut options
+
+-- words that ask for a report are refused, where there are none
+abbrev pub unless_wanted : List (Details × Text) → Result Options LaunchFault → Result Options LaunchFault
+unless_wanted [] options = options
+unless_wanted (w ∷ wanted) (Ok options) = Err BadWords
+unless_wanted (w ∷ wanted) (Err fault) = Err fault
+
+-- the words are read, and no report may be asked for
+pub record ReadsUnreported (words : List Text) (options : Result Options LaunchFault) : Type 0 where
+  pub read : Result Options LaunchFault
+  pub reads : ReadsWords words read
+  pub unreported : options ≡ unless_wanted (reports_wanted words) read

@@ -4,15 +4,15 @@ ghost use Rattle.std.specs.Prelude.{◌≡◌, ◌++◌, IfOk, OnOk, map, option
 ghost use Rattle.clap.specs.Words.{all_of, found_of, first_of, rows_of};
 ghost use Rattle.launch_options.specs.Given.{behind, texts_of, values_of};
 ghost use Rattle.command_line.specs.Found.{all_found as all_in, is_found, nothing_given, of_kind};
-ghost use Rattle.command_line.specs.Found.{exclusions_found, names_found, selectors_found, values_in};
+ghost use Rattle.command_line.specs.Found.{exclusions_found, names_found, rerun_found, selectors_found, values_in};
 
 use clap::ArgMatches;
 use launcher::Given;
 use launcher::option_names::{
     CONFIG, DETAILS, DETAILS_THEME, DRIVE, EXCLUDE_CLASS, EXCLUDE_METHOD, EXCLUDE_NAME,
     EXCLUDE_PACKAGE, EXCLUDE_TAG, EXCLUDE_UNIQUE_ID, FAIL_FAST, FAIL_IF_NO_TESTS, INCLUDE_NAME,
-    INCLUDE_TAG, PROCESSORS, REPLAY, RING, SCHEDULE, SELECT_CLASS, SELECT_METHOD, SELECT_PACKAGE,
-    SELECT_UNIQUE_ID, SHARD, SYSTEM, WORKERS,
+    INCLUDE_TAG, PROCESSORS, REPLAY, REPORT, RERUN, RING, SCHEDULE, SELECT_CLASS, SELECT_METHOD,
+    SELECT_PACKAGE, SELECT_UNIQUE_ID, SHARD, SYSTEM, WORKERS,
 };
 use selectors::SelectorKind;
 use std::alloc::{AllocError, Global};
@@ -112,6 +112,18 @@ fn exclusions_found<'a>(
     Ok(texts)
 }
 
+/// The ids of what is to be run again, each with its kind.
+fn rerun_found<'a>(
+    alloc: Global,
+    matches: &ArgMatches<'a>,
+) -> Result<Vec<(SelectorKind, &'a str)>, AllocError>
+    ensures { IfOk result (λ texts. texts_of texts.items ≡ rerun_found (rows_of (found_of matches.now))) }
+{
+    let mut texts = Vec::new(alloc);
+    push_found(&mut texts, matches, SelectorKind::UniqueId, RERUN)?;
+    Ok(texts)
+}
+
 /// The value of an option, if it is given.
 fn found<'a>(matches: &ArgMatches<'a>, name: &str) -> Option<&'a str>
     ensures { option_map (λ text. text.now) result ≡ first_of name.now (rows_of (found_of matches.now)) }
@@ -137,10 +149,12 @@ pub(crate) fn given_in<'a>(alloc: Global, matches: &ArgMatches<'a>) -> Result<Gi
         selectors: selectors_found(alloc, matches)?,
         names: names_found(alloc, matches)?,
         exclusions: exclusions_found(alloc, matches)?,
+        rerun: rerun_found(alloc, matches)?,
         include_tags: all_found(alloc, matches, INCLUDE_TAG)?,
         exclude_tags: all_found(alloc, matches, EXCLUDE_TAG)?,
         config: all_found(alloc, matches, CONFIG)?,
         system: all_found(alloc, matches, SYSTEM)?,
+        reports: all_found(alloc, matches, REPORT)?,
         processors: found(matches, PROCESSORS),
         workers: found(matches, WORKERS),
         ring: found(matches, RING),
@@ -163,10 +177,12 @@ pub(crate) fn nothing_given<'a>(alloc: Global) -> Given<'a>
         selectors: Vec::new(alloc),
         names: Vec::new(alloc),
         exclusions: Vec::new(alloc),
+        rerun: Vec::new(alloc),
         include_tags: Vec::new(alloc),
         exclude_tags: Vec::new(alloc),
         config: Vec::new(alloc),
         system: Vec::new(alloc),
+        reports: Vec::new(alloc),
         processors: None,
         workers: None,
         ring: None,

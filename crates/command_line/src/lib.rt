@@ -7,6 +7,7 @@ mod closing;
 mod drawn_on;
 mod found;
 mod kept;
+mod launch;
 mod main_body;
 mod option_names;
 mod program;
@@ -15,7 +16,6 @@ mod system_words;
 mod terminal;
 mod test_program;
 mod tests_on_terminal;
-mod watched_progress;
 mod words;
 
 pub use closing::Ending;

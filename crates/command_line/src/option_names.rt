@@ -9,8 +9,8 @@ use clap::{Arg, ArgAction, Command};
 use launcher::option_names::{
     CONFIG, DETAILS, DETAILS_THEME, DRIVE, EXCLUDE_CLASS, EXCLUDE_METHOD, EXCLUDE_NAME,
     EXCLUDE_PACKAGE, EXCLUDE_TAG, EXCLUDE_UNIQUE_ID, FAIL_FAST, FAIL_IF_NO_TESTS, INCLUDE_NAME,
-    INCLUDE_TAG, PROCESSORS, REPLAY, RING, SCHEDULE, SELECT_CLASS, SELECT_METHOD, SELECT_PACKAGE,
-    SELECT_UNIQUE_ID, SHARD, SYSTEM, WORKERS,
+    INCLUDE_TAG, PROCESSORS, REPLAY, REPORT, RERUN, RING, SCHEDULE, SELECT_CLASS, SELECT_METHOD,
+    SELECT_PACKAGE, SELECT_UNIQUE_ID, SHARD, SYSTEM, WORKERS,
 };
 use messages::Subject;
 use std::alloc::{AllocError, Global};
@@ -56,6 +56,14 @@ fn with<'a>(command: Command<'a>, option: Arg<'a>) -> Result<Command<'a>, AllocE
     ensures { IfOk result (λ longer. app_of longer ≡ with_rule (app_of command.entry) (rule_of option.entry)) }
 {
     command.arg(option)
+}
+
+/// The help of an option where a suite is run, and where a program's own tests are.
+fn help_by<'a>(subject: Subject<'_>, suite: &'a str, tests: &'a str) -> &'a str {
+    match subject {
+        Subject::Suite(_) => suite,
+        Subject::Tests(_) => tests,
+    }
 }
 
 /// The program and the options that say which nodes run.
@@ -126,8 +134,8 @@ fn naming<'a>(alloc: Global) -> Result<Command<'a>, AllocError>
     )
 }
 
-/// The same, and the options that leave nodes out.
-fn excluding<'a>(alloc: Global) -> Result<Command<'a>, AllocError>
+/// The same, and the options that leave nodes out, or all but those that are to be run again.
+fn excluding<'a>(alloc: Global, subject: Subject<'_>) -> Result<Command<'a>, AllocError>
     ensures { IfOk result (λ command. app_of command ≡ excluding) }
 {
     let command = naming(alloc)?;
@@ -158,7 +166,7 @@ fn excluding<'a>(alloc: Global) -> Result<Command<'a>, AllocError>
             "Leaves out the test or factory of this name",
         ),
     )?;
-    with(
+    let command = with(
         command,
         repeated(
             alloc,
@@ -166,14 +174,27 @@ fn excluding<'a>(alloc: Global) -> Result<Command<'a>, AllocError>
             "PACKAGE",
             "Leaves out the classes of this package",
         ),
+    )?;
+    with(
+        command,
+        repeated(
+            alloc,
+            RERUN,
+            "ID",
+            help_by(
+                subject,
+                "Runs only nodes of these ids; --rerun-failed FILE: what failed there",
+                "Runs only nodes of these ids, where there are such",
+            ),
+        ),
     )
 }
 
 /// The same, and the options that say which tags run, and which shard.
-fn filtering<'a>(alloc: Global) -> Result<Command<'a>, AllocError>
+fn filtering<'a>(alloc: Global, subject: Subject<'_>) -> Result<Command<'a>, AllocError>
     ensures { IfOk result (λ command. app_of command ≡ filtering) }
 {
-    let command = excluding(alloc)?;
+    let command = excluding(alloc, subject)?;
     let command = with(
         command,
         repeated(
@@ -203,19 +224,11 @@ fn filtering<'a>(alloc: Global) -> Result<Command<'a>, AllocError>
     )
 }
 
-/// The help of an option where a suite is run, and where a program's own tests are.
-fn help_by<'a>(subject: Subject<'_>, suite: &'a str, tests: &'a str) -> &'a str {
-    match subject {
-        Subject::Suite(_) => suite,
-        Subject::Tests(_) => tests,
-    }
-}
-
 /// The same, and the options that say with which settings.
 fn configuring<'a>(alloc: Global, subject: Subject<'_>) -> Result<Command<'a>, AllocError>
     ensures { IfOk result (λ command. app_of command ≡ configuring) }
 {
-    let command = filtering(alloc)?;
+    let command = filtering(alloc, subject)?;
     let command = with(
         command,
         repeated(
@@ -285,13 +298,22 @@ fn printing<'a>(alloc: Global, subject: Subject<'_>) -> Result<Command<'a>, Allo
             "none, summary, tree, testfeed, json, xml, list or plan [default: tree]",
         ),
     )?;
-    with(
+    let command = with(
         command,
         single(
             alloc,
             DETAILS_THEME,
             "THEME",
             "The signs of the tree: unicode or ascii [default: unicode]",
+        ),
+    )?;
+    with(
+        command,
+        repeated(
+            alloc,
+            REPORT,
+            "FORM=FILE",
+            "Writes the run into a file besides, as in xml=run.xml",
         ),
     )
 }

@@ -11,12 +11,12 @@ ghost use Rattle.messages.specs.Sentences.{tests_sentence_of};
 ghost use Rattle.command_line.specs.GivenWords.{IsGivenFault};
 ghost use Rattle.command_line.specs.Runs.{Closes};
 ghost use Rattle.command_line.specs.TestRuns.{IsTestRun};
-ghost use Rattle.command_line.specs.Words.{ReadsWords};
+ghost use Rattle.command_line.specs.Words.{ReadsUnreported};
 
 use crate::both::Both;
 use crate::closing::{Ending, close_run, close_with_failures, refuse};
 use crate::system_words::given_words;
-use crate::words::read_options;
+use crate::words::read_unreported;
 use launcher::{LaunchFault, Options, Program, run_jobs_watched};
 use live::Failures;
 use messages::{Subject, said_of_settings};
@@ -42,7 +42,7 @@ fn run_test_options<B: Job + Send, T: Threads + Wait + Sync, W: Write, E: Write,
     requires jobs { (plan : PlanParts) (workers ring : ℕ) → JobsMayAnswer B.answers
         (run_of plan workers ring program.jobs.items) }
     requires all { HasJobs program.tree program.jobs.items }
-    ensures { ReadsWords (map string_bytes words.now) (Ok options) → IsTestRun B.answers W.contents E.contents
+    ensures { ReadsUnreported (map string_bytes words.now) (Ok options) → IsTestRun B.answers W.contents E.contents
         (program_parts program.tree program.properties) program.jobs.items (map string_bytes words.now) writer.old
         writer.new errors.old errors.new result }
 {
@@ -65,7 +65,7 @@ fn run_test_options<B: Job + Send, T: Threads + Wait + Sync, W: Write, E: Write,
 /// they ask for is printed, as of a suite. Then the line of a refusal is printed, unless the writer
 /// failed, and its message on the other writer, on which what failed is said once more behind a tree
 /// or a summary. Words that give no options are refused as
-/// `read_options` says, and then nothing is run; so is `--replay` or `--drive`, by 105, since
+/// `read_options` says, and then nothing is run; so is `--report`, by 105, and `--replay` or `--drive`, since
 /// nobody knows beforehand what the tests answer. Each body of the tree has a job, and whatever plan
 /// is made of the tree, the jobs may answer. Who watches is shown the run, as one of two watchers.
 pub fn run_test_words<B: Job + Send, T: Threads + Wait + Sync, W: Write, E: Write, V: Watcher>(
@@ -83,7 +83,7 @@ pub fn run_test_words<B: Job + Send, T: Threads + Wait + Sync, W: Write, E: Writ
     ensures { IsTestRun B.answers W.contents E.contents (program_parts program.tree program.properties)
         program.jobs.items (map string_bytes words.now) writer.old writer.new errors.old errors.new result }
 {
-    match read_options(alloc, words) {
+    match read_unreported(alloc, words) {
         Ok(options) => run_test_options(
             rt, alloc, options, words, program, writer, errors, watcher,
         ),

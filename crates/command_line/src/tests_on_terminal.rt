@@ -13,13 +13,12 @@ ghost use Rattle.live.specs.Terminals.{IsDrawnBehind};
 ghost use Rattle.command_line.specs.GivenWords.{IsGivenFault};
 ghost use Rattle.command_line.specs.Runs.{Closes};
 ghost use Rattle.command_line.specs.TestRuns.{IsTestRunOnTerminal, RunsJobs};
-ghost use Rattle.command_line.specs.Words.{ReadsWords};
+ghost use Rattle.command_line.specs.Words.{ReadsUnreported};
 
 use crate::closing::{Ending, close_run, close_with_failures, refuse};
 use crate::system_words::given_words;
 use crate::terminal::prints_lines;
-use crate::watched_progress::WatchedProgress;
-use crate::words::read_options;
+use crate::words::read_unreported;
 use launcher::{ExitStatus, LaunchFault, Options, Program, run_jobs_watched};
 use listeners::Summary;
 use live::{Failures, Progress, Running};
@@ -31,46 +30,30 @@ use std::io::{self, Write};
 use std::sync::Wait;
 use std::thread::Threads;
 use std::time::Clock;
-use worker_pool::Watcher;
 
-/// Runs these jobs as the options say; one of these who watch draws how far the run has come.
-fn run_jobs_followed<
-    B: Job + Send,
-    T: Threads + Wait + Sync,
-    C: Clock + Drop,
-    W: Write,
-    E: Write,
-    V: Watcher,
->(
+/// Runs these jobs as the options say; this one draws how far the run has come.
+fn run_jobs_followed<B: Job + Send, T: Threads + Wait + Sync, C: Clock + Drop, W: Write, E: Write>(
     rt: &T,
     alloc: Global,
     options: &Options,
     program: Program<B>,
     writer: &mut W,
-    watched: &mut WatchedProgress<'_, '_, '_, '_, '_, E, C, V>,
+    progress: &mut Progress<'_, '_, '_, '_, E, C>,
 ) -> Result<ExitStatus, LaunchFault>
     requires jobs { (plan : PlanParts) (workers ring : ℕ) → JobsMayAnswer B.answers
         (run_of plan workers ring program.jobs.items) }
     requires all { HasJobs program.tree program.jobs.items }
-    ensures same { watched.new.progress.terminal.ghost_name ≡ watched.old.progress.terminal.ghost_name }
-    ensures draws { IsDrawnBehind (E.contents watched.old.progress.terminal.now)
-        (E.contents watched.new.progress.terminal.now) }
+    ensures same { progress.new.terminal.ghost_name ≡ progress.old.terminal.ghost_name }
+    ensures draws { IsDrawnBehind (E.contents progress.old.terminal.now) (E.contents progress.new.terminal.now) }
     ensures runs { RunsJobs B.answers (program_parts program.tree program.properties) program.jobs.items
         (asked_by options.now) (W.contents writer.old) (W.contents writer.new) result }
 {
-    run_jobs_watched(rt, alloc, options, program, writer, watched)
+    run_jobs_watched(rt, alloc, options, program, writer, progress)
 }
 
 /// Runs these jobs as the options say, and draws on a terminal how far the run has come. The nodes
 /// that failed are kept in this list.
-fn run_jobs_shown<
-    B: Job + Send,
-    T: Threads + Wait + Sync,
-    C: Clock + Drop,
-    W: Write,
-    E: Write,
-    V: Watcher,
->(
+fn run_jobs_shown<B: Job + Send, T: Threads + Wait + Sync, C: Clock + Drop, W: Write, E: Write>(
     rt: &T,
     clock: C,
     alloc: Global,
@@ -79,7 +62,6 @@ fn run_jobs_shown<
     writer: &mut W,
     errors: &mut E,
     failures: &mut Failures,
-    watcher: &mut V,
 ) -> Result<ExitStatus, LaunchFault>
     requires jobs { (plan : PlanParts) (workers ring : ℕ) → JobsMayAnswer B.answers
         (run_of plan workers ring program.jobs.items) }
@@ -90,7 +72,7 @@ fn run_jobs_shown<
 {
     let mut summary = Summary::new(alloc);
     let mut running = Running::new(alloc);
-    let progress = Progress::new(
+    let mut progress = Progress::new(
         alloc,
         errors,
         &clock,
@@ -99,20 +81,12 @@ fn run_jobs_shown<
         failures,
         &mut running,
     );
-    let mut watched = WatchedProgress { progress, watcher };
-    run_jobs_followed(rt, alloc, options, program, writer, &mut watched)
+    run_jobs_followed(rt, alloc, options, program, writer, &mut progress)
 }
 
 /// Runs these jobs as the options say, draws how far the run has come, and says what there is to say
 /// of the answer and of what failed.
-fn run_tests_drawn<
-    B: Job + Send,
-    T: Threads + Wait + Sync,
-    C: Clock + Drop,
-    W: Write,
-    E: Write,
-    V: Watcher,
->(
+fn run_tests_drawn<B: Job + Send, T: Threads + Wait + Sync, C: Clock + Drop, W: Write, E: Write>(
     rt: &T,
     clock: C,
     alloc: Global,
@@ -121,12 +95,11 @@ fn run_tests_drawn<
     program: Program<B>,
     writer: &mut W,
     errors: &mut E,
-    watcher: &mut V,
 ) -> Ending
     requires jobs { (plan : PlanParts) (workers ring : ℕ) → JobsMayAnswer B.answers
         (run_of plan workers ring program.jobs.items) }
     requires all { HasJobs program.tree program.jobs.items }
-    ensures { ReadsWords (map string_bytes words.now) (Ok options) → IsTestRunOnTerminal B.answers W.contents
+    ensures { ReadsUnreported (map string_bytes words.now) (Ok options) → IsTestRunOnTerminal B.answers W.contents
         E.contents (program_parts program.tree program.properties) program.jobs.items (map string_bytes words.now)
         writer.old writer.new errors.old errors.new result }
 {
@@ -141,7 +114,6 @@ fn run_tests_drawn<
         &mut *writer,
         &mut *errors,
         &mut failures,
-        watcher,
     );
     let tests = Subject::Tests(said.as_str());
     let ending = close_with_failures(
@@ -152,15 +124,13 @@ fn run_tests_drawn<
 }
 
 /// Does what `run_test_words` does, where the other writer is a terminal. On it stands meanwhile what
-/// `run_words_on_terminal` draws of a suite's run, and behind a tree or a summary what failed. Who watches is shown the
-/// run, as one of two watchers.
+/// `run_words_on_terminal` draws of a suite's run, and behind a tree or a summary what failed.
 pub fn run_test_words_on_terminal<
     B: Job + Send,
     T: Threads + Wait + Sync,
     C: Clock + Drop,
     W: Write,
     E: Write,
-    V: Watcher,
 >(
     rt: &T,
     clock: C,
@@ -169,7 +139,6 @@ pub fn run_test_words_on_terminal<
     program: Program<B>,
     writer: &mut W,
     errors: &mut E,
-    watcher: &mut V,
 ) -> Ending
     requires jobs { (plan : PlanParts) (workers ring : ℕ) → JobsMayAnswer B.answers
         (run_of plan workers ring program.jobs.items) }
@@ -177,10 +146,8 @@ pub fn run_test_words_on_terminal<
     ensures { IsTestRunOnTerminal B.answers W.contents E.contents (program_parts program.tree program.properties)
         program.jobs.items (map string_bytes words.now) writer.old writer.new errors.old errors.new result }
 {
-    match read_options(alloc, words) {
-        Ok(options) => run_tests_drawn(
-            rt, clock, alloc, options, words, program, writer, errors, watcher,
-        ),
+    match read_unreported(alloc, words) {
+        Ok(options) => run_tests_drawn(rt, clock, alloc, options, words, program, writer, errors),
         Err(fault) => {
             drop(program);
             close_run(alloc, Err(fault), words, Subject::Tests(""), writer, errors)
@@ -196,7 +163,6 @@ pub fn run_test_program_on_terminal<
     C: Clock + Drop,
     W: Write,
     E: Write,
-    V: Watcher,
 >(
     rt: &T,
     clock: C,
@@ -205,7 +171,6 @@ pub fn run_test_program_on_terminal<
     program: Program<B>,
     writer: &mut W,
     errors: &mut E,
-    watcher: &mut V,
 ) -> Ending
     requires jobs { (plan : PlanParts) (workers ring : ℕ) → JobsMayAnswer B.answers
         (run_of plan workers ring program.jobs.items) }
@@ -226,7 +191,6 @@ pub fn run_test_program_on_terminal<
             program,
             writer,
             errors,
-            watcher,
         ),
         Err(fault) => {
             drop(program);

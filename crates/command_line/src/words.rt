@@ -1,21 +1,27 @@
 //! The words of the command line.
 
-ghost use Rattle.std.specs.Prelude.{◌≡◌, ◌≢◌, [], Some, None, IfOk, IfErr, map, string_bytes};
+ghost use Rattle.std.specs.Prelude.{◌≡◌, ◌≢◌, ◌∷◌, ◌++◌, [], Some, None, Ok, IfOk, IfErr, OnOk, map, string_bytes};
+ghost use Rattle.std.specs.List.{filter_map};
 ghost use Rattle.clap.specs.Words.{fault_of, found_of, kind_of, rows_of};
-ghost use Rattle.launch_options.specs.Asked.{asked_by, AreAsked};
-ghost use Rattle.launch_options.specs.Given.{values_of};
+ghost use Rattle.launch_options.specs.Asked.{asked_by, AreAsked, refusal_of};
+ghost use Rattle.launch_options.specs.Given.{behind, values_of};
+ghost use Rattle.launch_options.specs.ReportTexts.{parts_of, report_in};
 ghost use Rattle.launch_options.specs.declared.fault.LaunchFault.TheVariants.{NoMemory};
 ghost use Rattle.command_line.specs.Commands.{program};
 ghost use Rattle.command_line.specs.Found.{values_in};
-ghost use Rattle.command_line.specs.Words.{values_given, words_refusal, IsWordsFault, ReadsWords};
+ghost use Rattle.command_line.specs.Words.{reports_wanted, values_given, words_refusal, IsWordsFault, ReadsUnreported};
+ghost use Rattle.command_line.specs.Words.{ReadsWords, unless_wanted};
+ghost use Rattle.command_line.specs.Launches.{options_in};
 
 use crate::found::{given_in, nothing_given};
+use crate::launch::Launch;
 use crate::option_names::command;
 use clap::ArgMatches;
 use clap::error::ErrorKind;
+use launch_options::{ReportAsked, report_in};
 use launcher::{Given, LaunchFault, Options};
 use messages::Subject;
-use std::alloc::Global;
+use std::alloc::{AllocError, Global};
 
 /// What a refusal of clap means: 105, but for want of memory.
 fn words_fault(error: &clap::Error) -> LaunchFault
@@ -70,4 +76,76 @@ pub fn read_options(alloc: Global, words: &[String]) -> Result<Options, LaunchFa
 {
     let given = given_by(alloc, words)?;
     Options::of(alloc, &given)
+}
+
+/// Adds the report that a text asks for, if it asks for one.
+fn add_report<'w>(reports: &mut Vec<ReportAsked<'w>>, text: &'w str) -> Result<(), AllocError>
+    ensures { OnOk result (map parts_of reports.new.items ≡ map parts_of reports.old.items ++ filter_map report_in
+        (text.entry.now ∷ [])) }
+{
+    match report_in(text) {
+        Some(asked) => {
+            reports.push(asked)?;
+            Ok(())
+        }
+        None => Ok(()),
+    }
+}
+
+/// The reports that these texts ask for.
+fn reports_in<'w>(alloc: Global, texts: &[&'w str]) -> Result<Vec<ReportAsked<'w>>, AllocError>
+    ensures { IfOk result (λ reports. map parts_of reports.items ≡ filter_map report_in (behind texts.now)) }
+{
+    let mut reports = Vec::new(alloc);
+    for index in 0..texts.len() {
+        add_report(&mut reports, texts[index])?;
+    }
+    Ok(reports)
+}
+
+/// What these values ask for.
+fn launch_of<'w>(alloc: Global, given: &Given<'w>) -> Result<Launch<'w>, LaunchFault>
+    ensures asked { IfOk result (λ launch. AreAsked (values_of given.now) (asked_by launch.options)) }
+    ensures accepted { IfOk result (λ _. refusal_of (values_of given.now) ≡ None) }
+    ensures refused { IfErr result (λ fault. fault ≢ NoMemory → refusal_of (values_of given.now) ≡ Some fault) }
+    ensures no_memory { IfErr result (λ fault. fault ≡ NoMemory → refusal_of (values_of given.now) ≡ None) }
+    ensures reports { IfOk result (λ launch. map parts_of launch.reports.items ≡ filter_map report_in
+        (values_of given.now).reports) }
+{
+    let options = Options::of(alloc, given)?;
+    let reports = reports_in(alloc, given.reports.as_slice())?;
+    Ok(Launch { options, reports })
+}
+
+/// What the words ask for. The options are those of `read_options`, and words are refused as it says.
+pub(crate) fn read_launch<'w>(alloc: Global, words: &'w [String]) -> Result<Launch<'w>, LaunchFault>
+    ensures reports { IfOk result (λ launch. map parts_of launch.reports.items ≡ reports_wanted
+        (map string_bytes words.entry.now)) }
+    ensures read { ReadsWords (map string_bytes words.entry.now) (options_in result) }
+{
+    let given = given_by(alloc, words)?;
+    launch_of(alloc, &given)
+}
+
+/// The options of what is asked for, where no report may be.
+fn unreported(launch: Launch<'_>) -> Result<Options, LaunchFault>
+    ensures { result ≡ unless_wanted (map parts_of launch.entry.reports.items) (Ok launch.entry.options) }
+{
+    let Launch { options, reports } = launch;
+    if reports.is_empty() {
+        Ok(options)
+    } else {
+        Err(LaunchFault::BadWords)
+    }
+}
+
+/// The options that the words give a program's own tests. There are no reports of these, so words that ask for one
+/// are refused (105).
+pub(crate) fn read_unreported(alloc: Global, words: &[String]) -> Result<Options, LaunchFault>
+    ensures { ReadsUnreported (map string_bytes words.now) result }
+{
+    match read_launch(alloc, words) {
+        Ok(launch) => unreported(launch),
+        Err(fault) => Err(fault),
+    }
 }

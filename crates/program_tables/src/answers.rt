@@ -1,9 +1,11 @@
 //! What the program does with a row.
 
+use crate::memory_files::MemoryFiles;
 use crate::output::Output;
 use crate::own_tests::run_own_tests;
 use crate::rows::push_line;
 use crate::still_clock::StillClock;
+use crate::texts::{RowFiles, Texts};
 use command_line::{Ending, run_main, run_words};
 use std::alloc::{AllocError, Global};
 use std::sync::Wait;
@@ -99,26 +101,32 @@ fn push_run<T: Threads + Wait + Sync>(
     answers: &mut Output,
     errors: &mut Vec<u8>,
     words: Vec<String>,
+    texts: &Texts,
     mut suite: &[u8],
     asks: Asks,
 ) -> Result<(), AllocError> {
     let is_terminal = asks == Asks::Terminal;
     let (clock, words) = (StillClock, Ok(words.into_iter()));
     answers.room = asks.room();
+    let mut files = MemoryFiles::new(alloc);
     let ending = run_main(
         rt,
         clock,
         alloc,
         words,
+        &mut RowFiles { texts },
+        &texts.facts(),
         is_terminal,
         &mut suite,
         answers,
         errors,
+        &mut files,
     );
     match asks {
-        Asks::Cut(_) => answers.push(end_line(alloc, ending)?.as_bytes()),
-        _ => push_end(alloc, answers, ending),
+        Asks::Cut(_) => answers.push(end_line(alloc, ending)?.as_bytes())?,
+        _ => push_end(alloc, answers, ending)?,
     }
+    answers.push(files.kept.as_slice())
 }
 
 /// What `push_run` does, with tests of the table's own in place of a suite.
@@ -154,7 +162,16 @@ fn has_second<T: Threads + Wait + Sync>(
     for _ in 0..100 {
         let mut feed = Output::new(alloc);
         let mut errors = Vec::new(alloc);
-        run_words(rt, alloc, words, &mut &*suite, &mut feed, &mut errors);
+        let files = &mut MemoryFiles::new(alloc);
+        run_words(
+            rt,
+            alloc,
+            words,
+            &mut &*suite,
+            &mut feed,
+            &mut errors,
+            files,
+        );
         if is_of_second(feed.taken.as_slice()) {
             return true;
         }
@@ -184,6 +201,7 @@ fn push_asked<T: Threads + Wait + Sync>(
     alloc: Global,
     answers: &mut Output,
     words: Vec<String>,
+    texts: &Texts,
     suite: &[u8],
     asks: Asks,
 ) -> Result<(), AllocError> {
@@ -191,7 +209,7 @@ fn push_asked<T: Threads + Wait + Sync>(
     match asks {
         Asks::SecondWorker => push_second(rt, alloc, answers, words.as_slice(), suite)?,
         Asks::OwnTests => push_own_tests(rt, alloc, answers, &mut errors, words.as_slice())?,
-        _ => push_run(rt, alloc, answers, &mut errors, words, suite, asks)?,
+        _ => push_run(rt, alloc, answers, &mut errors, words, texts, suite, asks)?,
     }
     if asks.shows_errors() {
         answers.push(errors.as_slice())?;
@@ -205,6 +223,7 @@ pub(crate) fn push_answer<T: Threads + Wait + Sync>(
     alloc: Global,
     answers: &mut Output,
     line: &str,
+    texts: &Texts,
     suite: &[u8],
 ) -> Result<(), AllocError> {
     let Some((said, asks)) = row_of(line) else {
@@ -214,5 +233,5 @@ pub(crate) fn push_answer<T: Threads + Wait + Sync>(
     answers.push(b"\n")?;
     let mut words = Vec::new(alloc);
     push_line(alloc, &mut words, said)?;
-    push_asked(rt, alloc, answers, words, suite, asks)
+    push_asked(rt, alloc, answers, words, texts, suite, asks)
 }

@@ -4,15 +4,20 @@
 //! begin with `=? `, what stands on standard error follows; below `=! ` too, where that is a terminal;
 //! below `=< N ` too, with an output that takes N bytes and then fails. Below `=2 ` stands instead
 //! whether a second worker does something. A row that begins with `=t ` has no suite: tests of the
-//! table's own are run, and what stands on standard error follows.
+//! table's own are run, and what stands on standard error follows. From a line `=@ NAME TEXT` on the file
+//! NAME has TEXT, in which `\n` stands for an end of line, and so has a variable of that name; behind
+//! `=@ NAME` there is none. Below what the program writes stand the reports that are kept, each below a
+//! line `-- ` with its name.
 #![tactic(auto)]
 
 mod answers;
+mod memory_files;
 mod output;
 mod own_tests;
 mod rows;
 mod still_clock;
 mod table;
+mod texts;
 
 use crate::table::Table;
 use std::io;

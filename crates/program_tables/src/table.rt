@@ -3,15 +3,18 @@
 use crate::answers::{begins_row, push_answer};
 use crate::output::Output;
 use crate::rows::push_suite_line;
+use crate::texts::Texts;
 use std::alloc::{AllocError, Global};
 use std::sync::Wait;
 use std::thread::Threads;
 
-/// The line of a row, its suite as far as it was read, and the answers to the rows above.
+/// The line of a row, its suite as far as it was read, the files that rows may name, and the answers to
+/// the rows above.
 #[derive(Drop)]
 pub(crate) struct Table {
     row: String,
     suite: Vec<u8>,
+    texts: Texts,
     answers: Output,
 }
 
@@ -21,6 +24,7 @@ impl Table {
         Table {
             row: String::new(alloc),
             suite: Vec::new(alloc),
+            texts: Texts::new(alloc),
             answers: Output::new(alloc),
         }
     }
@@ -32,7 +36,7 @@ impl Table {
         alloc: Global,
     ) -> Result<(), AllocError> {
         let (row, suite) = (self.row.as_str(), self.suite.as_slice());
-        push_answer(rt, alloc, &mut self.answers, row, suite)
+        push_answer(rt, alloc, &mut self.answers, row, &self.texts, suite)
     }
 
     /// Runs the program on the row that was read, and begins the next with this line.
@@ -60,7 +64,19 @@ impl Table {
         self.answers.push(b"\n")
     }
 
-    /// Reads a line: a title, that of the next row, or one of the row's suite.
+    /// Answers the row that was read, and takes the text of a file from a line.
+    fn take_text<T: Threads + Wait + Sync>(
+        &mut self,
+        rt: &T,
+        alloc: Global,
+        line: &str,
+        said: &str,
+    ) -> Result<(), AllocError> {
+        self.take_title(rt, alloc, line)?;
+        self.texts.put(alloc, said)
+    }
+
+    /// Reads a line: a title, the text of a file, the line of the next row, or one of the row's suite.
     pub(crate) fn take<T: Threads + Wait + Sync>(
         &mut self,
         rt: &T,
@@ -69,6 +85,9 @@ impl Table {
     ) -> Result<(), AllocError> {
         if line.starts_with("=== ") {
             return self.take_title(rt, alloc, line);
+        }
+        if let Some(said) = line.strip_prefix("=@ ") {
+            return self.take_text(rt, alloc, line, said);
         }
         if begins_row(line) {
             return self.begin(rt, alloc, line);

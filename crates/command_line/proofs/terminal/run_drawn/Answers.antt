@@ -1,6 +1,7 @@
 -- What was asked for is run, and then what is said of the answer stands behind what was drawn.
 use Rattle.std.proofs.Common.{map, string_bytes}
-use Rattle.command_line.proofs.Running.{words_run}
+use Rattle.launch_options.specs.ReportTexts.{parts_of}
+use Rattle.command_line.proofs.Running.{filed_run}
 use Rattle.command_line.proofs.terminal.run_drawn.Goals as goal
 
 pub returns : goal.returns
@@ -12,7 +13,7 @@ returns g c reads = record {
     left = g.R.Read.remaining c.run_shown-answer.new.reader.reader.now;
     between = c.run_shown-answer.new.writer;
     run =
-        words_run (g.R.Read.remaining) (g.W.Write.contents) (map string_bytes c.args.words.now) c.args.options c.run_shown-answer.result _ _ _ _ _ reads c.run_shown-answer.ensures.runs.exact c.run_shown-answer.ensures.runs.reads c.run_shown-answer.ensures.runs.quiet;
+        filed_run (g.R.Read.remaining) (g.W.Write.contents) (g.K.ReportFiles.deeds) (map string_bytes c.args.words.now) c.args.launch.options (map parts_of c.args.launch.reports.items) c.run_shown-answer.result _ _ _ _ _ _ _ reads c.requires.reports c.run_shown-answer.ensures.runs;
     closed = c.close_with_failures-ending.ensures;
   };
 }

@@ -1,6 +1,6 @@
 -- Where the words are refused nothing is read and nothing is written; else what they ask for is run.
-use Rattle.std.proofs.Common.{Err, map, refl, string_bytes, true}
-use Rattle.command_line.proofs.Running.{words_refused}
+use Rattle.std.proofs.Common.{Err, map, string_bytes, true}
+use Rattle.command_line.proofs.Running.{filed_refused}
 use Rattle.live.proofs.Drawing.{none_drawn}
 use Rattle.command_line.proofs.terminal.run_words_on_terminal.Goals as goal
 
@@ -15,7 +15,7 @@ returns-in-Err g c = record {
     answer = Err c.in-Err.fault;
     left = g.R.Read.remaining c.args.reader.now;
     between = _;
-    run = words_refused (g.R.Read.remaining) (g.W.Write.contents) (map string_bytes c.args.words.now) c.in-Err.fault (Err c.in-Err.fault) _ _ _ refl c.in-Err.ensures.read;
+    run = filed_refused (g.R.Read.remaining) (g.W.Write.contents) (g.K.ReportFiles.deeds) (map string_bytes c.args.words.now) c.in-Err.fault _ _ _ _ c.in-Err.ensures.read;
     closed = c.close_run.ensures.closed;
   };
 }

@@ -6,12 +6,12 @@ use Rattle.command_line.proofs.tests_on_terminal.run_jobs_followed.Goals as goal
 
 pub returns-clause-same : goal.returns-clause-same
 returns-clause-same g c =
-    (drawn_by_program g.E.Write.contents c.args.watched.now c.run_jobs_watched.new.watcher g.B.Job.answers (asked_by c.args.options.now) (program_parts c.args.program.tree c.args.program.properties) c.args.program.jobs.items _ _ c.run_jobs_watched.result c.run_jobs_watched.ensures.watched).same
+    (drawn_by_program g.E.Write.contents c.args.progress.now c.run_jobs_watched.new.watcher g.B.Job.answers (asked_by c.args.options.now) (program_parts c.args.program.tree c.args.program.properties) c.args.program.jobs.items _ _ c.run_jobs_watched.result c.run_jobs_watched.ensures.watched).same
 
 pub returns-clause-draws : goal.returns-clause-draws
 returns-clause-draws g c =
-    drawn_behind_it g.E.Write.contents c.args.watched.now.progress c.run_jobs_watched.new.watcher.progress
-    (drawn_by_program g.E.Write.contents c.args.watched.now c.run_jobs_watched.new.watcher g.B.Job.answers (asked_by c.args.options.now) (program_parts c.args.program.tree c.args.program.properties) c.args.program.jobs.items _ _ c.run_jobs_watched.result c.run_jobs_watched.ensures.watched)
+    drawn_behind_it g.E.Write.contents c.args.progress.now c.run_jobs_watched.new.watcher
+    (drawn_by_program g.E.Write.contents c.args.progress.now c.run_jobs_watched.new.watcher g.B.Job.answers (asked_by c.args.options.now) (program_parts c.args.program.tree c.args.program.properties) c.args.program.jobs.items _ _ c.run_jobs_watched.result c.run_jobs_watched.ensures.watched)
 
 pub returns-clause-runs : goal.returns-clause-runs
 returns-clause-runs g c = record { exact = c.run_jobs_watched.ensures.exact; quiet = c.run_jobs_watched.ensures.quiet }

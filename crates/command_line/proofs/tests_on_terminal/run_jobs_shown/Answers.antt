@@ -7,5 +7,5 @@ use Rattle.command_line.proofs.tests_on_terminal.run_jobs_shown.Goals as goal
 pub returns-clause-draws : goal.returns-clause-draws
 returns-clause-draws g c =
     let contents = g.E.Write.contents in
-    let drawn = subst (λ e. IsDrawnBehind (contents e) (contents c.run_jobs_followed.new.watched.progress.terminal.now)) c.new-progress.ensures.terminal c.run_jobs_followed.ensures.draws in
-    carried {a = c.run_jobs_followed.new.watched.progress.terminal.now} (search rules) (λ e. IsDrawnBehind (contents c.args.errors.now) (contents e)) drawn
+    let drawn = subst (λ e. IsDrawnBehind (contents e) (contents c.run_jobs_followed.new.progress.terminal.now)) c.new-progress.ensures.terminal c.run_jobs_followed.ensures.draws in
+    carried {a = c.run_jobs_followed.new.progress.terminal.now} (search rules) (λ e. IsDrawnBehind (contents c.args.errors.now) (contents e)) drawn
