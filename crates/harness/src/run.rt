@@ -1,13 +1,12 @@
 //! The program of one who has tests of its own.
 
-ghost use Rattle.std.specs.Prelude.{◌≡◌, ◌⊎◌, ℕ, IfOk, IfErr, Err, map, string_bytes};
+ghost use Rattle.std.specs.Prelude.{◌≡◌, ◌⊎◌, IfOk, IfErr, Err, map, string_bytes};
 ghost use Rattle.std.specs.IoError.{error_kind};
 ghost use Rattle.std.specs.Vec.Iter.{into_iter_items};
 ghost use Rattle.harness.specs.Jobs.{jobs_by, replies_left};
-ghost use Rattle.resource_locks.specs.Plans.{PlanParts};
 ghost use Rattle.resource_locks.specs.Spares.{HasBareSpares};
 ghost use Rattle.launch_options.specs.declared.fault.LaunchFault.{LaunchFault};
-ghost use Rattle.launcher.specs.Programs.{HasJobs, program_parts};
+ghost use Rattle.launcher.specs.Programs.{program_parts};
 ghost use Rattle.messages.specs.Sentences.{tests_sentence_of};
 ghost use Rattle.command_line.specs.GivenWords.{IsGivenFault};
 ghost use Rattle.command_line.specs.Runs.{Closes};
@@ -15,10 +14,8 @@ ghost use Rattle.command_line.specs.TestRuns.{IsTestMainRun, IsTestRun, IsTestRu
 ghost use Rattle.test_tree.specs.Building.{held, properties_of};
 ghost use Rattle.test_tree.specs.Growing.{IsPending};
 ghost use Rattle.test_tree.specs.declared.cause.BuildCause.TheVariants.{NoMemory};
-ghost use Rattle.worker_pool.specs.Premises.{JobsMayAnswer};
-ghost use Rattle.worker_pool.specs.Reports.{run_of};
 
-use crate::job::{TestJob, jobs_of};
+use crate::job::jobs_of;
 use command_line::{Ending, run_test_program, run_test_program_on_terminal, run_test_words};
 use launcher::Program;
 use std::alloc::Global;
@@ -29,27 +26,6 @@ use std::thread::Threads;
 use std::time::Clock;
 use test_tree::{BuildFault, Tests};
 use worker_pool::{Nobody, Watcher};
-
-/// The program of these tests: each body of the tree has its job, and whatever plan is made of the tree, the jobs may
-/// answer.
-fn program_of(alloc: Global, tests: Box<Tests>) -> Result<Program<TestJob>, BuildFault>
-    ensures tree { IfOk result (λ program. program.tree ≡ (held tests.value).tree) }
-    ensures properties { IfOk result (λ program. program.properties ≡ properties_of tests.value) }
-    ensures jobs { IfOk result (λ program. program.jobs.items ≡ jobs_by (held tests.value).jobs) }
-    ensures has { IfOk result (λ program. HasJobs program.tree program.jobs.items) }
-    ensures may_answer { IfOk result (λ program. (plan : PlanParts) (workers ring : ℕ) →
-        JobsMayAnswer replies_left (run_of plan workers ring program.jobs.items)) }
-    ensures bare { IfOk result (λ _. HasBareSpares (held tests.value).tree) }
-    ensures unbuilt { IfErr result (λ fault. IsPending (held tests.value) fault.cause ⊎ (fault.cause ≡ NoMemory)) }
-{
-    let (tree, properties, bodies) = Box::into_inner(tests).into_parts()?;
-    let jobs = jobs_of(alloc, bodies)?;
-    Ok(Program {
-        tree,
-        properties,
-        jobs,
-    })
-}
 
 /// Runs of these tests what the words ask for; the first word is the program's name. All else is as
 /// `run_tests` says.
@@ -69,7 +45,13 @@ pub fn run_tests_by_words<T: Threads + Wait + Sync, W: Write, E: Write>(
     ensures unbuilt { IfErr result (λ fault. (IsPending (held tests.value) fault.cause ⊎ (fault.cause ≡ NoMemory)) × (writer.new ≡ writer.old)
         × (errors.new ≡ errors.old)) }
 {
-    let program = program_of(alloc, tests)?;
+    let (tree, properties, bodies) = Box::into_inner(tests).into_parts()?;
+    let jobs = jobs_of(alloc, bodies)?;
+    let program = Program {
+        tree,
+        properties,
+        jobs,
+    };
     let mut nobody = Nobody;
     Ok(run_test_words(rt, alloc, words, program, writer, errors, &mut nobody))
 }
@@ -98,7 +80,13 @@ pub fn run_tests_watched<T: Threads + Wait + Sync, W: Write, E: Write, V: Watche
     ensures unbuilt { IfErr result (λ fault. (IsPending (held tests.value) fault.cause ⊎ (fault.cause ≡ NoMemory)) × (writer.new ≡ writer.old)
         × (errors.new ≡ errors.old) × (watcher.new ≡ watcher.old)) }
 {
-    let program = program_of(alloc, tests)?;
+    let (tree, properties, bodies) = Box::into_inner(tests).into_parts()?;
+    let jobs = jobs_of(alloc, bodies)?;
+    let program = Program {
+        tree,
+        properties,
+        jobs,
+    };
     Ok(run_test_program(rt, alloc, words, program, writer, errors, watcher))
 }
 
@@ -132,32 +120,6 @@ pub fn run_tests<T: Threads + Wait + Sync, W: Write, E: Write>(
     run_tests_watched(rt, alloc, words, tests, writer, errors, &mut nobody)
 }
 
-/// Does what `run_tests_watched` does, where the other writer is a terminal, as `run_tests_on_terminal` does.
-fn run_tests_drawn<T: Threads + Wait + Sync, C: Clock + Drop, W: Write, E: Write, V: Watcher>(
-    rt: &T,
-    clock: C,
-    alloc: Global,
-    words: io::Result<Args>,
-    tests: Box<Tests>,
-    writer: &mut W,
-    errors: &mut E,
-    watcher: &mut V,
-) -> Result<Ending, BuildFault>
-    ensures run { IfOk result (λ ending. IfOk words (λ given. IsTestRunOnTerminal
-        replies_left W.contents E.contents
-        (program_parts (held tests.value).tree (properties_of tests.value)) (jobs_by (held tests.value).jobs)
-        (map string_bytes (into_iter_items given)) writer.old writer.new errors.old errors.new ending)) }
-    ensures refused { IfOk result (λ ending. IfErr words (λ error. (fault : LaunchFault)
-        × IsGivenFault (error_kind error) fault × Closes tests_sentence_of W.contents E.contents (Err fault) writer.old
-        writer.new errors.old errors.new ending)) }
-    ensures bare { IfOk result (λ _. HasBareSpares (held tests.value).tree) }
-    ensures unbuilt { IfErr result (λ fault. (IsPending (held tests.value) fault.cause ⊎ (fault.cause ≡ NoMemory)) × (writer.new ≡ writer.old)
-        × (errors.new ≡ errors.old) × (watcher.new ≡ watcher.old)) }
-{
-    let program = program_of(alloc, tests)?;
-    Ok(run_test_program_on_terminal(rt, clock, alloc, words, program, writer, errors, watcher))
-}
-
 /// Does what `run_tests` does, where the other writer is a terminal. On it stands how far the run has
 /// come, on a line that is drawn anew at most ten times a second by this clock, and is erased at the
 /// end; and behind a tree or a summary what failed, with the words that select just that.
@@ -181,14 +143,20 @@ pub fn run_tests_on_terminal<T: Threads + Wait + Sync, C: Clock + Drop, W: Write
     ensures unbuilt { IfErr result (λ fault. (IsPending (held tests.value) fault.cause ⊎ (fault.cause ≡ NoMemory)) × (writer.new ≡ writer.old)
         × (errors.new ≡ errors.old)) }
 {
-    let mut nobody = Nobody;
-    run_tests_drawn(rt, clock, alloc, words, tests, writer, errors, &mut nobody)
+    let (tree, properties, bodies) = Box::into_inner(tests).into_parts()?;
+    let jobs = jobs_of(alloc, bodies)?;
+    let program = Program {
+        tree,
+        properties,
+        jobs,
+    };
+    Ok(run_test_program_on_terminal(rt, clock, alloc, words, program, writer, errors))
 }
 
 /// All of a program of one's own tests but the handles that `main` gets of the system: what
-/// `run_tests_on_terminal` does by its clock if the other writer is a terminal that can be drawn on (`is_drawn_on`), and
-/// else what `run_tests` does. The watcher is shown the run, as by `run_tests_watched`; who has none hands in `Nobody`.
-pub fn run_tests_main<T: Threads + Wait + Sync + Clock, W: Write, E: Write, V: Watcher>(
+/// `run_tests_on_terminal` does by the clock of `rt` if the other writer is a terminal that can be drawn on
+/// (`is_drawn_on`), and else what `run_tests` does.
+pub fn run_tests_main<T: Threads + Wait + Sync + Clock, W: Write, E: Write>(
     rt: &T,
     alloc: Global,
     words: io::Result<Args>,
@@ -196,7 +164,6 @@ pub fn run_tests_main<T: Threads + Wait + Sync + Clock, W: Write, E: Write, V: W
     tests: Box<Tests>,
     writer: &mut W,
     errors: &mut E,
-    watcher: &mut V,
 ) -> Result<Ending, BuildFault>
     ensures run { IfOk result (λ ending. IfOk words (λ given. IsTestMainRun
         replies_left W.contents E.contents
@@ -207,11 +174,11 @@ pub fn run_tests_main<T: Threads + Wait + Sync + Clock, W: Write, E: Write, V: W
         writer.new errors.old errors.new ending)) }
     ensures bare { IfOk result (λ _. HasBareSpares (held tests.value).tree) }
     ensures unbuilt { IfErr result (λ fault. (IsPending (held tests.value) fault.cause ⊎ (fault.cause ≡ NoMemory)) × (writer.new ≡ writer.old)
-        × (errors.new ≡ errors.old) × (watcher.new ≡ watcher.old)) }
+        × (errors.new ≡ errors.old)) }
 {
     if is_terminal {
-        run_tests_drawn(rt, rt, alloc, words, tests, writer, errors, watcher)
+        run_tests_on_terminal(rt, rt, alloc, words, tests, writer, errors)
     } else {
-        run_tests_watched(rt, alloc, words, tests, writer, errors, watcher)
+        run_tests(rt, alloc, words, tests, writer, errors)
     }
 }

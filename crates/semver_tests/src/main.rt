@@ -6,7 +6,7 @@ mod failures;
 use failures::FailuresByClass;
 use harness::{
     BuildFault, Checked, Ending, LockMode, TestBox, Tests, assume, check, check_same, exit_code,
-    is_drawn_on, run_tests_main,
+    run_tests_watched,
 };
 use semver::{Version, VersionReq};
 use std::alloc::Global;
@@ -15,7 +15,6 @@ use std::io::{self, Write};
 use std::process::ExitCode;
 use std::sync::Wait;
 use std::thread::Threads;
-use std::time::Clock;
 
 fn reads(alloc: Global) -> Checked {
     let version = Version::parse(alloc, "1.2.3")?;
@@ -59,11 +58,10 @@ fn matches(alloc: Global, minor: u64, wanted: bool) -> Checked {
 }
 
 /// Builds the tests, and runs them as the words ask for. What is built here is not handed out, so nothing is hidden.
-fn run<T: Threads + Wait + Sync + Clock, W: Write, E: Write>(
+fn run<T: Threads + Wait + Sync, W: Write, E: Write>(
     rt: &T,
     alloc: Global,
     words: io::Result<Args>,
-    is_drawn: bool,
     writer: &mut W,
     errors: &mut E,
     failures: &mut FailuresByClass,
@@ -94,22 +92,13 @@ fn run<T: Threads + Wait + Sync + Clock, W: Write, E: Write>(
     tests.dynamic(caret, "1.2.0", two)?;
     let one: TestBox = Box::new(alloc, move |alloc: Global| matches(alloc, 1, false))?;
     tests.dynamic(caret, "1.1.0", one)?;
-    run_tests_main(rt, alloc, words, is_drawn, tests, writer, errors, failures)
+    run_tests_watched(rt, alloc, words, tests, writer, errors, failures)
 }
 
 fn main(rt: HostRuntime) -> ExitCode {
     let (words, writer, errors) = (std::env::args(&rt), &mut io::writer(&rt), &mut rt.stderr());
-    let is_drawn = is_drawn_on(&rt, errors);
     let mut failures = FailuresByClass::new(rt.alloc());
-    let run = run(
-        &rt,
-        rt.alloc(),
-        words,
-        is_drawn,
-        writer,
-        errors,
-        &mut failures,
-    );
+    let run = run(&rt, rt.alloc(), words, writer, errors, &mut failures);
     failures.print(writer);
     exit_code(run, errors)
 }

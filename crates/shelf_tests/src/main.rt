@@ -5,7 +5,7 @@ mod shelf;
 
 use crate::shelf::Shelf;
 use harness::{
-    BuildFault, Checked, Ending, LockMode, Nobody, TestBox, Tests, check, check_same, exit_code,
+    BuildFault, Checked, Ending, LockMode, TestBox, Tests, check, check_same, exit_code,
     is_drawn_on, run_tests_main,
 };
 use std::alloc::Global;
@@ -42,8 +42,7 @@ fn run<T: Threads + Wait + Sync + Clock, W: Write, E: Write>(
     let factory = tests.factory(class, "fits()", fits)?;
     let three: TestBox = Box::new(alloc, move |alloc: Global| fits(alloc))?;
     tests.dynamic(factory, "three", three)?;
-    let nobody = &mut Nobody;
-    run_tests_main(rt, alloc, words, is_drawn, tests, writer, errors, nobody)
+    run_tests_main(rt, alloc, words, is_drawn, tests, writer, errors)
 }
 
 fn main(rt: HostRuntime) -> ExitCode {
