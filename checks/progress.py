@@ -5,7 +5,7 @@ checks/progress.py [SUITES] [SEED]   20 suites and the seed 1 where they are not
   --program PATH                     another program than crates/console/out/console
 A pseudo-terminal is used. The line is drawn at most ten times a second, its numbers grow, and it is gone
 at the end, also where the output goes to the same terminal, and where that is narrower than the line. The test
-that it names, if one has been running for two seconds, is the one that runs longest by the feed on that terminal.
+that it names, if one has been running for two seconds, is the one that runs longest by the feed, which is a report.
 A file, a terminal that is dumb and one of an unknown kind get nothing of it. What failed is said once more, on a terminal and in a file, at most twenty
 of it, and the words that are said select just that, or the first ten of it.
 Suites made at random print the same with a terminal and without one, and so do shelf_tests and semver_tests.
@@ -202,25 +202,36 @@ def judge_drawn(program, details):
         raise Wrong(f"no test takes two seconds, and {names} are named")
 
 
-def judge_longest(program):
-    """A test that is named runs, and of those that run it was the first to start: so the feed says above the line."""
-    words = ["--details", "testfeed", "--workers", "8"]
-    run = Run(program, slow_suite(MANY_TESTS), words, both=True, stops=STOPS)
-    running, named = [], 0
-    for found in re.finditer(DRAWN.pattern + b"|" + FED.pattern, run.errors):
-        test = found["test"]
+def longest_by(feed):
+    """For each number of tests that are done, the first to start of those that run: by the events of a feed."""
+    running, longest = [], [None]
+    for found in FED.finditer(feed):
         if found["what"] == b"started":
-            running.append(test)
-        elif found["what"] == b"finished":
-            running.remove(test)
-        elif found["name"]:
-            named += 1
-            if not running or found["name"] != running[0] + b" in a.B":
-                raise Wrong(f"{found['name']} is named, and {running} run")
-            if not 2 <= int(found["long"]) <= run.seconds:
-                raise Wrong(f"{found[0]} in a run of {run.seconds:.2f} s")
-    if run.status != 0 or running or not named:
-        raise Wrong(f"status {run.status}, {named} were named, {running} run in the end")
+            running.append(found["test"])
+            longest[-1] = running[0]
+        else:
+            running.remove(found["test"])
+            longest.append(running[0] if running else None)
+    return longest
+
+
+def judge_longest(program):
+    """A test that is named runs, and of those that run it was the first to start: so the feed says, which is a report."""
+    with tempfile.TemporaryDirectory() as folder:
+        path = os.path.join(folder, "feed")
+        words = ["--details", "none", "--workers", "8", "--report", f"testfeed={path}"]
+        run = Run(program, slow_suite(MANY_TESTS), words, stops=STOPS)
+        with open(path, "rb") as feed:
+            longest = longest_by(feed.read())
+    named = [found for found in DRAWN.finditer(run.errors) if found["name"]]
+    for found in named:
+        test = longest[int(found[3])]
+        if test is None or found["name"] != test + b" in a.B":
+            raise Wrong(f"{found['name']} is named, and {test} runs longest")
+        if not 2 <= int(found["long"]) <= run.seconds:
+            raise Wrong(f"{found[0]} in a run of {run.seconds:.2f} s")
+    if run.status != 0 or not named:
+        raise Wrong(f"status {run.status}, {len(named)} were named")
 
 
 def judge_seconds(program):
