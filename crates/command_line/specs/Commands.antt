@@ -31,19 +31,22 @@ naming = fold with_rule selecting (
     ∷ repeated (codes "exclude-name")
     ∷ [])
 
--- and those that leave nodes out, or all but those that are to be run again
+-- and those that leave nodes out
 abbrev pub excluding : App
 excluding = fold with_rule naming (
     repeated (codes "exclude-unique-id")
     ∷ repeated (codes "exclude-class")
     ∷ repeated (codes "exclude-method")
     ∷ repeated (codes "exclude-package")
-    ∷ repeated (codes "rerun")
     ∷ [])
+
+-- and the one that leaves out all but what is to be run again
+abbrev pub rerunning : App
+rerunning = fold with_rule excluding (repeated (codes "rerun") ∷ [])
 
 -- and those that say which tags run, and which shard
 abbrev pub filtering : App
-filtering = fold with_rule excluding (
+filtering = fold with_rule rerunning (
     repeated (codes "include-tag")
     ∷ repeated (codes "exclude-tag")
     ∷ single (codes "shard")
@@ -54,14 +57,19 @@ abbrev pub configuring : App
 configuring = fold with_rule filtering (
     repeated (codes "config")
     ∷ repeated (codes "system")
-    ∷ single (codes "processors")
+    ∷ [])
+
+-- and those that say how much runs side by side
+abbrev pub sizing : App
+sizing = fold with_rule configuring (
+    single (codes "processors")
     ∷ single (codes "workers")
     ∷ single (codes "ring")
     ∷ [])
 
 -- and those that say what is printed of what happened
 abbrev pub printing : App
-printing = fold with_rule configuring (
+printing = fold with_rule sizing (
     single (codes "details")
     ∷ single (codes "details-theme")
     ∷ repeated (codes "report")

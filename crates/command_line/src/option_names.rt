@@ -3,7 +3,7 @@
 ghost use Rattle.std.specs.Prelude.{◌≡◌, IfOk, false};
 ghost use Rattle.clap.specs.Words.{app_of, rule_of, with_rule};
 ghost use Rattle.command_line.specs.Commands.{program, printing, configuring, filtering, selecting, single, repeated};
-ghost use Rattle.command_line.specs.Commands.{ending, excluding, flag, naming};
+ghost use Rattle.command_line.specs.Commands.{ending, excluding, flag, naming, rerunning, sizing};
 
 use clap::{Arg, ArgAction, Command};
 use launcher::option_names::{
@@ -134,8 +134,8 @@ fn naming<'a>(alloc: Global) -> Result<Command<'a>, AllocError>
     )
 }
 
-/// The same, and the options that leave nodes out, or all but those that are to be run again.
-fn excluding<'a>(alloc: Global, subject: Subject<'_>) -> Result<Command<'a>, AllocError>
+/// The same, and the options that leave nodes out.
+fn excluding<'a>(alloc: Global) -> Result<Command<'a>, AllocError>
     ensures { IfOk result (λ command. app_of command ≡ excluding) }
 {
     let command = naming(alloc)?;
@@ -166,7 +166,7 @@ fn excluding<'a>(alloc: Global, subject: Subject<'_>) -> Result<Command<'a>, All
             "Leaves out the test or factory of this name",
         ),
     )?;
-    let command = with(
+    with(
         command,
         repeated(
             alloc,
@@ -174,7 +174,14 @@ fn excluding<'a>(alloc: Global, subject: Subject<'_>) -> Result<Command<'a>, All
             "PACKAGE",
             "Leaves out the classes of this package",
         ),
-    )?;
+    )
+}
+
+/// The same, and the option that leaves out all but what is to be run again.
+fn rerunning<'a>(alloc: Global, subject: Subject<'_>) -> Result<Command<'a>, AllocError>
+    ensures { IfOk result (λ command. app_of command ≡ rerunning) }
+{
+    let command = excluding(alloc)?;
     with(
         command,
         repeated(
@@ -194,7 +201,7 @@ fn excluding<'a>(alloc: Global, subject: Subject<'_>) -> Result<Command<'a>, All
 fn filtering<'a>(alloc: Global, subject: Subject<'_>) -> Result<Command<'a>, AllocError>
     ensures { IfOk result (λ command. app_of command ≡ filtering) }
 {
-    let command = excluding(alloc, subject)?;
+    let command = rerunning(alloc, subject)?;
     let command = with(
         command,
         repeated(
@@ -242,7 +249,7 @@ fn configuring<'a>(alloc: Global, subject: Subject<'_>) -> Result<Command<'a>, A
             ),
         ),
     )?;
-    let command = with(
+    with(
         command,
         repeated(
             alloc,
@@ -254,7 +261,14 @@ fn configuring<'a>(alloc: Global, subject: Subject<'_>) -> Result<Command<'a>, A
                 "Sets a parameter over the tests",
             ),
         ),
-    )?;
+    )
+}
+
+/// The same, and the options that say how much runs side by side.
+fn sizing<'a>(alloc: Global, subject: Subject<'_>) -> Result<Command<'a>, AllocError>
+    ensures { IfOk result (λ command. app_of command ≡ sizing) }
+{
+    let command = configuring(alloc, subject)?;
     let command = with(
         command,
         single(
@@ -288,7 +302,7 @@ fn configuring<'a>(alloc: Global, subject: Subject<'_>) -> Result<Command<'a>, A
 fn printing<'a>(alloc: Global, subject: Subject<'_>) -> Result<Command<'a>, AllocError>
     ensures { IfOk result (λ command. app_of command ≡ printing) }
 {
-    let command = configuring(alloc, subject)?;
+    let command = sizing(alloc, subject)?;
     let command = with(
         command,
         single(

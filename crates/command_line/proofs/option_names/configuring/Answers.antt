@@ -1,11 +1,8 @@
--- The same command with the five options that say with which settings.
+-- The same command with the two options that say with which settings.
 use Rattle.command_line.proofs.Growing.{one_more, last_one}
 use Rattle.command_line.proofs.option_names.configuring.Goals as goal
 
 pub returns : goal.returns
 returns c =
     let one = one_more _ _ _ _ _ c.in_ok-command-2.ensures c.in_ok-command.ensures c.repeated.ensures.rule in
-    let two = one_more _ _ _ _ _ c.in_ok-command-3.ensures one c.repeated-2.ensures.rule in
-    let three = one_more _ _ _ _ _ c.in_ok-command-4.ensures two c.single.ensures.rule in
-    let four = one_more _ _ _ _ _ c.in_ok-command-5.ensures three c.single-2.ensures.rule in
-    last_one c.with-5.result _ _ _ _ c.with-5.ensures four c.single-3.ensures.rule
+    last_one c.with-2.result _ _ _ _ c.with-2.ensures one c.repeated-2.ensures.rule
