@@ -1,0 +1,140 @@
+//! A stopwatch that reads a clock.
+
+use crate::stopwatch::Stopwatch;
+use descriptor::BodyId;
+use std::alloc::{AllocError, Global};
+use std::sync::OnceLock;
+use std::time::Clock;
+
+/// So many numbers have a cell. A suite and a program's own tests give bodies the numbers of their nodes, and after-bodies
+/// those from 8,192 on.
+const NUMBERS: usize = 16_384;
+
+/// How many microseconds a second has.
+const MICROSECONDS: u64 = 1_000_000;
+
+/// What is known of the job of one number. Each is written once, by any thread.
+#[derive(Drop)]
+struct JobCell {
+    // in microseconds of the clock
+    begun: OnceLock<u64>,
+    ended: OnceLock<u64>,
+    // in milliseconds
+    limit: OnceLock<u32>,
+}
+
+impl JobCell {
+    /// Nothing is known.
+    fn new() -> JobCell {
+        JobCell {
+            begun: OnceLock::new(),
+            ended: OnceLock::new(),
+            limit: OnceLock::new(),
+        }
+    }
+
+    /// For how many microseconds the job ran, if it has begun and ended; 0 if the clock went back.
+    fn took(&self) -> Option<u64> {
+        let begun = self.begun.get()?;
+        let ended = self.ended.get()?;
+        Some(ended.saturating_sub(*begun))
+    }
+
+    /// When the job began, if it has begun and not ended.
+    fn running_since(&self) -> Option<u64> {
+        if self.ended.get().is_some() {
+            return None;
+        }
+        let begun = self.begun.get()?;
+        Some(*begun)
+    }
+}
+
+/// Takes note of times by a clock, which may go back or fail: what was not read is not known.
+pub struct JobTimes<'c, C: Clock> {
+    // that of each number from 0, or none at all
+    cells: Vec<JobCell>,
+    clock: &'c C,
+}
+
+impl<'c, C: Clock> Drop for JobTimes<'c, C> {
+    fn drop(self) {
+        let Self { cells, clock: _ } = self;
+        drop(cells);
+    }
+}
+
+impl<'c, C: Clock> JobTimes<'c, C> {
+    /// Nothing is known of any job yet. Of a job whose number is 16,384 or more nothing is ever known.
+    pub fn new(alloc: Global, clock: &'c C) -> Result<JobTimes<'c, C>, AllocError> {
+        let mut cells = Vec::with_capacity(alloc, NUMBERS)?;
+        for _number in 0..NUMBERS {
+            cells.push(JobCell::new())?;
+        }
+        Ok(JobTimes { cells, clock })
+    }
+
+    /// Takes note of nothing, and reads no clock.
+    pub fn off(alloc: Global, clock: &'c C) -> JobTimes<'c, C> {
+        JobTimes {
+            cells: Vec::new(alloc),
+            clock,
+        }
+    }
+
+    /// For how many microseconds the job of this number has been running, if it has begun and not ended.
+    pub fn running_for(&self, number: BodyId) -> Option<u64> {
+        let begun = self.cell(number)?.running_since()?;
+        Some(self.now()?.saturating_sub(begun))
+    }
+
+    /// How many milliseconds the job of this number may run before it is slow, if it has a limit.
+    pub fn limit(&self, number: BodyId) -> Option<u32> {
+        let limit = self.cell(number)?.limit.get()?;
+        Some(*limit)
+    }
+
+    /// What is known of the job of this number, if it has a cell.
+    fn cell(&self, number: BodyId) -> Option<&JobCell> {
+        self.cells.get(number.index())
+    }
+
+    /// The microseconds that the clock shows, if it can be read.
+    fn now(&self) -> Option<u64> {
+        let time = self.clock.monotonic().ok()?;
+        let microseconds = u64::from(time.subsec_micros());
+        let whole = time.as_secs().saturating_mul(MICROSECONDS);
+        Some(whole.saturating_add(microseconds))
+    }
+
+    /// Writes down what the clock shows, unless something is written there.
+    fn note(&self, place: &OnceLock<u64>) {
+        if let Some(now) = self.now() {
+            let _ = place.try_set(now);
+        }
+    }
+}
+
+impl<'c, C: Clock> Stopwatch for JobTimes<'c, C> {
+    fn begin(&self, number: BodyId) {
+        if let Some(cell) = self.cell(number) {
+            self.note(&cell.begun);
+        }
+    }
+
+    fn end(&self, number: BodyId) {
+        if let Some(cell) = self.cell(number) {
+            self.note(&cell.ended);
+        }
+    }
+
+    fn took(&self, number: BodyId) -> Option<u64> {
+        self.cell(number)?.took()
+    }
+
+    fn set_limit(&self, number: BodyId, milliseconds: u32) {
+        if let Some(cell) = self.cell(number) {
+            let _ = cell.limit.try_set(milliseconds);
+        }
+    }
+}
