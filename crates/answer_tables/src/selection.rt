@@ -70,6 +70,7 @@ pub(crate) fn push_found(alloc: Global, answer: &mut String, tree: &Tree, words:
         include: Vec::new(alloc),
         exclude: Vec::new(alloc),
         shard: None,
+        seed: None,
     };
     if add_all(alloc, &mut request, words) {
         push_answered(alloc, answer, tree, &request);

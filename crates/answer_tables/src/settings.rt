@@ -13,6 +13,9 @@ fn push_described(answer: &mut String, settings: &Settings) {
     show(answer, " ", settings.workers);
     quote(answer, " ", settings.default_mode);
     quote(answer, " ", settings.classes_mode);
+    if let Some(limit) = settings.slow {
+        show(answer, " slow ", limit)
+    }
     for key in settings.warnings.keys() {
         show(answer, " WARNING ", *key)
     }

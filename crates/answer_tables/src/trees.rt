@@ -16,6 +16,9 @@ fn push_scripts(answer: &mut String, scripts: &[Script]) {
         let outcome = &script.reply.outcome;
         show(answer, "\nbody ", script.body.number());
         show(answer, " spin ", script.spin);
+        if let Some(limit) = script.slow {
+            show(answer, " slow ", limit)
+        }
         show(answer, " pulls ", script.reply.pulls);
         show(answer, " ", outcome.status);
         quote(answer, " ", outcome.text.as_str())

@@ -40,6 +40,8 @@ mod running;
 #[cfg(test)]
 mod sharing;
 #[cfg(test)]
+mod slow_names;
+#[cfg(test)]
 mod stepping;
 #[cfg(test)]
 mod summaries;

@@ -56,6 +56,7 @@ fn feed_options(alloc: Global) -> Options {
             include: Vec::new(alloc),
             exclude: Vec::new(alloc),
             shard: None,
+            seed: None,
         },
         params: Params::new(alloc),
         processors: 1,
@@ -68,6 +69,7 @@ fn feed_options(alloc: Global) -> Options {
         fail_if_nothing_selected: false,
         fail_fast: false,
         schedule: false,
+        times: false,
         replay: None,
         drive: None,
     }

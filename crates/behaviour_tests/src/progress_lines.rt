@@ -1,8 +1,9 @@
 //! When the line is drawn that says how far a run has come.
 
 use crate::failing::{Failing, Full};
+use job_times::JobTimes;
 use listeners::Summary;
-use live::{Failures, Progress, Running};
+use live::{Failures, Progress, Running, SlowTests};
 use std::alloc::Global;
 use std::cell::Cell;
 use std::io::{Result as IoResult, Write};
@@ -14,9 +15,18 @@ const LINE: &str = "\r\x1b[K\x1b[?7l0 found, 0 running, 0 done, 0 failed, 0 s\x1
 
 /// A clock that each reading moves on by so many milliseconds.
 #[derive(Drop)]
-struct Ticking {
+pub(crate) struct Ticking {
     now: Cell<u64>,
     step: u64,
+}
+
+impl Ticking {
+    pub(crate) fn by(step: u64) -> Ticking {
+        Ticking {
+            now: Cell::new(0),
+            step,
+        }
+    }
 }
 
 impl Clock for Ticking {
@@ -32,13 +42,12 @@ impl Clock for Ticking {
 
 /// Leaves a watcher with this terminal six moments, between which so many milliseconds pass.
 fn leave_moments<E: Write>(alloc: Global, terminal: &mut E, step: u64) {
-    let clock = Ticking {
-        now: Cell::new(0),
-        step,
-    };
+    let clock = Ticking::by(step);
     let mut summary = Summary::new(alloc);
     let mut failures = Failures::new(alloc);
     let mut running = Running::new(alloc);
+    let times = JobTimes::off(alloc, &clock);
+    let mut slow = SlowTests::new(alloc);
     let mut progress = Progress::new(
         alloc,
         terminal,
@@ -47,6 +56,8 @@ fn leave_moments<E: Write>(alloc: Global, terminal: &mut E, step: u64) {
         &mut summary,
         &mut failures,
         &mut running,
+        &times,
+        &mut slow,
     );
     for _ in 0..6 {
         progress.idle();

@@ -5,6 +5,7 @@ pub mod Growing
 pub mod Listing
 pub mod Running
 pub mod TestsTold
+pub mod TimedJobs
 pub mod Told
 pub mod Wanting
 pub mod Watched

@@ -18,6 +18,7 @@ use Rattle.suite_text.specs.Reading.Bytes.{suite_read}
 use Rattle.report_files.specs.Deeds.{Deed}
 use Rattle.report_files.specs.FiledReports.{Wanted}
 use Rattle.report_files.specs.FiledRuns.{RunsFiled}
+use Rattle.report_files.specs.SlowestTests.{IsSlowestRun}
 use Rattle.command_line.specs.Launches.{options_in}
 use Rattle.command_line.specs.Runs.{IsConsoleRun, IsFiledConsoleRun}
 use Rattle.command_line.specs.Words.{AsksCut, CutsWords, ReadsWords, reports_wanted, values_given}
@@ -67,18 +68,19 @@ reports_of words values (Err fault) same is = tt
 
 module _ {R W K : Type 0} (remaining : R → Option (List ℕ)) (contents : W → Option (List ℕ)) (deeds : K → Option (List Deed)) (words : List Text) where
   -- words that are refused: no file is touched
-  pub filed_refused : (cause : LaunchFault) (before : R) (left : Option (List ℕ)) (old : W) (was : K) → ReadsWords words (Err cause) → IsFiledConsoleRun remaining contents deeds words before before left old old was was (Err cause)
-  filed_refused cause before left old was reads = record { options = Err cause; reads = reads; runs = (refl, refl, refl, refl) }
+  pub filed_refused : (cause : LaunchFault) (before : R) (left : Option (List ℕ)) (old : W) (was : K) → ReadsWords words (Err cause) → IsFiledConsoleRun remaining contents deeds words before before left old old was was (Err cause) None
+  filed_refused cause before left old was reads = record { options = Err cause; reads = reads; runs = (refl, refl, refl, refl, refl) }
 
-  -- words that ask for something, with reports
-  pub filed_run : (options : Options) (wanted : List Wanted) (result : Result ExitStatus LaunchFault) (before after : R) (left : Option (List ℕ)) (old new : W) (was now : K) → ReadsWords words (Ok options) → wanted ≡ reports_wanted words
-      → RunsFiled (asked_by options) wanted (remaining before) left (contents old) (contents new) (deeds was) (deeds now) result → IsFiledConsoleRun remaining contents deeds words before after left old new was now result
-  filed_run options wanted result before after left old new was now reads is runs = record {
+  -- words that ask for something, with reports, and with a list of the slowest tests
+  pub filed_run : (options : Options) (wanted : List Wanted) (result : Result ExitStatus LaunchFault) (slowest : Option (List ℕ)) (before after : R) (left : Option (List ℕ)) (old new : W) (was now : K) → ReadsWords words (Ok options) → wanted ≡ reports_wanted words
+      → RunsFiled (asked_by options) wanted (remaining before) left (contents old) (contents new) (deeds was) (deeds now) result
+      → IfOk result (λ status. IsSlowestRun (asked_by options) (remaining before) left (contents old) (contents new) status slowest) → IsFiledConsoleRun remaining contents deeds words before after left old new was now result slowest
+  filed_run options wanted result slowest before after left old new was now reads is runs listed = record {
     options = Ok options;
     reads = reads;
-    runs = subst (λ (ws : List Wanted). RunsFiled (asked_by options) ws (remaining before) left (contents old) (contents new) (deeds was) (deeds now) result) is runs;
+    runs = (subst (λ (ws : List Wanted). RunsFiled (asked_by options) ws (remaining before) left (contents old) (contents new) (deeds was) (deeds now) result) is runs, listed);
   }
 
   -- there was no memory to list the words
-  pub nothing_filed : (fault : LaunchFault) (before : R) (left : Option (List ℕ)) (old : W) (was : K) → fault ≡ NoMemory → IsFiledConsoleRun remaining contents deeds words before before left old old was was (Err fault)
+  pub nothing_filed : (fault : LaunchFault) (before : R) (left : Option (List ℕ)) (old : W) (was : K) → fault ≡ NoMemory → IsFiledConsoleRun remaining contents deeds words before before left old old was was (Err fault) None
   nothing_filed fault before left old was memory = filed_refused fault before left old was (record { cut = Err fault; cuts = λ other. absurd (other memory); asks = refl })

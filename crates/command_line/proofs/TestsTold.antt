@@ -1,5 +1,5 @@
 -- From the words that the system gave to what is done with a program's own tests.
-use Rattle.std.proofs.Common.{◌≡◌, ◌∙◌, ℕ, List, map, Option, IfOk, Result, Ok, Err, refl, subst, true}
+use Rattle.std.proofs.Common.{◌≡◌, ◌∙◌, ℕ, List, map, Option, None, IfOk, Result, Ok, Err, refl, subst, true}
 use Rattle.clap.specs.Words.{Text}
 use Rattle.plan_events.specs.declared.outcome.Reply.{Reply}
 use Rattle.suite_text.specs.Reading.Parts.{SuiteParts}
@@ -9,6 +9,8 @@ use Rattle.messages.specs.Sentences.{tests_sentence_of}
 use Rattle.command_line.specs.Runs.{Closes}
 use Rattle.command_line.specs.TestRuns.{IsTestRun, IsTestRunOnTerminal}
 use Rattle.command_line.specs.declared.closing.Ending.{Ending}
+use Rattle.command_line.proofs.Ended.{closes_refused}
+use Rattle.command_line.proofs.Watched.{none_named}
 use Rattle.command_line.proofs.Wanting.{unread}
 use Rattle.live.proofs.Drawing.{none_drawn}
 
@@ -27,8 +29,11 @@ module _ {B W E G X F : Type 0} (answers : B → List Reply) (contents : W → O
     reads = unread (map text (given some)) fault memory;
     answer = Err fault;
     between = old;
-    runs = (refl, refl);
-    closed = closed;
+    slowest = None;
+    named = quiet;
+    runs = (refl, refl, refl);
+    names = none_named (said quiet);
+    closed = closes_refused tests_sentence_of contents said fault old new quiet told ending closed;
   }
   told_no_test_words (Err error) fault old new quiet told ending memory closed = tt
 

@@ -44,12 +44,13 @@ excluding = fold with_rule naming (
 abbrev pub rerunning : App
 rerunning = fold with_rule excluding (repeated (codes "rerun") ∷ [])
 
--- and those that say which tags run, and which shard
+-- and those that say which tags run, which shard, and in which order
 abbrev pub filtering : App
 filtering = fold with_rule rerunning (
     repeated (codes "include-tag")
     ∷ repeated (codes "exclude-tag")
     ∷ single (codes "shard")
+    ∷ single (codes "seed")
     ∷ [])
 
 -- and those that say with which settings
@@ -73,6 +74,7 @@ printing = fold with_rule sizing (
     single (codes "details")
     ∷ single (codes "details-theme")
     ∷ repeated (codes "report")
+    ∷ flag (codes "times")
     ∷ [])
 
 -- and those that say how it ends

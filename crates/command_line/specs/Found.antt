@@ -69,6 +69,7 @@ values_in rows = record {
   workers = first_of (codes "workers") rows;
   ring = first_of (codes "ring") rows;
   shard = first_of (codes "shard") rows;
+  seed = first_of (codes "seed") rows;
   details = first_of (codes "details") rows;
   theme = first_of (codes "details-theme") rows;
   replay = first_of (codes "replay") rows;
@@ -76,6 +77,7 @@ values_in rows = record {
   fail_if_no_tests = is_found (codes "fail-if-no-tests") rows;
   fail_fast = is_found (codes "fail-fast") rows;
   schedule = is_found (codes "schedule") rows;
+  times = is_found (codes "times") rows;
 }
 
 -- where no option is given
@@ -94,6 +96,7 @@ nothing_given = record {
   workers = None;
   ring = None;
   shard = None;
+  seed = None;
   details = None;
   theme = None;
   replay = None;
@@ -101,4 +104,5 @@ nothing_given = record {
   fail_if_no_tests = false;
   fail_fast = false;
   schedule = false;
+  times = false;
 }

@@ -1,5 +1,6 @@
 -- What the program reads and writes by the words of its command line.
-use Rattle.std.specs.Prelude.{◌≡◌, ◌<◌, ◌⊎◌, ◌++◌, ℕ, Bool, true, false, List, codes, length, take, string_bytes, Option, Some, None, IfErr, IfSome, IsSomeAnd, Result, Ok, Err}
+use Rattle.std.specs.Prelude.{◌≡◌, ◌<◌, ◌⊎◌, ◌++◌, ℕ, Bool, true, false, List, codes, length, take, string_bytes, Option, Some, None, IfErr, IfOk, IfSome, IsSomeAnd, Result, Ok, Err}
+use Rattle.std.specs.Fmt.{decimal}
 use Rattle.std.specs.Io.KnownBytes.{Appends, Keeps}
 use Rattle.clap.specs.Words.{Text}
 use Rattle.launch_options.specs.Asked.{Asked, asked_by}
@@ -15,11 +16,13 @@ use Rattle.messages.specs.Sentences.{Sentences, sentence_of}
 use Rattle.messages.specs.declared.hint.Hints.{Hints}
 use Rattle.messages.specs.declared.message.Message.{Message}
 use Rattle.live.specs.FailedTexts.{failed_of}
+use Rattle.live.specs.SlowNames.{AreNamedBehind}
 use Rattle.live.specs.Terminals.{IsDrawnBehind}
 use Rattle.live.specs.declared.failures.Failures.{Failures}
 use Rattle.report_files.specs.Deeds.{Deed}
 use Rattle.report_files.specs.FiledReports.{Wanted}
 use Rattle.report_files.specs.FiledRuns.{RunsAsked, RunsFiled}
+use Rattle.report_files.specs.SlowestTests.{IsSlowestRun}
 use Rattle.command_line.specs.Words.{ReadsWords, reports_wanted}
 use Rattle.command_line.specs.declared.closing.Ending.{Ending}
 
@@ -37,16 +40,19 @@ module _ {R W : Type 0} (remaining : R → Option (List ℕ)) (contents : W → 
     pub runs : RunsOptions options before after left old new result
 
 module _ {R W K : Type 0} (remaining : R → Option (List ℕ)) (contents : W → Option (List ℕ)) (deeds : K → Option (List Deed)) where
-  -- the same, with these reports, which are kept in files: of what is refused no file is touched
-  abbrev pub FilesOptions : Result Options LaunchFault → List Wanted → (before after : R) → (left : Option (List ℕ)) → (old new : W) → (was now : K) → Result ExitStatus LaunchFault → Type 0
-  FilesOptions (Ok options) wanted before after left old new was now result = RunsFiled (asked_by options) wanted (remaining before) left (contents old) (contents new) (deeds was) (deeds now) result
-  FilesOptions (Err fault) wanted before after left old new was now result = (result ≡ Err fault) × (after ≡ before) × (new ≡ old) × (now ≡ was)
+  -- the same, with these reports, which are kept in files, and this list of the slowest tests, which is made of a run if times are asked
+  -- for: of what is refused no file is touched, and no list is made
+  abbrev pub FilesOptions : Result Options LaunchFault → List Wanted → (before after : R) → (left : Option (List ℕ)) → (old new : W) → (was now : K) → Result ExitStatus LaunchFault → (slowest : Option (List ℕ)) → Type 0
+  FilesOptions (Ok options) wanted before after left old new was now result slowest =
+      RunsFiled (asked_by options) wanted (remaining before) left (contents old) (contents new) (deeds was) (deeds now) result
+      × IfOk result (λ status. IsSlowestRun (asked_by options) (remaining before) left (contents old) (contents new) status slowest)
+  FilesOptions (Err fault) wanted before after left old new was now result slowest = (result ≡ Err fault) × (after ≡ before) × (new ≡ old) × (now ≡ was) × (slowest ≡ None)
 
   -- the words are read, and what that gave is run, with the reports that they ask for
-  pub record IsFiledConsoleRun (words : List Text) (before after : R) (left : Option (List ℕ)) (old new : W) (was now : K) (result : Result ExitStatus LaunchFault) : Type 0 where
+  pub record IsFiledConsoleRun (words : List Text) (before after : R) (left : Option (List ℕ)) (old new : W) (was now : K) (result : Result ExitStatus LaunchFault) (slowest : Option (List ℕ)) : Type 0 where
     pub options : Result Options LaunchFault
     pub reads : ReadsWords words options
-    pub runs : FilesOptions options (reports_wanted words) before after left old new was now result
+    pub runs : FilesOptions options (reports_wanted words) before after left old new was now result slowest
 
 -- the message that stands there after this answer: none where nothing was refused, and else one that begins with the refusal's sentence
 -- among these
@@ -57,6 +63,10 @@ HasMessage sentence (Err fault) message = IsSomeAnd message (λ said. said.sente
 -- the line of a refusal
 abbrev pub refusal_line : LaunchFault → List ℕ
 refusal_line fault = refusal_text fault ++ codes "\n"
+
+-- the line of the seed by which a run's nodes were put in order
+abbrev pub seed_line : ℕ → List ℕ
+seed_line seed = codes "Seed: " ++ decimal seed ++ codes "\n"
 
 -- a text stands behind what the writer held: all of it went out; or the first so many bytes, and not all
 abbrev pub WentOut : Bool → (old new : Option (List ℕ)) → List ℕ → Type 0
@@ -87,33 +97,56 @@ module _ {W : Type 0} (contents : W → Option (List ℕ)) where
   abbrev pub SaysHints : (old new : W) → Type 0
   SaysHints old new = (new ≡ old) ⊎ ((hints : Hints) × (sent : ℕ) × Appends (contents old) (contents new) (take sent (hints_text hints)))
 
-  -- hints, and what failed behind them
-  abbrev pub SaysOfRun : (old new : W) → Type 0
-  SaysOfRun old new = (between : W) × SaysHints old between × SaysFailures between new
+  -- nothing is said, or the line of a seed, as far as the writer takes it
+  abbrev pub SaysSeed : (old new : W) → Type 0
+  SaysSeed old new = (new ≡ old) ⊎ ((seed : ℕ) × (sent : ℕ) × Appends (contents old) (contents new) (take sent (seed_line seed)))
 
-  -- what is said of this answer: of a run hints, and what failed; and where something was refused, the refusal's sentence among these,
+  -- the seed, and hints behind it
+  abbrev pub SaysAhead : (old new : W) → Type 0
+  SaysAhead old new = (between : W) × SaysSeed old between × SaysHints between new
+
+  -- these, and what failed behind them
+  abbrev pub SaysOfRun : (old new : W) → Type 0
+  SaysOfRun old new = (between : W) × SaysAhead old between × SaysFailures between new
+
+  -- this list of the slowest tests is said, as far as the writer takes it; and nothing, where there is none
+  abbrev pub SaysSlowest : Option (List ℕ) → (old new : W) → Type 0
+  SaysSlowest None old new = new ≡ old
+  SaysSlowest (Some text) old new = (sent : ℕ) × Appends (contents old) (contents new) (take sent text)
+
+  -- what is said of this answer: of a run its seed, hints, and what failed; and where something was refused, the refusal's sentence among these,
   -- and details below it
   abbrev pub SaysWhy : Sentences → Result ExitStatus LaunchFault → (old new : W) → Bool → Type 0
   SaysWhy sentence (Ok status) old new all = SaysOfRun old new
   SaysWhy sentence (Err fault) old new all = (details : List ℕ) × WentOut all (contents old) (contents new) (message_text (sentence fault) details)
 
 module _ {W E : Type 0} (sentence : Sentences) (contents : W → Option (List ℕ)) (said : E → Option (List ℕ)) where
-  -- what is done after this answer: a refusal's line is printed unless the writer failed, its message, or hints of a run and what
+  -- what is done after this answer: a refusal's line is printed unless the writer failed, its message, or a run's seed, hints and what
   -- failed in it, go to the other writer, and the program ends with the number of the answer's status
   pub record Closes (answer : Result ExitStatus LaunchFault) (old new : W) (quiet told : E) (ending : Ending) : Type 0 where
     pub line : PrintsLine contents (line_after answer) old new ending.is_printed
     pub message : SaysWhy said sentence answer quiet told ending.is_told
     pub status : ending.status ≡ number_of (status_after answer)
 
+  -- the same, and of a run this list of its slowest tests stands behind that on the other writer
+  pub record ClosesRun (answer : Result ExitStatus LaunchFault) (slowest : Option (List ℕ)) (old new : W) (quiet told : E) (ending : Ending) : Type 0 where
+    pub before : E
+    pub closes : Closes answer old new quiet before ending
+    pub listed : SaysIfRun (SaysSlowest said slowest) answer before told
+
 module _ {R W E K : Type 0} (remaining : R → Option (List ℕ)) (contents : W → Option (List ℕ)) (said : E → Option (List ℕ)) (deeds : K → Option (List Deed)) where
   -- the program: what `run_console` does, with the reports that are asked for, which leaves this to read and the writer like this, and then
-  -- what is done after its answer
+  -- what is done after its answer, and the list of the slowest tests, if times are asked for; before all that, lines of slow tests stand on the
+  -- other writer
   pub record IsProgramRun (words : List Text) (before after : R) (old new : W) (quiet told : E) (was now : K) (ending : Ending) : Type 0 where
     pub answer : Result ExitStatus LaunchFault
     pub left : Option (List ℕ)
     pub between : W
-    pub run : IsFiledConsoleRun remaining contents deeds words before after left old between was now answer
-    pub closed : Closes sentence_of contents said answer between new quiet told ending
+    pub slowest : Option (List ℕ)
+    pub named : E
+    pub run : IsFiledConsoleRun remaining contents deeds words before after left old between was now answer slowest
+    pub names : AreNamedBehind (said quiet) (said named)
+    pub closed : ClosesRun sentence_of contents said answer slowest between new named told ending
 
   -- the same on a terminal: behind what it held stands what was drawn of how far the run has come, and behind that what is said of
   -- the answer

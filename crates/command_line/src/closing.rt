@@ -1,11 +1,11 @@
 //! What is said once a run is over.
 
-ghost use Rattle.std.specs.Prelude.{◌≡◌, ◌++◌, None, Err, IfOk, IfSome, IsTrue, is_ok, true};
+ghost use Rattle.std.specs.Prelude.{◌≡◌, ◌++◌, None, Err, IfOk, IfSome, IsTrue, is_ok, option_map, string_bytes, true};
 ghost use Rattle.launcher.specs.Closings.{line_after};
 ghost use Rattle.launcher.specs.ExitStatuses.{number_of, status_after};
 ghost use Rattle.messages.specs.Sentences.{sentence_by};
-ghost use Rattle.command_line.specs.Runs.{Closes, PrintsLine, PrintsMessage, SaysFailures, SaysHints, SaysIfRun};
-ghost use Rattle.command_line.specs.Runs.{WentOut, refusal_line};
+ghost use Rattle.command_line.specs.Runs.{Closes, PrintsLine, PrintsMessage, SaysAhead, SaysFailures, SaysHints};
+ghost use Rattle.command_line.specs.Runs.{ClosesRun, SaysIfRun, SaysSeed, SaysSlowest, WentOut, refusal_line, seed_line};
 
 use crate::said::message_after;
 use crate::words::given_by;
@@ -15,7 +15,7 @@ use launcher::{Closing, Details, ExitStatus, LaunchFault, Options};
 use listeners::print_to;
 use live::{Failures, failed_text};
 use messages::{Hints, Message, Subject, hints_of, hints_text};
-use std::alloc::Global;
+use std::alloc::{AllocError, Global};
 use std::fmt;
 use std::io::Write;
 
@@ -165,6 +165,29 @@ fn say_failures<E: Write>(
     }
 }
 
+/// Says which tests were the slowest, if there is a list of them, as far as the writer takes it.
+fn print_slowest<E: Write>(slowest: &Option<String>, errors: &mut E)
+    ensures { SaysSlowest E.contents (option_map string_bytes slowest.now) errors.old errors.new }
+{
+    if let Some(text) = slowest {
+        let _ = print_to(errors, text.as_bytes());
+    }
+}
+
+/// Says the same of a run that was not refused, whatever was printed of it: it is asked for.
+fn say_slowest<E: Write>(
+    answer: Result<ExitStatus, LaunchFault>,
+    slowest: &Option<String>,
+    errors: &mut E,
+)
+    ensures { SaysIfRun (SaysSlowest E.contents (option_map string_bytes slowest.now)) answer errors.old errors.new }
+{
+    match answer {
+        Ok(_) => print_slowest(slowest, errors),
+        Err(_) => {}
+    }
+}
+
 /// Says these hints, if there is memory for that, as far as the writer takes it.
 fn print_hints<E: Write>(alloc: Global, hints: &Hints<'_>, errors: &mut E)
     ensures { SaysHints E.contents errors.old errors.new }
@@ -213,8 +236,54 @@ fn say_hints<E: Write>(
     }
 }
 
-/// Says what there is to say after this answer of a run that these words asked for, of what has
-/// another effect than it seems to have, and of what failed.
+/// The line of a seed.
+fn seed_text(alloc: Global, seed: u64) -> Result<String, AllocError>
+    ensures { IfOk result (λ text. string_bytes text ≡ seed_line seed) }
+{
+    format!(in alloc; "Seed: {seed}\n")
+}
+
+/// Says this seed, if there is memory for that, as far as the writer takes it.
+fn print_seed<E: Write>(alloc: Global, seed: u64, errors: &mut E)
+    ensures { SaysSeed E.contents errors.old errors.new }
+{
+    if let Ok(text) = seed_text(alloc, seed) {
+        let _ = print_to(errors, text.as_bytes());
+    }
+}
+
+/// Says the seed of a run that has one.
+fn say_seed<E: Write>(
+    alloc: Global,
+    answer: Result<ExitStatus, LaunchFault>,
+    options: &Options,
+    errors: &mut E,
+)
+    ensures { SaysIfRun (SaysSeed E.contents) answer errors.old errors.new }
+{
+    if let (Ok(_), Some(seed)) = (answer, options.request.seed) {
+        print_seed(alloc, seed, errors);
+    }
+}
+
+/// Says of a run its seed, and what of these words, which asked for these options, and of this suite
+/// has another effect than it seems to have.
+fn say_ahead<E: Write>(
+    alloc: Global,
+    answer: Result<ExitStatus, LaunchFault>,
+    options: &Options,
+    words: &[String],
+    subject: Subject<'_>,
+    errors: &mut E,
+)
+    ensures { SaysIfRun (SaysAhead E.contents) answer errors.old errors.new }
+{
+    say_seed(alloc, answer, options, &mut *errors);
+    say_hints(alloc, answer, options, words, subject, errors);
+}
+
+/// Says what there is to say after this answer of a run that these words asked for, of its seed, of
+/// what has another effect than it seems to have, of what failed, and of the slowest tests, if there is a list of them.
 pub(crate) fn close_with_failures<W: Write, E: Write>(
     alloc: Global,
     answer: Result<ExitStatus, LaunchFault>,
@@ -222,15 +291,17 @@ pub(crate) fn close_with_failures<W: Write, E: Write>(
     words: &[String],
     subject: Subject<'_>,
     failures: &Failures,
+    slowest: &Option<String>,
     writer: &mut W,
     errors: &mut E,
 ) -> Ending
-    ensures { Closes (sentence_by subject.entry) W.contents E.contents answer writer.old writer.new errors.old errors.new
-        result }
+    ensures { ClosesRun (sentence_by subject.entry) W.contents E.contents answer
+        (option_map string_bytes slowest.now) writer.old writer.new errors.old errors.new result }
 {
     let ending = close_run(alloc, answer, words, subject, writer, &mut *errors);
-    say_hints(alloc, answer, options, words, subject, &mut *errors);
-    say_failures(alloc, answer, options, failures, errors);
+    say_ahead(alloc, answer, options, words, subject, &mut *errors);
+    say_failures(alloc, answer, options, failures, &mut *errors);
+    say_slowest(answer, slowest, errors);
     ending
 }
 

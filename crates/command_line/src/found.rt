@@ -11,8 +11,8 @@ use launcher::Given;
 use launcher::option_names::{
     CONFIG, DETAILS, DETAILS_THEME, DRIVE, EXCLUDE_CLASS, EXCLUDE_METHOD, EXCLUDE_NAME,
     EXCLUDE_PACKAGE, EXCLUDE_TAG, EXCLUDE_UNIQUE_ID, FAIL_FAST, FAIL_IF_NO_TESTS, INCLUDE_NAME,
-    INCLUDE_TAG, PROCESSORS, REPLAY, REPORT, RERUN, RING, SCHEDULE, SELECT_CLASS, SELECT_METHOD,
-    SELECT_PACKAGE, SELECT_UNIQUE_ID, SHARD, SYSTEM, WORKERS,
+    INCLUDE_TAG, PROCESSORS, REPLAY, REPORT, RERUN, RING, SCHEDULE, SEED, SELECT_CLASS,
+    SELECT_METHOD, SELECT_PACKAGE, SELECT_UNIQUE_ID, SHARD, SYSTEM, TIMES, WORKERS,
 };
 use selectors::SelectorKind;
 use std::alloc::{AllocError, Global};
@@ -159,6 +159,7 @@ pub(crate) fn given_in<'a>(alloc: Global, matches: &ArgMatches<'a>) -> Result<Gi
         workers: found(matches, WORKERS),
         ring: found(matches, RING),
         shard: found(matches, SHARD),
+        seed: found(matches, SEED),
         details: found(matches, DETAILS),
         theme: found(matches, DETAILS_THEME),
         replay: found(matches, REPLAY),
@@ -166,6 +167,7 @@ pub(crate) fn given_in<'a>(alloc: Global, matches: &ArgMatches<'a>) -> Result<Gi
         fail_if_no_tests: is_found(matches, FAIL_IF_NO_TESTS),
         fail_fast: is_found(matches, FAIL_FAST),
         schedule: is_found(matches, SCHEDULE),
+        times: is_found(matches, TIMES),
     })
 }
 
@@ -187,6 +189,7 @@ pub(crate) fn nothing_given<'a>(alloc: Global) -> Given<'a>
         workers: None,
         ring: None,
         shard: None,
+        seed: None,
         details: None,
         theme: None,
         replay: None,
@@ -194,5 +197,6 @@ pub(crate) fn nothing_given<'a>(alloc: Global) -> Given<'a>
         fail_if_no_tests: false,
         fail_fast: false,
         schedule: false,
+        times: false,
     }
 }

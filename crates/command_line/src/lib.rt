@@ -12,10 +12,12 @@ mod main_body;
 mod option_names;
 mod program;
 mod said;
+mod stopwatch;
 mod system_words;
 mod terminal;
 mod test_program;
 mod tests_on_terminal;
+mod timed_jobs;
 mod words;
 
 pub use closing::Ending;

@@ -25,7 +25,7 @@ use word_files::{Facts, TextFiles};
 /// terminal that can be drawn on, and else `run_program`. All that is left to do is to end with the status.
 pub fn run_main<
     T: Threads + Wait + Sync,
-    C: Clock + Drop,
+    C: Clock + Sync + Drop,
     F: TextFiles,
     R: Read,
     W: Write,
@@ -57,7 +57,7 @@ pub fn run_main<
         )
     } else {
         run_program(
-            rt, alloc, words, texts, facts, reader, writer, errors, files,
+            rt, clock, alloc, words, texts, facts, reader, writer, errors, files,
         )
     }
 }

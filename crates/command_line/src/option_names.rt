@@ -9,8 +9,8 @@ use clap::{Arg, ArgAction, Command};
 use launcher::option_names::{
     CONFIG, DETAILS, DETAILS_THEME, DRIVE, EXCLUDE_CLASS, EXCLUDE_METHOD, EXCLUDE_NAME,
     EXCLUDE_PACKAGE, EXCLUDE_TAG, EXCLUDE_UNIQUE_ID, FAIL_FAST, FAIL_IF_NO_TESTS, INCLUDE_NAME,
-    INCLUDE_TAG, PROCESSORS, REPLAY, REPORT, RERUN, RING, SCHEDULE, SELECT_CLASS, SELECT_METHOD,
-    SELECT_PACKAGE, SELECT_UNIQUE_ID, SHARD, SYSTEM, WORKERS,
+    INCLUDE_TAG, PROCESSORS, REPLAY, REPORT, RERUN, RING, SCHEDULE, SEED, SELECT_CLASS,
+    SELECT_METHOD, SELECT_PACKAGE, SELECT_UNIQUE_ID, SHARD, SYSTEM, TIMES, WORKERS,
 };
 use messages::Subject;
 use std::alloc::{AllocError, Global};
@@ -197,7 +197,7 @@ fn rerunning<'a>(alloc: Global, subject: Subject<'_>) -> Result<Command<'a>, All
     )
 }
 
-/// The same, and the options that say which tags run, and which shard.
+/// The same, and the options that say which tags run, which shard, and in which order.
 fn filtering<'a>(alloc: Global, subject: Subject<'_>) -> Result<Command<'a>, AllocError>
     ensures { IfOk result (λ command. app_of command ≡ filtering) }
 {
@@ -220,13 +220,22 @@ fn filtering<'a>(alloc: Global, subject: Subject<'_>) -> Result<Command<'a>, All
             "Runs nothing that has tags that make this true",
         ),
     )?;
-    with(
+    let command = with(
         command,
         single(
             alloc,
             SHARD,
             "[hash:]K/N",
             "Runs each N-th test from the K-th, or by hash; shards share no locks",
+        ),
+    )?;
+    with(
+        command,
+        single(
+            alloc,
+            SEED,
+            help_by(subject, "N|random", "N"),
+            "Runs the children of each container in an order drawn from N",
         ),
     )
 }
@@ -321,13 +330,21 @@ fn printing<'a>(alloc: Global, subject: Subject<'_>) -> Result<Command<'a>, Allo
             "The signs of the tree: unicode or ascii [default: unicode]",
         ),
     )?;
-    with(
+    let command = with(
         command,
         repeated(
             alloc,
             REPORT,
             "FORM=FILE",
             "Writes the run into a file besides, as in xml=run.xml",
+        ),
+    )?;
+    with(
+        command,
+        flag(
+            alloc,
+            TIMES,
+            "Tells how long tests took: in XML and JSON, and of the ten slowest",
         ),
     )
 }

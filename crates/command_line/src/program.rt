@@ -1,6 +1,6 @@
 //! The program over any reader and writers.
 
-ghost use Rattle.std.specs.Prelude.{◌≡◌, IfOk, IfErr, Ok, Err, false, map, string_bytes};
+ghost use Rattle.std.specs.Prelude.{◌≡◌, IfOk, IfErr, Ok, Err, false, map, option_map, string_bytes};
 ghost use Rattle.std.specs.IoError.{error_kind};
 ghost use Rattle.std.specs.Vec.Iter.{into_iter_items};
 ghost use Rattle.command_line.specs.GivenWords.{IsGivenFault};
@@ -8,15 +8,21 @@ ghost use Rattle.messages.specs.Sentences.{sentence_of};
 ghost use Rattle.command_line.specs.Runs.{Closes, IsConsoleRun, IsProgramRun};
 ghost use Rattle.command_line.specs.GivenRuns.{IsGivenRun};
 ghost use Rattle.command_line.specs.Words.{ReadsWords, reports_wanted};
+ghost use Rattle.launch_options.specs.Asked.{asked_by};
 ghost use Rattle.launch_options.specs.ReportTexts.{parts_of};
+ghost use Rattle.live.specs.SlowNames.{AreNamedBehind};
+ghost use Rattle.report_files.specs.FiledRuns.{RunsFiled};
+ghost use Rattle.report_files.specs.SlowestTests.{IsSlowestRun};
 
 use crate::closing::{Ending, close_run, close_with_failures, refuse};
 use crate::kept::{Kept, nothing_kept};
 use crate::launch::Launch;
+use crate::stopwatch::times_by;
 use crate::system_words::given_words;
 use crate::words::{read_launch, read_options};
+use job_times::Stopwatch;
 use launcher::{ExitStatus, LaunchFault, run_options};
-use live::Failures;
+use live::{Failures, SlowLines, SlowTests};
 use messages::Subject;
 use report_files::{ReportFiles, run_filed};
 use rerun_words::all_words;
@@ -25,12 +31,13 @@ use std::env::Args;
 use std::io::{self, Read, Write};
 use std::sync::Wait;
 use std::thread::Threads;
+use std::time::Clock;
 use word_files::{Facts, TextFiles};
 
 /// Runs the suite that the reader holds, with the options that the words give; the first word is
 /// the program's name. Words that give no options are refused as `read_options` says, and then
 /// nothing is read and nothing is written. Everything else is as `run_options` says. Reports that the words ask for
-/// are not written.
+/// are not written, and how long tests took is not told, since there is no clock.
 pub fn run_console<T: Threads + Wait + Sync, R: Read, W: Write>(
     rt: &T,
     alloc: Global,
@@ -47,9 +54,98 @@ pub fn run_console<T: Threads + Wait + Sync, R: Read, W: Write>(
     answer
 }
 
-/// Runs what these words asked for, and says what there is to say of the answer and of what failed.
-fn run_read<T: Threads + Wait + Sync, R: Read, W: Write, E: Write, K: ReportFiles>(
+/// Runs what the words ask for; this one names the tests that run longer than their limit.
+fn run_named<
+    T: Threads + Wait + Sync,
+    C: Clock + Sync + Drop,
+    R: Read,
+    W: Write,
+    E: Write,
+    K: ReportFiles,
+    S: Stopwatch + Sync,
+>(
     rt: &T,
+    alloc: Global,
+    launch: &Launch<'_>,
+    reader: &mut R,
+    writer: &mut W,
+    files: &mut K,
+    lines: &mut SlowLines<'_, '_, '_, '_, E, C, Failures>,
+    slowest: &mut Option<String>,
+    stopwatch: &S,
+) -> Result<ExitStatus, LaunchFault>
+    ensures same { lines.new.errors.ghost_name ≡ lines.old.errors.ghost_name }
+    ensures names { AreNamedBehind (E.contents lines.old.errors.now) (E.contents lines.new.errors.now) }
+    ensures runs { RunsFiled (asked_by launch.now.options) (map parts_of launch.now.reports.items) (R.remaining reader.old)
+        (R.remaining reader.new) (W.contents writer.old) (W.contents writer.new) (K.deeds files.old) (K.deeds files.new)
+        result }
+    ensures slowest { IfOk result (λ status. IsSlowestRun (asked_by launch.now.options) (R.remaining reader.old)
+        (R.remaining reader.new) (W.contents writer.old) (W.contents writer.new) status
+        (option_map string_bytes slowest.new)) }
+{
+    let wanted = launch.reports.as_slice();
+    run_filed(
+        rt,
+        alloc,
+        &launch.options,
+        wanted,
+        files,
+        reader,
+        writer,
+        lines,
+        slowest,
+        stopwatch,
+    )
+}
+
+/// Runs what the words ask for, and names the tests that run longer than their limit. The nodes that failed are
+/// kept in this list.
+fn run_quiet<
+    T: Threads + Wait + Sync,
+    C: Clock + Sync + Drop,
+    R: Read,
+    W: Write,
+    E: Write,
+    K: ReportFiles,
+>(
+    rt: &T,
+    clock: &C,
+    alloc: Global,
+    launch: &Launch<'_>,
+    reader: &mut R,
+    writer: &mut W,
+    errors: &mut E,
+    files: &mut K,
+    failures: &mut Failures,
+    slowest: &mut Option<String>,
+) -> Result<ExitStatus, LaunchFault>
+    ensures names { AreNamedBehind (E.contents errors.old) (E.contents errors.new) }
+    ensures runs { RunsFiled (asked_by launch.now.options) (map parts_of launch.now.reports.items) (R.remaining reader.old)
+        (R.remaining reader.new) (W.contents writer.old) (W.contents writer.new) (K.deeds files.old) (K.deeds files.new)
+        result }
+    ensures slowest { IfOk result (λ status. IsSlowestRun (asked_by launch.now.options) (R.remaining reader.old)
+        (R.remaining reader.new) (W.contents writer.old) (W.contents writer.new) status
+        (option_map string_bytes slowest.new)) }
+{
+    let times = times_by(alloc, clock);
+    let mut tests = SlowTests::new(alloc);
+    let mut lines = SlowLines::new(errors, &times, &mut tests, failures);
+    run_named(
+        rt, alloc, launch, reader, writer, files, &mut lines, slowest, &times,
+    )
+}
+
+/// Runs what these words asked for, and says what there is to say of the answer and of what failed.
+fn run_read<
+    T: Threads + Wait + Sync,
+    C: Clock + Sync + Drop,
+    R: Read,
+    W: Write,
+    E: Write,
+    K: ReportFiles,
+>(
+    rt: &T,
+    clock: C,
     alloc: Global,
     launch: Launch<'_>,
     words: &[String],
@@ -68,21 +164,23 @@ fn run_read<T: Threads + Wait + Sync, R: Read, W: Write, E: Write, K: ReportFile
         bytes: nothing_kept(alloc),
     };
     let mut failures = Failures::new(alloc);
-    let options = &launch.options;
-    let wanted = launch.reports.as_slice();
-    let answer = run_filed(
+    let mut slowest = None;
+    let answer = run_quiet(
         rt,
+        &clock,
         alloc,
-        options,
-        wanted,
-        files,
+        &launch,
         &mut kept,
-        writer,
+        &mut *writer,
+        &mut *errors,
+        files,
         &mut failures,
+        &mut slowest,
     );
     let suite = Subject::Suite(kept.bytes.as_slice());
+    let options = &launch.options;
     let ending = close_with_failures(
-        alloc, answer, options, words, suite, &failures, writer, errors,
+        alloc, answer, options, words, suite, &failures, &slowest, writer, errors,
     );
     drop(launch);
     ending
@@ -90,9 +188,18 @@ fn run_read<T: Threads + Wait + Sync, R: Read, W: Write, E: Write, K: ReportFile
 
 /// Runs what `run_console` runs, and keeps the reports that the words ask for; then it prints the line of a refusal,
 /// unless the writer failed, and its message on the other writer. Behind a tree or a summary it is said there what of
-/// the words and the suite has no effect, and what failed, with words that select it.
-pub fn run_words<T: Threads + Wait + Sync, R: Read, W: Write, E: Write, K: ReportFiles>(
+/// the words and the suite has no effect, and what failed, with words that select it; and behind any run, if times are
+/// asked for, which tests were the slowest by this clock.
+pub fn run_words<
+    T: Threads + Wait + Sync,
+    C: Clock + Sync + Drop,
+    R: Read,
+    W: Write,
+    E: Write,
+    K: ReportFiles,
+>(
     rt: &T,
+    clock: C,
     alloc: Global,
     words: &[String],
     reader: &mut R,
@@ -104,7 +211,9 @@ pub fn run_words<T: Threads + Wait + Sync, R: Read, W: Write, E: Write, K: Repor
         writer.old writer.new errors.old errors.new files.old files.new result }
 {
     match read_launch(alloc, words) {
-        Ok(launch) => run_read(rt, alloc, launch, words, reader, writer, errors, files),
+        Ok(launch) => run_read(
+            rt, clock, alloc, launch, words, reader, writer, errors, files,
+        ),
         Err(fault) => close_run(
             alloc,
             Err(fault),
@@ -118,8 +227,17 @@ pub fn run_words<T: Threads + Wait + Sync, R: Read, W: Write, E: Write, K: Repor
 
 /// Runs what the words ask for that these stand for, by the files that they name and by what the
 /// system tells. Where a file of words or a saved run cannot be read, that is what is refused.
-fn run_given<T: Threads + Wait + Sync, F: TextFiles, R: Read, W: Write, E: Write, K: ReportFiles>(
+fn run_given<
+    T: Threads + Wait + Sync,
+    C: Clock + Sync + Drop,
+    F: TextFiles,
+    R: Read,
+    W: Write,
+    E: Write,
+    K: ReportFiles,
+>(
     rt: &T,
+    clock: C,
     alloc: Global,
     words: &[String],
     texts: &mut F,
@@ -135,6 +253,7 @@ fn run_given<T: Threads + Wait + Sync, F: TextFiles, R: Read, W: Write, E: Write
     match all_words(alloc, words, texts, facts) {
         Ok(expanded) => run_words(
             rt,
+            clock,
             alloc,
             expanded.as_slice(),
             reader,
@@ -157,6 +276,7 @@ fn run_given<T: Threads + Wait + Sync, F: TextFiles, R: Read, W: Write, E: Write
 /// it gave none, that is what is refused. All that is left to do is to end with the status.
 pub fn run_program<
     T: Threads + Wait + Sync,
+    C: Clock + Sync + Drop,
     F: TextFiles,
     R: Read,
     W: Write,
@@ -164,6 +284,7 @@ pub fn run_program<
     K: ReportFiles,
 >(
     rt: &T,
+    clock: C,
     alloc: Global,
     words: io::Result<Args>,
     texts: &mut F,
@@ -183,6 +304,7 @@ pub fn run_program<
     match given_words(alloc, words) {
         Ok(words) => run_given(
             rt,
+            clock,
             alloc,
             words.as_slice(),
             texts,

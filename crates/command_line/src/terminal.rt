@@ -1,6 +1,6 @@
 //! The program on a terminal: how far a run has come is drawn there, and what failed is said once more.
 
-ghost use Rattle.std.specs.Prelude.{◌≡◌, IfOk, IfErr, Ok, Err, map, string_bytes, true};
+ghost use Rattle.std.specs.Prelude.{◌≡◌, IfOk, IfErr, Ok, Err, map, option_map, string_bytes, true};
 ghost use Rattle.std.specs.IoError.{error_kind};
 ghost use Rattle.std.specs.Vec.Iter.{into_iter_items};
 ghost use Rattle.launch_options.specs.Asked.{asked_by};
@@ -12,15 +12,18 @@ ghost use Rattle.command_line.specs.Runs.{Closes, IsTerminalRun};
 ghost use Rattle.command_line.specs.GivenRuns.{IsGivenRun};
 ghost use Rattle.command_line.specs.Words.{ReadsWords, reports_wanted};
 ghost use Rattle.report_files.specs.FiledRuns.{RunsFiled};
+ghost use Rattle.report_files.specs.SlowestTests.{IsSlowestRun};
 
 use crate::closing::{Ending, close_run, close_with_failures, refuse};
 use crate::kept::{Kept, nothing_kept};
 use crate::launch::Launch;
+use crate::stopwatch::times_by;
 use crate::system_words::given_words;
 use crate::words::read_launch;
+use job_times::Stopwatch;
 use launcher::{ExitStatus, LaunchFault, Options};
 use listeners::Summary;
-use live::{Failures, Progress, Running};
+use live::{Failures, Progress, Running, SlowTests};
 use messages::Subject;
 use report_files::{ReportFiles, run_filed};
 use rerun_words::all_words;
@@ -34,17 +37,18 @@ use word_files::{Facts, TextFiles};
 
 /// Whether lines are printed while the run goes on.
 pub(crate) fn prints_lines(options: &Options) -> bool {
-    options.replay.is_none() && options.details.prints_live()
+    options.replay.is_none() && options.details.prints_live(options.times)
 }
 
 /// Runs what the words ask for; this one draws how far the run has come.
 fn run_followed<
     T: Threads + Wait + Sync,
-    C: Clock + Drop,
+    C: Clock + Sync + Drop,
     R: Read,
     W: Write,
     E: Write,
     K: ReportFiles,
+    S: Stopwatch + Sync,
 >(
     rt: &T,
     alloc: Global,
@@ -53,12 +57,17 @@ fn run_followed<
     writer: &mut W,
     files: &mut K,
     progress: &mut Progress<'_, '_, '_, '_, E, C>,
+    slowest: &mut Option<String>,
+    stopwatch: &S,
 ) -> Result<ExitStatus, LaunchFault>
     ensures same { progress.new.terminal.ghost_name ≡ progress.old.terminal.ghost_name }
     ensures draws { IsDrawnBehind (E.contents progress.old.terminal.now) (E.contents progress.new.terminal.now) }
     ensures runs { RunsFiled (asked_by launch.now.options) (map parts_of launch.now.reports.items) (R.remaining reader.old)
         (R.remaining reader.new) (W.contents writer.old) (W.contents writer.new) (K.deeds files.old) (K.deeds files.new)
         result }
+    ensures slowest { IfOk result (λ status. IsSlowestRun (asked_by launch.now.options) (R.remaining reader.old)
+        (R.remaining reader.new) (W.contents writer.old) (W.contents writer.new) status
+        (option_map string_bytes slowest.new)) }
 {
     let wanted = launch.reports.as_slice();
     run_filed(
@@ -70,6 +79,8 @@ fn run_followed<
         reader,
         writer,
         progress,
+        slowest,
+        stopwatch,
     )
 }
 
@@ -77,14 +88,14 @@ fn run_followed<
 /// that failed are kept in this list.
 fn run_shown<
     T: Threads + Wait + Sync,
-    C: Clock + Drop,
+    C: Clock + Sync + Drop,
     R: Read,
     W: Write,
     E: Write,
     K: ReportFiles,
 >(
     rt: &T,
-    clock: C,
+    clock: &C,
     alloc: Global,
     launch: &Launch<'_>,
     reader: &mut R,
@@ -92,31 +103,49 @@ fn run_shown<
     errors: &mut E,
     files: &mut K,
     failures: &mut Failures,
+    slowest: &mut Option<String>,
 ) -> Result<ExitStatus, LaunchFault>
     ensures draws { IsDrawnBehind (E.contents errors.old) (E.contents errors.new) }
     ensures runs { RunsFiled (asked_by launch.now.options) (map parts_of launch.now.reports.items) (R.remaining reader.old)
         (R.remaining reader.new) (W.contents writer.old) (W.contents writer.new) (K.deeds files.old) (K.deeds files.new)
         result }
+    ensures slowest { IfOk result (λ status. IsSlowestRun (asked_by launch.now.options) (R.remaining reader.old)
+        (R.remaining reader.new) (W.contents writer.old) (W.contents writer.new) status
+        (option_map string_bytes slowest.new)) }
 {
+    let times = times_by(alloc, clock);
     let mut summary = Summary::new(alloc);
     let mut running = Running::new(alloc);
+    let mut slow = SlowTests::new(alloc);
     let mut progress = Progress::new(
         alloc,
         errors,
-        &clock,
+        clock,
         prints_lines(&launch.options),
         &mut summary,
         failures,
         &mut running,
+        &times,
+        &mut slow,
     );
-    run_followed(rt, alloc, launch, reader, writer, files, &mut progress)
+    run_followed(
+        rt,
+        alloc,
+        launch,
+        reader,
+        writer,
+        files,
+        &mut progress,
+        slowest,
+        &times,
+    )
 }
 
 /// Runs what these words asked for, draws how far it has come, and says what there is to say of the
 /// answer and of what failed.
 fn run_drawn<
     T: Threads + Wait + Sync,
-    C: Clock + Drop,
+    C: Clock + Sync + Drop,
     R: Read,
     W: Write,
     E: Write,
@@ -142,9 +171,10 @@ fn run_drawn<
         bytes: nothing_kept(alloc),
     };
     let mut failures = Failures::new(alloc);
+    let mut slowest = None;
     let answer = run_shown(
         rt,
-        clock,
+        &clock,
         alloc,
         &launch,
         &mut kept,
@@ -152,11 +182,12 @@ fn run_drawn<
         &mut *errors,
         files,
         &mut failures,
+        &mut slowest,
     );
     let suite = Subject::Suite(kept.bytes.as_slice());
     let options = &launch.options;
     let ending = close_with_failures(
-        alloc, answer, options, words, suite, &failures, writer, errors,
+        alloc, answer, options, words, suite, &failures, &slowest, writer, errors,
     );
     drop(launch);
     ending
@@ -164,11 +195,10 @@ fn run_drawn<
 
 /// Does what `run_words` does, where the other writer is a terminal. On it stands how far the run
 /// has come, on a line that is drawn anew at most ten times a second by this clock, and is erased at
-/// the end; and behind a tree or a summary what of the words and the suite has no effect, and what
-/// failed, with words that select it.
+/// the end; and behind that all that `run_words` says there.
 pub fn run_words_on_terminal<
     T: Threads + Wait + Sync,
-    C: Clock + Drop,
+    C: Clock + Sync + Drop,
     R: Read,
     W: Write,
     E: Write,
@@ -206,7 +236,7 @@ pub fn run_words_on_terminal<
 /// refused.
 fn run_given_on_terminal<
     T: Threads + Wait + Sync,
-    C: Clock + Drop,
+    C: Clock + Sync + Drop,
     F: TextFiles,
     R: Read,
     W: Write,
@@ -253,7 +283,7 @@ fn run_given_on_terminal<
 /// that those stand for which the system gave. Where it gave none, that is what is refused.
 pub fn run_on_terminal<
     T: Threads + Wait + Sync,
-    C: Clock + Drop,
+    C: Clock + Sync + Drop,
     F: TextFiles,
     R: Read,
     W: Write,

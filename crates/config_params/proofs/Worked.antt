@@ -28,6 +28,7 @@ asked on so_many default classes = record {
   workers = so_many;
   default_mode = default;
   classes_mode = classes;
+  slow = None;
   warnings = record { default_mode = false; classes_mode = false };
 }
 

@@ -16,6 +16,14 @@ unless_zero n = if n == 0 then None else Some n
 abbrev pub parallelism_in : List ℕ → Option ℕ
 parallelism_in text = if is_number 9 text then unless_zero (digits_value 10 text) else None
 
+-- a number from 1 to the most
+abbrev pub from_one : ℕ → ℕ → Option ℕ
+from_one most n = if n == 0 || nat_lt most n then None else Some n
+
+-- the milliseconds that a text gives: 1 to 8 digits, not zero, at most 86,400,000
+abbrev pub limit_in : List ℕ → Option ℕ
+limit_in text = if is_number 8 text then from_one 86400000 (digits_value 10 text) else None
+
 abbrev pub is_point : ℕ → Bool
 is_point byte = byte == 46
 

@@ -7,12 +7,12 @@ use Rattle.descriptor.specs.declared.mode.Mode.{Mode}
 use Rattle.descriptor.specs.declared.mode.Mode.TheVariants.{SameThread, Concurrent}
 use Rattle.config_params.specs.declared.settings.Settings.{Settings}
 use Rattle.config_params.specs.declared.settings_fault.SettingsFault.{SettingsFault}
-use Rattle.config_params.specs.declared.settings_fault.SettingsFault.TheVariants.{BadStrategy, BadParallelism, BadFactor}
+use Rattle.config_params.specs.declared.settings_fault.SettingsFault.TheVariants.{BadStrategy, BadParallelism, BadFactor, BadSlow}
 use Rattle.config_params.specs.declared.strategy.Strategy.{Strategy}
 use Rattle.config_params.specs.declared.strategy.Strategy.TheVariants.{Dynamic, Fixed}
 use Rattle.config_params.specs.declared.warnings.Warnings.{Warnings}
 use Rattle.config_params.specs.Blanks.{without_ends}
-use Rattle.config_params.specs.Numbers.{parallelism_in, factor_in}
+use Rattle.config_params.specs.Numbers.{parallelism_in, limit_in, factor_in}
 
 -- what the keys have for values
 abbrev pub Answers : Type 0
@@ -36,6 +36,9 @@ parallelism_key = codes "junit.jupiter.execution.parallel.config.fixed.paralleli
 
 abbrev pub factor_key : List ℕ
 factor_key = codes "junit.jupiter.execution.parallel.config.dynamic.factor"
+
+abbrev pub slow_key : List ℕ
+slow_key = codes "nelborugy.slow.default"
 
 -- whether two texts are one but for the case of ASCII letters
 abbrev pub is_spelled : List ℕ → List ℕ → Bool
@@ -126,16 +129,31 @@ workers_by answers processors (Err fault) = Err fault
 abbrev pub workers_of : Answers → ℕ → Result ℕ SettingsFault
 workers_of answers processors = workers_by answers processors (strategy_of (answers strategy_key))
 
+-- milliseconds that are there, else the refusal
+abbrev pub limit_or_fault : Option ℕ → Result (Option ℕ) SettingsFault
+limit_or_fault None = Err BadSlow
+limit_or_fault (Some limit) = Ok (Some limit)
+
+-- from how many milliseconds on a test is slow whose own line does not say it, if some are given
+abbrev pub slow_of : Option (List ℕ) → Result (Option ℕ) SettingsFault
+slow_of None = Ok None
+slow_of (Some value) = limit_or_fault (limit_in value)
+
 -- where parallel execution is not enabled
-abbrev pub settings_off : Answers → Settings
-settings_off answers = record { parallel = false; workers = 1; default_mode = SameThread; classes_mode = SameThread; warnings = warnings_of answers }
+abbrev pub settings_off : Answers → Option ℕ → Settings
+settings_off answers slow = record { parallel = false; workers = 1; default_mode = SameThread; classes_mode = SameThread; slow = slow; warnings = warnings_of answers }
 
 -- where it is enabled
-abbrev pub settings_on : Answers → Result ℕ SettingsFault → Result Settings SettingsFault
-settings_on answers (Ok workers) =
-    Ok (record { parallel = true; workers = workers; default_mode = default_mode_of answers; classes_mode = classes_mode_of answers; warnings = warnings_of answers })
-settings_on answers (Err fault) = Err fault
+abbrev pub settings_on : Answers → Option ℕ → Result ℕ SettingsFault → Result Settings SettingsFault
+settings_on answers slow (Ok workers) =
+    Ok (record { parallel = true; workers = workers; default_mode = default_mode_of answers; classes_mode = classes_mode_of answers; slow = slow; warnings = warnings_of answers })
+settings_on answers slow (Err fault) = Err fault
+
+-- with the milliseconds of slow tests, which are judged first
+abbrev pub settings_with : Answers → ℕ → Result (Option ℕ) SettingsFault → Result Settings SettingsFault
+settings_with answers processors (Ok slow) = if is_enabled (answers enabled_key) then settings_on answers slow (workers_of answers processors) else Ok (settings_off answers slow)
+settings_with answers processors (Err fault) = Err fault
 
 -- the settings
 abbrev pub settings_of : Answers → ℕ → Result Settings SettingsFault
-settings_of answers processors = if is_enabled (answers enabled_key) then settings_on answers (workers_of answers processors) else Ok (settings_off answers)
+settings_of answers processors = settings_with answers processors (slow_of (answers slow_key))

@@ -11,6 +11,7 @@ mod params;
 mod properties;
 mod settings;
 mod settings_fault;
+mod slow;
 mod source;
 mod strategy;
 mod table;

@@ -4,7 +4,10 @@ ghost use Rattle.std.specs.Prelude.{◌≡◌, ◌≤◌, ◌<◌, ◌*◌, ◌^
 ghost use Rattle.std.specs.Char.{is_ascii_digit};
 ghost use Rattle.std.specs.List.{list_all};
 ghost use Rattle.std.specs.Str.Parse.{digits_value};
-ghost use Rattle.config_params.specs.Numbers.{is_number, parallelism_in, factor_in};
+ghost use Rattle.config_params.specs.Numbers.{is_number, parallelism_in, limit_in, factor_in};
+
+/// The most milliseconds from which on a test is slow, which are a day.
+const LONGEST_LIMIT: u32 = 86_400_000;
 
 /// Whether each byte is a digit.
 fn are_digits(bytes: &[u8]) -> bool
@@ -31,6 +34,17 @@ pub(crate) fn parallelism_in(text: &str) -> Option<u32>
     ensures { result ≡ parallelism_in text.now }
 {
     number_in(9, text).filter(|number| *number > 0)
+}
+
+/// The milliseconds that a text gives: 1 to 8 digits, not zero, at most 86,400,000.
+pub(crate) fn limit_in(text: &str) -> Option<u32>
+    ensures { result ≡ limit_in text.now }
+{
+    let limit = number_in(8, text)?;
+    if limit == 0 || limit > LONGEST_LIMIT {
+        return None;
+    }
+    Some(limit)
 }
 
 /// The ten-thousandths that some decimals are.

@@ -8,6 +8,7 @@ ghost use Rattle.config_params.specs.Settings.{is_no_mode, enabled_key};
 use crate::blanks::{Blanks, without_ends};
 use crate::params::{Params, get_over};
 use crate::settings_fault::SettingsFault;
+use crate::slow::slow_of;
 use crate::strategy::workers_of;
 use crate::warnings::Warnings;
 use descriptor::Mode;
@@ -29,6 +30,8 @@ pub struct Settings {
     pub default_mode: Mode,
     /// The same for the children of engines.
     pub classes_mode: Mode,
+    /// From how many milliseconds on a test is slow whose own line does not say it.
+    pub slow: Option<u32>,
     pub warnings: Warnings,
 }
 
@@ -70,9 +73,9 @@ fn mode_at(over: &Params, under: &Params, key: &str, default: Mode) -> (Mode, bo
 }
 
 impl Settings {
-    /// What the parameters ask for, with so many processors. Refusals, only where parallel execution
-    /// is enabled: 34 for an unknown strategy, 32 for the number of the fixed one, 33 for the factor
-    /// of the dynamic one.
+    /// What the parameters ask for, with so many processors. Refusals: 37 for milliseconds that are
+    /// none; then, only where parallel execution is enabled, 34 for an unknown strategy, 32 for the
+    /// number of the fixed one, 33 for the factor of the dynamic one.
     pub fn read(params: &Params, processors: u32) -> Result<Settings, SettingsFault>
         ensures exact { result ≡ settings_of (answer params.now) processors }
         // Where parallel execution is not enabled, one worker takes every node in its turn.
@@ -96,6 +99,7 @@ impl Settings {
             × (s.classes_mode ≡ Mode.SameThread)) }
         ensures some { IfOk result (λ s. 1 ≤ s.workers) }
     {
+        let slow = slow_of(over, under)?;
         let (default_mode, bad_default) = mode_at(over, under, DEFAULT_MODE, Mode::SameThread);
         let (classes_mode, bad_classes) = mode_at(over, under, CLASSES_MODE, default_mode);
         let warnings = Warnings {
@@ -108,6 +112,7 @@ impl Settings {
                 workers: 1,
                 default_mode: Mode::SameThread,
                 classes_mode: Mode::SameThread,
+                slow,
                 warnings,
             });
         }
@@ -116,6 +121,7 @@ impl Settings {
             workers: workers_of(over, under, processors)?,
             default_mode,
             classes_mode,
+            slow,
             warnings,
         })
     }

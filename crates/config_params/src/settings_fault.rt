@@ -17,6 +17,9 @@ pub enum SettingsFault {
     /// The factor is unreadable (refusal 33).
     #[error("an unreadable factor of the dynamic strategy")]
     BadFactor,
+    /// The milliseconds from which on a test is slow are none (refusal 37).
+    #[error("unreadable milliseconds of slow tests")]
+    BadSlow,
 }
 
 impl SettingsFault {
@@ -28,6 +31,7 @@ impl SettingsFault {
             SettingsFault::BadStrategy => 34,
             SettingsFault::BadParallelism => 32,
             SettingsFault::BadFactor => 33,
+            SettingsFault::BadSlow => 37,
         }
     }
 }

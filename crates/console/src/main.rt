@@ -3,7 +3,7 @@
 
 mod system;
 
-use crate::system::{SystemTexts, processors, text_of, touch_shard_file, variable};
+use crate::system::{SystemTexts, any_seed, processors, text_of, touch_shard_file, variable};
 use command_line::{is_drawn_on, run_main};
 use report_files::SystemFiles;
 use std::io;
@@ -19,6 +19,7 @@ fn main(rt: HostRuntime) -> ExitCode {
         processors: processors(&rt),
         total_shards: text_of(&total_shards),
         shard_index: text_of(&shard_index),
+        seed: any_seed(&rt),
     };
     let is_terminal = is_drawn_on(&rt, &rt.stderr());
     let texts = &mut SystemTexts { rt: &rt };

@@ -4,6 +4,7 @@ use std::alloc::{AllocError, Global};
 use std::fs::File;
 use std::io::ErrorKind;
 use std::thread::Threads;
+use std::time::{Clock, SystemTime};
 use word_files::TextFiles;
 
 /// The texts of the files of the system, by their paths.
@@ -44,6 +45,17 @@ pub(crate) fn text_of(value: &Option<String>) -> Option<&str> {
 pub(crate) fn processors<T: Threads>(rt: &T) -> Option<u32> {
     match std::thread::available_parallelism(rt) {
         Ok(count) => u32::try_from(count.get()).ok(),
+        Err(_) => None,
+    }
+}
+
+/// A seed for those who ask for any: the nanoseconds that have gone by of the clock's second.
+pub(crate) fn any_seed<C: Clock>(clock: &C) -> Option<u64> {
+    let Ok(now) = SystemTime::now(clock) else {
+        return None;
+    };
+    match now.duration_since(SystemTime::UNIX_EPOCH) {
+        Ok(past) => Some(u64::from(past.subsec_nanos())),
         Err(_) => None,
     }
 }

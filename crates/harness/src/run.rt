@@ -27,10 +27,11 @@ use std::time::Clock;
 use test_tree::{BuildFault, Tests};
 use worker_pool::{Nobody, Watcher};
 
-/// Runs of these tests what the words ask for; the first word is the program's name. All else is as
-/// `run_tests` says.
-pub fn run_tests_by_words<T: Threads + Wait + Sync, W: Write, E: Write>(
+/// Runs of these tests what the words ask for; the first word is the program's name. By this clock is told how long
+/// they took, if that is asked for. All else is as `run_tests` says.
+pub fn run_tests_by_words<T: Threads + Wait + Sync, C: Clock + Sync + Drop, W: Write, E: Write>(
     rt: &T,
+    clock: C,
     alloc: Global,
     words: &[String],
     tests: Box<Tests>,
@@ -45,21 +46,31 @@ pub fn run_tests_by_words<T: Threads + Wait + Sync, W: Write, E: Write>(
     ensures unbuilt { IfErr result (λ fault. (IsPending (held tests.value) fault.cause ⊎ (fault.cause ≡ NoMemory)) × (writer.new ≡ writer.old)
         × (errors.new ≡ errors.old)) }
 {
-    let (tree, properties, bodies) = Box::into_inner(tests).into_parts()?;
+    let (tree, properties, bodies, slow) = Box::into_inner(tests).into_parts()?;
     let jobs = jobs_of(alloc, bodies)?;
     let program = Program {
         tree,
         properties,
         jobs,
+        slow,
     };
     let mut nobody = Nobody;
-    Ok(run_test_words(rt, alloc, words, program, writer, errors, &mut nobody))
+    Ok(run_test_words(
+        rt,
+        clock,
+        alloc,
+        words,
+        program,
+        writer,
+        errors,
+        &mut nobody,
+    ))
 }
 
 /// Does what `run_tests` does, and shows the run to one who watches it: each event of its history in order, with its
 /// text, as it is told; or nothing, where nothing is run. So a program has a listener of its own: it may be any type
 /// with `watch`, and may borrow what it fills. No clause says what it saw.
-pub fn run_tests_watched<T: Threads + Wait + Sync, W: Write, E: Write, V: Watcher>(
+pub fn run_tests_watched<T: Threads + Wait + Sync + Clock, W: Write, E: Write, V: Watcher>(
     rt: &T,
     alloc: Global,
     words: io::Result<Args>,
@@ -80,14 +91,15 @@ pub fn run_tests_watched<T: Threads + Wait + Sync, W: Write, E: Write, V: Watche
     ensures unbuilt { IfErr result (λ fault. (IsPending (held tests.value) fault.cause ⊎ (fault.cause ≡ NoMemory)) × (writer.new ≡ writer.old)
         × (errors.new ≡ errors.old) × (watcher.new ≡ watcher.old)) }
 {
-    let (tree, properties, bodies) = Box::into_inner(tests).into_parts()?;
+    let (tree, properties, bodies, slow) = Box::into_inner(tests).into_parts()?;
     let jobs = jobs_of(alloc, bodies)?;
     let program = Program {
         tree,
         properties,
         jobs,
+        slow,
     };
-    Ok(run_test_program(rt, alloc, words, program, writer, errors, watcher))
+    Ok(run_test_program(rt, rt, alloc, words, program, writer, errors, watcher))
 }
 
 /// Runs of these tests what the words that the system gave ask for, and says how the program ends:
@@ -95,8 +107,8 @@ pub fn run_tests_watched<T: Threads + Wait + Sync, W: Write, E: Write, V: Watche
 /// `--replay` and `--drive`, which are refused with 105. What they ask for goes to the writer;
 /// what a refusal is for goes to the other. A refusal, also that of words which are no text, is
 /// status 255. Tests of which something was declared that never came are handed back as a fault, and
-/// nothing is run or written.
-pub fn run_tests<T: Threads + Wait + Sync, W: Write, E: Write>(
+/// nothing is run or written. How long the tests took is told by the clock of `rt`, if that is asked for.
+pub fn run_tests<T: Threads + Wait + Sync + Clock, W: Write, E: Write>(
     rt: &T,
     alloc: Global,
     words: io::Result<Args>,
@@ -120,10 +132,10 @@ pub fn run_tests<T: Threads + Wait + Sync, W: Write, E: Write>(
     run_tests_watched(rt, alloc, words, tests, writer, errors, &mut nobody)
 }
 
-/// Does what `run_tests` does, where the other writer is a terminal. On it stands how far the run has
-/// come, on a line that is drawn anew at most ten times a second by this clock, and is erased at the
-/// end; and behind a tree or a summary what failed, with the words that select just that.
-pub fn run_tests_on_terminal<T: Threads + Wait + Sync, C: Clock + Drop, W: Write, E: Write>(
+/// Does what `run_tests` does by this clock, where the other writer is a terminal. On it stands how far the run has
+/// come, on a line that is drawn anew at most ten times a second, and is erased at the end; and behind a tree or a
+/// summary what failed, with the words that select just that.
+pub fn run_tests_on_terminal<T: Threads + Wait + Sync, C: Clock + Sync + Drop, W: Write, E: Write>(
     rt: &T,
     clock: C,
     alloc: Global,
@@ -143,12 +155,13 @@ pub fn run_tests_on_terminal<T: Threads + Wait + Sync, C: Clock + Drop, W: Write
     ensures unbuilt { IfErr result (λ fault. (IsPending (held tests.value) fault.cause ⊎ (fault.cause ≡ NoMemory)) × (writer.new ≡ writer.old)
         × (errors.new ≡ errors.old)) }
 {
-    let (tree, properties, bodies) = Box::into_inner(tests).into_parts()?;
+    let (tree, properties, bodies, slow) = Box::into_inner(tests).into_parts()?;
     let jobs = jobs_of(alloc, bodies)?;
     let program = Program {
         tree,
         properties,
         jobs,
+        slow,
     };
     Ok(run_test_program_on_terminal(rt, clock, alloc, words, program, writer, errors))
 }

@@ -3,4 +3,5 @@ pub mod Crew
 pub mod LongWords
 pub mod Pairing
 pub mod Requesting
+pub mod SeedNumbers
 pub mod Usual

@@ -22,6 +22,7 @@ in_other_words given asked are number is = record {
   selected = are.selected;
   fail_fast = are.fail_fast;
   schedule = are.schedule;
+  times = are.times;
   replay = are.replay;
   drive = are.drive;
   selectors = are.selectors;
@@ -31,6 +32,7 @@ in_other_words given asked are number is = record {
   include = are.include;
   exclude = are.exclude;
   shard = are.shard;
+  seed = are.seed;
   params =
       are.params ∙ ap (λ workers. params_said workers given) is
       ∙ ap (λ request. said_of request given.system) (sym (append-nil (given.config ++ long_words number)));

@@ -24,13 +24,14 @@ use Rattle.launch_options.specs.DetailsTexts.{details_named}
 use Rattle.launch_options.specs.Given.{Text, Values}
 use Rattle.launch_options.specs.Parameters.{processors_named, ring_named, drive_named, params_refusal}
 use Rattle.launch_options.specs.ReportTexts.{reports_refusal}
+use Rattle.launch_options.specs.SeedTexts.{seed_named}
 use Rattle.launch_options.specs.ShardTexts.{shard_named}
 use Rattle.launch_options.specs.Workers.{params_said, unless_twice, workers_asked}
 
 -- what is asked for: what is to run, with which parameters and how many processors, how many workers `--workers` has said, if it
 -- is given, how many events may be shown that are not told yet, what is printed and how, whether there have to be tests, or, where a
--- shard is asked for, whether something has to be selected, whether nothing more is to start once a node has failed, whether the steps of a run are to be printed, the steps that are to be
--- replayed, if any are, and how many workers are to take those of the fixed schedule, if any are
+-- shard is asked for, whether something has to be selected, whether nothing more is to start once a node has failed, whether the steps of a run are to be printed, whether it is to be told how
+-- long tests took, the steps that are to be replayed, if any are, and how many workers are to take those of the fixed schedule, if any are
 pub record Asked : Type 0 where
   pub request : Request
   pub params : Parameters
@@ -43,6 +44,7 @@ pub record Asked : Type 0 where
   pub fail_if_nothing_selected : Bool
   pub fail_fast : Bool
   pub schedule : Bool
+  pub times : Bool
   pub replay : Option (List Step)
   pub drive : Option ℕ
 
@@ -60,6 +62,7 @@ asked_by options = record {
   fail_if_nothing_selected = options.fail_if_nothing_selected;
   fail_fast = options.fail_fast;
   schedule = options.schedule;
+  times = options.times;
   replay = option_map (λ steps. steps.items) options.replay;
   drive = options.drive;
 }
@@ -166,20 +169,25 @@ names_refusal given =
 abbrev pub shard_refusal : Values → Option LaunchFault
 shard_refusal given = unless_named (shard_named given.shard)
 
+-- why `--seed` is refused: for what is no number below 2 ^ 64
+abbrev pub seed_refusal : Values → Option LaunchFault
+seed_refusal given = unless_named (seed_named given.seed)
+
 -- why `--workers` is refused: for what is no number of workers, and where `--config` says one of its keys too
 abbrev pub workers_refusal : Values → Option LaunchFault
 workers_refusal given = option_or (unless_named (workers_asked given)) (unless_twice given.workers given.config)
 
--- why the values are refused: what is asked for by a name or by a number, then a number of workers, then a shard, then reports, then
+-- why the values are refused: what is asked for by a name or by a number, then a number of workers, then a shard, then a seed, then reports, then
 -- the texts that are read, and what says no pair
 abbrev pub refusal_of : Values → Option LaunchFault
 refusal_of given =
     option_or (names_refusal given) (
     option_or (workers_refusal given) (
     option_or (shard_refusal given) (
+    option_or (seed_refusal given) (
     option_or (reports_refusal given.reports given.replay (details_named given.details)) (
     option_or (texts_refusal given) (
-    params_refusal given)))))
+    params_refusal given))))))
 
 -- the values ask for this
 pub record AreAsked (given : Values) (asked : Asked) : Type 0 where
@@ -193,6 +201,7 @@ pub record AreAsked (given : Values) (asked : Asked) : Type 0 where
   pub selected : asked.fail_if_nothing_selected ≡ (given.fail_if_no_tests && is_some asked.request.shard)
   pub fail_fast : asked.fail_fast ≡ given.fail_fast
   pub schedule : asked.schedule ≡ given.schedule
+  pub times : asked.times ≡ given.times
   pub replay : IsReplay given.replay asked.replay
   pub drive : drive_named given.drive ≡ Some asked.drive
   pub selectors : asked.request.selectors.items ≡ filter_map spelled given.selectors
@@ -202,4 +211,5 @@ pub record AreAsked (given : Values) (asked : Asked) : Type 0 where
   pub include : AreExpressions given.include_tags asked.request.include.items
   pub exclude : AreExpressions given.exclude_tags asked.request.exclude.items
   pub shard : shard_named given.shard ≡ Some asked.request.shard
+  pub seed : seed_named given.seed ≡ Some asked.request.seed
   pub params : asked.params ≡ params_said asked.workers given

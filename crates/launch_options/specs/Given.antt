@@ -23,6 +23,7 @@ pub record Values : Type 0 where
   pub workers : Option Text
   pub ring : Option Text
   pub shard : Option Text
+  pub seed : Option Text
   pub details : Option Text
   pub theme : Option Text
   pub replay : Option Text
@@ -30,6 +31,7 @@ pub record Values : Type 0 where
   pub fail_if_no_tests : Bool
   pub fail_fast : Bool
   pub schedule : Bool
+  pub times : Bool
 
 -- the texts behind references
 abbrev pub behind : List (Bor Text) → List Text
@@ -59,6 +61,7 @@ values_of given = record {
   workers = maybe_behind given.workers;
   ring = maybe_behind given.ring;
   shard = maybe_behind given.shard;
+  seed = maybe_behind given.seed;
   details = maybe_behind given.details;
   theme = maybe_behind given.theme;
   replay = maybe_behind given.replay;
@@ -66,4 +69,5 @@ values_of given = record {
   fail_if_no_tests = given.fail_if_no_tests;
   fail_fast = given.fail_fast;
   schedule = given.schedule;
+  times = given.times;
 }

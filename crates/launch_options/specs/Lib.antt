@@ -4,6 +4,7 @@ pub mod Faults
 pub mod Given
 pub mod Parameters
 pub mod ReportTexts
+pub mod SeedTexts
 pub mod SettingKeys
 pub mod ShardTexts
 pub mod Workers

@@ -38,6 +38,8 @@ pub struct Options {
     pub fail_fast: bool,
     /// Whether the steps that led to the history of a run are printed behind its details.
     pub schedule: bool,
+    /// Whether it is told how long tests took.
+    pub times: bool,
     /// The steps that are run in place of the fixed schedule. Then their text alone is printed,
     /// whatever the details are.
     pub replay: Option<Vec<Step>>,

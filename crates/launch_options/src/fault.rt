@@ -58,7 +58,7 @@ pub enum LaunchFault {
     /// Refusals 30 and 31: the word of this number, from 1, among those of `--config` and then of
     /// `--system`, says no pair.
     BadPair(ParamsFault),
-    /// Refusals 32 to 34: what the configuration asks for is none.
+    /// Refusals 32 to 34 and 37: what the configuration asks for is none.
     BadSettings(SettingsFault),
     /// Refusal 41: the selector or the included name of this number, from 1, covers nothing of the suite.
     NothingMatches(usize),

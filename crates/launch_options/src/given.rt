@@ -34,6 +34,8 @@ pub struct Given<'a> {
     pub ring: Option<&'a str>,
     /// `--shard`.
     pub shard: Option<&'a str>,
+    /// `--seed`.
+    pub seed: Option<&'a str>,
     /// `--details`.
     pub details: Option<&'a str>,
     /// `--details-theme`.
@@ -48,4 +50,6 @@ pub struct Given<'a> {
     pub fail_fast: bool,
     /// `--schedule`.
     pub schedule: bool,
+    /// `--times`.
+    pub times: bool,
 }

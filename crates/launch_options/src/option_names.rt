@@ -38,6 +38,8 @@ pub const RING: &str = "ring";
 
 pub const SHARD: &str = "shard";
 
+pub const SEED: &str = "seed";
+
 pub const DETAILS: &str = "details";
 
 pub const DETAILS_THEME: &str = "details-theme";
@@ -49,6 +51,8 @@ pub const FAIL_IF_NO_TESTS: &str = "fail-if-no-tests";
 pub const FAIL_FAST: &str = "fail-fast";
 
 pub const SCHEDULE: &str = "schedule";
+
+pub const TIMES: &str = "times";
 
 pub const REPLAY: &str = "replay";
 

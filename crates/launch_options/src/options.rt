@@ -10,6 +10,7 @@ ghost use Rattle.launch_options.specs.DetailsTexts.{details_named as details_of_
 ghost use Rattle.launch_options.specs.Asked.{unless_named, IsReplay, refusal_of, AreAsked, spelled, IsExpression};
 ghost use Rattle.launch_options.specs.Asked.{AreExpressions, names_refusal, texts_refusal};
 ghost use Rattle.launch_options.specs.Parameters.{drive_named as drive_of_name, IsRightDrive, params_refusal};
+ghost use Rattle.launch_options.specs.SeedTexts.{seed_named as seed_of_name};
 ghost use Rattle.launch_options.specs.ShardTexts.{shard_named as shard_of_name};
 ghost use Rattle.launch_options.specs.Parameters.{processors_named as processors_of_name, ring_named as ring_of_name};
 ghost use Rattle.launch_options.specs.Workers.{in_long_words, workers_asked};
@@ -22,6 +23,7 @@ use crate::given::Given;
 use crate::judged::judge_texts;
 use crate::parameters::{drive_named, judge_params, params_given, processors_named, ring_named};
 use crate::reports::judge_reports;
+use crate::seeds::seed_named;
 use crate::shards::shard_named;
 use crate::themes::theme_of;
 use crate::workers::{spread_given, workers_given};
@@ -116,9 +118,15 @@ fn expressions_of(alloc: Global, texts: &[&str]) -> Result<Vec<TagExpr>, AllocEr
     Ok(expressions)
 }
 
-/// What is to run, with this shard of it.
-fn request_of(alloc: Global, given: &Given<'_>, shard: Option<Shard>) -> Result<Request, AllocError>
+/// What is to run, with this shard of it, in the order of this seed.
+fn request_of(
+    alloc: Global,
+    given: &Given<'_>,
+    shard: Option<Shard>,
+    seed: Option<u64>,
+) -> Result<Request, AllocError>
     ensures shard { IfOk result (λ request. request.shard ≡ shard) }
+    ensures seed { IfOk result (λ request. request.seed ≡ seed) }
     ensures selectors { IfOk result
         (λ request. request.selectors.items ≡ filter_map spelled (texts_of given.now.selectors.items)) }
     ensures names { IfOk result
@@ -140,6 +148,7 @@ fn request_of(alloc: Global, given: &Given<'_>, shard: Option<Shard>) -> Result<
         include: expressions_of(alloc, given.include_tags.as_slice())?,
         exclude: expressions_of(alloc, given.exclude_tags.as_slice())?,
         shard,
+        seed,
     })
 }
 
@@ -208,14 +217,15 @@ fn is_dealt(so: bool, shard: &Option<Shard>) -> bool
     }
 }
 
-/// The options of values that were judged, with these choices, so many workers and this shard among
-/// them.
+/// The options of values that were judged, with these choices, so many workers, this shard and this
+/// seed among them.
 fn options_of(
     alloc: Global,
     given: &Given<'_>,
     choices: Choices,
     workers: Option<u32>,
     shard: Option<Shard>,
+    seed: Option<u64>,
 ) -> Result<Options, AllocError>
     requires details { details_of_name (maybe_behind given.now.details) ≡ Some choices.details }
     requires theme { theme_of_name (maybe_behind given.now.theme) ≡ Some choices.theme }
@@ -226,13 +236,14 @@ fn options_of(
     requires right_drive { IsRightDrive choices.drive }
     requires workers { workers_asked (values_of given.now) ≡ Some workers }
     requires shard { shard_of_name (maybe_behind given.now.shard) ≡ Some shard }
+    requires seed { seed_of_name (maybe_behind given.now.seed) ≡ Some seed }
     ensures asked { IfOk result (λ options. AreAsked (values_of given.now) (asked_by options)) }
 {
     // what ends soonest is read first, so that little is alive where memory runs out
     let needs_tests = is_whole(given.fail_if_no_tests, &shard);
     let needs_selection = is_dealt(given.fail_if_no_tests, &shard);
     let replay = replay_named(alloc, given.replay)?;
-    let request = request_of(alloc, given, shard)?;
+    let request = request_of(alloc, given, shard, seed)?;
     let params = params_given(alloc, given, workers)?;
     let spread = spread_given(alloc, given, workers)?;
     Ok(Options {
@@ -248,6 +259,7 @@ fn options_of(
         fail_if_nothing_selected: needs_selection,
         fail_fast: given.fail_fast,
         schedule: given.schedule,
+        times: given.times,
         replay,
         drive: choices.drive,
     })
@@ -258,7 +270,7 @@ impl Options {
     /// 105, and so is what is no number of processors from 1 to 1,024, what is no number of places of
     /// the ring from 1 to 16,384, what is no number of workers of the fixed schedule from 1 to 64,
     /// what is no number of workers from 1 to 64 and not `auto`, or stands beside one of its keys in
-    /// `--config`, what names no shard, and what asks for no report, for two in one file, or for one of
+    /// `--config`, what names no shard, what is no seed, and what asks for no report, for two in one file, or for one of
     /// nothing that is run; then a word in the text of `--replay` that names no
     /// step is refusal 104, at its number; then a text that spells no selector is refusal 40, and an
     /// empty pattern of names refusal 43, at its number; then an expression of `--include-tag`, and then of `--exclude-tag`,
@@ -279,8 +291,9 @@ impl Options {
         let choices = choices_of(given)?;
         let workers = workers_given(given, choices.processors)?;
         let shard = shard_named(given.shard)?;
+        let seed = seed_named(given.seed)?;
         judge_reports(given, choices.details)?;
         judge_values(alloc, given)?;
-        Ok(options_of(alloc, given, choices, workers, shard)?)
+        Ok(options_of(alloc, given, choices, workers, shard, seed)?)
     }
 }

@@ -24,6 +24,9 @@ pub(crate) const PARALLELISM: &str = "junit.jupiter.execution.parallel.config.fi
 /// The workers for each processor of the strategy `dynamic`.
 const FACTOR: &str = "junit.jupiter.execution.parallel.config.dynamic.factor";
 
+/// From when on a test is slow whose own line does not say it.
+const SLOW: &str = "nelborugy.slow.default";
+
 /// The key whose value this refusal is about.
 pub fn key_judged(fault: SettingsFault) -> &'static str
     ensures { result.now ≡ key_judged fault }
@@ -32,6 +35,7 @@ pub fn key_judged(fault: SettingsFault) -> &'static str
         SettingsFault::BadStrategy => STRATEGY,
         SettingsFault::BadParallelism => PARALLELISM,
         SettingsFault::BadFactor => FACTOR,
+        SettingsFault::BadSlow => SLOW,
     }
 }
 

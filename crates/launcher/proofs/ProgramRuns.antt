@@ -55,11 +55,11 @@ module _ {B : Type 0} (answers : B → List Reply) (known : Option (List (ℕ ×
   program_output_of runs text status output = jobs_ran asked.details runs text status output
 
   pub jobs_text_of : (history : List Event) (texts : TextParts) (text : List ℕ) (status : ExitStatus) → IsPrintedJobs answers known asked settings p jobs history texts text status → IsTextOf asked settings p history texts text
-  jobs_text_of history texts text status prints = record { ends = prints.published.ends; behind = prints.behind; printed = prints.printed }
+  jobs_text_of history texts text status prints = record { ends = prints.published.ends; took = prints.took; untimed = prints.untimed; behind = prints.behind; printed = prints.printed }
 
 -- a plan whose feed is printed while it goes on is run
 pub jobs_feed_runs : (asked : Asked) → HasLiveFeed asked → is_run None asked.details ≡ true
-jobs_feed_runs asked lines = lines_run asked.details lines.0
+jobs_feed_runs asked lines = lines_run asked.details asked.times lines.0
 
 no_replay : (replay : Option (List Step)) (drive : Option ℕ) → steps_refusal replay drive ≡ None → replay ≡ None
 no_replay None drive none = refl

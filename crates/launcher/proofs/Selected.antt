@@ -16,9 +16,11 @@ use Rattle.launcher.specs.Programs.{HasJobs}
 use Rattle.selectors.specs.declared.request.Request.{Request}
 use Rattle.selectors.specs.Covered.{truths}
 use Rattle.selectors.specs.Keeping.{stays, is_taken, is_above}
-use Rattle.selectors.specs.Selections.{is_selected, selection, answer}
+use Rattle.selectors.specs.Selections.{is_selected, selection, dealt, answer}
 use Rattle.selectors.specs.Shards.{Part, is_unit_of, shard_or_all}
 use Rattle.selectors.proofs.Answer.{closed, kept_of}
+use Rattle.tree_orders.specs.Orders.{seeded_or_same}
+use Rattle.tree_orders.proofs.SeededTree.{node_from, seeded_plan, seeded_told, seeded_child}
 
 -- a spare is a node
 spare_inside : (t : Nodes) → IsTree t → (n : ℕ) → is_spare_at t n ≡ true → n < size t
@@ -89,16 +91,41 @@ shard_bare : (t : Nodes) → IsTree t → (part : Option Part) → HasBareSpares
 shard_bare t tree None bare = bare
 shard_bare t tree (Some part) bare = staying_bare t tree (is_unit_of t part) bare
 
+-- the shard of what is selected is a tree
+dealt_tree : (t : Nodes) → IsTree t → (part : Option Part) → IsTree (shard_or_all t part)
+dealt_tree t tree None = tree
+dealt_tree t tree (Some part) = found t tree (is_unit_of t part)
+
+-- in a seed's order each node is told of as one of the tree, and a child of the plan was one
+seeded_bare : (t : Nodes) → IsTree t → (seed : Option ℕ) → HasBareSpares t → HasBareSpares (seeded_or_same seed t)
+seeded_bare t tree None bare = bare
+seeded_bare t tree (Some seed) bare = record {
+  locks = λ k spare. ap locks_or (seeded_told t tree seed k) ∙ bare.locks (node_from seed t k) (sym (ap (λ o. is_spare (role_or o)) (seeded_told t tree seed k)) ∙ spare);
+  engines = λ e child. ap (λ o. is_factory (role_or o)) (seeded_told t tree seed e) ∙ bare.engines (node_from seed t e) (subst (λ (n : ℕ). IsChild t n (node_from seed t e)) (seeded_plan t tree seed) (seeded_child t tree seed 0 e child));
+}
+
 pub selected_bare : (t : Nodes) → IsTree t → (request : Request) → HasBareSpares t → HasBareSpares (answer t request)
-selected_bare t tree request bare = shard_bare (selection t request) (found t tree (is_selected t request)) request.shard (staying_bare t tree (is_selected t request) bare)
+selected_bare t tree request bare =
+    let selected : IsTree (selection t request) = found t tree (is_selected t request) in
+    seeded_bare (dealt t request) (dealt_tree (selection t request) selected request.shard) request.seed (shard_bare (selection t request) selected request.shard (staying_bare t tree (is_selected t request) bare))
 
 shard_jobs : {B : Type 0} (t : Nodes) → IsTree t → (part : Option Part) (jobs : List (ℕ × B)) → HasJobs t jobs → HasJobs (shard_or_all t part) jobs
 shard_jobs t tree None jobs has = has
 shard_jobs t tree (Some part) jobs has = staying_jobs t tree (is_unit_of t part) jobs has
 
+seeded_jobs : {B : Type 0} (t : Nodes) → IsTree t → (seed : Option ℕ) (jobs : List (ℕ × B)) → HasJobs t jobs → HasJobs (seeded_or_same seed t) jobs
+seeded_jobs t tree None jobs has = has
+seeded_jobs t tree (Some seed) jobs has = λ n number is.
+    has (node_from seed t n) number (elim is [
+      | inl body ↦ inl (sym (ap body_or (seeded_told t tree seed n)) ∙ body)
+      | inr after ↦ inr (sym (ap after_or (seeded_told t tree seed n)) ∙ after)
+    ])
+
 -- and each body of what is selected has a job, where each of the tree has one
 pub selected_jobs : {B : Type 0} (t : Nodes) → IsTree t → (request : Request) (jobs : List (ℕ × B)) → HasJobs t jobs → HasJobs (answer t request) jobs
-selected_jobs t tree request jobs has = shard_jobs (selection t request) (found t tree (is_selected t request)) request.shard jobs (staying_jobs t tree (is_selected t request) jobs has)
+selected_jobs t tree request jobs has =
+    let selected : IsTree (selection t request) = found t tree (is_selected t request) in
+    seeded_jobs (dealt t request) (dealt_tree (selection t request) selected request.shard) request.seed jobs (shard_jobs (selection t request) selected request.shard jobs (staying_jobs t tree (is_selected t request) jobs has))
 
 -- so no job of a plan of it is missing
 pub all_jobs : {B : Type 0} (p : PlanParts) (jobs : List (ℕ × B)) → HasJobs p.tree jobs → HasAllJobs p jobs

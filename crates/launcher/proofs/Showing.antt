@@ -12,6 +12,7 @@ use Rattle.plan_events.specs.Texts.{TextParts}
 use Rattle.resource_locks.specs.Plans.{PlanParts}
 use Rattle.event_history.specs.Parts.{EndsInPlan}
 use Rattle.scheduling.specs.declared.step.Step.{Step}
+use Rattle.job_times.specs.Timings.{Took}
 use Rattle.listeners.specs.Listeners.{Telling, tellings_of}
 use Rattle.listeners.specs.declared.theme.Theme.{Theme}
 use Rattle.listeners.specs.declared.to_writer.WriteFault.{WriteFault}
@@ -21,6 +22,7 @@ use Rattle.live.specs.declared.live_feed.LiveFeed.{LiveFeed}
 use Rattle.live.specs.declared.live_feed.Outlet.{Outlet}
 use Rattle.live.specs.declared.live_feed.Outlet.TheVariants.{Waiting, Open, Closed, Failed}
 use Rattle.live.proofs.Fronts.{IsShort, front, front_short}
+use Rattle.reports.specs.Json.{timed_json_of}
 use Rattle.suite_text.specs.Reading.Parts.{SuiteParts}
 use Rattle.launch_options.specs.Asked.{Asked}
 use Rattle.launch_options.specs.DetailsTexts.{prints_live}
@@ -43,44 +45,46 @@ use Rattle.launcher.proofs.Judging.{judged}
 use Rattle.launcher.proofs.Planning.{ready_output, ready_takes, ready_unrun}
 
 -- lines are printed from the first only if they are asked for, and no replay
-lines_asked : (kind : Details) (replay : Option (List Step)) → outlet_by kind replay ≡ Waiting → (prints_live kind ≡ true) × (replay ≡ None)
-lines_asked kind (Some steps) is = cc
-lines_asked kind None is = (open_by (prints_live kind) is, refl)
+lines_asked : (kind : Details) (times : Bool) (replay : Option (List Step)) → outlet_by kind times replay ≡ Waiting → (prints_live kind times ≡ true) × (replay ≡ None)
+lines_asked kind times (Some steps) is = cc
+lines_asked kind times None is = (open_by (prints_live kind times) is, refl)
   where
     open_by : (b : Bool) → (if b then Waiting else Closed) ≡ Waiting → b ≡ true
     open_by true is = refl
     open_by false is = cc
 
 -- and else none is
-open_or_closed : (kind : Details) (replay : Option (List Step)) → (outlet_by kind replay ≡ Waiting) ⊎ (outlet_by kind replay ≡ Closed)
-open_or_closed kind (Some steps) = inr refl
-open_or_closed kind None = either_by (prints_live kind)
+open_or_closed : (kind : Details) (times : Bool) (replay : Option (List Step)) → (outlet_by kind times replay ≡ Waiting) ⊎ (outlet_by kind times replay ≡ Closed)
+open_or_closed kind times (Some steps) = inr refl
+open_or_closed kind times None = either_by (prints_live kind times)
   where
     either_by : (b : Bool) → ((if b then Waiting else Closed) ≡ Waiting) ⊎ ((if b then Waiting else Closed) ≡ Closed)
     either_by true = inl refl
     either_by false = inr refl
 
 -- what is printed of a history is its lines in the form that is asked for
-lines_printed : (kind : Details) (theme : Theme) (p : PlanParts) (texts : TextParts) (h : List Event) → prints_live kind ≡ true → details_of kind theme p texts h ≡ lines_of (form_by kind) p texts h
-lines_printed details.None theme p texts h is = absurd (true≢false (sym is))
-lines_printed details.Summary theme p texts h is = absurd (true≢false (sym is))
-lines_printed details.Tree theme p texts h is = absurd (true≢false (sym is))
-lines_printed details.Testfeed theme p texts h is = refl
-lines_printed details.Json theme p texts h is = refl
-lines_printed details.Xml theme p texts h is = absurd (true≢false (sym is))
-lines_printed details.List theme p texts h is = absurd (true≢false (sym is))
-lines_printed details.Plan theme p texts h is = absurd (true≢false (sym is))
+lines_printed : (kind : Details) (times : Bool) (theme : Theme) (p : PlanParts) (texts : TextParts) (took : Took) (h : List Event) → (times ≡ false → took ≡ []) → prints_live kind times ≡ true
+    → details_of kind theme p texts took h ≡ lines_of (form_by kind) p texts h
+lines_printed details.None times theme p texts took h untimed is = absurd (true≢false (sym is))
+lines_printed details.Summary times theme p texts took h untimed is = absurd (true≢false (sym is))
+lines_printed details.Tree times theme p texts took h untimed is = absurd (true≢false (sym is))
+lines_printed details.Testfeed times theme p texts took h untimed is = refl
+lines_printed details.Json true theme p texts took h untimed is = absurd (true≢false (sym is))
+lines_printed details.Json false theme p texts took h untimed is = ap (λ (known : Took). timed_json_of p texts known h) (untimed refl)
+lines_printed details.Xml times theme p texts took h untimed is = absurd (true≢false (sym is))
+lines_printed details.List times theme p texts took h untimed is = absurd (true≢false (sym is))
+lines_printed details.Plan times theme p texts took h untimed is = absurd (true≢false (sym is))
 
 -- and then the plan is run
-pub lines_run : (kind : Details) → prints_live kind ≡ true → is_run None kind ≡ true
-lines_run details.None is = refl
-lines_run details.Summary is = refl
-lines_run details.Tree is = refl
-lines_run details.Testfeed is = refl
-lines_run details.Json is = refl
-lines_run details.Xml is = refl
-lines_run details.List is = absurd (true≢false (sym is))
-lines_run details.Plan is = absurd (true≢false (sym is))
+pub lines_run : (kind : Details) (times : Bool) → prints_live kind times ≡ true → is_run None kind ≡ true
+lines_run details.None times is = refl
+lines_run details.Summary times is = refl
+lines_run details.Tree times is = refl
+lines_run details.Testfeed times is = refl
+lines_run details.Json times is = refl
+lines_run details.Xml times is = refl
+lines_run details.List times is = absurd (true≢false (sym is))
+lines_run details.Plan times is = absurd (true≢false (sym is))
 
 -- nothing was handed to the writer
 record IsUnsent {W : Type 0} (contents : W → Option (List ℕ)) (first now : LiveFeed W) : Type 0 where
@@ -102,17 +106,19 @@ at_first Open is sent none output = elim is [ inl q ↦ cc | inr q ↦ cc ]
 at_first Closed is sent none output = inl none
 at_first Failed is sent none output = elim is [ inl q ↦ cc | inr q ↦ cc ]
 
--- what is printed of a history is its details behind the warnings, and something may stand behind these
+-- what is printed of a history is its details behind the warnings, with some times, and something may stand behind these
 pub record IsTextOf (asked : Asked) (settings : Settings) (p : PlanParts) (history : List Event) (texts : TextParts) (text : List ℕ) : Type 0 where
   pub ends : EndsInPlan history
+  pub took : Took
+  pub untimed : asked.times ≡ false → took ≡ []
   pub behind : List ℕ
-  pub printed : text ≡ head_of asked.details settings.warnings ++ (details_of asked.details asked.theme p texts history ++ behind)
+  pub printed : text ≡ head_of asked.details settings.warnings ++ (details_of asked.details asked.theme p texts took history ++ behind)
 
 module _ {W V : Type 0} (contents : W → Option (List ℕ)) (saw : PlanParts → V → V → List Telling → Type 0) (asked : Asked) (settings : Settings) (p : PlanParts) (Prints : List Event → TextParts → List ℕ → ExitStatus → Type 0) (Printed : List ℕ → ExitStatus → Type 0)
     (runs : Bool) (as_output : runs ≡ true → (text : List ℕ) (status : ExitStatus) → HasHistory Prints text status → Printed text status)
     (as_text : (history : List Event) (texts : TextParts) (text : List ℕ) (status : ExitStatus) → Prints history texts text status → IsTextOf asked settings p history texts text)
     (live : HasLiveFeed asked → runs ≡ true) (at_first_both both : WatchedFeed W V)
-    (head : at_first_both.feed.head.now ≡ head_of asked.details settings.warnings) (form : at_first_both.feed.form ≡ form_by asked.details) (outlet : at_first_both.feed.outlet ≡ outlet_by asked.details asked.replay) (none : at_first_both.feed.sent ≡ 0) where
+    (head : at_first_both.feed.head.now ≡ head_of asked.details settings.warnings) (form : at_first_both.feed.form ≡ form_by asked.details) (outlet : at_first_both.feed.outlet ≡ outlet_by asked.details asked.times asked.replay) (none : at_first_both.feed.sent ≡ 0) where
   abbrev first : LiveFeed W
   first = at_first_both.feed
 
@@ -142,7 +148,7 @@ module _ {W V : Type 0} (contents : W → Option (List ℕ)) (saw : PlanParts �
       (as_output is text status (record { history = sees.history; texts = sees.texts; prints = sees.prints }), subst (λ (b : Bool). SeesTextBy saw Prints p at_first_both.watcher.now both.watcher.now b text status) (sym is) sees)
 
   either : (first.outlet ≡ Waiting) ⊎ (first.outlet ≡ Closed)
-  either = elim (open_or_closed asked.details asked.replay) [ inl opens ↦ inl (outlet ∙ opens) | inr shut ↦ inr (outlet ∙ shut) ]
+  either = elim (open_or_closed asked.details asked.times asked.replay) [ inl opens ↦ inl (outlet ∙ opens) | inr shut ↦ inr (outlet ∙ shut) ]
 
   untouched : both ≡ at_first_both → IsUnsent contents first now
   untouched is = subst (λ (w : WatchedFeed W V). IsUnsent contents first w.feed) (sym is) (record { same = refl; sent = none; whole = not_failed first.outlet either; kept = Appends-nil was })
@@ -193,15 +199,15 @@ module _ {W V : Type 0} (contents : W → Option (List ℕ)) (saw : PlanParts �
     other_sees : OtherSees text status
     other_sees = record { history = watched.history; texts = watched.texts; prints = watched.prints; seen = seen_both.seen }
 
-    whole_text : prints_live asked.details ≡ true → text ≡ first.head.now ++ (lines_of first.form p watched.texts watched.history ++ is_text.behind)
+    whole_text : prints_live asked.details asked.times ≡ true → text ≡ first.head.now ++ (lines_of first.form p watched.texts watched.history ++ is_text.behind)
     whole_text live =
         is_text.printed
-        ∙ ap (λ (lines : List ℕ). head_of asked.details settings.warnings ++ (lines ++ is_text.behind)) (lines_printed asked.details asked.theme p watched.texts watched.history live)
+        ∙ ap (λ (lines : List ℕ). head_of asked.details settings.warnings ++ (lines ++ is_text.behind)) (lines_printed asked.details asked.times asked.theme p watched.texts is_text.took watched.history is_text.untimed live)
         ∙ ap₂ (λ (xs : List ℕ) (f : LineForm). xs ++ (lines_of f p watched.texts watched.history ++ is_text.behind)) (sym head) (sym form)
 
     watched_front : IsFront was is_now now.outlet now.sent text
-    watched_front = elim (open_or_closed asked.details asked.replay) [
-      | inl opens ↦ front watched.texts watched.history is_text.ends contents p first now seen (ap is_stopped (outlet ∙ opens)) is_text.behind text (whole_text (lines_asked asked.details asked.replay opens).0)
+    watched_front = elim (open_or_closed asked.details asked.times asked.replay) [
+      | inl opens ↦ front watched.texts watched.history is_text.ends contents p first now seen (ap is_stopped (outlet ∙ opens)) is_text.behind text (whole_text (lines_asked asked.details asked.times asked.replay opens).0)
       | inr shut ↦ unsent_front text (shut_unsent (outlet ∙ shut) _ seen)
     ]
 
@@ -221,9 +227,9 @@ module _ {W V : Type 0} (contents : W → Option (List ℕ)) (saw : PlanParts �
     ]
 
     watched_broken : IsBrokenOff asked Shown now.outlet was is_now now.sent
-    watched_broken = elim (open_or_closed asked.details asked.replay) [
+    watched_broken = elim (open_or_closed asked.details asked.times asked.replay) [
       | inl opens ↦
-          (let feed = lines_asked asked.details asked.replay opens in
+          (let feed = lines_asked asked.details asked.times asked.replay opens in
           part_of feed (front_short watched.texts watched.history is_text.ends contents p first now seen (ap is_stopped (outlet ∙ opens)) is_text.behind text (whole_text feed.0)))
       | inr shut ↦ unsent_broken (shut_unsent (outlet ∙ shut) _ seen)
     ]
@@ -317,11 +323,11 @@ suite_output_of asked settings p answers runs text status output = suite_ran ask
 
 pub suite_text_of : (asked : Asked) (settings : Settings) (p : PlanParts) (answers : List (ℕ × Reply)) (history : List Event) (texts : TextParts) (text : List ℕ) (status : ExitStatus) → IsPrintedRun asked settings p answers history texts text status
     → IsTextOf asked settings p history texts text
-suite_text_of asked settings p answers history texts text status prints = record { ends = prints.published.ends; behind = prints.schedule; printed = prints.printed }
+suite_text_of asked settings p answers history texts text status prints = record { ends = prints.published.ends; took = prints.took; untimed = prints.untimed; behind = prints.schedule; printed = prints.printed }
 
 -- a plan whose lines are printed while it goes on is run
 pub feed_runs : (asked : Asked) → HasLiveFeed asked → is_run asked.replay asked.details ≡ true
-feed_runs asked lines = ap (λ (replay : Option (List Step)). is_run replay asked.details) lines.1 ∙ lines_run asked.details lines.0
+feed_runs asked lines = ap (λ (replay : Option (List Step)). is_run replay asked.details) lines.1 ∙ lines_run asked.details asked.times lines.0
 
 -- a refusal of a suite tells of no output
 suite_uncut : (asked : Asked) (suite : SuiteParts) (fault : LaunchFault) → FailsSuite asked suite fault → cut_in fault ≡ None

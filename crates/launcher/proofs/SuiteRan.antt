@@ -31,7 +31,7 @@ module _ (asked : Asked) (settings : Settings) (p : PlanParts) (tree : IsTree p.
   suite_prints : (history : List Event) (texts : TextParts) (text : List ℕ) (status : ExitStatus) → JobsPrint history texts text status → IsPrintedRun asked settings p answers history texts text status
   suite_prints history texts text status out =
       let report : IsReport (run_of p settings.workers asked.ring jobs) (replies_of replies_left (run_of p settings.workers asked.ring jobs)) history = record { legal = out.may_be; order = out.published.order; exclusive = out.published.exclusive; complete = out.published.complete; ends = out.published.ends } in
-      printed_run out.behind text status asked settings p answers history texts (told_of p tree safe answers jobs are settings.workers asked.ring history texts report out.may_say) out.is_behind out.printed out.exits
+      printed_run out.behind text status asked settings p answers history texts (told_of p tree safe answers jobs are settings.workers asked.ring history texts report out.may_say) out.took out.untimed out.is_behind out.printed out.exits
 
   pub suite_outputs : (result : Result Output LaunchFault) → IfOk result (λ report. HasHistory JobsPrint (string_bytes report.text) report.status) → IfOk result (λ report. IsRunOutput asked settings p answers (string_bytes report.text) report.status)
   suite_outputs (Ok report) out = record { history = out.history; texts = out.texts; prints = suite_prints out.history out.texts (string_bytes report.text) report.status out.prints }

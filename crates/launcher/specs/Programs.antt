@@ -25,6 +25,7 @@ use Rattle.table_rule.specs.Picture.{replies_of}
 use Rattle.table_rule.specs.Slots.{job_with}
 use Rattle.run_table.specs.Balance.{IsBalanced, IsUsed}
 use Rattle.worker_pool.specs.Reports.{run_of, AreTexts}
+use Rattle.job_times.specs.Timings.{Took}
 use Rattle.listeners.specs.Listeners.{Telling}
 use Rattle.listeners.specs.Results.{tests_found, has_failed}
 use Rattle.launch_options.specs.Asked.{Asked}
@@ -91,7 +92,7 @@ IsBehindRun kind asked workers p (Some known) history texts behind = IsBehindDet
 module _ {B : Type 0} (answers : B → List Reply) (known : Option (List (ℕ × Reply))) where
   -- What is printed of this history of a run of these jobs by the settings' workers, with these texts of its nodes. There is one
   -- reply of each job, such that the history is one in which the jobs gave these replies: a line for each warning, then the history as
-  -- the options say, and then what is to stand behind it; its failures make the status.
+  -- the options say, with the times that are known of its nodes, and then what is to stand behind it; its failures make the status.
   pub record IsPrintedJobs (asked : Asked) (settings : Settings) (p : PlanParts) (jobs : List (ℕ × B)) (history : List Event) (texts : TextParts) (text : List ℕ) (status : ExitStatus) : Type 0 where
     -- the history is legal by what the jobs may answer, and the texts of its nodes are by that too;
     pub may_be : IsLegal p (replies_of answers (run_of p settings.workers asked.ring jobs)) settings.workers history
@@ -107,7 +108,10 @@ module _ {B : Type 0} (answers : B → List Reply) (known : Option (List (ℕ ×
     -- what is printed, to the end
     pub behind : List ℕ
     pub is_behind : IsBehindRun asked.details asked.schedule settings.workers p known history texts behind
-    pub printed : text ≡ head_of asked.details settings.warnings ++ (details_of asked.details asked.theme p texts history ++ behind)
+    -- how long nodes took, which is known of none unless it is asked for
+    pub took : Took
+    pub untimed : asked.times ≡ false → took ≡ []
+    pub printed : text ≡ head_of asked.details settings.warnings ++ (details_of asked.details asked.theme p texts took history ++ behind)
     pub exits : status ≡ status_of_run asked.fail_if_no_tests (tests_found p history) (has_failed p history)
     -- and unless the plan fails fast all this but a feed and what stands behind is what is expected by these replies, whatever the
     -- workers did

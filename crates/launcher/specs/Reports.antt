@@ -23,14 +23,15 @@ use Rattle.sched_core.specs.Texts.{AreTexts}
 use Rattle.schedules.specs.Schedules.{IsSchedule}
 use Rattle.step_text.specs.StepSpelling.{AreNamable}
 use Rattle.worker_pool.specs.Reports.{AreTexts as AreRunTexts}
+use Rattle.job_times.specs.Timings.{Took}
 use Rattle.listeners.specs.declared.theme.Theme.{Theme}
 use Rattle.listeners.specs.Counts.{counts_of as node_counts}
 use Rattle.listeners.specs.Feed.{feed_of}
 use Rattle.listeners.specs.Results.{tests_found, has_failed}
 use Rattle.listeners.specs.SummaryTexts.{summary_of}
 use Rattle.listeners.specs.TreeTexts.{tree_of}
-use Rattle.reports.specs.Json.{json_of}
-use Rattle.reports.specs.Junit.{junit_of}
+use Rattle.reports.specs.Json.{timed_json_of}
+use Rattle.reports.specs.Junit.{timed_junit_of}
 use Rattle.reports.specs.Lists.{list_of}
 use Rattle.reports.specs.PlanNodes.{plan_lines}
 use Rattle.launch_options.specs.declared.details.Details.{Details}
@@ -61,28 +62,30 @@ pub record IsHistory (workers : ℕ) (p : PlanParts) (answers : List (ℕ × Rep
   pub as_expected : p.fail_fast ≡ false → (n : ℕ) → n < size p.tree → IsAsExpected p (replies_of answers) history n (expected p (reply_of answers) n)
 
 -- what is printed of these events with these texts: nothing; the summary; the tree, and then the summary; the feed; the same as
--- JSON; the report in XML; or, whatever they are, the list of what would be run, or the plan's nodes
-abbrev pub details_of : Details → Theme → PlanParts → TextParts → List Event → List ℕ
-details_of details.None theme p texts events = []
-details_of details.Summary theme p texts events = summary_of (node_counts p events)
-details_of details.Tree theme p texts events = tree_of theme p texts events ++ summary_of (node_counts p events)
-details_of details.Testfeed theme p texts events = feed_of p texts events
-details_of details.Json theme p texts events = json_of p texts events
-details_of details.Xml theme p texts events = junit_of p texts events
-details_of details.List theme p texts events = list_of p
-details_of details.Plan theme p texts events = plan_lines p
+-- JSON, or the report in XML, both with the times that are known; or, whatever they are, the list of what would be run, or the plan's nodes
+abbrev pub details_of : Details → Theme → PlanParts → TextParts → Took → List Event → List ℕ
+details_of details.None theme p texts took events = []
+details_of details.Summary theme p texts took events = summary_of (node_counts p events)
+details_of details.Tree theme p texts took events = tree_of theme p texts events ++ summary_of (node_counts p events)
+details_of details.Testfeed theme p texts took events = feed_of p texts events
+details_of details.Json theme p texts took events = timed_json_of p texts took events
+details_of details.Xml theme p texts took events = timed_junit_of p texts took events
+details_of details.List theme p texts took events = list_of p
+details_of details.Plan theme p texts took events = plan_lines p
 
 -- what is expected to be printed of a tree whose bodies answer so, where nothing fails fast; of a feed and of JSON nothing is, since
--- they tell in which order things happened; of the list and the nodes, for which nothing is run, nothing is said here
-abbrev pub expected_details : Details → Theme → Nodes → (ℕ → Reply) → Option (List ℕ)
-expected_details details.None theme t reply = Some []
-expected_details details.Summary theme t reply = Some (summary_of (expected_counts t reply))
-expected_details details.Tree theme t reply = Some (expected_tree theme t reply ++ summary_of (expected_counts t reply))
-expected_details details.Testfeed theme t reply = None
-expected_details details.Json theme t reply = None
-expected_details details.Xml theme t reply = Some (expected_xml t reply)
-expected_details details.List theme t reply = None
-expected_details details.Plan theme t reply = None
+-- they tell in which order things happened, nor of XML that tells how long they took; of the list and the nodes, for which nothing is
+-- run, nothing is said here
+abbrev pub expected_details : Details → (times : Bool) → Theme → Nodes → (ℕ → Reply) → Option (List ℕ)
+expected_details details.None times theme t reply = Some []
+expected_details details.Summary times theme t reply = Some (summary_of (expected_counts t reply))
+expected_details details.Tree times theme t reply = Some (expected_tree theme t reply ++ summary_of (expected_counts t reply))
+expected_details details.Testfeed times theme t reply = None
+expected_details details.Json times theme t reply = None
+expected_details details.Xml true theme t reply = None
+expected_details details.Xml false theme t reply = Some (expected_xml t reply)
+expected_details details.List times theme t reply = None
+expected_details details.Plan times theme t reply = None
 
 -- the status that is expected
 abbrev pub expected_status : Bool → Nodes → (ℕ → Reply) → ExitStatus
@@ -91,7 +94,7 @@ expected_status needs_tests t reply = status_of_run needs_tests (expected_tests 
 -- The text before the schedule, and the status, are those that are expected of the tree. Neither the workers nor the modes of the
 -- nodes nor their locks are spoken of.
 pub record IsExpectedOutput (asked : Asked) (settings : Settings) (t : Nodes) (reply : ℕ → Reply) (schedule text : List ℕ) (status : ExitStatus) : Type 0 where
-  pub printed : (shown : List ℕ) → expected_details asked.details asked.theme t reply ≡ Some shown → text ≡ head_of asked.details settings.warnings ++ (shown ++ schedule)
+  pub printed : (shown : List ℕ) → expected_details asked.details asked.times asked.theme t reply ≡ Some shown → text ≡ head_of asked.details settings.warnings ++ (shown ++ schedule)
   pub exits : status ≡ expected_status asked.fail_if_no_tests t reply
 
 -- The line of a schedule, in the form of the details: it names steps by which so many workers come to just this history, or says that
@@ -109,13 +112,17 @@ IsBehindDetails kind false workers p answers history schedule = schedule ≡ []
 IsBehindDetails kind true workers p answers history schedule = IsScheduleLine kind workers p answers history schedule
 
 -- What is printed of this history of a run of the plan by the settings' workers, with these texts of its nodes: what the output
--- begins with and a line for each warning, then the history as the options say, then its schedule, if one is asked for; and its failures make the status.
+-- begins with and a line for each warning, then the history as the options say, with the times that are known of its nodes, then its
+-- schedule, if one is asked for; and its failures make the status.
 pub record IsPrintedRun (asked : Asked) (settings : Settings) (p : PlanParts) (answers : List (ℕ × Reply)) (history : List Event) (texts : TextParts) (text : List ℕ) (status : ExitStatus) : Type 0 where
   pub published : IsHistory settings.workers p answers history
   pub are : AreRunTexts p (replies_of answers) history texts
   pub schedule : List ℕ
   pub behind_details : IsBehindDetails asked.details asked.schedule settings.workers p answers history schedule
-  pub printed : text ≡ head_of asked.details settings.warnings ++ (details_of asked.details asked.theme p texts history ++ schedule)
+  -- how long nodes took, which is known of none unless it is asked for
+  pub took : Took
+  pub untimed : asked.times ≡ false → took ≡ []
+  pub printed : text ≡ head_of asked.details settings.warnings ++ (details_of asked.details asked.theme p texts took history ++ schedule)
   pub exits : status ≡ status_of_run asked.fail_if_no_tests (tests_found p history) (has_failed p history)
   -- and unless the plan fails fast all this but a feed and the schedule is what is expected, whatever the workers did
   pub as_expected : p.fail_fast ≡ false → IsExpectedOutput asked settings p.tree (reply_of answers) schedule text status

@@ -23,10 +23,10 @@ use Rattle.launcher.specs.declared.report.Output.{Output}
 use Rattle.launch_options.specs.Asked.{Asked}
 use Rattle.launch_options.specs.DetailsTexts.{prints_live}
 
--- whether lines are printed while a run goes on: those of events are, unless steps are replayed
-abbrev pub outlet_by : Details → Option (List Step) → Outlet
-outlet_by kind None = if prints_live kind then Waiting else Closed
-outlet_by kind (Some steps) = Closed
+-- whether lines are printed while a run goes on: those of events are, unless steps are replayed, or it is JSON that tells how long tests took
+abbrev pub outlet_by : Details → (times : Bool) → Option (List Step) → Outlet
+outlet_by kind times None = if prints_live kind times then Waiting else Closed
+outlet_by kind times (Some steps) = Closed
 
 -- the form of these lines
 abbrev pub form_by : Details → LineForm
@@ -85,9 +85,9 @@ module _ {L : Type 0} (saw : PlanParts → L → L → List Telling → Type 0) 
 abbrev pub SeesRefusal : {L : Type 0} → (first now : L) → (Output : List ℕ → ExitStatus → Type 0) → LaunchFault → Type 0
 SeesRefusal first now Output fault = (now ≡ first) ⊎ ((fault ≡ NoMemory) × SomeOutput Output)
 
--- lines of events are asked for, and no replay: so they are printed while the run goes on
+-- lines of events are asked for that do not wait for times, and no replay: so they are printed while the run goes on
 abbrev pub HasLiveFeed : Asked → Type 0
-HasLiveFeed asked = (prints_live asked.details ≡ true) × (asked.replay ≡ None)
+HasLiveFeed asked = (prints_live asked.details asked.times ≡ true) × (asked.replay ≡ None)
 
 -- why the writer has a part of an output alone: it failed; or of lines of events so many bytes were printed, and memory for the rest was
 -- wanting

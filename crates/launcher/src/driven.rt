@@ -14,6 +14,7 @@ ghost use Rattle.launcher.specs.Watched.{LacksMeans, Watches};
 use crate::report::{Output, told_report};
 use crate::watched_feed::show;
 use config_params::Settings;
+use job_times::Timings;
 use launch_options::{LaunchFault, Options};
 use plan_events::{Event, Texts};
 use resource_locks::Plan;
@@ -50,8 +51,9 @@ fn show_all<V: Watcher>(watcher: &mut V, plan: &Plan, texts: &Texts, events: &[E
     }
 }
 
-/// The report of a run of what the suite says, by the fixed schedule of the settings' workers. Whoever watches is
-/// shown its events when the report is made, so that nothing was seen of a run for which memory is wanting.
+/// The report of a run of what the suite says, by the fixed schedule of the settings' workers. It runs no job, so no
+/// time is known of any node. Whoever watches is shown its events when the report is made, so that nothing was seen of
+/// a run for which memory is wanting.
 pub(crate) fn drive_report<V: Watcher>(
     alloc: Global,
     options: &Options,
@@ -71,6 +73,7 @@ pub(crate) fn drive_report<V: Watcher>(
     let trace = fixed_trace(alloc, plan, answers, settings.workers)?;
     let history = trace.published.as_slice();
     let texts = texts_of(alloc, plan, answers, history)?;
+    let untimed = Timings::none(alloc);
     let report = told_report(
         alloc,
         options,
@@ -79,6 +82,7 @@ pub(crate) fn drive_report<V: Watcher>(
         Some(answers),
         history,
         &texts,
+        &untimed,
     )?;
     show_all(watcher, plan, &texts, history);
     Ok(report)

@@ -13,6 +13,7 @@ mod report;
 mod run;
 mod schedule_line;
 mod scripted;
+mod slow_limits;
 mod told_replies;
 mod warning_lines;
 mod watched_feed;
@@ -26,3 +27,4 @@ pub use launch_options::{
 };
 pub use program::{Program, run_jobs, run_jobs_watched};
 pub use run::{read_suite, run_options, run_options_watched, run_suite, run_suite_watched};
+pub use warning_lines::beginning;

@@ -23,10 +23,12 @@ use crate::exit_status::ExitStatus;
 use crate::missing::answer_unless;
 use crate::report::{Output, program_report};
 use crate::run::{SelectedPlan, broken_off, crewed_plan, form_for, outlet_for, settings_over};
+use crate::slow_limits::{set_default_limits, set_limits};
 use crate::warning_lines::head_text;
 use crate::watched_feed::WatchedFeed;
 use config_params::{Params, Settings};
-use descriptor::Tree;
+use descriptor::{BodyId, Tree};
+use job_times::{NoStopwatch, Stopwatch};
 use launch_options::{LaunchFault, Options};
 use live::LiveFeed;
 use plan_events::Job;
@@ -38,13 +40,15 @@ use std::sync::Wait;
 use std::thread::Threads;
 use worker_pool::{Nobody, Watcher};
 
-/// What a program has to be run: a tree, what it says of the configuration below the options, and a
-/// job for each body and each after-body of the tree.
+/// What a program has to be run: a tree, what it says of the configuration below the options, a job
+/// for each body and each after-body of the tree, and from how many milliseconds on bodies of these
+/// numbers are slow.
 #[derive(Drop)]
 pub struct Program<B> {
     pub tree: Tree,
     pub properties: Params,
     pub jobs: Jobs<B>,
+    pub slow: Vec<(BodyId, u32)>,
 }
 
 /// The settings and the plan of a program, whether something had to be selected and is not, and the lines of the
@@ -100,7 +104,13 @@ fn planned_program(
 }
 
 /// What the options print of these jobs on a plan, and the program's status, of which a feed may have printed a part.
-fn shown_program<B: Job + Send, T: Threads + Wait + Sync, W: Write, V: Watcher>(
+fn shown_program<
+    B: Job + Send,
+    T: Threads + Wait + Sync,
+    W: Write,
+    V: Watcher,
+    S: Stopwatch + Sync,
+>(
     rt: &T,
     alloc: Global,
     options: &Options,
@@ -108,6 +118,7 @@ fn shown_program<B: Job + Send, T: Threads + Wait + Sync, W: Write, V: Watcher>(
     plan: Plan,
     jobs: Jobs<B>,
     live: &mut WatchedFeed<'_, '_, W, V>,
+    stopwatch: &S,
 ) -> Result<Output, LaunchFault>
     requires some { 1 ≤ settings.now.workers }
     requires few { settings.now.workers ≤ 64 }
@@ -117,7 +128,8 @@ fn shown_program<B: Job + Send, T: Threads + Wait + Sync, W: Write, V: Watcher>(
     requires all { HasAllJobs plan jobs.items }
     requires head { live.old.feed.head.now ≡ head_of options.now.details settings.now.warnings }
     requires form { live.old.feed.form ≡ form_by options.now.details }
-    requires outlet { live.old.feed.outlet ≡ outlet_by options.now.details (asked_by options.now).replay }
+    requires outlet { live.old.feed.outlet ≡ outlet_by options.now.details options.now.times
+        (asked_by options.now).replay }
     requires none { live.old.feed.sent ≡ 0 }
     ensures same { live.new.feed.writer.ghost_name ≡ live.old.feed.writer.ghost_name }
     ensures same_watcher { live.new.watcher.ghost_name ≡ live.old.watcher.ghost_name }
@@ -134,11 +146,11 @@ fn shown_program<B: Job + Send, T: Threads + Wait + Sync, W: Write, V: Watcher>(
         settings.now plan jobs.items) live.new.feed.outlet (W.contents live.old.feed.writer.now) (W.contents live.new.feed.writer.now)
         live.new.feed.sent) }
 {
-    program_report(rt, alloc, options, settings, plan, jobs, live)
+    program_report(rt, alloc, options, settings, plan, jobs, live, stopwatch)
 }
 
 /// Runs these jobs on a plan, and writes what the options print of that, behind this text.
-fn run_planned<B: Job + Send, T: Threads + Wait + Sync, W: Write, V: Watcher>(
+fn run_planned<B: Job + Send, T: Threads + Wait + Sync, W: Write, V: Watcher, S: Stopwatch + Sync>(
     rt: &T,
     alloc: Global,
     options: &Options,
@@ -148,6 +160,7 @@ fn run_planned<B: Job + Send, T: Threads + Wait + Sync, W: Write, V: Watcher>(
     head: &str,
     writer: &mut W,
     watcher: &mut V,
+    stopwatch: &S,
 ) -> Result<ExitStatus, LaunchFault>
     requires some { 1 ≤ settings.now.workers }
     requires few { settings.now.workers ≤ 64 }
@@ -165,7 +178,9 @@ fn run_planned<B: Job + Send, T: Threads + Wait + Sync, W: Write, V: Watcher>(
     let form = form_for(options.details);
     let feed = LiveFeed::new(alloc, writer, head, form, outlet_for(options));
     let mut live = WatchedFeed { feed, watcher };
-    match shown_program(rt, alloc, options, settings, plan, jobs, &mut live) {
+    match shown_program(
+        rt, alloc, options, settings, plan, jobs, &mut live, stopwatch,
+    ) {
         Ok(report) => {
             live.finish(report.text.as_bytes())?;
             Ok(report.status)
@@ -178,17 +193,24 @@ fn run_planned<B: Job + Send, T: Threads + Wait + Sync, W: Write, V: Watcher>(
 /// the same of it, a schedule by the replies that its history and its texts tell. First of all it is refused that steps
 /// are to be replayed, or that they are to be those of the fixed schedule (105): nobody knows
 /// beforehand what the jobs answer. Then what a suite is refused for: what gives no settings
-/// (34, 32, 33) and a selector that covers nothing (41), which are judged before any memory is
+/// (37, 34, 32, 33) and a selector that covers nothing (41), which are judged before any memory is
 /// taken; more than 256 keys (50), more than 64 workers (61), that no thread could be started (90),
 /// and an output of which the writer has only the first bytes (81). On any refusal but 81 nothing
 /// is written.
-pub fn run_jobs_watched<B: Job + Send, T: Threads + Wait + Sync, W: Write, V: Watcher>(
+pub fn run_jobs_watched<
+    B: Job + Send,
+    T: Threads + Wait + Sync,
+    W: Write,
+    V: Watcher,
+    S: Stopwatch + Sync,
+>(
     rt: &T,
     alloc: Global,
     options: &Options,
     program: Program<B>,
     writer: &mut W,
     watcher: &mut V,
+    stopwatch: &S,
 ) -> Result<ExitStatus, LaunchFault>
     requires jobs { (plan : PlanParts) (workers ring : ℕ) → JobsMayAnswer B.answers
         (run_of plan workers ring program.jobs.items) }
@@ -207,7 +229,10 @@ pub fn run_jobs_watched<B: Job + Send, T: Threads + Wait + Sync, W: Write, V: Wa
         tree,
         properties,
         jobs,
+        slow,
     } = program;
+    set_limits(stopwatch, slow.as_slice());
+    drop(slow);
     // the contract of `len` tells that it is a tree
     let _ = tree.len();
     let PlannedProgram {
@@ -218,6 +243,7 @@ pub fn run_jobs_watched<B: Job + Send, T: Threads + Wait + Sync, W: Write, V: Wa
     } = planned_program(alloc, options, properties, tree)?;
     // and that of `tree`, that what is selected is one
     let _ = plan.tree();
+    set_default_limits(stopwatch, &plan, settings.slow);
     let answer = run_planned(
         rt,
         alloc,
@@ -228,11 +254,12 @@ pub fn run_jobs_watched<B: Job + Send, T: Threads + Wait + Sync, W: Write, V: Wa
         head.as_str(),
         writer,
         watcher,
+        stopwatch,
     );
     answer_unless(is_missing, answer)
 }
 
-/// Runs a program's jobs as `run_jobs_watched` does, where nobody watches.
+/// Runs a program's jobs as `run_jobs_watched` does, where nobody watches and no time is known.
 pub fn run_jobs<B: Job + Send, T: Threads + Wait + Sync, W: Write>(
     rt: &T,
     alloc: Global,
@@ -251,5 +278,13 @@ pub fn run_jobs<B: Job + Send, T: Threads + Wait + Sync, W: Write>(
         Keeps (W.contents writer.old) (W.contents writer.new)) }
 {
     let mut nobody = Nobody;
-    run_jobs_watched(rt, alloc, options, program, writer, &mut nobody)
+    run_jobs_watched(
+        rt,
+        alloc,
+        options,
+        program,
+        writer,
+        &mut nobody,
+        &NoStopwatch,
+    )
 }

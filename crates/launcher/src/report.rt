@@ -1,7 +1,8 @@
 //! What is printed of a run or of a replay, and its status.
 
-ghost use Rattle.std.specs.Prelude.{◌≡◌, ℕ, ◌≤◌, List, ◌++◌, ◌⊎◌, None, option_map, IfOk, IfErr, string_bytes};
+ghost use Rattle.std.specs.Prelude.{◌≡◌, ℕ, ◌≤◌, List, [], ◌++◌, ◌⊎◌, None, false, option_map, IfOk, IfErr, string_bytes};
 ghost use Rattle.descriptor.specs.Nodes.{IsTree};
+ghost use Rattle.job_times.specs.Timings.{Took};
 ghost use Rattle.listeners.specs.Counts.{counts_of};
 ghost use Rattle.listeners.specs.Results.{tests_found, has_failed};
 ghost use Rattle.listeners.specs.SummaryTexts.{summary_of};
@@ -28,10 +29,12 @@ use crate::schedule_line::behind_run;
 use crate::scripted::scripted_jobs;
 use crate::warning_lines::head_text;
 use config_params::{Settings, Warnings};
+use descriptor::Tree;
+use job_times::{Stopwatch, Timings, timings_of};
 use launch_options::{Details, LaunchFault, Options};
 use listeners::{Audience, Results, Theme, feed_text};
 use plan_events::{Event, Job, Texts};
-use reports::{json_text, junit_text, list_text, plan_text};
+use reports::{list_text, plan_text, timed_json_text, timed_junit_text};
 use resource_locks::Plan;
 use run_table::{Jobs, TableFault};
 use sched_core::{Answers, run_steps, texts_of};
@@ -39,7 +42,8 @@ use scheduling::Step;
 use std::alloc::{AllocError, Global};
 use std::sync::Wait;
 use std::thread::Threads;
-use worker_pool::{Report, RunCause, Watcher, run_watched};
+use timed_runs::run_timed;
+use worker_pool::{Report, RunCause, Watcher};
 
 /// What is printed, and the status.
 #[derive(Debug, Drop)]
@@ -64,7 +68,7 @@ fn tree_and_summary(
     Ok(text)
 }
 
-/// What is printed of these results, which are those of this history on the plan.
+/// What is printed of these results, which are those of this history on the plan, with these times.
 fn details_text(
     alloc: Global,
     options: &Options,
@@ -72,19 +76,20 @@ fn details_text(
     history: &[Event],
     results: &Results<'_>,
     texts: &Texts,
+    timings: &Timings,
 ) -> Result<String, AllocError>
     requires plan { plan.now ≡ results.now.plan }
     requires events { history.now ≡ results.now.events }
     ensures { IfOk result (λ text. string_bytes text ≡ details_of options.now.details options.now.theme
-        results.now.plan texts.now results.now.events) }
+        results.now.plan texts.now timings.now.took.items results.now.events) }
 {
     match options.details {
         Details::None => Ok(String::new(alloc)),
         Details::Summary => results.summary_text(alloc),
         Details::Tree => tree_and_summary(alloc, options.theme, results, texts),
         Details::Testfeed => results.feed_text(alloc, texts),
-        Details::Json => json_text(alloc, plan, history, texts),
-        Details::Xml => junit_text(alloc, plan, history, texts),
+        Details::Json => timed_json_text(alloc, plan, history, texts, timings),
+        Details::Xml => timed_junit_text(alloc, plan, history, texts, timings),
         Details::List => list_text(alloc, plan),
         Details::Plan => plan_text(alloc, plan),
     }
@@ -112,16 +117,17 @@ fn run_text(
     history: &[Event],
     results: &Results<'_>,
     texts: &Texts,
+    timings: &Timings,
     schedule: &str,
 ) -> Result<String, AllocError>
     requires plan { plan.now ≡ results.now.plan }
     requires events { history.now ≡ results.now.events }
     ensures { IfOk result (λ text. string_bytes text ≡ head_of options.now.details warnings
-        ++ (details_of options.now.details options.now.theme results.now.plan texts.now results.now.events
-        ++ schedule.now)) }
+        ++ (details_of options.now.details options.now.theme results.now.plan texts.now timings.now.took.items
+        results.now.events ++ schedule.now)) }
 {
     let head = head_text(alloc, options.details, warnings)?;
-    let details = details_text(alloc, options, plan, history, results, texts)?;
+    let details = details_text(alloc, options, plan, history, results, texts, timings)?;
     let mut text = put_behind(head, details)?;
     text.push_str(schedule)?;
     Ok(text)
@@ -134,17 +140,19 @@ fn history_report(
     warnings: Warnings,
     plan: &Plan,
     texts: &Texts,
+    timings: &Timings,
     history: &[Event],
     schedule: &str,
 ) -> Result<Output, AllocError>
     ensures text { IfOk result (λ report. string_bytes report.text ≡ head_of options.now.details warnings
-        ++ (details_of options.now.details options.now.theme plan.now texts.now history.now ++ schedule.now)) }
+        ++ (details_of options.now.details options.now.theme plan.now texts.now timings.now.took.items history.now
+        ++ schedule.now)) }
     ensures status { IfOk result (λ report. report.status ≡ status_of_run options.now.fail_if_no_tests
         (tests_found plan.now history.now) (has_failed plan.now history.now)) }
 {
     let results = Results::of(alloc, plan, history)?;
     let text = run_text(
-        alloc, options, warnings, plan, history, &results, texts, schedule,
+        alloc, options, warnings, plan, history, &results, texts, timings, schedule,
     )?;
     let needs_tests = options.fail_if_no_tests;
     // a pass over the nodes, which is spared where the number says nothing
@@ -169,7 +177,7 @@ fn unrun(cause: RunCause) -> LaunchFault
     }
 }
 
-/// The report of this history, with its schedule if one is asked for.
+/// The report of this history, with these times, and with its schedule if one is asked for.
 pub(crate) fn told_report(
     alloc: Global,
     options: &Options,
@@ -178,11 +186,13 @@ pub(crate) fn told_report(
     known: Option<&Answers>,
     history: &[Event],
     texts: &Texts,
+    timings: &Timings,
 ) -> Result<Output, AllocError>
     ensures text { IfOk result (λ report. (schedule : List ℕ) × IsBehindRun options.now.details options.now.schedule
         settings.now.workers plan.now (option_map (λ a. a.now) known.entry) history.now texts.now schedule
         × (string_bytes report.text ≡ head_of options.now.details settings.now.warnings
-        ++ (details_of options.now.details options.now.theme plan.now texts.now history.now ++ schedule))) }
+        ++ (details_of options.now.details options.now.theme plan.now texts.now timings.now.took.items history.now
+        ++ schedule))) }
     ensures status { IfOk result (λ report. report.status ≡ status_of_run options.now.fail_if_no_tests
         (tests_found plan.now history.now) (has_failed plan.now history.now)) }
 {
@@ -202,55 +212,98 @@ pub(crate) fn told_report(
         settings.warnings,
         plan,
         texts,
+        timings,
         history,
         schedule.as_str(),
     )
 }
 
-/// The report of a run that is over.
+/// How long the bodies of each node of the tree took, if that is asked for.
+fn timings_asked<S: Stopwatch>(
+    alloc: Global,
+    times: bool,
+    tree: &Tree,
+    stopwatch: &S,
+) -> Result<Timings, AllocError>
+    ensures untimed { IfOk result (λ timings. times ≡ false → timings.took.items ≡ []) }
+{
+    if times {
+        timings_of(alloc, tree, stopwatch)
+    } else {
+        Ok(Timings::none(alloc))
+    }
+}
+
+/// The report of a run that is over, with these times.
 fn ended_report<B: Job>(
     alloc: Global,
     options: &Options,
     settings: &Settings,
     known: Option<&Answers>,
     ran: &Report<B>,
+    timings: &Timings,
 ) -> Result<Output, AllocError>
     ensures text { IfOk result (λ report. (schedule : List ℕ) × IsBehindRun options.now.details options.now.schedule
         settings.now.workers ran.now.plan (option_map (λ a. a.now) known.entry) ran.now.events.items ran.now.texts schedule
         × (string_bytes report.text ≡ head_of options.now.details settings.now.warnings
-        ++ (details_of options.now.details options.now.theme ran.now.plan ran.now.texts ran.now.events.items
-        ++ schedule))) }
+        ++ (details_of options.now.details options.now.theme ran.now.plan ran.now.texts timings.now.took.items
+        ran.now.events.items ++ schedule))) }
     ensures status { IfOk result (λ report. report.status ≡ status_of_run options.now.fail_if_no_tests
         (tests_found ran.now.plan ran.now.events.items) (has_failed ran.now.plan ran.now.events.items)) }
 {
     let history = ran.events.as_slice();
     told_report(
-        alloc, options, settings, &ran.plan, known, history, &ran.texts,
+        alloc, options, settings, &ran.plan, known, history, &ran.texts, timings,
     )
 }
 
+/// The same with what the stopwatch tells.
+fn timed_report<B: Job, S: Stopwatch>(
+    alloc: Global,
+    options: &Options,
+    settings: &Settings,
+    known: Option<&Answers>,
+    ran: &Report<B>,
+    stopwatch: &S,
+) -> Result<Output, AllocError>
+    ensures text { IfOk result (λ report. (took : Took) × (options.now.times ≡ false → took ≡ []) × (schedule : List ℕ)
+        × IsBehindRun options.now.details options.now.schedule
+        settings.now.workers ran.now.plan (option_map (λ a. a.now) known.entry) ran.now.events.items ran.now.texts schedule
+        × (string_bytes report.text ≡ head_of options.now.details settings.now.warnings
+        ++ (details_of options.now.details options.now.theme ran.now.plan ran.now.texts took ran.now.events.items
+        ++ schedule))) }
+    ensures status { IfOk result (λ report. report.status ≡ status_of_run options.now.fail_if_no_tests
+        (tests_found ran.now.plan ran.now.events.items) (has_failed ran.now.plan ran.now.events.items)) }
+{
+    let timings = timings_asked(alloc, options.times, ran.plan.tree(), stopwatch)?;
+    ended_report(alloc, options, settings, known, ran, &timings)
+}
+
 /// The same of a report that is not looked at again.
-fn output_of<B: Job>(
+fn output_of<B: Job, S: Stopwatch>(
     alloc: Global,
     options: &Options,
     settings: &Settings,
     known: Option<&Answers>,
     ran: Report<B>,
+    stopwatch: &S,
 ) -> Result<Output, AllocError>
-    ensures text { IfOk result (λ report. (schedule : List ℕ) × IsBehindRun options.now.details options.now.schedule
+    ensures text { IfOk result (λ report. (took : Took) × (options.now.times ≡ false → took ≡ []) × (schedule : List ℕ)
+        × IsBehindRun options.now.details options.now.schedule
         settings.now.workers ran.plan (option_map (λ a. a.now) known.entry) ran.events.items ran.texts schedule
         × (string_bytes report.text ≡ head_of options.now.details settings.now.warnings
-        ++ (details_of options.now.details options.now.theme ran.plan ran.texts ran.events.items
+        ++ (details_of options.now.details options.now.theme ran.plan ran.texts took ran.events.items
         ++ schedule))) }
     ensures status { IfOk result (λ report. report.status ≡ status_of_run options.now.fail_if_no_tests
         (tests_found ran.plan ran.events.items) (has_failed ran.plan ran.events.items)) }
 {
-    ended_report(alloc, options, settings, known, &ran)
+    timed_report(alloc, options, settings, known, &ran, stopwatch)
 }
 
 /// The report of a run of these jobs by the settings' workers, on threads of their own, which is shown to
-/// whoever watches. What is known of what the jobs answer is asked for a schedule alone.
-fn ran_report<B: Job + Send, T: Threads + Wait + Sync, V: Watcher>(
+/// whoever watches, and of which the stopwatch takes note. What is known of what the jobs answer is asked for a
+/// schedule alone.
+fn ran_report<B: Job + Send, T: Threads + Wait + Sync, V: Watcher, S: Stopwatch + Sync>(
     rt: &T,
     alloc: Global,
     options: &Options,
@@ -259,6 +312,7 @@ fn ran_report<B: Job + Send, T: Threads + Wait + Sync, V: Watcher>(
     jobs: Jobs<B>,
     known: Option<&Answers>,
     watcher: &mut V,
+    stopwatch: &S,
 ) -> Result<Output, LaunchFault>
     requires some { 1 ≤ settings.now.workers }
     requires few { settings.now.workers ≤ 64 }
@@ -274,7 +328,7 @@ fn ran_report<B: Job + Send, T: Threads + Wait + Sync, V: Watcher>(
     let Ok(mut nobody) = Audience::new(Vec::new(alloc)) else {
         unreachable!()
     };
-    match run_watched(
+    match run_timed(
         rt,
         alloc,
         plan,
@@ -283,14 +337,15 @@ fn ran_report<B: Job + Send, T: Threads + Wait + Sync, V: Watcher>(
         options.ring,
         &mut nobody,
         watcher,
+        stopwatch,
     ) {
-        Ok(ran) => Ok(output_of(alloc, options, settings, known, ran)?),
+        Ok(ran) => Ok(output_of(alloc, options, settings, known, ran, stopwatch)?),
         Err(fault) => Err(unrun(fault.cause)),
     }
 }
 
 /// The report of a run by the settings' workers of the jobs that the suite says.
-fn run_report<T: Threads + Wait + Sync, V: Watcher>(
+fn run_report<T: Threads + Wait + Sync, V: Watcher, S: Stopwatch + Sync>(
     rt: &T,
     alloc: Global,
     options: &Options,
@@ -299,6 +354,7 @@ fn run_report<T: Threads + Wait + Sync, V: Watcher>(
     answers: &Answers,
     spins: &[u32],
     watcher: &mut V,
+    stopwatch: &S,
 ) -> Result<Output, LaunchFault>
     requires some { 1 ≤ settings.now.workers }
     requires few { settings.now.workers ≤ 64 }
@@ -319,12 +375,13 @@ fn run_report<T: Threads + Wait + Sync, V: Watcher>(
         jobs,
         Some(answers),
         watcher,
+        stopwatch,
     )
 }
 
 /// The report of a run of what the suite says: with `--drive` by the fixed schedule, and else on threads; on threads
 /// also where a dynamic test holds a key, which none of a suite's text does, since no schedule is known to end that.
-fn suite_report<T: Threads + Wait + Sync, V: Watcher>(
+fn suite_report<T: Threads + Wait + Sync, V: Watcher, S: Stopwatch + Sync>(
     rt: &T,
     alloc: Global,
     options: &Options,
@@ -333,6 +390,7 @@ fn suite_report<T: Threads + Wait + Sync, V: Watcher>(
     answers: &Answers,
     spins: &[u32],
     watcher: &mut V,
+    stopwatch: &S,
 ) -> Result<Output, LaunchFault>
     requires some { 1 ≤ settings.now.workers }
     requires few { settings.now.workers ≤ 64 }
@@ -346,7 +404,9 @@ fn suite_report<T: Threads + Wait + Sync, V: Watcher>(
     if options.drive.is_some() && plan.has_free_spares() {
         drive_report(alloc, options, settings, &plan, answers, watcher)
     } else {
-        run_report(rt, alloc, options, settings, plan, answers, spins, watcher)
+        run_report(
+            rt, alloc, options, settings, plan, answers, spins, watcher, stopwatch,
+        )
     }
 }
 
@@ -409,7 +469,7 @@ fn planned(
 
 /// What the options print of a plan where there are no steps to be replayed: it is run, unless its list or its nodes
 /// are asked for.
-fn plan_report<T: Threads + Wait + Sync, V: Watcher>(
+fn plan_report<T: Threads + Wait + Sync, V: Watcher, S: Stopwatch + Sync>(
     rt: &T,
     alloc: Global,
     options: &Options,
@@ -418,6 +478,7 @@ fn plan_report<T: Threads + Wait + Sync, V: Watcher>(
     answers: &Answers,
     spins: &[u32],
     watcher: &mut V,
+    stopwatch: &S,
 ) -> Result<Output, LaunchFault>
     requires some { 1 ≤ settings.now.workers }
     requires few { settings.now.workers ≤ 64 }
@@ -436,14 +497,16 @@ fn plan_report<T: Threads + Wait + Sync, V: Watcher>(
         | Details::Tree
         | Details::Testfeed
         | Details::Json
-        | Details::Xml => suite_report(rt, alloc, options, settings, plan, answers, spins, watcher),
+        | Details::Xml => suite_report(
+            rt, alloc, options, settings, plan, answers, spins, watcher, stopwatch,
+        ),
     }
 }
 
 /// What these options print of a plan with these answers under these settings, and the status. Want
 /// of memory is refused, and where there are no steps to be replayed that no thread could be
 /// started.
-pub(crate) fn report_of<T: Threads + Wait + Sync, V: Watcher>(
+pub(crate) fn report_of<T: Threads + Wait + Sync, V: Watcher, S: Stopwatch + Sync>(
     rt: &T,
     alloc: Global,
     options: &Options,
@@ -452,6 +515,7 @@ pub(crate) fn report_of<T: Threads + Wait + Sync, V: Watcher>(
     answers: &Answers,
     spins: &[u32],
     watcher: &mut V,
+    stopwatch: &S,
 ) -> Result<Output, LaunchFault>
     requires some { 1 ≤ settings.now.workers }
     requires few { settings.now.workers ≤ 64 }
@@ -467,13 +531,20 @@ pub(crate) fn report_of<T: Threads + Wait + Sync, V: Watcher>(
             let report = replay_report(alloc, steps.as_slice(), &plan, answers, settings.workers)?;
             Ok(report)
         }
-        None => plan_report(rt, alloc, options, settings, plan, answers, spins, watcher),
+        None => plan_report(
+            rt, alloc, options, settings, plan, answers, spins, watcher, stopwatch,
+        ),
     }
 }
 
 /// What the options print of a plan with these jobs, of which nobody knows what they answer: they are run, unless
 /// the list or the nodes are asked for.
-pub(crate) fn program_report<B: Job + Send, T: Threads + Wait + Sync, V: Watcher>(
+pub(crate) fn program_report<
+    B: Job + Send,
+    T: Threads + Wait + Sync,
+    V: Watcher,
+    S: Stopwatch + Sync,
+>(
     rt: &T,
     alloc: Global,
     options: &Options,
@@ -481,6 +552,7 @@ pub(crate) fn program_report<B: Job + Send, T: Threads + Wait + Sync, V: Watcher
     plan: Plan,
     jobs: Jobs<B>,
     watcher: &mut V,
+    stopwatch: &S,
 ) -> Result<Output, LaunchFault>
     requires some { 1 ≤ settings.now.workers }
     requires few { settings.now.workers ≤ 64 }
@@ -502,6 +574,8 @@ pub(crate) fn program_report<B: Job + Send, T: Threads + Wait + Sync, V: Watcher
         | Details::Tree
         | Details::Testfeed
         | Details::Json
-        | Details::Xml => ran_report(rt, alloc, options, settings, plan, jobs, None, watcher),
+        | Details::Xml => ran_report(
+            rt, alloc, options, settings, plan, jobs, None, watcher, stopwatch,
+        ),
     }
 }

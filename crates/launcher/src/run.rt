@@ -29,10 +29,12 @@ use crate::exit_status::ExitStatus;
 use crate::missing::{answer_unless, is_missing};
 use crate::report::{Output, report_of};
 use crate::scripted::spins_of;
+use crate::slow_limits::{set_default_limits, set_script_limits};
 use crate::warning_lines::head_text;
 use crate::watched_feed::WatchedFeed;
 use config_params::{Params, Settings, SettingsFault, modes};
 use descriptor::Tree;
+use job_times::{NoStopwatch, Stopwatch};
 use launch_options::{CutCause, CutOutput, Details, LaunchFault, Options};
 use live::{LineForm, LiveFeed, Outlet};
 use plan_events::MOST_WORKERS;
@@ -234,14 +236,14 @@ fn ready_run(alloc: Global, options: &Options, suite: Suite) -> Result<ReadyRun,
     Ok(with_scripts(alloc, settings, selected, scripts)?)
 }
 
-/// Whether lines are printed while the run goes on: those of events are.
+/// Whether lines are printed while the run goes on: those of events are, unless they wait for times.
 pub(crate) fn outlet_for(options: &Options) -> Outlet
-    ensures { result ≡ outlet_by options.now.details (asked_by options.now).replay }
+    ensures { result ≡ outlet_by options.now.details options.now.times (asked_by options.now).replay }
 {
     match &options.replay {
         Some(_) => Outlet::Closed,
         None => {
-            if options.details.prints_live() {
+            if options.details.prints_live(options.times) {
                 Outlet::Waiting
             } else {
                 Outlet::Closed
@@ -267,19 +269,21 @@ pub(crate) fn form_for(details: Details) -> LineForm
 }
 
 /// What the options print of a suite, and the program's status, of which a part may be printed before.
-fn shown_report<T: Threads + Wait + Sync, W: Write, V: Watcher>(
+fn shown_report<T: Threads + Wait + Sync, W: Write, V: Watcher, S: Stopwatch + Sync>(
     rt: &T,
     alloc: Global,
     options: &Options,
     ready: ReadyRun,
     live: &mut WatchedFeed<'_, '_, W, V>,
+    stopwatch: &S,
 ) -> Result<Output, LaunchFault>
     requires some { 1 ≤ ready.settings.workers }
     requires few { ready.settings.workers ≤ 64 }
     requires guarded { IsGuarded (declared_of ready.plan.tree) ready.plan }
     requires head { live.old.feed.head.now ≡ head_of options.now.details ready.settings.warnings }
     requires form { live.old.feed.form ≡ form_by options.now.details }
-    requires outlet { live.old.feed.outlet ≡ outlet_by options.now.details (asked_by options.now).replay }
+    requires outlet { live.old.feed.outlet ≡ outlet_by options.now.details options.now.times
+        (asked_by options.now).replay }
     requires none { live.old.feed.sent ≡ 0 }
     ensures same { live.new.feed.writer.ghost_name ≡ live.old.feed.writer.ghost_name }
     ensures same_watcher { live.new.watcher.ghost_name ≡ live.old.watcher.ghost_name }
@@ -311,6 +315,7 @@ fn shown_report<T: Threads + Wait + Sync, W: Write, V: Watcher>(
         &answers,
         spins.as_slice(),
         live,
+        stopwatch,
     )
 }
 
@@ -340,7 +345,7 @@ pub(crate) fn broken_off(fault: LaunchFault, outlet: Outlet, sent: usize) -> Lau
 }
 
 /// Runs what is ready to be run, and writes what the options print of it, behind this text.
-fn run_ready<T: Threads + Wait + Sync, W: Write, V: Watcher>(
+fn run_ready<T: Threads + Wait + Sync, W: Write, V: Watcher, S: Stopwatch + Sync>(
     rt: &T,
     alloc: Global,
     options: &Options,
@@ -348,6 +353,7 @@ fn run_ready<T: Threads + Wait + Sync, W: Write, V: Watcher>(
     head: &str,
     writer: &mut W,
     watcher: &mut V,
+    stopwatch: &S,
 ) -> Result<ExitStatus, LaunchFault>
     requires some { 1 ≤ ready.settings.workers }
     requires few { ready.settings.workers ≤ 64 }
@@ -362,7 +368,7 @@ fn run_ready<T: Threads + Wait + Sync, W: Write, V: Watcher>(
     let form = form_for(options.details);
     let feed = LiveFeed::new(alloc, writer, head, form, outlet_for(options));
     let mut live = WatchedFeed { feed, watcher };
-    match shown_report(rt, alloc, options, ready, &mut live) {
+    match shown_report(rt, alloc, options, ready, &mut live, stopwatch) {
         Ok(report) => {
             live.finish(report.text.as_bytes())?;
             Ok(report.status)
@@ -375,19 +381,22 @@ fn run_ready<T: Threads + Wait + Sync, W: Write, V: Watcher>(
 /// workers, by the fixed schedule of as many workers as are asked for, or by the steps of a replay,
 /// and writes what the options ask for: the lines of events
 /// while the run goes on, and all else when it is over. Refused are, in this order, what gives no
-/// settings (34, 32, 33) and a selector that covers nothing (41), which are judged before any
+/// settings (37, 34, 32, 33) and a selector that covers nothing (41), which are judged before any
 /// memory is taken; more than 256 keys (50), more than 64 workers (61), that no thread could be
 /// started (90), and an output of which the writer has only the first bytes (81), since it failed or
 /// since there was no memory for the rest of a feed. On any refusal but 81 nothing is written. Each event of a
 /// run is shown to the watcher, before its line is written if it has one; what is written when the
 /// run is over is written when the watcher has seen all. Of a replay and of a list it sees nothing.
-pub fn run_suite_watched<T: Threads + Wait + Sync, W: Write, V: Watcher>(
+/// If it is to be told how long tests took, that is what the stopwatch tells when the run is over, of
+/// a run on threads; no clause says what it is.
+pub fn run_suite_watched<T: Threads + Wait + Sync, W: Write, V: Watcher, S: Stopwatch + Sync>(
     rt: &T,
     alloc: Global,
     options: &Options,
     suite: Suite,
     writer: &mut W,
     watcher: &mut V,
+    stopwatch: &S,
 ) -> Result<ExitStatus, LaunchFault>
     ensures exact { IsSuiteRun (asked_by options.now) (suite_parts suite) (W.contents writer.old)
         (W.contents writer.new) result }
@@ -398,14 +407,25 @@ pub fn run_suite_watched<T: Threads + Wait + Sync, W: Write, V: Watcher>(
     ensures watched { IsSeenSuiteRun V.saw watcher.old watcher.new (asked_by options.now) (suite_parts suite)
         (W.contents writer.old) (W.contents writer.new) result }
 {
+    set_script_limits(stopwatch, suite.scripts.as_slice());
     let ready = ready_run(alloc, options, suite)?;
+    set_default_limits(stopwatch, &ready.plan, ready.settings.slow);
     let is_missing = ready.is_missing;
     let head = head_text(alloc, options.details, ready.settings.warnings)?;
-    let answer = run_ready(rt, alloc, options, ready, head.as_str(), writer, watcher);
+    let answer = run_ready(
+        rt,
+        alloc,
+        options,
+        ready,
+        head.as_str(),
+        writer,
+        watcher,
+        stopwatch,
+    );
     answer_unless(is_missing, answer)
 }
 
-/// Runs a suite as `run_suite_watched` does, where nobody watches.
+/// Runs a suite as `run_suite_watched` does, where nobody watches and no time is known.
 pub fn run_suite<T: Threads + Wait + Sync, W: Write>(
     rt: &T,
     alloc: Global,
@@ -421,20 +441,27 @@ pub fn run_suite<T: Threads + Wait + Sync, W: Write>(
         Keeps (W.contents writer.old) (W.contents writer.new)) }
 {
     let mut nobody = Nobody;
-    run_suite_watched(rt, alloc, options, suite, writer, &mut nobody)
+    run_suite_watched(rt, alloc, options, suite, writer, &mut nobody, &NoStopwatch)
 }
 
 /// Reads a suite and runs it, as `read_suite` and `run_suite_watched` say. The reading takes memory before
 /// anything is judged, but want of memory never stands in place of a suite that is too large, nor,
 /// once the suite was read, of settings that are none or of a selector that covers nothing. On any
 /// refusal but 81 nothing is written.
-pub fn run_options_watched<T: Threads + Wait + Sync, R: Read, W: Write, V: Watcher>(
+pub fn run_options_watched<
+    T: Threads + Wait + Sync,
+    R: Read,
+    W: Write,
+    V: Watcher,
+    S: Stopwatch + Sync,
+>(
     rt: &T,
     alloc: Global,
     options: &Options,
     reader: &mut R,
     writer: &mut W,
     watcher: &mut V,
+    stopwatch: &S,
 ) -> Result<ExitStatus, LaunchFault>
     ensures exact { IfSome (R.remaining reader.old)
         (λ bytes. IsRun (asked_by options.now) (suite_read (take 1048577 bytes)) (W.contents writer.old)
@@ -450,10 +477,10 @@ pub fn run_options_watched<T: Threads + Wait + Sync, R: Read, W: Write, V: Watch
         (W.contents writer.old) (W.contents writer.new) result) }
 {
     let suite = read_suite(alloc, reader)?;
-    run_suite_watched(rt, alloc, options, suite, writer, watcher)
+    run_suite_watched(rt, alloc, options, suite, writer, watcher, stopwatch)
 }
 
-/// Reads a suite and runs it as `run_options_watched` does, where nobody watches.
+/// Reads a suite and runs it as `run_options_watched` does, where nobody watches and no time is known.
 pub fn run_options<T: Threads + Wait + Sync, R: Read, W: Write>(
     rt: &T,
     alloc: Global,
@@ -472,5 +499,13 @@ pub fn run_options<T: Threads + Wait + Sync, R: Read, W: Write>(
         Keeps (W.contents writer.old) (W.contents writer.new)) }
 {
     let mut nobody = Nobody;
-    run_options_watched(rt, alloc, options, reader, writer, &mut nobody)
+    run_options_watched(
+        rt,
+        alloc,
+        options,
+        reader,
+        writer,
+        &mut nobody,
+        &NoStopwatch,
+    )
 }

@@ -11,7 +11,7 @@ use reports::push_note;
 use std::alloc::{AllocError, Global};
 
 /// What an output begins with, whatever is warned of.
-fn beginning(details: Details) -> &'static str
+pub fn beginning(details: Details) -> &'static str
     ensures { result.now ≡ beginning details }
 {
     match details {

@@ -1,13 +1,7 @@
 -- What is written to a terminal stands behind what was there.
-use Rattle.std.proofs.Common.{◌≡◌, ◌∙◌, ◌++◌, ◌+◌, ◌&&◌, not, ℕ, Bool, true, false, List, [], ◌∷◌, length, take, Option, Some, None, IfOk, IfSome, Result, Ok, Err, refl, sym, ap, ap₂, subst, append-nil}
-use Rattle.std.proofs.Math.Seq.{take-append-add, take-length}
-use Rattle.std.proofs.lemmas.List.{length-append}
-use Rattle.std.proofs.lemmas.Grind.{flat_map-append}
+use Rattle.std.proofs.Common.{◌≡◌, ◌∙◌, ◌++◌, ◌&&◌, not, ℕ, Bool, true, false, List, [], ◌∷◌, Option, Some, None, IfOk, IfSome, Result, Ok, Err, refl, sym, ap, ap₂, subst}
 use Rattle.std.proofs.lemmas.Option.{none-some, same_Some}
 use Rattle.std.specs.Result.{result_ok}
-use Rattle.std.specs.Io.KnownBytes.{Appends, Keeps}
-use Rattle.std.proofs.KnownBytes.{Appends-kept, Appends-nil, Appends-trans}
-use Rattle.listeners.specs.declared.to_writer.WriteFault.{WriteFault}
 use Rattle.resource_locks.specs.Plans.{PlanParts}
 use Rattle.listeners.specs.Listeners.{Telling}
 use Rattle.worker_pool.specs.Watching.{HasSeenMore}
@@ -15,56 +9,22 @@ use Rattle.live.proofs.Keeping.{none_kept}
 use Rattle.live.specs.Failing.{HasKept}
 use Rattle.live.proofs.RunningTests.{none_running, running_on}
 use Rattle.live.specs.RunningTests.{Follows, HasFollowedTests}
-use Rattle.live.specs.Terminals.{AreDrawn, HasFollowed, IsDrawnOn, IsSent, Line, drawing_of, drawings_of, is_done}
+use Rattle.live.specs.Terminals.{AreDrawn, Drawing, HasFollowed, IsDrawnOn, drawing_of, is_done}
+use Rattle.live.specs.Written.{IsSent}
+use Rattle.live.proofs.Written.{none_written, one_written, written_behind, written_still}
 use Rattle.live.specs.declared.progress.Progress.{Progress}
-
--- all of a text was written, and then nothing more
-pub sent_whole : (a b c : Option (List ℕ)) (text bytes : List ℕ) (all : Bool) → bytes ≡ text → Appends a b bytes → Keeps b c → IsSent all a c text
-sent_whole a b c text bytes true same is keeps = Appends-kept a b c text (subst (Appends a b) same is) keeps
-sent_whole a b c text bytes false same is keeps = (length text, subst (Appends a c) (sym (take-length text)) (Appends-kept a b c text (subst (Appends a b) same is) keeps))
-
--- a part was written
-pub sent_part : (a b : Option (List ℕ)) (text bytes : List ℕ) (fault : WriteFault) → bytes ≡ text → Appends a b (take fault.sent bytes) → IsSent false a b text
-sent_part a b text bytes fault same is = (fault.sent, subst (λ (l : List ℕ). Appends a b (take fault.sent l)) same is)
 
 -- nothing was drawn
 pub none_drawn : (a : Option (List ℕ)) (done : Bool) → AreDrawn a a done
-none_drawn a done = record { lines = []; sent = 0; whole = λ going. refl; written = Appends-nil a }
-
--- one line was drawn
-pub one_drawn : (a b : Option (List ℕ)) (all done : Bool) (line : Option Line) (text : List ℕ) → text ≡ drawing_of line → (all ≡ false → done ≡ true) → IsSent all a b text → AreDrawn a b done
-one_drawn a b true done line text is ends sent = record {
-  lines = line ∷ [];
-  sent = length (drawings_of (line ∷ []));
-  whole = λ going. refl;
-  written = subst (Appends a b) (is ∙ sym (append-nil (drawing_of line)) ∙ sym (take-length (drawings_of (line ∷ [])))) sent;
-}
-one_drawn a b false done line text is ends sent = record {
-  lines = line ∷ [];
-  sent = sent.0;
-  whole = λ going. cc (ends refl, going);
-  written = subst (λ (l : List ℕ). Appends a b (take sent.0 l)) (is ∙ sym (append-nil (drawing_of line))) sent.1;
-}
+none_drawn a done = ([], none_written drawing_of a done)
 
 -- what was drawn is drawn, also where no more is drawn
 pub drawn_still : (a b : Option (List ℕ)) (was now : Bool) → (now ≡ false → was ≡ false) → AreDrawn a b was → AreDrawn a b now
-drawn_still a b was now back is = record { lines = is.lines; sent = is.sent; whole = λ going. is.whole (back going); written = is.written }
+drawn_still a b was now back is = (is.0, written_still drawing_of is.0 a b was now back is.1)
 
 -- first these, and then those
 pub drawn_behind : (a b c : Option (List ℕ)) (done : Bool) → AreDrawn a b false → AreDrawn b c done → AreDrawn a c done
-drawn_behind a b c done first then =
-    let xs = drawings_of first.lines in
-    let ys = drawings_of then.lines in
-    let joined : drawings_of (first.lines ++ then.lines) ≡ xs ++ ys = flat_map-append drawing_of first.lines then.lines in
-    let front : take first.sent xs ≡ xs = ap (λ (n : ℕ). take n xs) (first.whole refl) ∙ take-length xs in
-    record {
-      lines = first.lines ++ then.lines;
-      sent = length xs + then.sent;
-      whole = λ going. ap (λ (n : ℕ). length xs + n) (then.whole going) ∙ sym (length-append xs ys) ∙ sym (ap length joined);
-      written =
-          subst (Appends a c) (ap (λ (l : List ℕ). l ++ take then.sent ys) front ∙ sym (take-append-add xs ys then.sent) ∙ sym (ap (take (length xs + then.sent)) joined))
-          (Appends-trans a b c (take first.sent xs) (take then.sent ys) first.written then.written);
-    }
+drawn_behind a b c done first then = (first.0 ++ then.0, written_behind drawing_of first.0 then.0 a b c done first.1 then.1)
 
 true_false : {X : Type 0} (b : Bool) → b ≡ true → b ≡ false → X
 true_false b is other = cc
@@ -88,12 +48,12 @@ still_going true drawn going is = cc
 still_going false drawn going is = cc
 
 module _ {E C : Type 0} (contents : E → Option (List ℕ)) where
-  -- one line was handed to the terminal
+  -- one drawing was handed to the terminal
   pub shown : (old new : Progress E C) (all : Bool) (text : List ℕ) → new.terminal.ghost_name ≡ old.terminal.ghost_name → is_done old ≡ false → (all ≡ false → is_done new ≡ true) → IsSent all (contents old.terminal.now) (contents new.terminal.now) text
-      → (line : Option Line) → text ≡ drawing_of line → IsDrawnOn contents old new
-  shown old new all text same going ends sent line is = record {
+      → (drawing : Drawing) → text ≡ drawing_of drawing → IsDrawnOn contents old new
+  shown old new all text same going ends sent drawing is = record {
     same = same;
-    drawn = one_drawn (contents old.terminal.now) (contents new.terminal.now) all (is_done new) line text is ends sent;
+    drawn = (drawing ∷ [], one_written drawing_of (contents old.terminal.now) (contents new.terminal.now) all (is_done new) drawing text is ends sent);
     done = λ done. true_false (is_done old) done going;
     left_alone = λ done. true_false (is_done old) done going;
   }

@@ -6,3 +6,8 @@ pub mod Fronts
 pub mod Drawing
 pub mod Growing
 pub mod Keeping
+pub mod Placing
+pub mod Pushing
+pub mod SlowNaming
+pub mod SlowWriting
+pub mod Written

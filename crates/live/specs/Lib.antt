@@ -5,4 +5,8 @@ pub mod Failing
 pub mod Lines
 pub mod RunningTests
 pub mod Shown
+pub mod SlowNames
+pub mod SlowNaming
+pub mod Slowest
 pub mod Terminals
+pub mod Written

@@ -1,12 +1,12 @@
 -- What a terminal holds on which the line is drawn.
-use Rattle.std.specs.Prelude.{◌≡◌, ℕ, Bool, true, false, ◌&&◌, not, List, ◌++◌, codes, length, take, Option, Some, None}
-use Rattle.std.specs.List.{flat_map}
-use Rattle.std.specs.Io.KnownBytes.{Appends}
+use Rattle.std.specs.Prelude.{◌≡◌, ℕ, Bool, true, false, ◌&&◌, not, List, ◌++◌, codes, Option}
 use Rattle.resource_locks.specs.Plans.{PlanParts}
 use Rattle.listeners.specs.Listeners.{Telling}
 use Rattle.live.specs.Failing.{HasKept}
 use Rattle.live.specs.Lines.{line_of}
 use Rattle.live.specs.RunningTests.{HasFollowedTests, longest_part}
+use Rattle.live.specs.SlowNaming.{Slow, slow_line}
+use Rattle.live.specs.Written.{AreWritten}
 use Rattle.live.specs.declared.progress.Progress.{Progress}
 use Rattle.live.specs.declared.test_counts.TestCounts.{TestCounts}
 
@@ -30,27 +30,21 @@ pub record Line : Type 0 where
 abbrev pub text_of : Line → List ℕ
 text_of line = line_of line.tests line.seconds ++ longest_part line.longest
 
--- What is drawn at one time: the line is erased; and it is drawn anew, or left empty. However narrow the terminal is, what is drawn takes
--- one line of it, which can be erased.
-abbrev pub drawing_of : Option Line → List ℕ
-drawing_of None = erasing
-drawing_of (Some line) = erasing ++ (wrapping_off ++ (text_of line ++ wrapping_on))
+-- What is drawn at one time: the line is left empty; or it is drawn anew; or a slow test is named there, on a line that stays.
+pub data Drawing : Type 0 where
+  Erased : Drawing
+  Drawn : (line : Line) → Drawing
+  Named : (slow : Slow) → Drawing
 
--- what is drawn in turn
-abbrev pub drawings_of : List (Option Line) → List ℕ
-drawings_of lines = flat_map drawing_of lines
-
--- all of a text was handed to a terminal, or the first so many bytes
-abbrev pub IsSent : Bool → (old new : Option (List ℕ)) → List ℕ → Type 0
-IsSent true old new text = Appends old new text
-IsSent false old new text = (sent : ℕ) × Appends old new (take sent text)
+-- The line is erased first. However narrow the terminal is, what is drawn anew takes one line of it, which can be erased.
+abbrev pub drawing_of : Drawing → List ℕ
+drawing_of Erased = erasing
+drawing_of (Drawn line) = erasing ++ (wrapping_off ++ (text_of line ++ wrapping_on))
+drawing_of (Named slow) = erasing ++ slow_line slow
 
 -- Behind what was held stand drawings, one behind the other; where nothing more is drawn perhaps the first so many bytes of them alone.
-pub record AreDrawn (old new : Option (List ℕ)) (is_done : Bool) : Type 0 where
-  pub lines : List (Option Line)
-  pub sent : ℕ
-  pub whole : is_done ≡ false → sent ≡ length (drawings_of lines)
-  pub written : Appends old new (take sent (drawings_of lines))
+abbrev pub AreDrawn : (old new : Option (List ℕ)) (is_done : Bool) → Type 0
+AreDrawn old new is_done = (drawings : List Drawing) × AreWritten drawing_of drawings old new is_done
 
 -- behind what was held stand drawings, one behind the other, or the first so many bytes of them
 abbrev pub IsDrawnBehind : (old new : Option (List ℕ)) → Type 0

@@ -1,17 +1,20 @@
 //! A watcher that draws how far a run has come.
 
-ghost use Rattle.std.specs.Prelude.{◌≡◌, ◌∷◌, [], true, false, IfOk, IfSome, Option, Some, string_bytes};
+ghost use Rattle.std.specs.Prelude.{◌≡◌, ◌∷◌, [], true, false, IfOk, IfSome, string_bytes};
 ghost use Rattle.std.specs.Time.{instant_nanos};
 ghost use Rattle.listeners.specs.Listeners.{telling};
 ghost use Rattle.worker_pool.specs.Watching.{HasSeenMore};
 ghost use Rattle.live.specs.Failing.{HasKept};
 ghost use Rattle.live.specs.RunningTests.{Follows, IsSaid};
-ghost use Rattle.live.specs.Terminals.{IsDrawnOn, IsSent, Line, drawing_of, is_done};
+ghost use Rattle.live.specs.Terminals.{Drawing, Drawn, IsDrawnOn, Line, drawing_of, is_done};
 
 use crate::failures::Failures;
+use crate::handing::hand_on;
 use crate::running::Running;
+use crate::slow_tests::SlowTests;
 use crate::test_counts::{TestCounts, progress_line};
-use listeners::{Listener, Summary, print_to};
+use job_times::JobTimes;
+use listeners::{Listener, Summary};
 use plan_events::{Event, Texts};
 use resource_locks::Plan;
 use std::alloc::{AllocError, Global};
@@ -32,19 +35,10 @@ const WRAPPING_OFF: &str = "\x1b[?7l";
 /// What it takes as: go on with that on the next line, as it does for all others.
 const WRAPPING_ON: &str = "\x1b[?7h";
 
-/// Hands this text to a terminal; tells whether all of it stands there.
-fn hand_on<E: Write>(terminal: &mut E, text: &str) -> bool
-    ensures { IsSent result (E.contents terminal.old) (E.contents terminal.new) text.now }
-{
-    match print_to(&mut *terminal, text.as_bytes()) {
-        Ok(()) => terminal.flush().is_ok(),
-        Err(_) => false,
-    }
-}
-
 /// Draws how far a run has come on a line of a terminal, at most ten times a second, and erases it
-/// when the plan is finished. The tests are counted in a summary that it was lent, the nodes that
-/// failed are kept in a list that it was lent, and those that run in another.
+/// when the plan is finished; a test that runs longer than its limit is named there on a line that stays.
+/// The tests are counted in a summary that it was lent, the nodes that failed are kept in a list that it
+/// was lent, and those that run in two others.
 #[derive(Drop)]
 pub struct Progress<'e, 'c, 's, 'f, E: Write, C: Clock> {
     alloc: Global,
@@ -60,12 +54,14 @@ pub struct Progress<'e, 'c, 's, 'f, E: Write, C: Clock> {
     summary: &'s mut Summary,
     failures: &'f mut Failures,
     running: &'s mut Running,
+    times: &'s JobTimes<'c, C>,
+    slow: &'s mut SlowTests,
 }
 
 impl<'e, 'c, 's, 'f, E: Write, C: Clock> Progress<'e, 'c, 's, 'f, E, C> {
     /// Nothing has happened yet, and nothing is drawn. Where lines are printed on the terminal by
-    /// others, each event erases the line. It is lent an empty summary, a list for what fails, and an
-    /// empty one for what runs.
+    /// others, each event erases the line. It is lent an empty summary, a list for what fails, and empty
+    /// ones for what runs, and for what of it has a limit by these times.
     pub fn new(
         alloc: Global,
         terminal: &'e mut E,
@@ -74,6 +70,8 @@ impl<'e, 'c, 's, 'f, E: Write, C: Clock> Progress<'e, 'c, 's, 'f, E, C> {
         summary: &'s mut Summary,
         failures: &'f mut Failures,
         running: &'s mut Running,
+        times: &'s JobTimes<'c, C>,
+        slow: &'s mut SlowTests,
     ) -> Progress<'e, 'c, 's, 'f, E, C>
         ensures same { result.terminal.ghost_name ≡ terminal.entry.ghost_name }
         ensures terminal { result.terminal.now ≡ terminal.old }
@@ -91,13 +89,15 @@ impl<'e, 'c, 's, 'f, E: Write, C: Clock> Progress<'e, 'c, 's, 'f, E, C> {
             summary,
             failures,
             running,
+            times,
+            slow,
         }
     }
 
     /// Hands this to the terminal; one that fails is left alone from then on.
     fn show(&mut self, text: &str)
         requires going { is_done self.old ≡ false }
-        ensures drawn { (line : Option Line) → text.now ≡ drawing_of line →
+        ensures drawn { (drawing : Drawing) → text.now ≡ drawing_of drawing →
             IsDrawnOn E.contents self.old self.new }
         ensures failures { self.new.failures ≡ self.old.failures }
         ensures running { self.new.running ≡ self.old.running }
@@ -123,7 +123,7 @@ impl<'e, 'c, 's, 'f, E: Write, C: Clock> Progress<'e, 'c, 's, 'f, E, C> {
     /// The line as it is to be drawn at this time, so many seconds after the beginning.
     fn line(&self, now: Instant, seconds: u64) -> Result<String, AllocError>
         ensures { IfOk result (λ text. (line : Line) × IsSaid self.now.running.now (instant_nanos now) line.longest
-            × (string_bytes text ≡ drawing_of (Some line))) }
+            × (string_bytes text ≡ drawing_of (Drawn line))) }
     {
         let tests = TestCounts::of(self.summary.counts());
         let mut line = progress_line(self.alloc, tests, seconds)?;
@@ -138,7 +138,7 @@ impl<'e, 'c, 's, 'f, E: Write, C: Clock> Progress<'e, 'c, 's, 'f, E, C> {
         ensures over { self.new.is_over ≡ self.old.is_over }
         ensures failures { self.new.failures ≡ self.old.failures }
         ensures running { self.new.running ≡ self.old.running }
-        ensures line { IfSome result (λ text. (line : Line) × (string_bytes text ≡ drawing_of (Some line))) }
+        ensures line { IfSome result (λ text. (line : Line) × (string_bytes text ≡ drawing_of (Drawn line))) }
     {
         let (Some(begun), Some(drawn)) = (self.begun, self.drawn) else {
             return None;
@@ -164,6 +164,21 @@ impl<'e, 'c, 's, 'f, E: Write, C: Clock> Progress<'e, 'c, 's, 'f, E, C> {
         if let Some(text) = self.next_line() {
             self.is_drawn = true;
             self.show(text.as_str());
+        }
+    }
+
+    /// Names a test that runs longer than its limit, if there is one.
+    fn name_slow(&mut self)
+        ensures drawn { IsDrawnOn E.contents self.old self.new }
+        ensures failures { self.new.failures ≡ self.old.failures }
+        ensures running { self.new.running ≡ self.old.running }
+    {
+        if self.is_over {
+            return;
+        }
+        if let Some(text) = self.slow.next_line(self.times, ERASING) {
+            self.show(text.as_str());
+            self.is_drawn = false;
         }
     }
 
@@ -219,6 +234,7 @@ impl<'e, 'c, 's, 'f, E: Write, C: Clock> Progress<'e, 'c, 's, 'f, E, C> {
     {
         let event = &event;
         self.failures.watch(plan, texts, *event);
+        self.slow.note(plan, *event, self.times);
         let now = Instant::now(self.clock).ok();
         self.running.note(plan, *event, now);
     }
@@ -233,11 +249,13 @@ impl<'e, 'c, 's, 'f, E: Write, C: Clock> Watcher for Progress<'e, 'c, 's, 'f, E,
         let event = &event;
         self.count(plan, *event);
         self.note(plan, texts, *event);
+        self.name_slow();
         self.redraw();
         self.close(ends_plan(*event));
     }
 
     fn idle(&mut self) {
+        self.name_slow();
         if !self.is_over {
             self.draw();
         }

@@ -45,7 +45,7 @@ pub struct Longest<'n> {
 }
 
 /// Whether a node is a test that holds no other node. A test that does runs as long as these.
-fn is_plain_test(plan: &Plan, node: NodeId) -> bool
+pub(crate) fn is_plain_test(plan: &Plan, node: NodeId) -> bool
     ensures { result ≡ is_plain_test plan.now.tree node }
 {
     let tree = plan.tree();
@@ -53,7 +53,7 @@ fn is_plain_test(plan: &Plan, node: NodeId) -> bool
 }
 
 /// The name of a test and that of the node above it.
-fn name_of(alloc: Global, plan: &Plan, node: NodeId) -> Result<String, AllocError>
+pub(crate) fn name_of(alloc: Global, plan: &Plan, node: NodeId) -> Result<String, AllocError>
     requires above_zero { 0 < node }
     requires inside { node < size plan.now.tree }
     ensures { IfOk result (λ text. string_bytes text ≡ name_in plan.now.tree node) }

@@ -20,7 +20,7 @@ property junit.jupiter.execution.parallel.config.strategy=fixed
 property junit.jupiter.execution.parallel.config.fixed.parallelism=2
 engine shop
   class shop.Orders lock=db:rw
-    test places() spin=10 pass
+    test places() spin=10 @slow=60000 pass
     test cancels() fail no such order
     after pass
   class shop.Reports lock=db:r lock=a/b:r

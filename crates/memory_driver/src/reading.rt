@@ -91,6 +91,7 @@ pub(crate) fn find<W: Write>(alloc: Global, out: &mut Printer<W>) -> Result<(), 
         include: Vec::new(alloc),
         exclude: Vec::new(alloc),
         shard: None,
+        seed: None,
     };
     push_asked(alloc, &mut request)?;
     let (tree, properties) = tree_of(alloc, SHOP)?;

@@ -1,4 +1,4 @@
--- The settings of a run are a function of six keys.
+-- The settings of a run are a function of seven keys.
 use Rattle.std.proofs.Common.{◌≡◌, ◌∙◌, ℕ, Bool, true, false, List, None, cond, ap, refl, sym}
 use Rattle.config_params.specs.Settings.{Answers, settings_of}
 use Rattle.messages.specs.Hints.{is_read, ReadsNoOther}

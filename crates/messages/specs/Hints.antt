@@ -3,7 +3,7 @@ use Rattle.std.specs.Prelude.{◌≡◌, ℕ, ◌+◌, ◌==◌, ◌||◌, Bool,
 use Rattle.std.specs.Fmt.{decimal}
 use Rattle.std.specs.List.{flat_map}
 use Rattle.std.specs.Str.{bytes_eq}
-use Rattle.config_params.specs.Settings.{Answers, classes_mode_key, enabled_key, factor_key, mode_key, parallelism_key, settings_of, strategy_key}
+use Rattle.config_params.specs.Settings.{Answers, classes_mode_key, enabled_key, factor_key, mode_key, parallelism_key, settings_of, slow_key, strategy_key}
 use Rattle.messages.specs.Marks.{shown}
 use Rattle.messages.specs.declared.hint.Cause.{Cause}
 use Rattle.messages.specs.declared.hint.Cause.TheVariants.{UnreadKey, IdleSetting, LockKey, InnerReturn}
@@ -18,7 +18,7 @@ is_setting key = bytes_eq key mode_key || (bytes_eq key classes_mode_key || (byt
 
 -- the keys that are read
 abbrev pub is_read : List ℕ → Bool
-is_read key = bytes_eq key enabled_key || is_setting key
+is_read key = bytes_eq key enabled_key || (bytes_eq key slow_key || is_setting key)
 
 -- whatever other keys have for values, the settings of a run are the same
 abbrev pub ReadsNoOther : Type 0

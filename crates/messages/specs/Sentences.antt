@@ -70,6 +70,7 @@ abbrev pub of_settings : SettingsFault → List ℕ
 of_settings settings.BadStrategy = codes "the strategy of parallel execution is not known"
 of_settings settings.BadParallelism = codes "the number of workers is missing, or is none"
 of_settings settings.BadFactor = codes "the factor of workers for a processor is none"
+of_settings settings.BadSlow = codes "the milliseconds from which on a test is slow are none"
 
 -- of an output that was cut short
 abbrev pub of_cut : CutCause → List ℕ

@@ -9,7 +9,8 @@ use crate::nearest::is_known;
 use descriptor::Mode;
 use std::alloc::Global;
 use suite_text::{
-    Attribute, LONGEST_SPIN, MOST_PULLS, Verdict, Word, key_and_mode, key_and_value, number_up_to,
+    Attribute, LONGEST_LIMIT, LONGEST_SPIN, MOST_PULLS, Verdict, Word, key_and_mode, key_and_value,
+    number_up_to,
 };
 use tag_expr::{TagFault, tag_of};
 
@@ -17,9 +18,18 @@ use tag_expr::{TagFault, tag_of};
 const MOST_COUNTED: usize = 17;
 
 /// The verdicts, and the words and keys of all attributes but tags.
-pub(crate) fn known() -> [&'static str; 10] {
+pub(crate) fn known() -> [&'static str; 11] {
     let [pass, fail, abort, disabled] = Verdict::all();
-    let [_, concurrent, same_thread, isolated, lock, spin, pulls] = Attribute::all();
+    let [
+        _,
+        concurrent,
+        same_thread,
+        isolated,
+        lock,
+        spin,
+        pulls,
+        slow,
+    ] = Attribute::all();
     [
         pass.spelling(),
         fail.spelling(),
@@ -31,6 +41,7 @@ pub(crate) fn known() -> [&'static str; 10] {
         lock.key(),
         spin.key(),
         pulls.key(),
+        slow.key(),
     ]
 }
 
@@ -99,11 +110,11 @@ pub(crate) fn locks_in(text: &str) -> (usize, usize) {
     (keys, longest)
 }
 
-/// What is wrong with a number up to this.
+/// What is wrong with a number up to this, and not below the least.
 fn trouble_of_number(
     front: &str,
     word: &str,
-    most: u32,
+    (least, most): (u32, u32),
     said: &'static str,
 ) -> Option<&'static str> {
     let (key, value) = key_and_value(word);
@@ -111,8 +122,8 @@ fn trouble_of_number(
         return Some("it stands twice");
     }
     match number_up_to(most, value) {
-        Some(_) => None,
-        None => Some(said),
+        Some(number) if number >= least => None,
+        _ => Some(said),
     }
 }
 
@@ -163,11 +174,15 @@ fn trouble_of(
         Attribute::Tag => trouble_of_tag(alloc, word),
         Attribute::Spin => {
             let said = "spin=N has an N from 0 to 1,000,000";
-            trouble_of_number(front, word, LONGEST_SPIN, said)
+            trouble_of_number(front, word, (0, LONGEST_SPIN), said)
         }
         Attribute::Pulls => {
             let said = "pulls=N has an N from 0 to 4,096";
-            trouble_of_number(front, word, MOST_PULLS, said)
+            trouble_of_number(front, word, (0, MOST_PULLS), said)
+        }
+        Attribute::Slow => {
+            let said = "@slow=MS has an MS from 1 to 86,400,000";
+            trouble_of_number(front, word, (1, LONGEST_LIMIT), said)
         }
         Attribute::Lock => trouble_of_lock(word),
         Attribute::Runs(_) => trouble_of_mode(front),

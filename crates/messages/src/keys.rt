@@ -18,9 +18,20 @@ const PARALLELISM: &str = "junit.jupiter.execution.parallel.config.fixed.paralle
 
 const FACTOR: &str = "junit.jupiter.execution.parallel.config.dynamic.factor";
 
+/// From when on a test is slow whose own line does not say it.
+const SLOW: &str = "nelborugy.slow.default";
+
 /// The keys that are read.
-pub(crate) fn read_keys() -> [&'static str; 6] {
-    [ENABLED, MODE, CLASSES_MODE, STRATEGY, PARALLELISM, FACTOR]
+pub(crate) fn read_keys() -> [&'static str; 7] {
+    [
+        ENABLED,
+        MODE,
+        CLASSES_MODE,
+        STRATEGY,
+        PARALLELISM,
+        FACTOR,
+        SLOW,
+    ]
 }
 
 /// Whether a key says how nodes run in parallel, where that is enabled.
@@ -30,13 +41,14 @@ pub(crate) fn is_setting(key: &str) -> bool
     key == MODE || key == CLASSES_MODE || key == STRATEGY || key == PARALLELISM || key == FACTOR
 }
 
-/// Whether a key of the configuration is read: one of six.
+/// Whether a key of the configuration is read: one of seven.
+#[tactic(auto, using(crate::proofs::Settled::reads_no_other))]
 pub fn is_read(key: &str) -> bool
     ensures exact { result ≡ is_read key.now }
     // Whatever the other keys have for values, the settings of a run are the same.
     ensures no_other { ReadsNoOther }
 {
-    key == ENABLED || is_setting(key)
+    key == ENABLED || key == SLOW || is_setting(key)
 }
 
 /// Why a key is worth a hint, where parallel execution is off, or is not.

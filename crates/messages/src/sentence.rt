@@ -76,6 +76,7 @@ fn of_settings(fault: SettingsFault) -> &'static str
         SettingsFault::BadStrategy => "the strategy of parallel execution is not known",
         SettingsFault::BadParallelism => "the number of workers is missing, or is none",
         SettingsFault::BadFactor => "the factor of workers for a processor is none",
+        SettingsFault::BadSlow => "the milliseconds from which on a test is slow are none",
     }
 }
 

@@ -20,6 +20,9 @@ fn push_allowed(text: &mut String, fault: SettingsFault) -> Result<(), AllocErro
         SettingsFault::BadFactor => text.push_str(
             "it has 1 to 6 digits, then perhaps a point and 1 to 4 digits, and is not zero",
         ),
+        SettingsFault::BadSlow => {
+            text.push_str("it is a number from 1 to 86,400,000, with 1 to 8 digits")
+        }
     }
 }
 
@@ -139,7 +142,7 @@ fn push_refused(
 }
 
 /// What is said of the settings of a program's own tests, whose configuration has these properties,
-/// where a run by these options is refused for them (32 to 34, 61): which value is wrong, and what
+/// where a run by these options is refused for them (32 to 34, 37, 61): which value is wrong, and what
 /// it may be. Nothing where they are right; as much as there was memory for.
 pub fn said_of_settings(alloc: Global, options: &Options, properties: &Params) -> String {
     let mut said = String::new(alloc);

@@ -12,10 +12,10 @@ use crate::subject::Subject;
 use config_params::ParamsFault;
 use launch_options::option_names::{
     CONFIG, DETAILS, DETAILS_THEME, DRIVE, EXCLUDE_TAG, INCLUDE_TAG, PROCESSORS, REPLAY, REPORT,
-    RERUN, RING, SHARD, WORKERS,
+    RERUN, RING, SEED, SHARD, WORKERS,
 };
 use launch_options::{
-    Details, Given, drive_named, has_long_key, processors_named, report_in, ring_named,
+    Details, Given, drive_named, has_long_key, processors_named, report_in, ring_named, seed_named,
     shard_named, theme_names, theme_of, workers_named,
 };
 use selectors::SelectorKind;
@@ -107,7 +107,18 @@ pub(crate) fn push_report(
     text.push_str(why)
 }
 
-/// Appends why `--shard` is refused, if it is: it names no shard; and else why `--report` is.
+/// Appends why `--seed` is refused, if it is: it is no such number; and else why `--report` is.
+fn push_seed(alloc: Global, text: &mut String, given: &Given<'_>) -> Result<(), AllocError> {
+    match given.seed {
+        Some(value) if seed_named(given.seed).is_err() => {
+            text.push_str("--seed is a number below 2^64, or random\n")?;
+            push_option(alloc, text, SEED, value, 0)
+        }
+        Some(_) | None => push_reports(alloc, text, given),
+    }
+}
+
+/// Appends why `--shard` is refused, if it is: it names no shard; and else why `--seed` is.
 fn push_shard(alloc: Global, text: &mut String, given: &Given<'_>) -> Result<(), AllocError> {
     match given.shard {
         Some(value) if shard_named(given.shard).is_err() => {
@@ -116,7 +127,7 @@ fn push_shard(alloc: Global, text: &mut String, given: &Given<'_>) -> Result<(),
             )?;
             push_option(alloc, text, SHARD, value, 0)
         }
-        Some(_) | None => push_reports(alloc, text, given),
+        Some(_) | None => push_seed(alloc, text, given),
     }
 }
 
@@ -143,8 +154,8 @@ fn push_workers(
 }
 
 /// Appends which of the values that stand for something is none: what `--details`, then `--details-theme`, then
-/// `--processors`, then `--ring`, then `--drive`, then `--workers`, then `--shard`, and then `--report`
-/// may be.
+/// `--processors`, then `--ring`, then `--drive`, then `--workers`, then `--shard`, then `--seed`, and then
+/// `--report` may be.
 pub(crate) fn push_words(
     alloc: Global,
     text: &mut String,

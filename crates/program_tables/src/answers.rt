@@ -4,7 +4,7 @@ use crate::memory_files::MemoryFiles;
 use crate::output::Output;
 use crate::own_tests::run_own_tests;
 use crate::rows::push_line;
-use crate::still_clock::StillClock;
+use crate::table_clock::TableClock;
 use crate::texts::{RowFiles, Texts};
 use command_line::{Ending, run_main, run_words};
 use std::alloc::{AllocError, Global};
@@ -93,8 +93,8 @@ fn push_end(alloc: Global, answers: &mut Output, ending: Ending) -> Result<(), A
 }
 
 /// Runs the program with these words on a suite, as `main` does where standard error is a terminal or
-/// is none, and appends what it writes, and how it ends. On a terminal nothing is drawn by the time.
-/// Behind an output that takes so many bytes stands how it ended in any case.
+/// is none, and appends what it writes, and how it ends. On a terminal nothing is drawn by the time, and no test takes
+/// any. Behind an output that takes so many bytes stands how it ended in any case.
 fn push_run<T: Threads + Wait + Sync>(
     rt: &T,
     alloc: Global,
@@ -106,14 +106,18 @@ fn push_run<T: Threads + Wait + Sync>(
     asks: Asks,
 ) -> Result<(), AllocError> {
     let is_terminal = asks == Asks::Terminal;
-    let (clock, words) = (StillClock, Ok(words.into_iter()));
+    let clock = if is_terminal {
+        TableClock::still()
+    } else {
+        TableClock::of(words.as_slice())
+    };
     answers.room = asks.room();
     let mut files = MemoryFiles::new(alloc);
     let ending = run_main(
         rt,
         clock,
         alloc,
-        words,
+        Ok(words.into_iter()),
         &mut RowFiles { texts },
         &texts.facts(),
         is_terminal,
@@ -165,6 +169,7 @@ fn has_second<T: Threads + Wait + Sync>(
         let files = &mut MemoryFiles::new(alloc);
         run_words(
             rt,
+            TableClock::still(),
             alloc,
             words,
             &mut &*suite,

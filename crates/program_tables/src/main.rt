@@ -15,8 +15,8 @@ mod memory_files;
 mod output;
 mod own_tests;
 mod rows;
-mod still_clock;
 mod table;
+mod table_clock;
 mod texts;
 
 use crate::table::Table;

@@ -1,6 +1,7 @@
 //! Tests of the table's own.
 
 use crate::output::Output;
+use crate::table_clock::TableClock;
 use harness::{
     BuildFault, Checked, Ending, LockMode, Mode, TestBox, Tests, assume, check_same,
     run_tests_by_words,
@@ -52,5 +53,6 @@ pub(crate) fn run_own_tests<T: Threads + Wait + Sync>(
     tests.dynamic(factory, "first", first)?;
     let second: TestBox = Box::new(alloc, move |alloc: Global| passes(alloc))?;
     tests.dynamic(factory, "second", second)?;
-    run_tests_by_words(rt, alloc, words, tests, answers, errors)
+    let clock = TableClock::of(words);
+    run_tests_by_words(rt, clock, alloc, words, tests, answers, errors)
 }

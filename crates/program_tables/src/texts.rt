@@ -75,12 +75,21 @@ impl Texts {
         }
     }
 
+    /// A seed for those who ask for any, where one is said.
+    fn seed(&self) -> Option<u64> {
+        match self.get("SEED") {
+            Some(number) => number.parse().ok(),
+            None => None,
+        }
+    }
+
     /// What the system tells.
     pub(crate) fn facts(&self) -> Facts<'_> {
         Facts {
             processors: self.processors(),
             total_shards: self.get("TEST_TOTAL_SHARDS"),
             shard_index: self.get("TEST_SHARD_INDEX"),
+            seed: self.seed(),
         }
     }
 }

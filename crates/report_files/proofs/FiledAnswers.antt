@@ -79,7 +79,7 @@ module _ {V : Type 0} (saw : PlanParts → V → V → List Telling → Type 0) 
       itself (Err fault) = refl
 
       none_filed : is_run asked.replay asked.details ≡ true → (bytes : List ℕ) → IsSeenRun saw first now asked (suite_read bytes) old new answer → IfOk answer (λ status. IsFiledRun asked [] (suite_read bytes) old new status [])
-      none_filed is bytes seen = of_loaded_run saw first now (λ p history texts. AreFiledOf asked.theme p history texts [] []) (λ p history texts more. inr refl) asked (suite_read bytes) old new is seen.loaded answer seen.reads seen.runs
+      none_filed is bytes seen = of_loaded_run saw first now (λ p history texts. AreFiledOf asked.times asked.theme p history texts [] []) (λ p history texts more. inr refl) asked (suite_read bytes) old new is seen.loaded answer seen.reads seen.runs
   unreported_run (w ∷ ws) before left old new account answer none runs took = absurd (omega (arith, none))
 
 -- the files could not be opened

@@ -4,4 +4,5 @@ pub mod Filing
 pub mod OneFiling
 pub mod OneHistory
 pub mod Recordings
+pub mod SlowestRuns
 pub mod Watched

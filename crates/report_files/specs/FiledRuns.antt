@@ -1,6 +1,7 @@
 -- A run of which reports are kept in files besides what it prints.
-use Rattle.std.specs.Prelude.{◌≡◌, ◌⊎◌, ℕ, true, false, List, [], ◌∷◌, ◌++◌, take, Option, IfOk, IfErr, IfSome, Result, Ok, Err}
+use Rattle.std.specs.Prelude.{◌≡◌, ◌⊎◌, ℕ, Bool, true, false, List, [], ◌∷◌, ◌++◌, take, Option, IfOk, IfErr, IfSome, Result, Ok, Err}
 use Rattle.std.specs.Io.KnownBytes.{Appends, Keeps}
+use Rattle.job_times.specs.Timings.{Took}
 use Rattle.plan_events.specs.declared.event.Event.{Event}
 use Rattle.plan_events.specs.Texts.{TextParts}
 use Rattle.resource_locks.specs.Plans.{PlanParts}
@@ -17,34 +18,35 @@ use Rattle.report_files.specs.Deeds.{Deed, Does, IsEmpty}
 use Rattle.report_files.specs.Deeds.Deed.{Opened, Kept, NotKept, GivenUp}
 use Rattle.report_files.specs.FiledReports.{Wanted, IsUnopened, answer_with, first_lost, givings_up, openings}
 use Rattle.report_files.specs.ReportedRuns.{IsOfHistory, IsRunWith}
-use Rattle.report_files.specs.ReportTexts.{report_of}
+use Rattle.report_files.specs.ReportTexts.{AreAskedFor, report_of}
 use Rattle.report_files.specs.Told.{ToldParts}
 
 -- what is known of a file that was empty is just this text
 abbrev pub HoldsJust : Option (List ℕ) → List ℕ → Type 0
 HoldsJust bytes text = (first : Option (List ℕ)) × IsEmpty first × Appends first bytes text
 
--- what became of a report: its form of what was told stands under its name; or it is given up
-abbrev pub IsFiled : Theme → ToldParts → Wanted → Deed → Type 0
-IsFiled theme told w (Opened name) = ⊥
-IsFiled theme told w (Kept name bytes) = (name ≡ w.1) × HoldsJust bytes (report_of w.0 theme told)
-IsFiled theme told w (NotKept name) = name ≡ w.1
-IsFiled theme told w (GivenUp name) = name ≡ w.1
+-- what became of a report: its form of what was told, with these times, stands under its name; or it is given up
+abbrev pub IsFiled : Theme → ToldParts → Took → Wanted → Deed → Type 0
+IsFiled theme told took w (Opened name) = ⊥
+IsFiled theme told took w (Kept name bytes) = (name ≡ w.1) × HoldsJust bytes (report_of w.0 theme told took)
+IsFiled theme told took w (NotKept name) = name ≡ w.1
+IsFiled theme told took w (GivenUp name) = name ≡ w.1
 
 -- and of each
-abbrev pub AreFiled : Theme → ToldParts → List Wanted → List Deed → Type 0
-AreFiled theme told [] [] = Unit {0}
-AreFiled theme told [] (deed ∷ deeds) = ⊥
-AreFiled theme told (w ∷ wanted) [] = ⊥
-AreFiled theme told (w ∷ wanted) (deed ∷ deeds) = IsFiled theme told w deed × AreFiled theme told wanted deeds
+abbrev pub AreFiled : Theme → ToldParts → Took → List Wanted → List Deed → Type 0
+AreFiled theme told took [] [] = Unit {0}
+AreFiled theme told took [] (deed ∷ deeds) = ⊥
+AreFiled theme told took (w ∷ wanted) [] = ⊥
+AreFiled theme told took (w ∷ wanted) (deed ∷ deeds) = IsFiled theme told took w deed × AreFiled theme told took wanted deeds
 
--- each report is filed of just this history; or there was no memory for it, and all are given up
-abbrev pub AreFiledOf : Theme → PlanParts → List Event → TextParts → List Wanted → List Deed → Type 0
-AreFiledOf theme p history texts wanted ends = ((told : ToldParts) × IsOfHistory p history texts told × AreFiled theme told wanted ends) ⊎ (ends ≡ givings_up wanted)
+-- each report is filed of just this history, and with the same times; or there was no memory for it, and all are given up
+abbrev pub AreFiledOf : (times : Bool) → Theme → PlanParts → List Event → TextParts → List Wanted → List Deed → Type 0
+AreFiledOf times theme p history texts wanted ends =
+    ((told : ToldParts) × (took : Took) × IsOfHistory p history texts told × AreAskedFor times took × AreFiled theme told took wanted ends) ⊎ (ends ≡ givings_up wanted)
 
 -- one history is printed, and each report that is kept is its form of it
 abbrev pub IsFiledRun : Asked → List Wanted → Result SuiteParts SuiteFault → Option (List ℕ) → Option (List ℕ) → ExitStatus → List Deed → Type 0
-IsFiledRun asked wanted read old new status ends = IsRunWith (λ p history texts. AreFiledOf asked.theme p history texts wanted ends) asked read old new status
+IsFiledRun asked wanted read old new status ends = IsRunWith (λ p history texts. AreFiledOf asked.times asked.theme p history texts wanted ends) asked read old new status
 
 -- what is asked for is run: what the reader held, or, whatever it tells of its bytes, what it gave is what is judged; and nothing is
 -- written on a refusal but that the writer failed

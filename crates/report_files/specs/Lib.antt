@@ -7,4 +7,5 @@ pub mod Recordings
 pub mod ReportTexts
 pub mod ReportedRuns
 pub mod Reports
+pub mod SlowestTests
 pub mod Told

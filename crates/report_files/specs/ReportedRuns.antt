@@ -1,7 +1,8 @@
 -- A run of which reports are written besides what it prints.
-use Rattle.std.specs.Prelude.{◌≡◌, ◌⊎◌, ℕ, List, Option, Result, Ok}
+use Rattle.std.specs.Prelude.{◌≡◌, ◌⊎◌, ℕ, Bool, List, Option, Result, Ok}
 use Rattle.std.specs.Io.KnownBytes.{Appends}
 use Rattle.config_params.specs.declared.settings.Settings.{Settings}
+use Rattle.job_times.specs.Timings.{Took}
 use Rattle.plan_events.specs.declared.event.Event.{Event}
 use Rattle.plan_events.specs.Texts.{TextParts, text_at}
 use Rattle.resource_locks.specs.Plans.{PlanParts}
@@ -20,6 +21,7 @@ use Rattle.report_files.specs.Told.{ToldParts}
 use Rattle.report_files.specs.declared.recording.Recorded.{Recorded}
 use Rattle.worker_pool.specs.Watching.{HasSeenMore}
 use Rattle.report_files.specs.Reports.{IsLacking, IsReported}
+use Rattle.report_files.specs.ReportTexts.{AreAskedFor}
 use Rattle.report_files.specs.declared.report.Report.{Report}
 
 -- whoever watches has seen nothing, or these events of a plan
@@ -53,11 +55,11 @@ pub record IsOfHistory (p : PlanParts) (history : List Event) (texts : TextParts
   pub texts_are : (n : ℕ) → text_at told.texts n ≡ text_in (tellings_of texts history) n
 
 module _ {F : Type 0} (contents : F → Option (List ℕ)) where
-  -- each report is written of just this history; or there was no memory for it, and no report is
-  abbrev pub AreReportsOf : Theme → PlanParts → List Event → TextParts → List (Report F) → List (Report F) → Type 0
-  AreReportsOf theme p history texts old new =
-      ((told : ToldParts) × IsOfHistory p history texts told × EachPlace (IsReported contents theme told) old new) ⊎ EachPlace IsLacking old new
+  -- each report is written of just this history, and with the same times; or there was no memory for it, and no report is
+  abbrev pub AreReportsOf : (times : Bool) → Theme → PlanParts → List Event → TextParts → List (Report F) → List (Report F) → Type 0
+  AreReportsOf times theme p history texts old new =
+      ((told : ToldParts) × (took : Took) × IsOfHistory p history texts told × AreAskedFor times took × EachPlace (IsReported contents theme told took) old new) ⊎ EachPlace IsLacking old new
 
   -- one history is printed, and each report is written of it
   abbrev pub IsReportedRun : Asked → Result SuiteParts SuiteFault → Option (List ℕ) → Option (List ℕ) → ExitStatus → List (Report F) → List (Report F) → Type 0
-  IsReportedRun asked read old new status was now = IsRunWith (λ p history texts. AreReportsOf asked.theme p history texts was now) asked read old new status
+  IsReportedRun asked read old new status was now = IsRunWith (λ p history texts. AreReportsOf asked.times asked.theme p history texts was now) asked read old new status

@@ -1,6 +1,6 @@
-//! A run of which reports are kept in files besides what it prints.
+//! A run of which reports are kept in files besides what it prints, and whose slowest tests are listed.
 
-ghost use Rattle.std.specs.Prelude.{◌≡◌, IfOk, IfErr, List, Option, length, map, true};
+ghost use Rattle.std.specs.Prelude.{◌≡◌, IfOk, IfErr, IsTrue, List, Option, length, map, option_map, string_bytes, true};
 ghost use Rattle.launch_options.specs.Asked.{asked_by};
 ghost use Rattle.launch_options.specs.ReportTexts.{parts_of};
 ghost use Rattle.launcher.specs.Runs.{TakesFrom, fault_in};
@@ -10,14 +10,17 @@ ghost use Rattle.report_files.specs.Deeds.{Deed, Does};
 ghost use Rattle.report_files.specs.FiledReports.{AreOpened, openings};
 ghost use Rattle.report_files.specs.FiledRuns.{IsOpenedRun, RunsAsked, RunsFiled};
 ghost use Rattle.report_files.specs.ReportedRuns.{HasSeenSome, IsReportedRun};
+ghost use Rattle.report_files.specs.SlowestTests.{IsSlowestRun};
 
 use crate::beside::Beside;
 use crate::ending::{answer_with, end_all};
 use crate::keeper::ReportFiles;
 use crate::opening::open_all;
-use crate::recording::Recording;
+use crate::recording::{Recorded, Recording};
 use crate::report::Report;
 use crate::reported_run::run_reported;
+use crate::slowest_tests::slowest_in;
+use job_times::Stopwatch;
 use launch_options::{LaunchFault, Options, ReportAsked};
 use launcher::{ExitStatus, run_options_watched};
 use std::alloc::Global;
@@ -26,8 +29,64 @@ use std::sync::Wait;
 use std::thread::Threads;
 use worker_pool::Watcher;
 
-/// Runs what these options ask for, and writes each report when the run is over.
-fn run_beside<T: Threads + Wait + Sync, R: Read, W: Write, V: Watcher, F: Write + Drop>(
+/// Runs what these options ask for, and writes each report when the run is over; then it makes the list of the slowest
+/// tests, if times are asked for.
+fn run_listed<
+    T: Threads + Wait + Sync,
+    R: Read,
+    W: Write,
+    V: Watcher,
+    F: Write + Drop,
+    S: Stopwatch + Sync,
+>(
+    rt: &T,
+    alloc: Global,
+    options: &Options,
+    reports: &mut [Report<F>],
+    reader: &mut R,
+    writer: &mut W,
+    beside: &mut Beside<'_, '_, V, Recording>,
+    slowest: &mut Option<String>,
+    stopwatch: &S,
+) -> Result<ExitStatus, LaunchFault>
+    requires fresh { beside.old.other.now.recorded ≡ Recorded.Nothing }
+    ensures same { beside.new.watcher.ghost_name ≡ beside.old.watcher.ghost_name }
+    ensures runs { RunsAsked (asked_by options.now) (R.remaining reader.old) (R.remaining reader.new)
+        (W.contents writer.old) (W.contents writer.new) result }
+    ensures watched { HasSeenSome V.saw beside.old.watcher.now beside.new.watcher.now }
+    ensures reported { is_run (asked_by options.now).replay (asked_by options.now).details ≡ true →
+        TakesFrom (R.remaining reader.old) (R.remaining reader.new) (fault_in result)
+        (λ bytes. IfOk result (λ status. IsReportedRun F.contents (asked_by options.now) (suite_read bytes)
+        (W.contents writer.old) (W.contents writer.new) status reports.old reports.new)) }
+    ensures refused { IfErr result (λ _. reports.new ≡ reports.old) }
+    ensures many { length reports.new ≡ length reports.old }
+    ensures slowest { IfOk result (λ status. IsSlowestRun (asked_by options.now) (R.remaining reader.old)
+        (R.remaining reader.new) (W.contents writer.old) (W.contents writer.new) status
+        (option_map string_bytes slowest.new)) }
+{
+    let answer = run_reported(
+        rt,
+        alloc,
+        options,
+        reports,
+        reader,
+        writer,
+        &mut *beside,
+        stopwatch,
+    );
+    *slowest = slowest_in(alloc, options.times, &beside.other.recorded, stopwatch);
+    answer
+}
+
+/// Does the same beside who watches.
+fn run_beside<
+    T: Threads + Wait + Sync,
+    R: Read,
+    W: Write,
+    V: Watcher,
+    F: Write + Drop,
+    S: Stopwatch + Sync,
+>(
     rt: &T,
     alloc: Global,
     options: &Options,
@@ -35,6 +94,8 @@ fn run_beside<T: Threads + Wait + Sync, R: Read, W: Write, V: Watcher, F: Write 
     reader: &mut R,
     writer: &mut W,
     watcher: &mut V,
+    slowest: &mut Option<String>,
+    stopwatch: &S,
 ) -> Result<ExitStatus, LaunchFault>
     ensures runs { RunsAsked (asked_by options.now) (R.remaining reader.old) (R.remaining reader.new)
         (W.contents writer.old) (W.contents writer.new) result }
@@ -45,15 +106,35 @@ fn run_beside<T: Threads + Wait + Sync, R: Read, W: Write, V: Watcher, F: Write 
         (W.contents writer.old) (W.contents writer.new) status reports.old reports.new)) }
     ensures refused { IfErr result (λ _. reports.new ≡ reports.old) }
     ensures many { length reports.new ≡ length reports.old }
+    ensures slowest { IfOk result (λ status. IsSlowestRun (asked_by options.now) (R.remaining reader.old)
+        (R.remaining reader.new) (W.contents writer.old) (W.contents writer.new) status
+        (option_map string_bytes slowest.new)) }
 {
     let mut recording = Recording::new(alloc);
     let other = &mut recording;
     let mut beside = Beside { watcher, other };
-    run_reported(rt, alloc, options, reports, reader, writer, &mut beside)
+    run_listed(
+        rt,
+        alloc,
+        options,
+        reports,
+        reader,
+        writer,
+        &mut beside,
+        slowest,
+        stopwatch,
+    )
 }
 
 /// Runs what these options ask for, and keeps these reports of it, whose files are open.
-fn run_opened<T: Threads + Wait + Sync, R: Read, W: Write, V: Watcher, K: ReportFiles>(
+fn run_opened<
+    T: Threads + Wait + Sync,
+    R: Read,
+    W: Write,
+    V: Watcher,
+    K: ReportFiles,
+    S: Stopwatch + Sync,
+>(
     rt: &T,
     alloc: Global,
     options: &Options,
@@ -63,6 +144,8 @@ fn run_opened<T: Threads + Wait + Sync, R: Read, W: Write, V: Watcher, K: Report
     reader: &mut R,
     writer: &mut W,
     watcher: &mut V,
+    slowest: &mut Option<String>,
+    stopwatch: &S,
 ) -> Result<ExitStatus, LaunchFault>
     requires opened { AreOpened K.File.contents reports.old (map parts_of wanted.now) }
     requires all { length reports.old ≡ length wanted.now }
@@ -71,17 +154,48 @@ fn run_opened<T: Threads + Wait + Sync, R: Read, W: Write, V: Watcher, K: Report
         IsOpenedRun (asked_by options.now) (map parts_of wanted.now) (R.remaining reader.old) (R.remaining reader.new)
         (W.contents writer.old) (W.contents writer.new) before (K.deeds files.new) result }
     ensures watched { HasSeenSome V.saw watcher.old watcher.new }
+    ensures slowest { IfOk result (λ status. IsSlowestRun (asked_by options.now) (R.remaining reader.old)
+        (R.remaining reader.new) (W.contents writer.old) (W.contents writer.new) status
+        (option_map string_bytes slowest.new)) }
 {
-    let answer = run_beside(rt, alloc, options, &mut *reports, reader, writer, watcher);
+    let answer = run_beside(
+        rt,
+        alloc,
+        options,
+        &mut *reports,
+        reader,
+        writer,
+        watcher,
+        slowest,
+        stopwatch,
+    );
     let lost = end_all(files, wanted, reports);
     answer_with(answer, lost)
+}
+
+/// Whether nothing is asked for besides what is printed: neither a report nor times.
+fn asks_no_more(options: &Options, wanted: &[ReportAsked<'_>]) -> bool
+    ensures { IsTrue result → length wanted.now ≡ 0 }
+{
+    if options.times {
+        return false;
+    }
+    wanted.is_empty()
 }
 
 /// Runs what these options ask for, and keeps these reports of it in files, if some are asked for. The files are
 /// opened before anything is read, and 107 is refused if one cannot be: then all are given up, and nothing is read or
 /// written. When the run is over and all that it prints was printed, each report is written and kept; those of
-/// what is refused are given up. 82 is answered if one is not kept: the others are.
-pub fn run_filed<T: Threads + Wait + Sync, R: Read, W: Write, V: Watcher, K: ReportFiles>(
+/// what is refused are given up. 82 is answered if one is not kept: the others are. If times are asked for the list of
+/// the slowest tests is made, as far as the stopwatch knows how long they took, and there is memory for it.
+pub fn run_filed<
+    T: Threads + Wait + Sync,
+    R: Read,
+    W: Write,
+    V: Watcher,
+    K: ReportFiles,
+    S: Stopwatch + Sync,
+>(
     rt: &T,
     alloc: Global,
     options: &Options,
@@ -90,14 +204,21 @@ pub fn run_filed<T: Threads + Wait + Sync, R: Read, W: Write, V: Watcher, K: Rep
     reader: &mut R,
     writer: &mut W,
     watcher: &mut V,
+    slowest: &mut Option<String>,
+    stopwatch: &S,
 ) -> Result<ExitStatus, LaunchFault>
     ensures filed { RunsFiled (asked_by options.now) (map parts_of wanted.now) (R.remaining reader.old)
         (R.remaining reader.new) (W.contents writer.old) (W.contents writer.new) (K.deeds files.old) (K.deeds files.new)
         result }
     ensures watched { HasSeenSome V.saw watcher.old watcher.new }
+    // The list is of the plan that was run.
+    ensures slowest { IfOk result (λ status. IsSlowestRun (asked_by options.now) (R.remaining reader.old)
+        (R.remaining reader.new) (W.contents writer.old) (W.contents writer.new) status
+        (option_map string_bytes slowest.new)) }
 {
-    if wanted.is_empty() {
-        return run_options_watched(rt, alloc, options, reader, writer, watcher);
+    *slowest = None;
+    if asks_no_more(options, wanted) {
+        return run_options_watched(rt, alloc, options, reader, writer, watcher, stopwatch);
     }
     let mut reports = open_all(alloc, &mut *files, wanted)?;
     run_opened(
@@ -110,5 +231,7 @@ pub fn run_filed<T: Threads + Wait + Sync, R: Read, W: Write, V: Watcher, K: Rep
         reader,
         writer,
         watcher,
+        slowest,
+        stopwatch,
     )
 }

@@ -1,4 +1,4 @@
-//! Reports of a run besides what it prints: what each holds, and the writers that get them.
+//! Reports of a run besides what it prints: what each holds, the writers that get them, and the list of its slowest tests.
 #![tactic(auto)]
 
 mod beside;
@@ -10,6 +10,7 @@ mod recording;
 mod report;
 mod report_text;
 mod reported_run;
+mod slowest_tests;
 mod system_files;
 
 pub use beside::Beside;
@@ -18,4 +19,5 @@ pub use keeper::ReportFiles;
 pub use recording::{Recorded, Recording, ToldRun};
 pub use report::{Outcome, Report};
 pub use reported_run::run_reported;
+pub use slowest_tests::slowest_in;
 pub use system_files::{ReportFile, SystemFiles};

@@ -2,17 +2,18 @@
 
 ghost use Rattle.std.specs.Prelude.{◌≡◌, ◌++◌, IfOk, string_bytes};
 ghost use Rattle.launcher.specs.Reports.{details_of};
-ghost use Rattle.launcher.specs.WarningTexts.{beginning};
 ghost use Rattle.listeners.specs.Counts.{counts_of};
 ghost use Rattle.listeners.specs.SummaryTexts.{summary_of};
 ghost use Rattle.listeners.specs.TreeTexts.{tree_of};
 ghost use Rattle.report_files.specs.ReportTexts.{report_of};
 
 use crate::recording::ToldRun;
+use job_times::Timings;
 use launch_options::Details;
+use launcher::beginning;
 use listeners::{Results, Theme, feed_text};
 use plan_events::Texts;
-use reports::{json_text, junit_text, list_text, plan_text};
+use reports::{list_text, plan_text, timed_json_text, timed_junit_text};
 use std::alloc::{AllocError, Global};
 
 /// The counts of a run.
@@ -48,48 +49,40 @@ fn tree_text(alloc: Global, theme: Theme, told: &ToldRun) -> Result<String, Allo
     tree_and_summary(alloc, theme, &results, told.texts())
 }
 
-/// The text of this form of a run.
+/// The text of this form of a run, with these times of its nodes.
 fn form_text(
     alloc: Global,
     form: Details,
     theme: Theme,
     told: &ToldRun,
+    timings: &Timings,
 ) -> Result<String, AllocError>
     ensures { IfOk result (λ text. string_bytes text ≡ details_of form theme told.now.plan told.now.texts
-        told.now.events) }
+        timings.now.took.items told.now.events) }
 {
     match form {
         Details::None => Ok(String::new(alloc)),
         Details::Summary => summary_text(alloc, told),
         Details::Tree => tree_text(alloc, theme, told),
         Details::Testfeed => feed_text(alloc, told.plan(), told.events(), told.texts()),
-        Details::Json => json_text(alloc, told.plan(), told.events(), told.texts()),
-        Details::Xml => junit_text(alloc, told.plan(), told.events(), told.texts()),
+        Details::Json => timed_json_text(alloc, told.plan(), told.events(), told.texts(), timings),
+        Details::Xml => timed_junit_text(alloc, told.plan(), told.events(), told.texts(), timings),
         Details::List => list_text(alloc, told.plan()),
         Details::Plan => plan_text(alloc, told.plan()),
     }
 }
 
-/// What a report of this form begins with.
-fn beginning(form: Details) -> &'static str
-    ensures { result.now ≡ beginning form }
-{
-    match form {
-        Details::Xml => "<?xml version=\"1.0\" encoding=\"UTF-8\"?>\n",
-        _ => "",
-    }
-}
-
-/// The report of this form of a run.
+/// The report of this form of a run, with these times of its nodes.
 pub(crate) fn report_text(
     alloc: Global,
     form: Details,
     theme: Theme,
     told: &ToldRun,
+    timings: &Timings,
 ) -> Result<String, AllocError>
-    ensures { IfOk result (λ text. string_bytes text ≡ report_of form theme told.now) }
+    ensures { IfOk result (λ text. string_bytes text ≡ report_of form theme told.now timings.now.took.items) }
 {
     let mut text = String::from_str(alloc, beginning(form))?;
-    text.push_str(form_text(alloc, form, theme, told)?.as_str())?;
+    text.push_str(form_text(alloc, form, theme, told, timings)?.as_str())?;
     Ok(text)
 }

@@ -11,6 +11,7 @@ ghost use Rattle.report_files.specs.ReportedRuns.{HasSeenSome, IsRecordedRun, Is
 use crate::beside::Beside;
 use crate::recording::{Recorded, Recording};
 use crate::report::{Report, write_reports};
+use job_times::Stopwatch;
 use launch_options::{LaunchFault, Options};
 use launcher::{ExitStatus, run_options_watched};
 use std::alloc::Global;
@@ -20,13 +21,14 @@ use std::thread::Threads;
 use worker_pool::Watcher;
 
 /// Runs what these options ask for, and records what is told of it.
-fn run_recorded<T: Threads + Wait + Sync, R: Read, W: Write, V: Watcher>(
+fn run_recorded<T: Threads + Wait + Sync, R: Read, W: Write, V: Watcher, S: Stopwatch + Sync>(
     rt: &T,
     alloc: Global,
     options: &Options,
     reader: &mut R,
     writer: &mut W,
     beside: &mut Beside<'_, '_, V, Recording>,
+    stopwatch: &S,
 ) -> Result<ExitStatus, LaunchFault>
     requires fresh { beside.old.other.now.recorded ≡ Recorded.Nothing }
     ensures same { beside.new.watcher.ghost_name ≡ beside.old.watcher.ghost_name }
@@ -43,15 +45,24 @@ fn run_recorded<T: Threads + Wait + Sync, R: Read, W: Write, V: Watcher>(
         TakesFrom (R.remaining reader.old) (R.remaining reader.new) (fault_in result)
         (λ bytes. IfOk result (λ status. IsRecordedRun (asked_by options.now) (suite_read bytes) (W.contents writer.old)
         (W.contents writer.new) status beside.new.other.now.recorded)) }
+    ensures unrecorded { is_run (asked_by options.now).replay (asked_by options.now).details ≡ false →
+        IfOk result (λ _. beside.new.other.now.recorded ≡ Recorded.Nothing) }
 {
-    run_options_watched(rt, alloc, options, reader, writer, beside)
+    run_options_watched(rt, alloc, options, reader, writer, beside, stopwatch)
 }
 
 /// Runs what these options ask for, as `run_options_watched` does, records what is told of it, and writes each report
 /// when the run is over: there is one history that is printed and
-/// that the reports are of, with the texts that were told with it. How the writing of each went stands in it.
-/// Of what is refused no report is written, and its writer is left alone.
-pub fn run_reported<T: Threads + Wait + Sync, R: Read, W: Write, V: Watcher, F: Write + Drop>(
+/// that the reports are of, with the texts that were told with it, and with the same times in each, if times are asked
+/// for. How the writing of each went stands in it. Of what is refused no report is written, and its writer is left alone.
+pub fn run_reported<
+    T: Threads + Wait + Sync,
+    R: Read,
+    W: Write,
+    V: Watcher,
+    F: Write + Drop,
+    S: Stopwatch + Sync,
+>(
     rt: &T,
     alloc: Global,
     options: &Options,
@@ -59,6 +70,7 @@ pub fn run_reported<T: Threads + Wait + Sync, R: Read, W: Write, V: Watcher, F: 
     reader: &mut R,
     writer: &mut W,
     beside: &mut Beside<'_, '_, V, Recording>,
+    stopwatch: &S,
 ) -> Result<ExitStatus, LaunchFault>
     requires fresh { beside.old.other.now.recorded ≡ Recorded.Nothing }
     ensures same { beside.new.watcher.ghost_name ≡ beside.old.watcher.ghost_name }
@@ -78,10 +90,17 @@ pub fn run_reported<T: Threads + Wait + Sync, R: Read, W: Write, V: Watcher, F: 
         (W.contents writer.old) (W.contents writer.new) status reports.old reports.new)) }
     ensures refused { IfErr result (λ _. reports.new ≡ reports.old) }
     ensures many { length reports.new ≡ length reports.old }
+    // The same history is what was recorded; where nothing is run nothing was.
+    ensures recorded { is_run (asked_by options.now).replay (asked_by options.now).details ≡ true →
+        TakesFrom (R.remaining reader.old) (R.remaining reader.new) (fault_in result)
+        (λ bytes. IfOk result (λ status. IsRecordedRun (asked_by options.now) (suite_read bytes) (W.contents writer.old)
+        (W.contents writer.new) status beside.new.other.now.recorded)) }
+    ensures unrecorded { is_run (asked_by options.now).replay (asked_by options.now).details ≡ false →
+        IfOk result (λ _. beside.new.other.now.recorded ≡ Recorded.Nothing) }
 {
-    match run_recorded(rt, alloc, options, reader, writer, &mut *beside) {
+    match run_recorded(rt, alloc, options, reader, writer, &mut *beside, stopwatch) {
         Ok(status) => {
-            write_reports(alloc, options.theme, &beside.other.recorded, reports);
+            write_reports(alloc, options, &beside.other.recorded, reports, stopwatch);
             Ok(status)
         }
         Err(fault) => Err(fault),

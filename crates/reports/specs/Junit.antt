@@ -2,6 +2,7 @@
 use Rattle.std.specs.Prelude.{ℕ, ◌==◌, Bool, cond, List, [], ◌++◌, length, codes}
 use Rattle.std.specs.List.{flat_map, count_by, range_with_len}
 use Rattle.descriptor.specs.Nodes.{size}
+use Rattle.job_times.specs.Timings.{Took}
 use Rattle.resource_locks.specs.Plans.{PlanParts}
 use Rattle.plan_events.specs.Texts.{TextParts, text_at}
 use Rattle.plan_events.specs.declared.event.Event.{Event}
@@ -9,6 +10,7 @@ use Rattle.listeners.specs.Feed.{id_at, text_or}
 use Rattle.listeners.specs.TreeTexts.{name_at}
 use Rattle.reports.specs.Cases.{cases_of, has_error, has_failed, is_left_out}
 use Rattle.reports.specs.ClassNames.{class_name, reported_name}
+use Rattle.reports.specs.TimeTexts.{time_text, time_or_none, time_of_cases}
 use Rattle.reports.specs.Told.{all_told}
 use Rattle.reports.specs.XmlStrings.{attribute, attribute_of, number_attribute, element, empty_element, escaped}
 use Rattle.reports.specs.declared.cases.Case.{Case}
@@ -47,45 +49,51 @@ abbrev pub case_content : PlanParts → TextParts → Case → List ℕ
 case_content plan texts c =
     end_elements (c.cause.node == c.node) c.cause.end (text_or (text_at texts c.cause.node)) ++ output_element plan c.node
 
--- the name of a case and that of its class; a run has no clock
-abbrev pub case_attributes : PlanParts → List ℕ → ℕ → List ℕ
-case_attributes plan class n =
-    attribute_of (codes "name") (reported_name plan.tree n) ++ (attribute (codes "classname") class ++ number_attribute (codes "time") 0)
+-- the name of a case and that of its class, and how long its node took
+abbrev pub case_attributes : PlanParts → Took → List ℕ → ℕ → List ℕ
+case_attributes plan took class n =
+    attribute_of (codes "name") (reported_name plan.tree n)
+    ++ (attribute (codes "classname") class
+    ++ attribute_of (codes "time") (time_text (time_or_none took n)))
 
 -- a case's line
-abbrev pub case_line : PlanParts → TextParts → List ℕ → Case → List ℕ
-case_line plan texts class c =
-    codes "    " ++ (element (codes "testcase") (case_attributes plan class c.node) (case_content plan texts c) ++ codes "\n")
+abbrev pub case_line : PlanParts → TextParts → Took → List ℕ → Case → List ℕ
+case_line plan texts took class c =
+    codes "    " ++ (element (codes "testcase") (case_attributes plan took class c.node) (case_content plan texts c) ++ codes "\n")
 
 -- the name of a suite and its counts: all cases, those that failed, those below a node that failed, and those that neither passed nor
--- failed
-abbrev pub suite_attributes : List ℕ → List Case → List ℕ
-suite_attributes class cases =
+-- failed; and how long the nodes of all cases took
+abbrev pub suite_attributes : Took → List ℕ → List Case → List ℕ
+suite_attributes took class cases =
     attribute (codes "name") class
     ++ (number_attribute (codes "tests") (length cases)
     ++ (number_attribute (codes "failures") (count_by has_failed cases)
     ++ (number_attribute (codes "errors") (count_by has_error cases)
     ++ (number_attribute (codes "skipped") (count_by is_left_out cases)
-    ++ number_attribute (codes "time") 0))))
+    ++ attribute_of (codes "time") (time_text (time_of_cases took cases))))))
 
 -- a suite of these cases, from a line of its own to the end of a line
-abbrev pub suite_element : PlanParts → TextParts → List ℕ → List Case → List ℕ
-suite_element plan texts class cases =
-    codes "  " ++ (element (codes "testsuite") (suite_attributes class cases) (codes "\n" ++ (flat_map (case_line plan texts class) cases ++ codes "  ")) ++ codes "\n")
+abbrev pub suite_element : PlanParts → TextParts → Took → List ℕ → List Case → List ℕ
+suite_element plan texts took class cases =
+    codes "  " ++ (element (codes "testsuite") (suite_attributes took class cases) (codes "\n" ++ (flat_map (case_line plan texts took class) cases ++ codes "  ")) ++ codes "\n")
 
 -- a suite, and nothing where there is no case
-abbrev pub suite_with : PlanParts → TextParts → List ℕ → List Case → List ℕ
-suite_with plan texts class cases = cond (length cases == 0) [] (suite_element plan texts class cases)
+abbrev pub suite_with : PlanParts → TextParts → Took → List ℕ → List Case → List ℕ
+suite_with plan texts took class cases = cond (length cases == 0) [] (suite_element plan texts took class cases)
 
 -- the suite of node n, of whose nodes this was told
-abbrev pub suite_of : PlanParts → TextParts → List NodeTold → ℕ → List ℕ
-suite_of plan texts told n = suite_with plan texts (class_name plan.tree n) (cases_of plan.tree told n)
+abbrev pub suite_of : PlanParts → TextParts → Took → List NodeTold → ℕ → List ℕ
+suite_of plan texts took told n = suite_with plan texts took (class_name plan.tree n) (cases_of plan.tree told n)
 
 -- the element of all suites, in the plan's order
-abbrev pub suites_element : PlanParts → TextParts → List NodeTold → List ℕ
-suites_element plan texts told =
-    element (codes "testsuites") [] (codes "\n" ++ flat_map (suite_of plan texts told) (range_with_len 0 (size plan.tree))) ++ codes "\n"
+abbrev pub suites_element : PlanParts → TextParts → Took → List NodeTold → List ℕ
+suites_element plan texts took told =
+    element (codes "testsuites") [] (codes "\n" ++ flat_map (suite_of plan texts took told) (range_with_len 0 (size plan.tree))) ++ codes "\n"
 
 -- the whole text, from the line of the document's element
+abbrev pub timed_junit_of : PlanParts → TextParts → Took → List Event → List ℕ
+timed_junit_of plan texts took events = suites_element plan texts took (all_told (size plan.tree) events)
+
+-- the same where no time is known
 abbrev pub junit_of : PlanParts → TextParts → List Event → List ℕ
-junit_of plan texts events = suites_element plan texts (all_told (size plan.tree) events)
+junit_of plan texts events = timed_junit_of plan texts [] events

@@ -1,5 +1,5 @@
 -- The report in XML by what is told of each node, whatever told it.
-use Rattle.std.specs.Prelude.{ℕ, List, map}
+use Rattle.std.specs.Prelude.{ℕ, List, [], map}
 use Rattle.std.specs.List.{range_with_len}
 use Rattle.descriptor.specs.Nodes.{size}
 use Rattle.listeners.specs.declared.told.NodeEvents.{NodeEvents}
@@ -12,6 +12,6 @@ use Rattle.resource_locks.specs.Plans.{PlanParts}
 abbrev pub reported : NodeEvents → NodeTold
 reported told = record { skipped = told.skipped; registered = told.registered; status = told.status }
 
--- the whole text
+-- the whole text, where no time is known
 abbrev pub junit_by : PlanParts → TextParts → (ℕ → NodeEvents) → List ℕ
-junit_by plan texts told = suites_element plan texts (map (λ n. reported (told n)) (range_with_len 0 (size plan.tree)))
+junit_by plan texts told = suites_element plan texts [] (map (λ n. reported (told n)) (range_with_len 0 (size plan.tree)))

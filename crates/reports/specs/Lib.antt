@@ -8,6 +8,7 @@ pub mod Junit
 pub mod JunitBy
 pub mod Lists
 pub mod PlanNodes
+pub mod TimeTexts
 pub mod Told
 pub mod XmlStrings
 pub mod Expectations

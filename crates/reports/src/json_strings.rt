@@ -86,7 +86,7 @@ pub(crate) fn push_further(json: &mut String, name: &str, text: &str) -> Result<
 }
 
 /// Appends a member whose value is a number, behind another one.
-pub(crate) fn push_number(json: &mut String, name: &str, number: u8) -> Result<(), AllocError>
+pub(crate) fn push_number(json: &mut String, name: &str, number: u64) -> Result<(), AllocError>
     ensures { OnOk result (string_bytes json.new ≡ string_bytes json.old
         ++ (codes "," ++ (quoted name.now ++ (codes ":" ++ decimal number)))) }
 {

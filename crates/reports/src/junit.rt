@@ -4,14 +4,16 @@ ghost use Rattle.std.specs.Prelude.{◌≡◌, ◌<◌, ◌++◌, OnOk, IfOk, co
 ghost use Rattle.std.specs.List.{count_by, flat_map, range_with_len};
 ghost use Rattle.descriptor.specs.Nodes.{size};
 ghost use Rattle.reports.specs.Cases.{has_error, has_failed, is_left_out};
-ghost use Rattle.reports.specs.Junit.{case_line, suite_attributes, suite_element, suite_of, junit_of};
+ghost use Rattle.reports.specs.Junit.{case_line, suite_attributes, suite_element, suite_of, timed_junit_of, junit_of};
 
 use crate::cases::{Case, cases_of};
 use crate::class_names::class_name;
-use crate::junit_case::push_case;
+use crate::junit_case::{push_case, push_time};
+use crate::times::time_of_cases;
 use crate::told::{NodeTold, all_told};
 use crate::xml_strings::{push_attribute, push_number};
 use descriptor::NodeId;
+use job_times::Timings;
 use plan_events::{Event, Texts};
 use resource_locks::Plan;
 use std::alloc::{AllocError, Global};
@@ -21,14 +23,15 @@ fn push_lines(
     xml: &mut String,
     plan: &Plan,
     texts: &Texts,
+    timings: &Timings,
     class: &str,
     cases: &[Case],
 ) -> Result<(), AllocError>
     ensures { OnOk result (string_bytes xml.new ≡ string_bytes xml.old
-        ++ flat_map (case_line plan.now texts.now class.now) cases.now) }
+        ++ flat_map (case_line plan.now texts.now timings.now.took.items class.now) cases.now) }
 {
     for case in cases {
-        push_case(xml, plan, texts, class, *case)?;
+        push_case(xml, plan, texts, timings, class, *case)?;
     }
     Ok(())
 }
@@ -54,16 +57,22 @@ fn skips(cases: &[Case]) -> usize
     cases.iter().filter(|case| case.is_left_out()).count()
 }
 
-/// Appends the name of a suite and its counts.
-fn push_counts(xml: &mut String, class: &str, cases: &[Case]) -> Result<(), AllocError>
-    ensures { OnOk result (string_bytes xml.new ≡ string_bytes xml.old ++ suite_attributes class.now cases.now) }
+/// Appends the name of a suite, its counts, and how long the nodes of its cases took.
+fn push_counts(
+    xml: &mut String,
+    timings: &Timings,
+    class: &str,
+    cases: &[Case],
+) -> Result<(), AllocError>
+    ensures { OnOk result (string_bytes xml.new ≡ string_bytes xml.old
+        ++ suite_attributes timings.now.took.items class.now cases.now) }
 {
     push_attribute(xml, "name", class)?;
     push_number(xml, "tests", cases.len())?;
     push_number(xml, "failures", failures(cases))?;
     push_number(xml, "errors", errors(cases))?;
     push_number(xml, "skipped", skips(cases))?;
-    push_number(xml, "time", 0)
+    push_time(xml, time_of_cases(timings, cases))
 }
 
 /// Appends the element of a suite of these cases.
@@ -71,16 +80,17 @@ fn push_cases(
     xml: &mut String,
     plan: &Plan,
     texts: &Texts,
+    timings: &Timings,
     class: &str,
     cases: &[Case],
 ) -> Result<(), AllocError>
-    ensures { OnOk result (string_bytes xml.new ≡ string_bytes xml.old ++ suite_element plan.now texts.now class.now
-        cases.now) }
+    ensures { OnOk result (string_bytes xml.new ≡ string_bytes xml.old ++ suite_element plan.now texts.now
+        timings.now.took.items class.now cases.now) }
 {
     xml.push_str("  <testsuite")?;
-    push_counts(xml, class, cases)?;
+    push_counts(xml, timings, class, cases)?;
     xml.push_str(">\n")?;
-    push_lines(xml, plan, texts, class, cases)?;
+    push_lines(xml, plan, texts, timings, class, cases)?;
     xml.push_str("  </testsuite>\n")
 }
 
@@ -90,11 +100,13 @@ fn push_suite(
     xml: &mut String,
     plan: &Plan,
     texts: &Texts,
+    timings: &Timings,
     told: &[NodeTold],
     node: NodeId,
 ) -> Result<(), AllocError>
     requires { node < size plan.now.tree }
-    ensures { OnOk result (string_bytes xml.new ≡ string_bytes xml.old ++ suite_of plan.now texts.now told.now node) }
+    ensures { OnOk result (string_bytes xml.new ≡ string_bytes xml.old
+        ++ suite_of plan.now texts.now timings.now.took.items told.now node) }
 {
     let tree = plan.tree();
     let cases = cases_of(alloc, tree, told, node)?;
@@ -102,7 +114,8 @@ fn push_suite(
         return Ok(());
     }
     let class = class_name(alloc, tree, node)?;
-    push_cases(xml, plan, texts, class.as_str(), cases.as_slice())
+    let class = class.as_str();
+    push_cases(xml, plan, texts, timings, class, cases.as_slice())
 }
 
 /// Appends the suites of all nodes.
@@ -111,22 +124,41 @@ fn push_suites(
     xml: &mut String,
     plan: &Plan,
     texts: &Texts,
+    timings: &Timings,
     told: &[NodeTold],
 ) -> Result<(), AllocError>
     ensures { OnOk result (string_bytes xml.new ≡ string_bytes xml.old
-        ++ flat_map (suite_of plan.now texts.now told.now) (range_with_len 0 (size plan.now.tree))) }
+        ++ flat_map (suite_of plan.now texts.now timings.now.took.items told.now) (range_with_len 0 (size plan.now.tree))) }
 {
     let tree = plan.tree();
     for number in 0..tree.len() {
         let node = NodeId::new(number as u16);
-        push_suite(alloc, xml, plan, texts, told, node)?;
+        push_suite(alloc, xml, plan, texts, timings, told, node)?;
     }
     Ok(())
 }
 
 /// The report of these events in JUnit's XML, from the line of the document's element: a suite for
-/// each node of the plan that has cases, and in it an element for each case. It takes one pass over
-/// the events.
+/// each node of the plan that has cases, and in it an element for each case, with how long its node
+/// took. It takes one pass over the events.
+pub fn timed_junit_text(
+    alloc: Global,
+    plan: &Plan,
+    events: &[Event],
+    texts: &Texts,
+    timings: &Timings,
+) -> Result<String, AllocError>
+    ensures { IfOk result (λ xml. string_bytes xml ≡ timed_junit_of plan.now texts.now timings.now.took.items
+        events.now) }
+{
+    let told = all_told(alloc, plan.tree().len(), events)?;
+    let mut xml = String::from_str(alloc, "<testsuites>\n")?;
+    push_suites(alloc, &mut xml, plan, texts, timings, told.as_slice())?;
+    xml.push_str("</testsuites>\n")?;
+    Ok(xml)
+}
+
+/// The same where no time is known.
 pub fn junit_text(
     alloc: Global,
     plan: &Plan,
@@ -135,9 +167,5 @@ pub fn junit_text(
 ) -> Result<String, AllocError>
     ensures { IfOk result (λ xml. string_bytes xml ≡ junit_of plan.now texts.now events.now) }
 {
-    let told = all_told(alloc, plan.tree().len(), events)?;
-    let mut xml = String::from_str(alloc, "<testsuites>\n")?;
-    push_suites(alloc, &mut xml, plan, texts, told.as_slice())?;
-    xml.push_str("</testsuites>\n")?;
-    Ok(xml)
+    timed_junit_text(alloc, plan, events, texts, &Timings::none(alloc))
 }

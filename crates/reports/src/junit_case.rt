@@ -4,13 +4,16 @@ ghost use Rattle.std.specs.Prelude.{◌≡◌, ◌++◌, OnOk, codes, string_byt
 ghost use Rattle.reports.specs.ClassNames.{reported_name};
 ghost use Rattle.reports.specs.Junit.{case_attributes, case_content, case_line, end_elements, failure_name};
 ghost use Rattle.reports.specs.Junit.{output_element, reason_element, words_above};
+ghost use Rattle.reports.specs.TimeTexts.{time_text};
 ghost use Rattle.reports.specs.XmlStrings.{attribute_of, escaped};
 
 use crate::cases::{Case, Cause};
 use crate::nodes::{factory_of, id_of, name_of, text_of};
+use crate::times::{push_seconds, time_or_none};
 use crate::told::NodeEnd;
 use crate::xml_strings::{push_attribute, push_escaped, push_number};
 use descriptor::{NodeId, Tree};
+use job_times::Timings;
 use plan_events::Texts;
 use resource_locks::Plan;
 use std::alloc::AllocError;
@@ -109,20 +112,35 @@ fn push_reported(xml: &mut String, tree: &Tree, node: NodeId) -> Result<(), Allo
     }
 }
 
-/// Appends the name of a case and that of its class. A run has no clock.
+/// Appends the attribute that says how many seconds something took.
+pub(crate) fn push_time(xml: &mut String, micros: u128) -> Result<(), AllocError>
+    ensures { OnOk result (string_bytes xml.new ≡ string_bytes xml.old
+        ++ attribute_of (codes "time") (time_text micros)) }
+{
+    if micros == 0 {
+        return push_number(xml, "time", 0);
+    }
+    xml.push_str(" time=\"")?;
+    push_seconds(xml, micros)?;
+    xml.push_str("\"")
+}
+
+/// Appends the name of a case and that of its class, and how long its node took.
 fn push_attributes(
     xml: &mut String,
     plan: &Plan,
+    timings: &Timings,
     class: &str,
     node: NodeId,
 ) -> Result<(), AllocError>
-    ensures { OnOk result (string_bytes xml.new ≡ string_bytes xml.old ++ case_attributes plan.now class.now node) }
+    ensures { OnOk result (string_bytes xml.new ≡ string_bytes xml.old
+        ++ case_attributes plan.now timings.now.took.items class.now node) }
 {
     xml.push_str(" name=\"")?;
     push_reported(xml, plan.tree(), node)?;
     xml.push_str("\"")?;
     push_attribute(xml, "classname", class)?;
-    push_number(xml, "time", 0)
+    push_time(xml, u128::from(time_or_none(timings, node)))
 }
 
 /// Appends the line of a case in a class.
@@ -130,13 +148,15 @@ pub(crate) fn push_case(
     xml: &mut String,
     plan: &Plan,
     texts: &Texts,
+    timings: &Timings,
     class: &str,
     case: Case,
 ) -> Result<(), AllocError>
-    ensures { OnOk result (string_bytes xml.new ≡ string_bytes xml.old ++ case_line plan.now texts.now class.now case) }
+    ensures { OnOk result (string_bytes xml.new ≡ string_bytes xml.old
+        ++ case_line plan.now texts.now timings.now.took.items class.now case) }
 {
     xml.push_str("    <testcase")?;
-    push_attributes(xml, plan, class, case.node)?;
+    push_attributes(xml, plan, timings, class, case.node)?;
     xml.push_str(">")?;
     push_content(xml, plan, texts, case)?;
     xml.push_str("</testcase>\n")

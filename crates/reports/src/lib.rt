@@ -11,11 +11,14 @@ mod junit_case;
 mod list;
 mod nodes;
 mod plan_nodes;
+mod times;
 mod told;
 mod xml_strings;
 
 pub use expected::printed_as_expected;
-pub use json_lines::{json_text, push_note};
-pub use junit::junit_text;
+pub use json_lines::{json_text, push_note, timed_json_text};
+pub use junit::{junit_text, timed_junit_text};
 pub use list::list_text;
+pub use nodes::{id_of, name_of};
 pub use plan_nodes::plan_text;
+pub use times::{push_seconds, time_or_none};

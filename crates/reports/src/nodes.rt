@@ -42,7 +42,7 @@ pub(crate) fn factory_of(tree: &Tree, node: NodeId) -> Option<NodeId>
 }
 
 /// The name of a node; nothing for node 0, and for a node that the tree lacks.
-pub(crate) fn name_of(tree: &Tree, node: NodeId) -> &str
+pub fn name_of(tree: &Tree, node: NodeId) -> &str
     ensures { result.now ≡ name_at tree.now node }
 {
     if node == NodeId::ROOT || node.index() >= tree.len() {
@@ -52,7 +52,7 @@ pub(crate) fn name_of(tree: &Tree, node: NodeId) -> &str
 }
 
 /// The canonical id of a node; nothing for node 0, and for a node that the plan lacks.
-pub(crate) fn id_of(plan: &Plan, node: NodeId) -> &str
+pub fn id_of(plan: &Plan, node: NodeId) -> &str
     ensures { result.now ≡ id_at plan.now node }
 {
     if node == NodeId::ROOT || node.index() >= plan.tree().len() {

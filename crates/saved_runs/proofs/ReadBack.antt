@@ -6,6 +6,7 @@ use Rattle.event_history.specs.History.{IsLegal}
 use Rattle.event_history.specs.Places.{is_failure}
 use Rattle.descriptor.specs.Nodes.{node_at}
 use Rattle.unique_id.specs.declared.unique_id.Segment.{Segment}
+use Rattle.job_times.specs.Timings.{Took}
 use Rattle.resource_locks.specs.Plans.{PlanParts}
 use Rattle.plan_events.specs.Texts.{TextParts}
 use Rattle.plan_events.specs.Words.{fits_status, plan_may}
@@ -16,7 +17,8 @@ use Rattle.plan_events.specs.declared.outcome.Reply.{Reply}
 use Rattle.plan_events.specs.declared.status.Status.{Status}
 use Rattle.plan_events.specs.declared.status.Status.TheVariants.{Successful, Aborted, Failed}
 use Rattle.listeners.specs.Feed.{feed_of}
-use Rattle.reports.specs.Json.{json_of}
+use Rattle.reports.specs.Json.{timed_json_of}
+use Rattle.reports.specs.TimeTexts.{AreTimes}
 use Rattle.saved_runs.specs.RunAgain.{failed_ids}
 use Rattle.saved_runs.specs.Histories.{what_of, plan_event, segments_or, event_told, HasUids, HasFlatIds, IsOf, IsReadBack, failed_in}
 use Rattle.saved_runs.specs.Lines.{Tell}
@@ -85,7 +87,7 @@ feed_back p replies workers h texts uids flat legal =
     let of = events_of p replies workers h legal in
     record { all = feed_tells p texts h uids flat of; front = λ k. front_tells p texts h k uids flat of; failed = λ k. failed_are p (take k h) (first_of (IsOf p) k h of) }
 
-pub json_back : (p : PlanParts) (replies : ℕ → List Reply) (workers : ℕ) (h : List Event) (texts : TextParts) → HasUids p → IsLegal p replies workers h → IsReadBack p h (json_of p texts h)
-json_back p replies workers h texts uids legal =
+pub json_back : (p : PlanParts) (replies : ℕ → List Reply) (workers : ℕ) (h : List Event) (texts : TextParts) (took : Took) → AreTimes took → HasUids p → IsLegal p replies workers h → IsReadBack p h (timed_json_of p texts took h)
+json_back p replies workers h texts took times uids legal =
     let of = events_of p replies workers h legal in
-    record { all = json_tells p texts h uids of; front = λ k. json_front_tells p texts h k uids of; failed = λ k. failed_are p (take k h) (first_of (IsOf p) k h of) }
+    record { all = json_tells p texts took times h uids of; front = λ k. json_front_tells p texts took times h k uids of; failed = λ k. failed_are p (take k h) (first_of (IsOf p) k h of) }

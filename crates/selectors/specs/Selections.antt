@@ -11,6 +11,7 @@ use Rattle.selectors.specs.Filters.{keeps, tags_together}
 use Rattle.selectors.specs.Keeping.{stays}
 use Rattle.selectors.specs.Shards.{shard_or_all}
 use Rattle.selectors.specs.Units.{is_selectable}
+use Rattle.tree_orders.specs.Orders.{seeded_or_same}
 
 -- whether a request takes node n by its place and its name: of the selectors, of the names, and of what is to be run again, one covers it or
 -- there are none, and none of the exclusions covers it
@@ -34,9 +35,13 @@ selection t request = pruned t (truths (stays t (is_selected t request)) (size t
 abbrev pub selects_nothing : Nodes → Request → Bool
 selects_nothing t request = size (selection t request) == 1
 
--- what discovery finds: that tree, or the shard of it that the request asks for
+-- that tree, or the shard of it that the request asks for
+abbrev pub dealt : Nodes → Request → Nodes
+dealt t request = shard_or_all (selection t request) request.shard
+
+-- what discovery finds: those nodes in the order of the request's seed, so that a seed changes no shard
 abbrev pub answer : Nodes → Request → Nodes
-answer t request = shard_or_all (selection t request) request.shard
+answer t request = seeded_or_same request.seed (dealt t request)
 
 -- the refusal of a request: the first of its selectors, and then of its names, that covers no node of the whole tree, whatever else is asked for
 abbrev pub refusal : Nodes → Request → Option SelectFault

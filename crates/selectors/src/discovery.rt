@@ -12,6 +12,7 @@ ghost use Rattle.selectors.specs.Selections.{answer, is_selected, refusal, selec
 ghost use Rattle.selectors.specs.Shards.{shard_or_all};
 ghost use Rattle.selectors.specs.declared.selector.Selector.{Selector};
 ghost use Rattle.selectors.specs.declared.selector.Selector.TheVariants.{Uid, Name};
+ghost use Rattle.tree_orders.specs.Orders.{seeded_or_same};
 ghost use Rattle.unique_id.specs.declared.unique_id.Segment.{Segment};
 
 use crate::found::Found;
@@ -24,11 +25,13 @@ use crate::shard_tree::shard_of;
 use crate::taken::taken;
 use descriptor::Tree;
 use std::alloc::{AllocError, Global};
+use tree_orders::ordered_by_seed;
 
 /// The tree of the tests and factories that the request selects, of the spares of these factories
 /// and of what they are below, its nodes numbered anew, in their order and with their bodies. Where
 /// all nodes are that, it is the same tree, and nothing is copied. Where the request asks for a shard,
-/// the shard of that tree; that nothing is selected is told of the whole.
+/// the shard of that tree; that nothing is selected is told of the whole. Where it has a seed, that tree in
+/// the seed's order.
 ///
 /// Errors: refusal 41 for the first selector, and then for the first name, that covers no node of
 /// the whole tree, at its number, names counted behind selectors; and else want of memory. An
@@ -72,6 +75,29 @@ fn shard_or_all(alloc: Global, tree: Tree, shard: &Option<Shard>) -> Result<Tree
     }
 }
 
+/// The tree in the order of a seed, or as it is where there is none.
+fn seeded_or_same(alloc: Global, tree: Tree, seed: Option<u64>) -> Result<Tree, AllocError>
+    ensures ok { IfOk result (λ found. found ≡ seeded_or_same seed tree) }
+    ensures tree { IfOk result (λ found. IsTree tree → IsTree found) }
+    ensures children { IfOk result (λ found. ((n : ℕ) → ListsChildren tree n) → (n : ℕ) → ListsChildren found n) }
+{
+    match seed {
+        Some(seed) => ordered_by_seed(alloc, tree, seed),
+        None => Ok(tree),
+    }
+}
+
+/// Of the tree of what is selected the shard that is asked for, in the order that is asked for.
+fn answer_of(alloc: Global, tree: Tree, request: &Request) -> Result<Tree, AllocError>
+    ensures ok { IfOk result (λ found. found ≡ seeded_or_same request.now.seed
+        (shard_or_all tree request.now.shard)) }
+    ensures tree { IfOk result (λ found. IsTree tree → IsTree found) }
+    ensures children { IfOk result (λ found. ((n : ℕ) → ListsChildren tree n) → (n : ℕ) → ListsChildren found n) }
+{
+    let dealt = shard_or_all(alloc, tree, &request.shard)?;
+    seeded_or_same(alloc, dealt, request.seed)
+}
+
 /// What the request finds in a tree.
 fn find(alloc: Global, tree: Tree, request: &Request) -> Result<Found, SelectFault>
     requires { IsTree tree }
@@ -90,6 +116,6 @@ fn find(alloc: Global, tree: Tree, request: &Request) -> Result<Found, SelectFau
     let keep = kept(&tree, taken);
     let selection = tree.into_pruned(alloc, keep.as_slice())?;
     let is_nothing = selection.len() == 1;
-    let tree = shard_or_all(alloc, selection, &request.shard)?;
+    let tree = answer_of(alloc, selection, request)?;
     Ok(Found { tree, is_nothing })
 }

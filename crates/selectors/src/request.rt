@@ -23,4 +23,7 @@ pub struct Request {
     pub exclude: Vec<TagExpr>,
     /// Which shard of all that to take; where there is none, all of it.
     pub shard: Option<Shard>,
+    /// In whose order the children of each container are put that is no factory; where there is none,
+    /// they stay in the tree's.
+    pub seed: Option<u64>,
 }

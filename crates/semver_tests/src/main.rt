@@ -15,6 +15,7 @@ use std::io::{self, Write};
 use std::process::ExitCode;
 use std::sync::Wait;
 use std::thread::Threads;
+use std::time::Clock;
 
 fn reads(alloc: Global) -> Checked {
     let version = Version::parse(alloc, "1.2.3")?;
@@ -58,7 +59,7 @@ fn matches(alloc: Global, minor: u64, wanted: bool) -> Checked {
 }
 
 /// Builds the tests, and runs them as the words ask for. What is built here is not handed out, so nothing is hidden.
-fn run<T: Threads + Wait + Sync, W: Write, E: Write>(
+fn run<T: Threads + Wait + Sync + Clock, W: Write, E: Write>(
     rt: &T,
     alloc: Global,
     words: io::Result<Args>,

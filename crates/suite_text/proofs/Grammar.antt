@@ -3,7 +3,7 @@ use Rattle.std.proofs.Common.{◌≡◌, Some, refl, arith}
 use Rattle.std.specs.List.{Contains}
 use Rattle.descriptor.specs.declared.mode.Mode.TheVariants.{SameThread, Concurrent}
 use Rattle.suite_text.specs.declared.suite.attributes.Attribute.{Attribute}
-use Rattle.suite_text.specs.declared.suite.attributes.Attribute.TheVariants.{Tag, Spin, Pulls, Runs, Lock, Isolated}
+use Rattle.suite_text.specs.declared.suite.attributes.Attribute.TheVariants.{Tag, Spin, Slow, Pulls, Runs, Lock, Isolated}
 use Rattle.suite_text.specs.declared.suite.line_word.LineWord.{LineWord}
 use Rattle.suite_text.specs.declared.suite.line_word.LineWord.TheVariants.{Node, After, Property}
 use Rattle.suite_text.specs.declared.suite.verdicts.Verdict.{Verdict}
@@ -42,6 +42,7 @@ each_attribute Isolated = (3, omega arith, refl)
 each_attribute Lock = (4, omega arith, refl)
 each_attribute Spin = (5, omega arith, refl)
 each_attribute Pulls = (6, omega arith, refl)
+each_attribute Slow = (7, omega arith, refl)
 
 pub line_word_back : (word : LineWord) → line_word_of (line_word_text word) ≡ Some word
 line_word_back (Node Engine) = refl

@@ -4,7 +4,7 @@ use Rattle.std.specs.Option.{is_some}
 use Rattle.std.specs.Str.{bytes_eq}
 use Rattle.descriptor.specs.declared.mode.Mode.TheVariants.{SameThread, Concurrent}
 use Rattle.suite_text.specs.declared.suite.attributes.Attribute.{Attribute}
-use Rattle.suite_text.specs.declared.suite.attributes.Attribute.TheVariants.{Tag, Spin, Pulls, Runs, Lock, Isolated}
+use Rattle.suite_text.specs.declared.suite.attributes.Attribute.TheVariants.{Tag, Spin, Slow, Pulls, Runs, Lock, Isolated}
 use Rattle.suite_text.specs.declared.suite.line_word.LineWord.{LineWord}
 use Rattle.suite_text.specs.declared.suite.line_word.LineWord.TheVariants.{Node, After, Property}
 use Rattle.suite_text.specs.declared.suite.verdicts.Verdict.{Verdict}
@@ -45,13 +45,14 @@ ends_body verdict = is_some (status_declared (Some verdict))
 
 -- the attributes
 abbrev pub attributes : List Attribute
-attributes = Tag ∷ Runs Concurrent ∷ Runs SameThread ∷ Isolated ∷ Lock ∷ Spin ∷ Pulls ∷ []
+attributes = Tag ∷ Runs Concurrent ∷ Runs SameThread ∷ Isolated ∷ Lock ∷ Spin ∷ Pulls ∷ Slow ∷ []
 
 -- the word that an attribute is, or what stands before its equals sign; of a tag, its sign
 abbrev pub attribute_text : Attribute → List ℕ
 attribute_text Tag = codes "#"
 attribute_text Spin = codes "spin"
 attribute_text Pulls = codes "pulls"
+attribute_text Slow = codes "@slow"
 attribute_text (Runs mode) = mode_text mode
 attribute_text Lock = codes "lock"
 attribute_text Isolated = codes "isolated"
@@ -61,6 +62,7 @@ abbrev pub bearer : Attribute → Word
 bearer Tag = Class
 bearer Spin = Test
 bearer Pulls = Factory
+bearer Slow = Test
 bearer (Runs mode) = Class
 bearer Lock = Class
 bearer Isolated = Class

@@ -12,6 +12,7 @@ pub mod Parts
 pub mod Properties
 pub mod Pulls
 pub mod Scripts
+pub mod Slow
 pub mod Spins
 pub mod Verdicts
 pub mod Words

@@ -9,6 +9,6 @@ mod suite;
 pub use number::{is_number, number_up_to};
 pub use script::Script;
 pub use suite::{
-    Attribute, LONGEST_SPIN, LONGEST_SUITE, LineWord, MOST_PULLS, Suite, SuiteFault, Verdict, Word,
-    key_and_mode, key_and_value, without_mark,
+    Attribute, LONGEST_LIMIT, LONGEST_SPIN, LONGEST_SUITE, LineWord, MOST_PULLS, Suite, SuiteFault,
+    Verdict, Word, key_and_mode, key_and_value, without_mark,
 };

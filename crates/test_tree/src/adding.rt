@@ -18,12 +18,7 @@ use test_bodies::Body;
 
 impl Tests {
     /// Adds the next node below this one, with the body that waits for it.
-    pub(crate) fn add(
-        &mut self,
-        parent: NodeId,
-        sort: Sort,
-        name: &str,
-    ) -> Result<NodeId, BuildCause>
+    fn add_next(&mut self, parent: NodeId, sort: Sort, name: &str) -> Result<NodeId, BuildCause>
         requires spare { is_spare (role_of sort) ≡ true → (held self.old).marks.locks ≡ [] }
         requires factory { parent ≡ 0 → is_factory (role_of sort) ≡ false }
         ensures number { IfOk result (λ number. (number ≡ size (held self.old).tree) × (0 < number)) }
@@ -44,6 +39,49 @@ impl Tests {
             sort,
             name,
         )
+    }
+
+    /// From how many milliseconds on the body of the next node is slow, if it has one and that was said.
+    fn next_limit(&self) -> Option<u32> {
+        if self.body.is_some() {
+            self.marks.slow
+        } else {
+            None
+        }
+    }
+
+    /// Keeps from how many milliseconds on the body of this node is slow.
+    fn keep_limit(&mut self, node: NodeId, limit: Option<u32>)
+        ensures held { held self.new ≡ held self.old }
+        ensures properties { properties_of self.new ≡ properties_of self.old }
+        ensures memory { memory_of self.new ≡ memory_of self.old }
+    {
+        if let Some(limit) = limit {
+            let _ = self.limits.push((BodyId::new(node.number()), limit));
+        }
+    }
+
+    /// Adds the next node below this one, with the body that waits for it and with its limit.
+    pub(crate) fn add(
+        &mut self,
+        parent: NodeId,
+        sort: Sort,
+        name: &str,
+    ) -> Result<NodeId, BuildCause>
+        requires spare { is_spare (role_of sort) ≡ true → (held self.old).marks.locks ≡ [] }
+        requires factory { parent ≡ 0 → is_factory (role_of sort) ≡ false }
+        ensures number { IfOk result (λ number. (number ≡ size (held self.old).tree) × (0 < number)) }
+        ensures taken { OnOk result (IsNodeTaken (held self.old) parent sort name.now) }
+        ensures grown { OnOk result (held self.new ≡ grown (held self.old) parent sort name.now) }
+        ensures refused { IfErr result (λ cause. IsNodeRefused (held self.old) parent sort name.now cause) }
+        ensures err { OnErr result (held self.new ≡ held self.old) }
+        ensures properties { properties_of self.new ≡ properties_of self.old }
+        ensures memory { memory_of self.new ≡ memory_of self.old }
+    {
+        let limit = self.next_limit();
+        let node = self.add_next(parent, sort, name)?;
+        self.keep_limit(node, limit);
+        Ok(node)
     }
 
     /// Adds a node that has this body: none may wait.

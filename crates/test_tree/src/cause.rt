@@ -24,6 +24,8 @@ pub enum BuildCause {
     Tag(TagFault),
     /// Refusal 100: a lock without a key.
     NoKey,
+    /// Refusal 100: no milliseconds, or more than 86,400,000, from which on a test is slow.
+    NoLimit,
     /// Refusal 100: something is declared of a dynamic test, or of a node that does not come.
     Marked,
     /// Refusal 100: a body is to run before a class, and something else comes, or nothing.
@@ -65,7 +67,8 @@ impl BuildCause {
             BuildCause::Name(fault) => fault.number(),
             BuildCause::Node(fault) => fault.number(),
             BuildCause::Tag(fault) => fault.number(),
-            BuildCause::NoKey | BuildCause::Marked | BuildCause::NoClass => 100,
+            BuildCause::NoKey | BuildCause::NoLimit | BuildCause::Marked | BuildCause::NoClass =>
+                100,
         }
     }
 
@@ -79,7 +82,8 @@ impl BuildCause {
             BuildCause::Node(fault) => sentence_of(fault),
             BuildCause::Tag(_) => "a text that is no tag",
             BuildCause::NoKey => "a lock without a key",
-            BuildCause::Marked => "a tag, a mode or a lock of no node that takes it",
+            BuildCause::NoLimit => "a limit of no milliseconds, or of more than 86,400,000",
+            BuildCause::Marked => "a tag, a mode, a lock or a limit of no node that takes it",
             BuildCause::NoClass => "a body before a class that does not come",
         }
     }

@@ -8,12 +8,13 @@ ghost use Rattle.tag_expr.specs.Tags.{tag_refusal};
 ghost use Rattle.test_bodies.specs.Bodies.{may_answer};
 ghost use Rattle.test_tree.specs.Building.{held, memory_of, properties_of};
 ghost use Rattle.test_tree.specs.Growing.{IsBodyGiven, with_marks};
-ghost use Rattle.test_tree.specs.Marks.{with_isolation, with_lock, with_mode, with_reason, with_tag};
+ghost use Rattle.test_tree.specs.Marks.{is_limit, with_isolation, with_lock, with_mode, with_reason, with_slow, with_tag};
 
 use crate::cause::BuildCause;
 use crate::fault::BuildFault;
 use crate::tests::Tests;
 use descriptor::{Lock, LockMode, Mode};
+use suite_text::LONGEST_LIMIT;
 use tag_expr::{TagFault, tag_of};
 use test_bodies::{Body, TestFn};
 use unique_id::Text;
@@ -90,6 +91,23 @@ impl Tests {
             return Err(BuildFault::at(BuildCause::NoMemory, reason));
         };
         self.marks.disabled = Some(text);
+        Ok(())
+    }
+
+    /// The next node, if it is a test, is named while it runs once it has run for so many milliseconds, whatever was
+    /// said before.
+    pub fn slow(&mut self, milliseconds: u32) -> Result<(), BuildFault>
+        ensures declared { OnOk result (held self.new ≡ with_marks (held self.old)
+            (with_slow (held self.old).marks milliseconds)) }
+        ensures accepted { OnOk result (is_limit milliseconds ≡ true) }
+        ensures refused { IfErr result (λ fault. (fault.cause ≡ BuildCause.NoLimit) × (is_limit milliseconds ≡ false)) }
+        ensures err { OnErr result (held self.new ≡ held self.old) }
+        ensures properties { properties_of self.new ≡ properties_of self.old }
+    {
+        if milliseconds == 0 || milliseconds > LONGEST_LIMIT {
+            return Err(BuildFault::at(BuildCause::NoLimit, ""));
+        }
+        self.marks.slow = Some(milliseconds);
         Ok(())
     }
 

@@ -17,6 +17,8 @@ pub(crate) struct Marks {
     pub(crate) mode: Option<Mode>,
     pub(crate) isolated: bool,
     pub(crate) disabled: Option<Text>,
+    /// From how many milliseconds on it is slow.
+    pub(crate) slow: Option<u32>,
 }
 
 /// The same reason, if there is one.
@@ -40,6 +42,7 @@ impl Marks {
             mode: None,
             isolated: false,
             disabled: None,
+            slow: None,
         }
     }
 
@@ -59,6 +62,7 @@ impl Marks {
             && self.mode.is_none()
             && !self.isolated
             && self.disabled.is_none()
+            && self.slow.is_none()
     }
 
     /// The node of which this is declared.

@@ -90,6 +90,7 @@ impl Tests {
             jobs: Vec::new(alloc),
             properties: Params::new(alloc),
             marks: Marks::none(alloc),
+            limits: Vec::new(alloc),
             body: None,
         };
         Ok(Box::new(alloc, tests)?)
@@ -138,9 +139,10 @@ impl Tests {
         }
     }
 
-    /// The tree, what is said of the configuration, and the jobs with their numbers: each body of the tree has one,
-    /// and whatever plan is made of the tree, they may be run. What is declared of a node that does not come is refused.
-    pub fn into_parts(self) -> Result<(Tree, Params, Jobs<Body>), BuildFault>
+    /// The tree, what is said of the configuration, the jobs with their numbers, and from how many milliseconds on
+    /// which of them are slow: each body of the tree has a job, and whatever plan is made of the tree, they may be run.
+    /// What is declared of a node that does not come is refused. No clause says what is slow.
+    pub fn into_parts(self) -> Result<(Tree, Params, Jobs<Body>, Vec<(BodyId, u32)>), BuildFault>
         ensures tree { IfOk result (λ parts. parts.0 ≡ (held self).tree) }
         ensures properties { IfOk result (λ parts. parts.1 ≡ properties_of self) }
         ensures jobs { IfOk result (λ parts. parts.2.items ≡ (held self).jobs) }
@@ -158,11 +160,12 @@ impl Tests {
             jobs,
             properties,
             marks,
+            limits,
             body,
         } = self;
         let pending = pending(&marks, &body);
         drop((marks, body));
-        let parts = (tree.finish(), properties, jobs);
+        let parts = (tree.finish(), properties, jobs, limits);
         match pending {
             None => Ok(parts),
             Some(cause) => {

@@ -7,7 +7,7 @@ ghost use Rattle.test_tree.specs.Jobs.{HasJobs, are_fresh, is_fresh_or_none};
 
 use crate::marks::Marks;
 use config_params::Params;
-use descriptor::TreeBuilder;
+use descriptor::{BodyId, TreeBuilder};
 use run_table::Jobs;
 use std::alloc::Global;
 use test_bodies::Body;
@@ -21,6 +21,8 @@ pub struct Tests {
     pub(crate) jobs: Jobs<Body>,
     pub(crate) properties: Params,
     pub(crate) marks: Marks,
+    // from how many milliseconds on a body is slow; one for which there was no memory is not there
+    pub(crate) limits: Vec<(BodyId, u32)>,
     // the body of the next node
     pub(crate) body: Option<Body>,
     // each node has its bodies, and none was run

@@ -29,7 +29,7 @@ compare (suc m) (suc n) = elim (compare m n) [
 ]
 
 -- a node but node 0 has the result that its parent's gives it
-step_is : (p : PlanParts) (reply : ℕ → Reply) (levels n : ℕ) → 0 < n → expected_by p reply (suc levels) n ≡ below_result p reply n (expected_by p reply levels (parent_of p.tree n))
+pub step_is : (p : PlanParts) (reply : ℕ → Reply) (levels n : ℕ) → 0 < n → expected_by p reply (suc levels) n ≡ below_result p reply n (expected_by p reply levels (parent_of p.tree n))
 step_is p reply levels zero above = absurd (omega arith)
 step_is p reply levels (suc n) above = refl
 

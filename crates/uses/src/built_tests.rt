@@ -25,6 +25,6 @@ pub fn one_test(alloc: Global) -> Result<Tree, BuildFault>
     tests.lock("table", LockMode::Read)?;
     let class = tests.class(engine, "sums.Small")?;
     tests.test(class, "adds()", adds)?;
-    let (tree, _properties, _jobs) = Box::into_inner(tests).into_parts()?;
+    let (tree, _properties, _jobs, _slow) = Box::into_inner(tests).into_parts()?;
     Ok(tree)
 }

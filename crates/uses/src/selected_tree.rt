@@ -12,7 +12,8 @@ use std::alloc::Global;
 pub fn select_by(alloc: Global, tree: Tree, selector: Selector) -> Result<Tree, SelectFault>
     ensures { IfOk result (λ found. (request : Request) × (request.selectors.items ≡ selector ∷ [])
         × (request.names.items ≡ []) × (request.rerun.items ≡ []) × (request.exclusions.items ≡ [])
-        × (request.include.items ≡ []) × (request.exclude.items ≡ []) × (request.shard ≡ None) × (found ≡ answer tree request)) }
+        × (request.include.items ≡ []) × (request.exclude.items ≡ []) × (request.shard ≡ None) × (request.seed ≡ None)
+        × (found ≡ answer tree request)) }
 {
     let mut selectors = Vec::new(alloc);
     let Ok(()) = selectors.push(selector) else {
@@ -26,6 +27,7 @@ pub fn select_by(alloc: Global, tree: Tree, selector: Selector) -> Result<Tree, 
         include: Vec::new(alloc),
         exclude: Vec::new(alloc),
         shard: None,
+        seed: None,
     };
     let Found {
         tree,

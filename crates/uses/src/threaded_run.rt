@@ -39,7 +39,11 @@ impl Job for Passing {
 }
 
 /// A job for each of these bodies.
-fn two_jobs(alloc: Global, first: BodyId, second: BodyId) -> Result<Jobs<Passing>, AllocError>
+pub(crate) fn two_jobs(
+    alloc: Global,
+    first: BodyId,
+    second: BodyId,
+) -> Result<Jobs<Passing>, AllocError>
     ensures { IfOk result (λ jobs. AllPass jobs.items) }
 {
     let mut jobs: Jobs<Passing> = Vec::new(alloc);

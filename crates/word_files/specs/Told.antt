@@ -58,6 +58,22 @@ with_processors processors words = words ++ processors_told processors words
 abbrev pub with_shard : (index total : Option Text) → List Text → List Text
 with_shard index total words = words ++ shard_told index total words
 
--- these words, and behind them what the system tells, where they ask for it
+-- a word, or what stands for it where it asks for any seed; before it may stand the option that has its value in this word
+abbrev pub seeded_word : (seed : ℕ) → (is_value : Bool) → Text → Text
+seeded_word seed is_value word =
+    if bytes_eq word (codes "--seed=random") then codes "--seed=" ++ decimal seed
+    else (if is_value && bytes_eq word (codes "random") then decimal seed else word)
+
+-- these words, with this seed for each that asks for any
+abbrev pub seeded_words : (seed : ℕ) → (is_value : Bool) → List Text → List Text
+seeded_words seed is_value [] = []
+seeded_words seed is_value (word ∷ more) = seeded_word seed is_value word ∷ seeded_words seed (bytes_eq word (codes "--seed")) more
+
+-- the same, where there is such a seed
+abbrev pub with_seed : Option ℕ → List Text → List Text
+with_seed None words = words
+with_seed (Some seed) words = seeded_words seed false words
+
+-- these words, and behind them what the system tells, where they ask for it; and a seed where they ask for any
 abbrev pub with_told : Facts → List Text → List Text
-with_told facts words = with_shard (maybe_behind facts.shard_index) (maybe_behind facts.total_shards) (with_processors facts.processors words)
+with_told facts words = with_seed facts.seed (with_shard (maybe_behind facts.shard_index) (maybe_behind facts.total_shards) (with_processors facts.processors words))

@@ -5,7 +5,7 @@ ghost use Rattle.launch_options.specs.declared.fault.LaunchFault.TheVariants.{No
 ghost use Rattle.word_files.specs.Expansions.{StandFor, IsExpansion, IsUnread};
 ghost use Rattle.word_files.specs.declared.role.Before.{Before};
 
-use crate::facts::{Facts, push_told};
+use crate::facts::{Facts, with_told};
 use crate::files::{TextFiles, pieces_of};
 use crate::role::{Before, before_of, files_of, role_of};
 use launch_options::LaunchFault;
@@ -48,9 +48,8 @@ pub fn expanded_words<F: TextFiles>(
     ensures { MatchResult result (λ all. IsExpansion facts.now (map string_bytes words.now) (map string_bytes all.items))
         (λ fault. fault ≢ NoMemory → IsUnread (map string_bytes words.now) fault) }
 {
-    let mut all = by_files(alloc, words, files)?;
-    push_told(alloc, &mut all, facts)?;
-    Ok(all)
+    let all = by_files(alloc, words, files)?;
+    Ok(with_told(alloc, all, facts)?)
 }
 
 /// The name of the file of this number, from 1, among those that the words name.

@@ -3,7 +3,7 @@
 ghost use Rattle.std.specs.Prelude.{◌≡◌, ◌++◌, ◌∷◌, [], false, map, string_bytes, IfOk, OnOk};
 ghost use Rattle.launch_options.specs.Given.{maybe_behind};
 ghost use Rattle.word_files.specs.Told.{asks_for_all, asks_here, has_option, index_text, name_of, shard_text};
-ghost use Rattle.word_files.specs.Told.{with_processors, with_shard, with_told};
+ghost use Rattle.word_files.specs.Told.{seeded_word, seeded_words, with_processors, with_seed, with_shard, with_told};
 
 use std::alloc::{AllocError, Global};
 use suite_text::number_up_to;
@@ -23,6 +23,15 @@ const PROCESSORS: &str = "--processors";
 /// The option that says which part of the tests is run.
 const SHARD: &str = "--shard";
 
+/// The option that says in which order tests are run.
+const SEED: &str = "--seed";
+
+/// Its value that asks for any seed.
+const RANDOM: &str = "random";
+
+/// Both in one word.
+const SEED_RANDOM: &str = "--seed=random";
+
 /// The greatest number of processors that the option takes.
 const MOST_PROCESSORS: u32 = 1024;
 
@@ -38,6 +47,8 @@ pub struct Facts<'a> {
     pub total_shards: Option<&'a str>,
     /// Which of these is run, from 0: Bazel's `TEST_SHARD_INDEX`.
     pub shard_index: Option<&'a str>,
+    /// A seed for words that ask for any.
+    pub seed: Option<u64>,
 }
 
 /// What stands before the first equals sign of a word, or all of it.
@@ -161,15 +172,69 @@ fn push_shard(
     push_option(alloc, words, SHARD, value)
 }
 
-/// Puts behind these words what the system tells, where they ask for it.
-pub(crate) fn push_told(
+/// A word, or what stands for it where it asks for any seed; before it may stand the option that has its
+/// value in this word.
+fn seeded_word(alloc: Global, seed: u64, is_value: bool, word: &str) -> Result<String, AllocError>
+    ensures { IfOk result (λ text. string_bytes text ≡ seeded_word seed is_value word.now) }
+{
+    if word == SEED_RANDOM {
+        format!(in alloc; "{SEED}={seed}")
+    } else if is_value && word == RANDOM {
+        format!(in alloc; "{seed}")
+    } else {
+        String::from_str(alloc, word)
+    }
+}
+
+/// These words, with this seed for each that asks for any.
+fn seeded_words(alloc: Global, words: &[String], seed: u64) -> Result<Vec<String>, AllocError>
+    ensures { IfOk result (λ all. map string_bytes all.items ≡ seeded_words seed false
+        (map string_bytes words.now)) }
+{
+    let mut all = Vec::new(alloc);
+    let mut is_value = false;
+    for word in words {
+        all.push(seeded_word(alloc, seed, is_value, word.as_str())?)?;
+        is_value = word.as_str() == SEED;
+    }
+    Ok(all)
+}
+
+/// The same, where there is such a seed.
+fn with_seed(
     alloc: Global,
-    words: &mut Vec<String>,
-    facts: &Facts<'_>,
-) -> Result<(), AllocError>
-    ensures { OnOk result (map string_bytes words.new.items ≡ with_told facts.now
-        (map string_bytes words.old.items)) }
+    words: Vec<String>,
+    seed: Option<u64>,
+) -> Result<Vec<String>, AllocError>
+    ensures { IfOk result (λ all. map string_bytes all.items ≡ with_seed seed
+        (map string_bytes words.items)) }
+{
+    match seed {
+        Some(seed) => seeded_words(alloc, words.as_slice(), seed),
+        None => Ok(words),
+    }
+}
+
+/// Puts behind these words what the system tells, where they ask for it.
+fn push_told(alloc: Global, words: &mut Vec<String>, facts: &Facts<'_>) -> Result<(), AllocError>
+    ensures { OnOk result (map string_bytes words.new.items ≡ with_shard (maybe_behind facts.now.shard_index)
+        (maybe_behind facts.now.total_shards) (with_processors facts.now.processors
+        (map string_bytes words.old.items))) }
 {
     push_processors(alloc, words, facts.processors)?;
     push_shard(alloc, words, facts.shard_index, facts.total_shards)
+}
+
+/// These words, and behind them what the system tells, where they ask for it; and a seed where they ask
+/// for any.
+pub(crate) fn with_told(
+    alloc: Global,
+    words: Vec<String>,
+    facts: &Facts<'_>,
+) -> Result<Vec<String>, AllocError>
+    ensures { IfOk result (λ all. map string_bytes all.items ≡ with_told facts.now (map string_bytes words.items)) }
+{
+    let mut words = words;
+    push_told(alloc, &mut words, facts)?;
+    with_seed(alloc, words, facts.seed)
 }

@@ -112,14 +112,14 @@ after_sound read n status text sound taken =
     record {
       has_path = path_kept read.tree b n 0 read.path sound.has_path;
       answered = sound.answered ∙ sym (bodies_kept read.tree b n);
-      afters = subst (λ (l : List ℕ). IsPermutation (afters_of (with_after read.tree n b).nodes) l) (sym (map-append (λ (s : Script). s.body) read.afters (ending b 0 0 status text ∷ [])))
+      afters = subst (λ (l : List ℕ). IsPermutation (afters_of (with_after read.tree n b).nodes) l) (sym (map-append (λ (s : Script). s.body) read.afters (ending b 0 None 0 status text ∷ [])))
           (afters_next read.tree b n (bodies_answered read.afters) (taken_after read.tree n b taken).1 sound.afters);
       ids = ids_kept read.tree n b sound.ids;
     }
 
 -- what has been made then, part by part
 pub after_is : (read old made : LinesRead) (n : ℕ) (status : Status) (text : List ℕ) → old ≡ read → made.tree ≡ with_after old.tree n (after_body n) → made.path ≡ old.path → made.scripts ≡ old.scripts
-    → made.afters ≡ old.afters ++ ending (after_body n) 0 0 status text ∷ [] → made.properties ≡ old.properties → made ≡ with_after_body read n (status, text)
+    → made.afters ≡ old.afters ++ ending (after_body n) 0 None 0 status text ∷ [] → made.properties ≡ old.properties → made ≡ with_after_body read n (status, text)
 after_is read old made n status text same tree path scripts afters properties =
     let there : made ≡ with_after_body old n (status, text) = λ i. record { tree = tree i; path = path i; scripts = scripts i; afters = afters i; properties = properties i } in
     there ∙ ap (λ (r : LinesRead). with_after_body r n (status, text)) same

@@ -13,13 +13,13 @@ use Rattle.descriptor.specs.declared.fault.TreeFault.{TreeFault}
 use Rattle.suite_text.specs.declared.suite.words.Word.{Word}
 use Rattle.suite_text.specs.declared.suite.words.Word.TheVariants.{Engine, Class, Test, Factory, Dyn}
 use Rattle.suite_text.specs.declared.suite.attributes.Attribute.{Attribute}
-use Rattle.suite_text.specs.declared.suite.attributes.Attribute.TheVariants.{Tag, Spin, Pulls, Runs, Lock, Isolated}
+use Rattle.suite_text.specs.declared.suite.attributes.Attribute.TheVariants.{Tag, Spin, Slow, Pulls, Runs, Lock, Isolated}
 use Rattle.suite_text.specs.declared.suite.attributes.Attributes.{Attributes}
 use Rattle.suite_text.specs.declared.suite.verdicts.Verdict.{Verdict}
 use Rattle.suite_text.specs.declared.suite.verdicts.Verdict.TheVariants.{Pass, Fail, Abort, Disabled}
 use Rattle.suite_text.specs.declared.suite.fault.SuiteFault.{SuiteFault}
-use Rattle.suite_text.specs.declared.suite.fault.SuiteFault.TheVariants.{NoMemory}
-use Rattle.suite_text.specs.Reading.Attributes.{after_sign, attribute_of, no_attributes, with_tag_of, with_spin_of, with_pulls_of, with_attribute, attributes_from, attributes_of}
+use Rattle.suite_text.specs.declared.suite.fault.SuiteFault.TheVariants.{NoMemory, BadLine}
+use Rattle.suite_text.specs.Reading.Attributes.{after_sign, attribute_of, no_attributes, with_tag_of, with_spin_of, with_slow_of, with_pulls_of, with_attribute, attributes_from, attributes_of}
 use Rattle.unique_id.specs.Answers.{◌>>=◌}
 use Rattle.suite_text.specs.Reading.Lines.{says_nothing, first_word, after_word, text_after_word, level_of, indentation_of}
 use Rattle.suite_text.specs.Reading.Nodes.{word_on, refusal_on, grown, unless_refused}
@@ -27,6 +27,7 @@ use Rattle.suite_text.specs.Reading.After.{is_after, is_class, class_of, ended, 
 use Rattle.suite_text.specs.Reading.Parts.{LinesRead, no_lines, above}
 use Rattle.suite_text.specs.Numbers.{number_up_to}
 use Rattle.suite_text.specs.Reading.Locks.{lock_of, with_lock_of}
+use Rattle.suite_text.specs.Reading.Slow.{some_or_bad_line, limit_of}
 use Rattle.suite_text.specs.Reading.Spins.{value_of, or_bad_line, count_of}
 use Rattle.suite_text.specs.Reading.Verdicts.{verdict_spelled, no_verdict, verdict_with, verdict_of, status_declared}
 use Rattle.suite_text.specs.Reading.Words.{word_of, may_stand, placed, with_verdict, with_attributes, with_name, declared_by}
@@ -103,6 +104,13 @@ spin_set_never : (number : ℕ) (said : Attributes) (value : List ℕ) → Never
 spin_set_never number said value =
     if_never (is_some said.spin) _ _ (λ e. cc) (then_never (count_of number 1000000 value) _ (count_never number (number_up_to 1000000 value)) (λ spin. λ e. cc))
 
+limit_never : (number : ℕ) (value : List ℕ) → Never (limit_of number value)
+limit_never number value =
+    then_never (count_of number 86400000 value) (some_or_bad_line number) (count_never number (number_up_to 86400000 value)) (λ n. if_never (n == 0) (Err (BadLine number)) (Ok n) (λ e. cc) (λ e. cc))
+
+slow_set_never : (number : ℕ) (said : Attributes) (value : List ℕ) → Never (with_slow_of number said value)
+slow_set_never number said value = if_never (is_some said.slow) _ _ (λ e. cc) (then_never (limit_of number value) _ (limit_never number value) (λ limit. λ e. cc))
+
 pulls_set_never : (number : ℕ) (said : Attributes) (value : List ℕ) → Never (with_pulls_of number said value)
 pulls_set_never number said value =
     if_never (is_some said.pulls) _ _ (λ e. cc) (then_never (count_of number 4096 value) _ (count_never number (number_up_to 4096 value)) (λ pulls. λ e. cc))
@@ -110,6 +118,7 @@ pulls_set_never number said value =
 attribute_never : (number : ℕ) (said : Attributes) (text : List ℕ) (attribute : Attribute) → Never (with_attribute number said text attribute)
 attribute_never number said text Tag = tag_never number said (after_sign text)
 attribute_never number said text Spin = spin_set_never number said (value_of text)
+attribute_never number said text Slow = slow_set_never number said (value_of text)
 attribute_never number said text Pulls = pulls_set_never number said (value_of text)
 attribute_never number said text (Runs mode) = if_never (is_some said.mode) _ _ (λ e. cc) (λ e. cc)
 attribute_never number said text Lock = then_never (with_lock_of number said.locks (value_of text)) _ (if_never (length (lock_of (value_of text)).key == 0) _ _ (λ e. cc) (λ e. cc)) (λ locks. λ e. cc)

@@ -21,7 +21,7 @@ use Rattle.suite_text.proofs.Reading.Ids.{ids_next}
 
 -- a node and its script
 abbrev pending : Declaration → ℕ → Status → Pending
-pending d n status = record { script = ending n (spin_said d.attributes) (pulls_said d.attributes) status d.text; counts = counts_lines d }
+pending d n status = record { script = ending n (spin_said d.attributes) d.attributes.slow (pulls_said d.attributes) status d.text; counts = counts_lines d }
 
 one_status : (d : Declaration) (status : Option Status) (n : ℕ) → bodies_pending (option_to_list (option_map (pending d n) status)) ≡ option_to_list (option_map (λ (s : Status). n) status)
 one_status d None n = refl

@@ -16,7 +16,7 @@ use Rattle.descriptor.proofs.AfterBodies.{told_as_before}
 use Rattle.resource_locks.specs.Spares.{HasBareSpares}
 use Rattle.unique_id.specs.Answers.{◌>>=◌}
 use Rattle.suite_text.specs.declared.suite.Suite.{Suite}
-use Rattle.suite_text.specs.declared.suite.attributes.Attribute.TheVariants.{Spin}
+use Rattle.suite_text.specs.declared.suite.attributes.Attribute.TheVariants.{Spin, Slow}
 use Rattle.suite_text.specs.declared.suite.attributes.Attributes.{Attributes}
 use Rattle.suite_text.specs.declared.suite.builder.Opened.{Opened}
 use Rattle.suite_text.specs.declared.suite.fault.SuiteFault.{SuiteFault}
@@ -32,6 +32,7 @@ use Rattle.suite_text.specs.Reading.Lines.{says_nothing, first_word, after_word,
 use Rattle.suite_text.specs.Reading.Nodes.{role_declared, node_on, parent_on, word_on, refusal_on, grown, unless_refused}
 use Rattle.suite_text.specs.Reading.Parts.{SuiteParts, LinesRead, no_lines, parts_of, above, node_of_opened, word_of_opened}
 use Rattle.suite_text.specs.Reading.Properties.{with_property}
+use Rattle.suite_text.specs.Reading.Slow.{is_slow, limit_of}
 use Rattle.suite_text.specs.Reading.Spins.{is_spin, key_of, value_of, count_of}
 use Rattle.suite_text.specs.Reading.Verdicts.{verdict_of}
 use Rattle.suite_text.specs.Reading.Words.{Declaration, word_of, may_stand, placed, with_verdict, with_attributes, with_name, declared_as}
@@ -55,7 +56,7 @@ pub after_any : {A B : Type 0} (Q : B → Type 0) (r : Result A SuiteFault) (f :
 after_any Q (Ok x) f h = h x
 after_any Q (Err fault) f h = tt
 
--- A dynamic test declares no lock: the only attribute that its line may have is how far its body counts.
+-- A dynamic test declares no lock: its line may say only how far its body counts, and from when on it is slow.
 abbrev NoLocks : Attributes → Type 0
 NoLocks said = said.locks ≡ []
 
@@ -65,14 +66,18 @@ NoneRead read = read.0.locks ≡ []
 dyn_next : (number : ℕ) (said : Attributes) (text : List ℕ) → NoLocks said → IfOk (with_attribute number said text Spin) NoLocks
 dyn_next number said text none = chosen NoLocks (is_some said.spin) _ _ (λ _. tt) (after_any NoLocks (count_of number 1000000 (value_of text)) _ (λ _. none))
 
-by_test : (number : ℕ) (said : Attributes) (text : List ℕ) (more : List (List ℕ)) (left : List ℕ) → NoLocks said → ((next : Attributes) → NoLocks next → IfOk (attributes_from number Dyn next more (after_word left)) NoneRead) → (b : Bool)
-    → IfOk (option_map_or (λ attribute. with_attribute number said text attribute >>= (λ next. attributes_from number Dyn next more (after_word left))) (if b then Some Spin else None) (Ok (said, left))) NoneRead
-by_test number said text more left none goes_on true = then_holds NoLocks NoneRead (with_attribute number said text Spin) (λ next. attributes_from number Dyn next more (after_word left)) (dyn_next number said text none) goes_on
-by_test number said text more left none goes_on false = none
+dyn_slow : (number : ℕ) (said : Attributes) (text : List ℕ) → NoLocks said → IfOk (with_attribute number said text Slow) NoLocks
+dyn_slow number said text none = chosen NoLocks (is_some said.slow) _ _ (λ _. tt) (after_any NoLocks (limit_of number (value_of text)) _ (λ _. none))
+
+by_test : (number : ℕ) (said : Attributes) (text : List ℕ) (more : List (List ℕ)) (left : List ℕ) → NoLocks said → ((next : Attributes) → NoLocks next → IfOk (attributes_from number Dyn next more (after_word left)) NoneRead) → (b c : Bool)
+    → IfOk (option_map_or (λ attribute. with_attribute number said text attribute >>= (λ next. attributes_from number Dyn next more (after_word left))) (if b then Some Spin else (if c then Some Slow else None)) (Ok (said, left))) NoneRead
+by_test number said text more left none goes_on true c = then_holds NoLocks NoneRead (with_attribute number said text Spin) (λ next. attributes_from number Dyn next more (after_word left)) (dyn_next number said text none) goes_on
+by_test number said text more left none goes_on false true = then_holds NoLocks NoneRead (with_attribute number said text Slow) (λ next. attributes_from number Dyn next more (after_word left)) (dyn_slow number said text none) goes_on
+by_test number said text more left none goes_on false false = none
 
 dyn_locks : (number : ℕ) (said : Attributes) (words : List (List ℕ)) (left : List ℕ) → NoLocks said → IfOk (attributes_from number Dyn said words left) NoneRead
 dyn_locks number said [] left none = none
-dyn_locks number said (text ∷ more) left none = by_test number said text more left none (λ next h. dyn_locks number next more (after_word left) h) (is_spin Dyn (key_of text))
+dyn_locks number said (text ∷ more) left none = by_test number said text more left none (λ next h. dyn_locks number next more (after_word left) h) (is_spin Dyn (key_of text)) (is_slow Dyn (key_of text))
 
 abbrev BareRead : Word → Attributes × List ℕ → Type 0
 BareRead word read = word ≡ Dyn → read.0.locks ≡ []

@@ -1,6 +1,6 @@
 -- A line that declares a node is read as it is written.
 use borrow.Author.Tests.{tests}
-use Rattle.std.proofs.Common.{rules, ◌≡◌, ℕ, zero, suc, ◌+◌, ◌≤◌, ◌%◌, ◌/◌, ◌||◌, ◌&&◌, Bool, List, [], ◌∷◌, ◌++◌, length, drop, true, false, not, nat_lt, if◌then◌else◌, ◌==◌, Option, Some, None, Result, Ok, Err, codes, refl, ap, sym, ◌∙◌, arith}
+use Rattle.std.proofs.Common.{rules, ◌≡◌, ℕ, zero, suc, ◌+◌, ◌<◌, ◌≤◌, ◌%◌, ◌/◌, ◌||◌, ◌&&◌, Bool, List, [], ◌∷◌, ◌++◌, length, drop, true, false, not, nat_lt, if◌then◌else◌, ◌==◌, Option, Some, None, Result, Ok, Err, codes, refl, ap, sym, ◌∙◌, arith}
 use Rattle.std.proofs.lemmas.Bool.{ne_eqb, and_parts, and_from, le-leb}
 use Rattle.std.proofs.lemmas.List.{append_assoc}
 use Rattle.std.specs.Char.{is_ascii_digit}
@@ -15,7 +15,7 @@ use Rattle.suite_text.specs.declared.suite.verdicts.Verdict.TheVariants.{Pass, F
 use Rattle.descriptor.specs.declared.mode.Mode.TheVariants.{SameThread, Concurrent}
 use Rattle.suite_text.specs.declared.suite.attributes.Attribute as kinds
 use Rattle.suite_text.specs.declared.suite.attributes.Attribute.TheVariants as found
-use Rattle.suite_text.specs.declared.suite.attributes.Attribute.TheVariants.{Tag, Spin, Pulls, Lock, Isolated}
+use Rattle.suite_text.specs.declared.suite.attributes.Attribute.TheVariants.{Tag, Spin, Slow, Pulls, Lock, Isolated}
 use Rattle.suite_text.specs.declared.suite.attributes.Attributes.{Attributes}
 use Rattle.suite_text.specs.declared.suite.fault.SuiteFault.{SuiteFault}
 use Rattle.suite_text.specs.declared.suite.fault.SuiteFault.TheVariants.{BadLine, BadIndent}
@@ -25,12 +25,13 @@ use Rattle.suite_text.specs.Reading.Lines.{without_front, without_end, first_wor
 use Rattle.suite_text.specs.Numbers.{is_number}
 use Rattle.suite_text.specs.Reading.Pulls.{is_pulls}
 use Rattle.suite_text.specs.Reading.After.{is_after}
+use Rattle.suite_text.specs.Reading.Slow.{is_slow, some_or_bad_line, limit_of}
 use Rattle.suite_text.specs.Reading.Spins.{or_bad_line, key_of, is_spin, count_of}
 use Rattle.suite_text.specs.Reading.Verdicts.{verdict_spelled, no_verdict, verdict_with, verdict_of}
 use Rattle.suite_text.specs.Reading.Words.{Declaration, word_of, placed, with_verdict, with_attributes, with_name, declared_by}
 use Rattle.suite_text.specs.Reading.Properties.{is_property}
 use Rattle.suite_text.specs.Words.{is_space, words_in}
-use Rattle.suite_text.specs.Writing.Lines.{spaces, indentation, IsWord, word_text, Said, Tagged, Counts, Registers, Runs, Locks, Alone, LockSign, Plain, Reads, Writes, sign_text, said_text, said_also, IsTestWord, MaySay, Attribute, attributes_text, all_said, MaySayAll, Ending, verdict_text, ending_text, MayExplain, IsEnding, MayEnd, NodeLine, node_text, verdict_said, text_said, declares, IsNodeLine}
+use Rattle.suite_text.specs.Writing.Lines.{spaces, indentation, IsWord, word_text, Said, Tagged, Counts, Slows, Registers, Runs, Locks, Alone, LockSign, Plain, Reads, Writes, sign_text, said_text, said_also, IsTestWord, MaySay, Attribute, attributes_text, all_said, MaySayAll, Ending, verdict_text, ending_text, MayExplain, IsEnding, MayEnd, NodeLine, node_text, verdict_said, text_said, declares, IsNodeLine}
 use Rattle.suite_text.proofs.Numbers.{number_parts}
 use Rattle.suite_text.proofs.Writing.Locks.{lock_back}
 use Rattle.suite_text.proofs.Reading.Attributes.{of_nothing, at_end, next_read}
@@ -111,6 +112,7 @@ unspaced_sign (b ∷ key) sign h = (h.0, unspaced_sign key sign h.1)
 said_word : (w : Word) (before : Attributes) (s : Said) → MaySay w before s → IsWord (said_text s)
 said_word w before (Tagged tag) h = (omega arith, (refl, h.0))
 said_word w before (Counts digits) h = (omega arith, (refl, (refl, (refl, (refl, (refl, digits_unspaced digits (number_parts digits h.2).1))))))
+said_word w before (Slows digits) h = (omega arith, (refl, (refl, (refl, (refl, (refl, (refl, digits_unspaced digits (number_parts digits h.2).1)))))))
 said_word w before (Registers digits) h = (omega arith, (refl, (refl, (refl, (refl, (refl, (refl, digits_unspaced digits (number_parts digits h.2).1)))))))
 said_word w before (Runs SameThread) h = (omega arith, search rules)
 said_word w before (Runs Concurrent) h = (omega arith, search rules)
@@ -120,6 +122,7 @@ said_word w before Alone h = (omega arith, search rules)
 abbrev kind_of : Said → kinds.Attribute
 kind_of (Tagged tag) = Tag
 kind_of (Counts digits) = Spin
+kind_of (Slows digits) = Slow
 kind_of (Registers digits) = Pulls
 kind_of (Runs mode) = found.Runs mode
 kind_of (Locks key sign) = Lock
@@ -132,14 +135,22 @@ spin_kind Test digits h = refl
 spin_kind Factory digits h = absurd h
 spin_kind Dyn digits h = refl
 
+slow_kind : (w : Word) (digits : List ℕ) → IsTestWord w → attribute_of w (codes "@slow=" ++ digits) ≡ Some Slow
+slow_kind Engine digits h = absurd h
+slow_kind Class digits h = absurd h
+slow_kind Test digits h = refl
+slow_kind Factory digits h = absurd h
+slow_kind Dyn digits h = refl
+
 tag_kind : (w : Word) (text : List ℕ) (tags : Bool) → begins_with_sign text ≡ true → tags ≡ true
-    → (if tags && begins_with_sign text then Some Tag else (if is_spin w (key_of text) then Some Spin else (if is_pulls w (key_of text) then Some Pulls else (if may_declare w then declaration_in text (key_of text) else None)))) ≡ Some Tag
-tag_kind w text true sign h = ap (λ b. if b then Some Tag else (if is_spin w (key_of text) then Some Spin else (if is_pulls w (key_of text) then Some Pulls else (if may_declare w then declaration_in text (key_of text) else None)))) sign
+    → (if tags && begins_with_sign text then Some Tag else (if is_spin w (key_of text) then Some Spin else (if is_slow w (key_of text) then Some Slow else (if is_pulls w (key_of text) then Some Pulls else (if may_declare w then declaration_in text (key_of text) else None))))) ≡ Some Tag
+tag_kind w text true sign h = ap (λ b. if b then Some Tag else (if is_spin w (key_of text) then Some Spin else (if is_slow w (key_of text) then Some Slow else (if is_pulls w (key_of text) then Some Pulls else (if may_declare w then declaration_in text (key_of text) else None))))) sign
 tag_kind w text false sign h = absurd (cc)
 
 said_kind : (w : Word) (before : Attributes) (s : Said) → MaySay w before s → attribute_of w (said_text s) ≡ Some (kind_of s)
 said_kind w before (Tagged tag) h = tag_kind w (35 ∷ tag) (takes_tags w) refl h.2
 said_kind w before (Counts digits) h = spin_kind w digits h.0
+said_kind w before (Slows digits) h = slow_kind w digits h.0
 said_kind w before (Registers digits) h = ap (λ v. attribute_of v (codes "pulls=" ++ digits)) h.0
 said_kind Engine before (Runs mode) h = absurd (let off : false ≡ true = h.0 in cc)
 said_kind Dyn before (Runs mode) h = absurd (let off : false ≡ true = h.0 in cc)
@@ -164,11 +175,19 @@ count_back : (number most : ℕ) (digits : List ℕ) → is_number digits ≡ tr
 count_back number most digits h small =
     ap (λ b. or_bad_line number (if b then Some (digits_value 10 digits) else None)) (and_from _ _ h (le-leb (digits_value 10 digits) most small))
 
+limit_back : (number : ℕ) (digits : List ℕ) → is_number digits ≡ true → digits_value 10 digits ≤ 86400000 → 0 < digits_value 10 digits → limit_of number digits ≡ Ok (digits_value 10 digits)
+limit_back number digits h small some =
+    ap (λ r. r >>= (λ limit. some_or_bad_line number limit)) (count_back number 86400000 digits h small)
+    ∙ ap (λ b. if b then Err (BadLine number) else Ok (digits_value 10 digits)) (ne_eqb (digits_value 10 digits) 0 (λ e. omega (arith, some, e)))
+
 said_read : (number : ℕ) (w : Word) (before : Attributes) (s : Said) → MaySay w before s → with_attribute number before (said_text s) (kind_of s) ≡ Ok (said_also before s)
 said_read number w before (Tagged tag) h = ap (λ r. if is_some r then Err (BadLine number) else Ok (said_also before (Tagged tag))) h.1
 said_read number w before (Counts digits) h =
     ap (λ o. if is_some o then Err (BadLine number) else (count_of number 1000000 digits >>= (λ spin. Ok (record before { spin = Some spin })))) h.1
     ∙ ap (λ r. r >>= (λ spin. Ok (record before { spin = Some spin }))) (count_back number 1000000 digits h.2 h.3)
+said_read number w before (Slows digits) h =
+    ap (λ o. if is_some o then Err (BadLine number) else (limit_of number digits >>= (λ limit. Ok (record before { slow = Some limit })))) h.1
+    ∙ ap (λ r. r >>= (λ limit. Ok (record before { slow = Some limit }))) (limit_back number digits h.2 h.3 h.4)
 said_read number w before (Registers digits) h =
     ap (λ o. if is_some o then Err (BadLine number) else (count_of number 4096 digits >>= (λ pulls. Ok (record before { pulls = Some pulls })))) h.1
     ∙ ap (λ r. r >>= (λ pulls. Ok (record before { pulls = Some pulls }))) (count_back number 4096 digits h.2 h.3)

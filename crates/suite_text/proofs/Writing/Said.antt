@@ -25,13 +25,14 @@ use Rattle.suite_text.specs.declared.suite.fault.SuiteFault.TheVariants.{BadLine
 use Rattle.suite_text.specs.declared.suite.words.Word.{Word}
 use Rattle.suite_text.specs.declared.suite.words.Word.TheVariants.{Engine, Class, Test, Factory, Dyn}
 use Rattle.suite_text.specs.Numbers.{is_number, number_up_to}
-use Rattle.suite_text.specs.Reading.Attributes.{after_sign, takes_tags, may_declare, declaration_in, attribute_of, with_tag_of, with_spin_of, with_pulls_of, with_mode, with_attribute}
+use Rattle.suite_text.specs.Reading.Attributes.{after_sign, takes_tags, may_declare, declaration_in, attribute_of, with_tag_of, with_spin_of, with_slow_of, with_pulls_of, with_mode, with_attribute}
 use Rattle.suite_text.specs.Reading.Lines.{begins_with_sign}
 use Rattle.suite_text.specs.Reading.Locks.{ends_in, lock_of, with_lock_of}
 use Rattle.suite_text.specs.Reading.Pulls.{is_pulls}
+use Rattle.suite_text.specs.Reading.Slow.{is_slow, some_or_bad_line, limit_of}
 use Rattle.suite_text.specs.Reading.Spins.{is_equals_sign, key_of, value_of, is_spin, or_bad_line, count_of}
 use Rattle.suite_text.specs.Words.{is_space}
-use Rattle.suite_text.specs.Writing.Lines.{IsWord, LockSign, Plain, Reads, Writes, sign_text, sign_mode, MaySign, mode_text, Said, Tagged, Counts, Registers, Runs, Locks, Alone, said_text, said_also, IsTestWord, MaySay}
+use Rattle.suite_text.specs.Writing.Lines.{IsWord, LockSign, Plain, Reads, Writes, sign_text, sign_mode, MaySign, mode_text, Said, Tagged, Counts, Slows, Registers, Runs, Locks, Alone, said_text, said_also, IsTestWord, MaySay}
 use Rattle.suite_text.proofs.Reading.Locks.{ends}
 use Rattle.suite_text.proofs.Writing.Cuts.{drop_next}
 use Rattle.suite_text.proofs.Writing.Locks.{lock_is}
@@ -72,6 +73,7 @@ some_length (x ∷ xs) e = omega arith
 abbrev Means : Word → List ℕ → kinds.Attribute → Type 0
 Means w text found.Tag = (takes_tags w && begins_with_sign text) ≡ true
 Means w text found.Spin = is_spin w (key_of text) ≡ true
+Means w text found.Slow = is_slow w (key_of text) ≡ true
 Means w text found.Pulls = is_pulls w (key_of text) ≡ true
 Means w text (found.Runs mode) = (may_declare w ≡ true) × (text ≡ mode_text mode)
 Means w text found.Lock = (may_declare w ≡ true) × (key_of text ≡ codes "lock")
@@ -90,7 +92,8 @@ means : (w : Word) (text : List ℕ) (a : kinds.Attribute) → attribute_of w te
 means w text =
     chosen_some (Means w text) (takes_tags w && begins_with_sign text) found.Tag _ (λ is. is)
     (chosen_some (Means w text) (is_spin w (key_of text)) found.Spin _ (λ is. is)
-    (chosen_some (Means w text) (is_pulls w (key_of text)) found.Pulls _ (λ is. is) (declared_by w text (may_declare w) refl)))
+    (chosen_some (Means w text) (is_slow w (key_of text)) found.Slow _ (λ is. is)
+    (chosen_some (Means w text) (is_pulls w (key_of text)) found.Pulls _ (λ is. is) (declared_by w text (may_declare w) refl))))
 
 -- A word at its equals sign.
 equals_by : (b : ℕ) (bs : List ℕ) (z : Bool) → is_equals_sign b ≡ z → (bs ≡ key_of bs ++ (61 ∷ value_of bs)) ⊎ (value_of bs ≡ []) → (b ∷ bs ≡ key_of (b ∷ bs) ++ (61 ∷ value_of (b ∷ bs))) ⊎ (value_of (b ∷ bs) ≡ [])
@@ -136,6 +139,25 @@ count_is number most digits n e = count_by number most digits n (is_number digit
 number_some : (digits : List ℕ) → is_number digits ≡ true → 0 < length digits
 number_some [] e = absurd (cc)
 number_some (d ∷ digits) e = omega arith
+
+-- A number that is not zero.
+record IsLimit (digits : List ℕ) (n : ℕ) : Type 0 where
+  pub count : IsCount 86400000 digits n
+  pub some : 0 < digits_value 10 digits
+
+above_zero : (n : ℕ) → (n == 0) ≡ false → 0 < n
+above_zero zero e = absurd (cc)
+above_zero (suc n) e = omega arith
+
+limit_is : (number : ℕ) (digits : List ℕ) (n : ℕ) → limit_of number digits ≡ Ok n → IsLimit digits n
+limit_is number digits n e =
+    let read = ok_then (count_of number 86400000 digits) (λ limit. some_or_bad_line number limit) n e in
+    let some = ok_else (read.0 == 0) (BadLine number) (Ok read.0) n read.2 in
+    let count = count_is number 86400000 digits read.0 read.1 in
+    record {
+      count = record { number = count.number; within = count.within; value = ok_same _ read.0 n refl some.1 ∙ count.value };
+      some = subst (λ (x : ℕ). 0 < x) count.value (above_zero read.0 some.0);
+    }
 
 -- The value of a lock.
 record IsLock (value : List ℕ) : Type 0 where
@@ -210,6 +232,26 @@ spin_said number w before next text is e =
       next_is = ok_same _ _ next refl count.2 ∙ ap (λ n. record before { spin = Some n }) digits.value;
     }
 
+slow_word : (w : Word) (key : List ℕ) → is_slow w key ≡ true → IsTestWord w × (key ≡ codes "@slow")
+slow_word Engine key e = absurd (false≢true e)
+slow_word Class key e = absurd (false≢true e)
+slow_word Test key e = (tt, spelled key (codes "@slow") e)
+slow_word Factory key e = absurd (false≢true e)
+slow_word Dyn key e = (tt, spelled key (codes "@slow") e)
+
+slow_said : (number : ℕ) (w : Word) (before next : Attributes) (text : List ℕ) → is_slow w (key_of text) ≡ true → with_slow_of number before (value_of text) ≡ Ok next → IsSaid w before next text
+slow_said number w before next text is e =
+    let word = slow_word w (key_of text) is in
+    let once = ok_else (is_some before.slow) (BadLine number) _ next e in
+    let limit = ok_then (limit_of number (value_of text)) (λ limit. Ok (record before { slow = Some limit })) next once.1 in
+    let digits = limit_is number (value_of text) limit.0 limit.1 in
+    record {
+      said = Slows (value_of text);
+      text_is = with_value text (codes "@slow") word.1 (number_some (value_of text) digits.count.number);
+      may = (word.0, none_is before.slow once.0, digits.count.number, digits.count.within, digits.some);
+      next_is = ok_same _ _ next refl limit.2 ∙ ap (λ n. record before { slow = Some n }) digits.count.value;
+    }
+
 pulls_word : (w : Word) (key : List ℕ) → is_pulls w key ≡ true → (w ≡ Factory) × (key ≡ codes "pulls")
 pulls_word Engine key e = absurd (false≢true e)
 pulls_word Class key e = absurd (false≢true e)
@@ -266,6 +308,7 @@ lock_said number w before next text word may is e =
 said_by : (number : ℕ) (w : Word) (before next : Attributes) (text : List ℕ) (a : kinds.Attribute) → Unspaced text → Means w text a → with_attribute number before text a ≡ Ok next → IsSaid w before next text
 said_by number w before next text found.Tag word is e = let both = and_parts (takes_tags w) (begins_with_sign text) is in tag_said number w before next text word both.1 both.0 e
 said_by number w before next text found.Spin word is e = spin_said number w before next text is e
+said_by number w before next text found.Slow word is e = slow_said number w before next text is e
 said_by number w before next text found.Pulls word is e = pulls_said number w before next text is e
 said_by number w before next text (found.Runs mode) word is e = runs_said number w before next text mode is.0 is.1 e
 said_by number w before next text found.Lock word is e = lock_said number w before next text word is.0 is.1 e

@@ -381,7 +381,7 @@ nothing_stacked read next got d before more line same s =
 
 -- after an after-body's line
 with_script : (read : LinesRead) (n : ℕ) (l : AfterLine) (is : IsAfterLine l) → made_of (with_after_body read n (is.status, l.ending.text)) ≡ with_after_item (made_of read) n l
-with_script read n l is = ap (λ s. with_afters (read.afters ++ option_to_list (option_map (λ status. ending (after_body n) 0 0 status l.ending.text) s))) (sym is.ends) where
+with_script read n l is = ap (λ s. with_afters (read.afters ++ option_to_list (option_map (λ status. ending (after_body n) 0 None 0 status l.ending.text) s))) (sym is.ends) where
   with_afters : List Script → Made
   with_afters scripts = record { tree = with_after read.tree n (after_body n); scripts = read.scripts; afters = scripts; properties = read.properties }
 

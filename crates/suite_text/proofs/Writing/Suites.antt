@@ -189,7 +189,7 @@ module _ (number level : ℕ) (read : LinesRead) (line : AfterLine) (fits : leve
 
   -- it makes what the line means
   after_made : made_of (with_after_body read class_node (is.status, line.ending.text)) ≡ with_after_item (made_of read) class_node line
-  after_made = ap (λ s. with_afters (read.afters ++ option_to_list (option_map (λ status. ending (after_body class_node) 0 0 status line.ending.text) s))) (sym is.ends) where
+  after_made = ap (λ s. with_afters (read.afters ++ option_to_list (option_map (λ status. ending (after_body class_node) 0 None 0 status line.ending.text) s))) (sym is.ends) where
     with_afters : List Script → Made
     with_afters l = record { tree = with_after read.tree class_node (after_body class_node); scripts = read.scripts; afters = l; properties = read.properties }
 

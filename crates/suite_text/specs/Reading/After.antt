@@ -51,7 +51,7 @@ with_after_body read n said = record {
   tree = with_after read.tree n (after_body n);
   path = read.path;
   scripts = read.scripts;
-  afters = read.afters ++ ending (after_body n) 0 0 said.0 said.1 ∷ [];
+  afters = read.afters ++ ending (after_body n) 0 None 0 said.0 said.1 ∷ [];
   properties = read.properties;
 }
 

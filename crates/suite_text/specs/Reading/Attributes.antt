@@ -1,4 +1,4 @@
--- The attributes of a line, which stand before its verdict: `#TAG`; on a test and a dynamic one `spin=N`; on a factory `pulls=N`; and, but for an engine and a dynamic test, `@concurrent`, `@same_thread`, `lock=KEY`
+-- The attributes of a line, which stand before its verdict: `#TAG`; on a test and a dynamic one `spin=N` and `@slow=MS`; on a factory `pulls=N`; and, but for an engine and a dynamic test, `@concurrent`, `@same_thread`, `lock=KEY`
 -- and `isolated`.
 use Rattle.std.specs.Prelude.{ℕ, ◌&&◌, Bool, true, false, codes, List, [], ◌∷◌, if◌then◌else◌, Option, Some, None, Result, Ok, Err}
 use Rattle.std.specs.List.{after_first}
@@ -11,7 +11,7 @@ use Rattle.tag_expr.specs.TagSets.{with_tag}
 use Rattle.suite_text.specs.declared.suite.words.Word.{Word}
 use Rattle.suite_text.specs.declared.suite.words.Word.TheVariants.{Engine, Class, Test, Factory, Dyn}
 use Rattle.suite_text.specs.declared.suite.attributes.Attribute.{Attribute}
-use Rattle.suite_text.specs.declared.suite.attributes.Attribute.TheVariants.{Tag, Spin, Pulls, Runs, Lock, Isolated}
+use Rattle.suite_text.specs.declared.suite.attributes.Attribute.TheVariants.{Tag, Spin, Slow, Pulls, Runs, Lock, Isolated}
 use Rattle.suite_text.specs.declared.suite.attributes.Attributes.{Attributes}
 use Rattle.suite_text.specs.declared.suite.fault.SuiteFault.{SuiteFault}
 use Rattle.suite_text.specs.declared.suite.fault.SuiteFault.TheVariants.{BadLine}
@@ -20,6 +20,7 @@ use Rattle.unique_id.specs.Answers.{◌>>=◌}
 use Rattle.suite_text.specs.Reading.Lines.{is_number_sign, begins_with_sign, after_word}
 use Rattle.suite_text.specs.Reading.Locks.{with_lock_of}
 use Rattle.suite_text.specs.Reading.Pulls.{is_pulls}
+use Rattle.suite_text.specs.Reading.Slow.{is_slow, limit_of}
 use Rattle.suite_text.specs.Reading.Spins.{key_of, value_of, is_spin, count_of}
 
 -- what follows the first number sign of a word
@@ -51,12 +52,13 @@ abbrev pub attribute_of : Word → List ℕ → Option Attribute
 attribute_of word text =
     if takes_tags word && begins_with_sign text then Some Tag else (
     if is_spin word (key_of text) then Some Spin else (
+    if is_slow word (key_of text) then Some Slow else (
     if is_pulls word (key_of text) then Some Pulls else (
-    if may_declare word then declaration_in text (key_of text) else None)))
+    if may_declare word then declaration_in text (key_of text) else None))))
 
 -- before the first attribute
 abbrev pub no_attributes : Attributes
-no_attributes = record { tags = []; spin = None; pulls = None; mode = None; locks = []; isolated = false }
+no_attributes = record { tags = []; spin = None; slow = None; pulls = None; mode = None; locks = []; isolated = false }
 
 -- with the tag that a text is; a text that is none is a faulty line
 abbrev pub with_tag_of : ℕ → Attributes → List ℕ → Result Attributes SuiteFault
@@ -66,6 +68,10 @@ with_tag_of number said text = if is_some (tag_refusal text) then Err (BadLine n
 abbrev pub with_spin_of : ℕ → Attributes → List ℕ → Result Attributes SuiteFault
 with_spin_of number said value =
     if is_some said.spin then Err (BadLine number) else (count_of number 1000000 value >>= (λ spin. Ok (record said { spin = Some spin })))
+
+-- with from how many milliseconds on the body is slow, which a line may say once
+abbrev pub with_slow_of : ℕ → Attributes → List ℕ → Result Attributes SuiteFault
+with_slow_of number said value = if is_some said.slow then Err (BadLine number) else (limit_of number value >>= (λ limit. Ok (record said { slow = Some limit })))
 
 -- with how many tests the body registers, at most 4,096, which a line may say once
 abbrev pub with_pulls_of : ℕ → Attributes → List ℕ → Result Attributes SuiteFault
@@ -84,6 +90,7 @@ with_lock number said value = with_lock_of number said.locks value >>= (λ locks
 abbrev pub with_attribute : ℕ → Attributes → List ℕ → Attribute → Result Attributes SuiteFault
 with_attribute number said text Tag = with_tag_of number said (after_sign text)
 with_attribute number said text Spin = with_spin_of number said (value_of text)
+with_attribute number said text Slow = with_slow_of number said (value_of text)
 with_attribute number said text Pulls = with_pulls_of number said (value_of text)
 with_attribute number said text (Runs mode) = with_mode number said mode
 with_attribute number said text Lock = with_lock number said (value_of text)

@@ -80,7 +80,7 @@ counts_lines d = is_factory (role_declared d.word) && is_none d.attributes.pulls
 -- its script: the verdict's status, and the text that follows the verdict
 abbrev pub script_declared : Declaration → ℕ → Option Pending
 script_declared d n =
-    option_map (λ status. record { script = ending n (spin_said d.attributes) (pulls_said d.attributes) status d.text; counts = counts_lines d }) (status_declared d.verdict)
+    option_map (λ status. record { script = ending n (spin_said d.attributes) d.attributes.slow (pulls_said d.attributes) status d.text; counts = counts_lines d }) (status_declared d.verdict)
 
 -- the id of what is declared as the k-th below a node with this word and these segments
 abbrev pub id_declared : Option Word → List Segment → ℕ → Declaration → List Segment

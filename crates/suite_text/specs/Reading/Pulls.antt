@@ -17,7 +17,7 @@ is_pulls Dyn key = false
 
 -- the script with so many pulls
 abbrev pub with_pulls : ℕ → Script → Script
-with_pulls pulls script = record { body = script.body; spin = script.spin; reply = record { pulls = pulls; outcome = script.reply.outcome } }
+with_pulls pulls script = record { body = script.body; spin = script.spin; slow = script.slow; reply = record { pulls = pulls; outcome = script.reply.outcome } }
 
 -- a script, once all lines are in the tree; where its pulls are counted, there is one for each node right below its own
 abbrev pub settled : Nodes → Pending → Script

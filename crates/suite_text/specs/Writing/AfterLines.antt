@@ -29,7 +29,7 @@ pub record IsAfterLine (l : AfterLine) : Type 0 where
 
 -- the script of the after-body of node n
 abbrev pub after_script : AfterLine → ℕ → Option Script
-after_script l n = option_map (λ status. ending (after_body n) 0 0 status l.ending.text) (status_declared (Some l.ending.verdict))
+after_script l n = option_map (λ status. ending (after_body n) 0 None 0 status l.ending.text) (status_declared (Some l.ending.verdict))
 
 -- with the after-body of node n, and its script
 abbrev pub with_after_item : Made → ℕ → AfterLine → Made

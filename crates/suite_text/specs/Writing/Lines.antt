@@ -67,10 +67,11 @@ abbrev pub mode_text : Mode → List ℕ
 mode_text SameThread = codes "@same_thread"
 mode_text Concurrent = codes "@concurrent"
 
--- an attribute: a tag, the digits of `spin` or of `pulls`, a mode, a lock's key, or that the node is isolated
+-- an attribute: a tag, the digits of `spin`, of `@slow` or of `pulls`, a mode, a lock's key, or that the node is isolated
 pub data Said : Type 0 where
   Tagged : (tag : List ℕ) → Said
   Counts : (digits : List ℕ) → Said
+  Slows : (digits : List ℕ) → Said
   Registers : (digits : List ℕ) → Said
   Runs : (mode : Mode) → Said
   Locks : (key : List ℕ) → (sign : LockSign) → Said
@@ -79,6 +80,7 @@ pub data Said : Type 0 where
 abbrev pub said_text : Said → List ℕ
 said_text (Tagged tag) = 35 ∷ tag
 said_text (Counts digits) = codes "spin=" ++ digits
+said_text (Slows digits) = codes "@slow=" ++ digits
 said_text (Registers digits) = codes "pulls=" ++ digits
 said_text (Runs mode) = mode_text mode
 said_text (Locks key sign) = codes "lock=" ++ (key ++ sign_text sign)
@@ -88,6 +90,7 @@ said_text Alone = codes "isolated"
 abbrev pub said_also : Attributes → Said → Attributes
 said_also before (Tagged tag) = record before { tags = with_tag before.tags (trim tag) }
 said_also before (Counts digits) = record before { spin = Some (digits_value 10 digits) }
+said_also before (Slows digits) = record before { slow = Some (digits_value 10 digits) }
 said_also before (Runs mode) = record before { mode = Some mode }
 said_also before (Locks key sign) = record before { locks = put (record { key = key; mode = sign_mode sign }) before.locks }
 said_also before Alone = record before { isolated = true }
@@ -99,11 +102,13 @@ IsTestWord Test = Unit {0}
 IsTestWord Dyn = Unit {0}
 IsTestWord word = ⊥
 
--- whether a line of this word may say it after these: a tag, but not of a dynamic test; how far the body counts, of a test, once, and at most 1,000,000; how many tests it registers, of a factory, once, and at most
+-- whether a line of this word may say it after these: a tag, but not of a dynamic test; how far the body counts, of a test, once, and at most 1,000,000; from how many milliseconds on it is slow, of a test, once, one at least and at most
+-- 86,400,000; how many tests it registers, of a factory, once, and at most
 -- 4,096; a mode, once, locks and isolation, of any node but an engine and a dynamic test
 abbrev pub MaySay : Word → Attributes → Said → Type 0
 MaySay word before (Tagged tag) = AllByRecursion (λ byte. is_space byte ≡ false) tag × (tag_refusal tag ≡ None) × (takes_tags word ≡ true)
 MaySay word before (Counts digits) = IsTestWord word × (before.spin ≡ None) × (is_number digits ≡ true) × (digits_value 10 digits ≤ 1000000)
+MaySay word before (Slows digits) = IsTestWord word × (before.slow ≡ None) × (is_number digits ≡ true) × (digits_value 10 digits ≤ 86400000) × (0 < digits_value 10 digits)
 MaySay word before (Registers digits) = (word ≡ Factory) × (before.pulls ≡ None) × (is_number digits ≡ true) × (digits_value 10 digits ≤ 4096)
 MaySay word before (Runs mode) = (may_declare word ≡ true) × (before.mode ≡ None)
 MaySay word before (Locks key sign) = (may_declare word ≡ true) × IsWord key × MaySign key sign

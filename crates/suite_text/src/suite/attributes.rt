@@ -4,7 +4,7 @@ ghost use Rattle.std.specs.Prelude.{◌≡◌, ◌≢◌, OnOk, IfOk, IfErr, Ok,
 ghost use Rattle.std.specs.List.{Contains};
 ghost use Rattle.suite_text.specs.Grammar.{attributes, attribute_text, bearer};
 ghost use Rattle.suite_text.specs.Reading.Attributes.{after_sign, declaration_in, attribute_of, no_attributes};
-ghost use Rattle.suite_text.specs.Reading.Attributes.{with_tag_of, with_spin_of, with_pulls_of, with_mode};
+ghost use Rattle.suite_text.specs.Reading.Attributes.{with_tag_of, with_spin_of, with_slow_of, with_pulls_of, with_mode};
 ghost use Rattle.suite_text.specs.Reading.Attributes.{with_attribute, attributes_from, spin_said, pulls_said};
 ghost use Rattle.suite_text.specs.Reading.Faults.{Fails, Gives};
 ghost use Rattle.suite_text.specs.Reading.Lines.{first_word, after_word};
@@ -15,6 +15,7 @@ ghost use Rattle.tag_expr.specs.Tags.{tag_refusal};
 use crate::suite::fault::SuiteFault;
 use crate::suite::lines::next_word;
 use crate::suite::locks::{NamedLocks, put_lock};
+use crate::suite::slow::limit_in;
 use crate::suite::spins::{count_in, key_and_value};
 use crate::suite::words::Word;
 use descriptor::Mode;
@@ -54,11 +55,13 @@ pub enum Attribute {
     Lock,
     /// `isolated`
     Isolated,
+    /// `@slow=MS`
+    Slow,
 }
 
 impl Attribute {
     /// All of them.
-    pub fn all() -> [Attribute; 7]
+    pub fn all() -> [Attribute; 8]
         ensures exact { result ≡ attributes }
         ensures every { (attribute : Attribute) → Contains result attribute }
     {
@@ -70,6 +73,7 @@ impl Attribute {
             Attribute::Lock,
             Attribute::Spin,
             Attribute::Pulls,
+            Attribute::Slow,
         ]
     }
 
@@ -86,6 +90,7 @@ impl Attribute {
             Attribute::Lock => LOCK,
             Attribute::Spin => "spin",
             Attribute::Pulls => "pulls",
+            Attribute::Slow => "@slow",
         }
     }
 
@@ -99,6 +104,9 @@ impl Attribute {
         let (key, _) = key_and_value(text);
         if word.takes_spin(key) {
             return Some(Attribute::Spin);
+        }
+        if word.takes_slow(key) {
+            return Some(Attribute::Slow);
         }
         if word.takes_pulls(key) {
             return Some(Attribute::Pulls);
@@ -136,6 +144,8 @@ pub(crate) struct Attributes {
     pub(crate) tags: TagSet,
     /// How far the node's body counts first.
     pub(crate) spin: Option<u32>,
+    /// From how many milliseconds on the node's body is slow.
+    pub(crate) slow: Option<u32>,
     /// How many tests the node's body registers.
     pub(crate) pulls: Option<u16>,
     pub(crate) mode: Option<Mode>,
@@ -152,6 +162,7 @@ impl Attributes {
         Attributes {
             tags: TagSet::new(alloc),
             spin: None,
+            slow: None,
             pulls: None,
             mode: None,
             locks: NamedLocks::new(alloc),
@@ -206,6 +217,19 @@ impl Attributes {
         Ok(())
     }
 
+    /// Sets from how many milliseconds on the body is slow, which a line may say once.
+    fn set_slow(&mut self, number: usize, value: &str) -> Result<(), SuiteFault>
+        ensures added { OnOk result (with_slow_of number self.old value.now ≡ Ok self.new) }
+        ensures refused { IfErr result (λ fault. Fails fault (with_slow_of number self.old value.now)) }
+        ensures real { IfErr result (λ fault. fault ≢ SuiteFault.NoMemory) }
+    {
+        if self.slow.is_some() {
+            return Err(SuiteFault::BadLine(number));
+        }
+        self.slow = Some(limit_in(number, value)?);
+        Ok(())
+    }
+
     /// Sets how many tests the body registers, which a line may say once.
     fn set_pulls(&mut self, number: usize, value: &str) -> Result<(), SuiteFault>
         ensures added { OnOk result (with_pulls_of number self.old value.now ≡ Ok self.new) }
@@ -246,6 +270,7 @@ impl Attributes {
         match attribute {
             Attribute::Tag => self.add_tag(alloc, number, after_sign(text)),
             Attribute::Spin => self.set_spin(number, key_and_value(text).1),
+            Attribute::Slow => self.set_slow(number, key_and_value(text).1),
             Attribute::Pulls => self.set_pulls(number, key_and_value(text).1),
             Attribute::Runs(mode) => self.set_mode(number, mode),
             Attribute::Lock => put_lock(alloc, &mut self.locks, number, key_and_value(text).1),

@@ -350,7 +350,7 @@ fn give_after(
     ensures accepted { OnOk result (after_refusal tree.old class (after_body class) ≡ None) }
     ensures tree { OnOk result (tree.new ≡ with_after tree.old class (after_body class)) }
     ensures afters { OnOk result (afters.new.items ≡ afters.old.items
-        ++ ending (after_body class) 0 0 status text.now ∷ []) }
+        ++ ending (after_body class) 0 None 0 status text.now ∷ []) }
     ensures refused { IfErr result (λ fault. fault ≢ TreeFault.NoMemory → after_refusal tree.old class
         (after_body class) ≡ Some fault) }
     ensures tree_kept { OnErr result (tree.new ≡ tree.old) }
@@ -358,7 +358,7 @@ fn give_after(
 {
     let body = BodyId::new(FIRST_AFTER + class.number());
     afters.reserve(1)?;
-    let script = Script::ending(alloc, body, 0, 0, status, text)?;
+    let script = Script::ending(alloc, body, 0, None, 0, status, text)?;
     tree.set_after(class, body)?;
     afters.push_reserved(script);
     Ok(())

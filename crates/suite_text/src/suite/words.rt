@@ -55,6 +55,7 @@ impl Word {
     ghost use Rattle.suite_text.specs.Reading.Nodes.{segment_kind, kind_declared, role_declared};
     ghost use Rattle.suite_text.specs.Reading.Attributes.{may_declare};
     ghost use Rattle.suite_text.specs.Reading.Spins.{is_spin};
+    ghost use Rattle.suite_text.specs.Reading.Slow.{is_slow};
     ghost use Rattle.suite_text.specs.Reading.Pulls.{is_pulls};
 
     /// All of them.
@@ -171,6 +172,16 @@ impl Word {
         }
     }
 
+    /// Whether a word with this key is the attribute `@slow` of a node of this word.
+    pub(crate) fn takes_slow(self, key: &str) -> bool
+        ensures { result ≡ is_slow self key.now }
+    {
+        match self {
+            Word::Engine | Word::Class | Word::Factory => false,
+            Word::Test | Word::Dyn => key == Attribute::Slow.key(),
+        }
+    }
+
     /// Whether a word with this key is the attribute `pulls` of a node of this word.
     pub(crate) fn takes_pulls(self, key: &str) -> bool
         ensures { result ≡ is_pulls self key.now }
@@ -223,8 +234,9 @@ impl<'a> Declared<'a> {
                 let body = BodyId::new(number);
                 let spin = self.attributes.spin();
                 let pulls = self.attributes.pulls();
+                let slow = self.attributes.slow;
                 let counts = self.counts_lines();
-                let script = Script::ending(alloc, body, spin, pulls, status, self.text)?;
+                let script = Script::ending(alloc, body, spin, slow, pulls, status, self.text)?;
                 Ok(Some(Pending { script, counts }))
             }
             None => Ok(None),

@@ -16,11 +16,13 @@ returns c = λ i. record {
   workers = c.found-2.ensures i;
   ring = c.found-3.ensures i;
   shard = c.found-4.ensures i;
-  details = c.found-5.ensures i;
-  theme = c.found-6.ensures i;
-  replay = c.found-7.ensures i;
-  drive = c.found-8.ensures i;
+  seed = c.found-5.ensures i;
+  details = c.found-6.ensures i;
+  theme = c.found-7.ensures i;
+  replay = c.found-8.ensures i;
+  drive = c.found-9.ensures i;
   fail_if_no_tests = c.is_found.ensures i;
   fail_fast = c.is_found-2.ensures i;
   schedule = c.is_found-3.ensures i;
+  times = c.is_found-4.ensures i;
 }

@@ -1,6 +1,9 @@
 -- Where the words are refused nothing is read and nothing is written; else what they ask for is run.
-use Rattle.std.proofs.Common.{Err, map, string_bytes, true}
+use Rattle.std.proofs.Common.{Err, None, map, string_bytes, true}
+use Rattle.messages.specs.Sentences.{sentence_of}
+use Rattle.command_line.proofs.Ended.{closes_refused}
 use Rattle.command_line.proofs.Running.{filed_refused}
+use Rattle.command_line.proofs.Watched.{none_named}
 use Rattle.live.proofs.Drawing.{none_drawn}
 use Rattle.command_line.proofs.terminal.run_words_on_terminal.Goals as goal
 
@@ -15,7 +18,10 @@ returns-in-Err g c = record {
     answer = Err c.in-Err.fault;
     left = g.R.Read.remaining c.args.reader.now;
     between = _;
+    slowest = None;
+    named = c.args.errors.now;
+    names = none_named (g.E.Write.contents c.args.errors.now);
     run = filed_refused (g.R.Read.remaining) (g.W.Write.contents) (g.K.ReportFiles.deeds) (map string_bytes c.args.words.now) c.in-Err.fault _ _ _ _ c.in-Err.ensures.read;
-    closed = c.close_run.ensures.closed;
+    closed = closes_refused sentence_of (g.W.Write.contents) (g.E.Write.contents) c.in-Err.fault _ _ _ _ c.close_run.result c.close_run.ensures.closed;
   };
 }

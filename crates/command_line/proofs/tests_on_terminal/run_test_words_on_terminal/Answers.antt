@@ -1,5 +1,8 @@
 -- Where the words are refused nothing is written; else what they ask for is run.
-use Rattle.std.proofs.Common.{Err, refl, true}
+use Rattle.std.proofs.Common.{Err, None, refl, true}
+use Rattle.messages.specs.Sentences.{tests_sentence_of}
+use Rattle.command_line.proofs.Ended.{closes_refused}
+use Rattle.command_line.proofs.Watched.{none_named}
 use Rattle.live.proofs.Drawing.{none_drawn}
 use Rattle.command_line.proofs.tests_on_terminal.run_test_words_on_terminal.Goals as goal
 
@@ -10,5 +13,15 @@ pub returns-in-Err : goal.returns-in-Err
 returns-in-Err g c = record {
   drawn = c.args.errors.now;
   draws = none_drawn (g.E.Write.contents c.args.errors.now) true;
-  run = record { options = Err c.in-Err.fault; reads = c.in-Err.ensures; answer = Err c.in-Err.fault; between = _; runs = (refl, refl); closed = c.close_run.ensures.closed };
+  run = record {
+    options = Err c.in-Err.fault;
+    reads = c.in-Err.ensures;
+    answer = Err c.in-Err.fault;
+    between = _;
+    slowest = None;
+    named = c.args.errors.now;
+    names = none_named (g.E.Write.contents c.args.errors.now);
+    runs = (refl, refl, refl);
+    closed = closes_refused tests_sentence_of (g.W.Write.contents) (g.E.Write.contents) c.in-Err.fault _ _ _ _ c.close_run.result c.close_run.ensures.closed;
+  };
 }

@@ -22,7 +22,7 @@ returns-clause-output g c =
         tree = c.in_ok-trace.ensures.tree;
         published = left;
         are = c.in_ok-texts.ensures.deciding settings.workers left.legal;
-      }) made.text.1 made.text.2 made.status;
+      }) c.none-untimed.result.took.items (λ untold. c.none-untimed.ensures) made.text.1 made.text.2 made.status;
     }
 
 pub returns-clause-watched : goal.returns-clause-watched

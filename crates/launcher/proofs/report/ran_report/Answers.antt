@@ -12,52 +12,52 @@ use Rattle.launcher.proofs.JobsRan.{jobs_in_vain, moved_behind, printed_jobs}
 use Rattle.launcher.proofs.Reporting.{unrun, watches_in_vain}
 use Rattle.launcher.proofs.report.ran_report.Goals as goal
 
-pub returns-in-Ok-run_watched-clause-output : goal.returns-in-Ok-run_watched-clause-output
-returns-in-Ok-run_watched-clause-output g c =
+pub returns-in-Ok-run_timed-clause-output : goal.returns-in-Ok-run_timed-clause-output
+returns-in-Ok-run_timed-clause-output g c =
     let asked = asked_by c.args.options.now in
     let settings = c.args.settings.now in
-    let over = c.in-Ok-run_watched.ran in
-    let report = c.in_ok-output_of-in-Ok-run_watched.field-0 in
-    let made = c.in_ok-output_of-in-Ok-run_watched.ensures in
-    let q = c.in-Ok-run_watched.ensures in
+    let over = c.in-Ok-run_timed.ran in
+    let report = c.in_ok-output_of-in-Ok-run_timed.field-0 in
+    let made = c.in_ok-output_of-in-Ok-run_timed.ensures in
+    let q = c.in-Ok-run_timed.ensures in
     let events = over.events.items in
     record {
       history = events;
       texts = over.texts;
-      prints = printed_jobs g.B.Job.answers asked settings c.args.plan c.requires.tree c.requires.guarded c.args.jobs.items events over.texts q.report q.texts _ over.unused_jobs.items q.balanced made.text.0
-          (string_bytes report.text) report.status (moved_behind _ asked.details asked.schedule settings.workers events over.texts made.text.0 q.plan made.text.1)
-          (subst (λ (p : PlanParts). string_bytes report.text ≡ head_of asked.details settings.warnings ++ (details_of asked.details asked.theme p over.texts events ++ made.text.0)) q.plan made.text.2)
+      prints = printed_jobs g.B.Job.answers asked settings c.args.plan c.requires.tree c.requires.guarded c.args.jobs.items events over.texts q.report q.texts _ over.unused_jobs.items q.balanced made.text.0 made.text.1 made.text.2
+          (string_bytes report.text) report.status (moved_behind _ asked.details asked.schedule settings.workers events over.texts made.text.2 q.plan made.text.3)
+          (subst (λ (p : PlanParts). string_bytes report.text ≡ head_of asked.details settings.warnings ++ (details_of asked.details asked.theme p over.texts made.text.0 events ++ made.text.2)) q.plan made.text.4)
           (subst (λ (p : PlanParts). report.status ≡ status_of_run asked.fail_if_no_tests (tests_found p events) (has_failed p events)) q.plan made.status);
     }
 
-pub returns-in-Ok-run_watched-clause-watched : goal.returns-in-Ok-run_watched-clause-watched
-returns-in-Ok-run_watched-clause-watched g c =
+pub returns-in-Ok-run_timed-clause-watched : goal.returns-in-Ok-run_timed-clause-watched
+returns-in-Ok-run_timed-clause-watched g c =
     let asked = asked_by c.args.options.now in
     let settings = c.args.settings.now in
-    let over = c.in-Ok-run_watched.ran in
-    let report = c.in_ok-output_of-in-Ok-run_watched.field-0 in
-    let made = c.in_ok-output_of-in-Ok-run_watched.ensures in
-    let q = c.in-Ok-run_watched.ensures in
+    let over = c.in-Ok-run_timed.ran in
+    let report = c.in_ok-output_of-in-Ok-run_timed.field-0 in
+    let made = c.in_ok-output_of-in-Ok-run_timed.ensures in
+    let q = c.in-Ok-run_timed.ensures in
     let events = over.events.items in
     record {
       history = events;
       texts = over.texts;
-      prints = printed_jobs g.B.Job.answers asked settings c.args.plan c.requires.tree c.requires.guarded c.args.jobs.items events over.texts q.report q.texts _ over.unused_jobs.items q.balanced made.text.0
-          (string_bytes report.text) report.status (moved_behind _ asked.details asked.schedule settings.workers events over.texts made.text.0 q.plan made.text.1)
-          (subst (λ (p : PlanParts). string_bytes report.text ≡ head_of asked.details settings.warnings ++ (details_of asked.details asked.theme p over.texts events ++ made.text.0)) q.plan made.text.2)
+      prints = printed_jobs g.B.Job.answers asked settings c.args.plan c.requires.tree c.requires.guarded c.args.jobs.items events over.texts q.report q.texts _ over.unused_jobs.items q.balanced made.text.0 made.text.1 made.text.2
+          (string_bytes report.text) report.status (moved_behind _ asked.details asked.schedule settings.workers events over.texts made.text.2 q.plan made.text.3)
+          (subst (λ (p : PlanParts). string_bytes report.text ≡ head_of asked.details settings.warnings ++ (details_of asked.details asked.theme p over.texts made.text.0 events ++ made.text.2)) q.plan made.text.4)
           (subst (λ (p : PlanParts). report.status ≡ status_of_run asked.fail_if_no_tests (tests_found p events) (has_failed p events)) q.plan made.status);
       seen = q.seen;
     }
 
-pub returns-in_err-output_of-in-Ok-run_watched-clause-watched : goal.returns-in_err-output_of-in-Ok-run_watched-clause-watched
-returns-in_err-output_of-in-Ok-run_watched-clause-watched g c =
+pub returns-in_err-output_of-in-Ok-run_timed-clause-watched : goal.returns-in_err-output_of-in-Ok-run_timed-clause-watched
+returns-in_err-output_of-in-Ok-run_timed-clause-watched g c =
     let asked = asked_by c.args.options.now in
     let settings = c.args.settings.now in
-    let over = c.in-Ok-run_watched.ran in
+    let over = c.in-Ok-run_timed.ran in
     let events = over.events.items in
-    let q = c.in-Ok-run_watched.ensures in
-    watches_in_vain g.V.Watcher.saw (IsPrintedJobs g.B.Job.answers _ asked settings c.args.plan c.args.jobs.items) c.args.plan c.args.watcher.now c.run_watched.new.watcher _ c.from_residual.ensures.1
-    (jobs_in_vain g.B.Job.answers asked settings c.args.plan c.requires.tree c.requires.guarded c.args.jobs.items events over.texts q.report q.texts g.V.Watcher.saw c.args.watcher.now c.run_watched.new.watcher q.seen over.unused_jobs.items q.balanced _)
+    let q = c.in-Ok-run_timed.ensures in
+    watches_in_vain g.V.Watcher.saw (IsPrintedJobs g.B.Job.answers _ asked settings c.args.plan c.args.jobs.items) c.args.plan c.args.watcher.now c.run_timed.new.watcher _ c.from_residual.ensures.1
+    (jobs_in_vain g.B.Job.answers asked settings c.args.plan c.requires.tree c.requires.guarded c.args.jobs.items events over.texts q.report q.texts g.V.Watcher.saw c.args.watcher.now c.run_timed.new.watcher q.seen over.unused_jobs.items q.balanced _)
 
 pub unrun-requires : goal.unrun-requires
 unrun-requires g c =

@@ -4,10 +4,7 @@ use Rattle.launcher.proofs.Showing.{carried}
 use Rattle.report_files.specs.ReportedRuns.{HasSeenSome}
 use Rattle.report_files.proofs.filed_run.run_beside.Goals as goal
 
-pub returns-clause-runs : goal.returns-clause-runs
-returns-clause-runs g c = record { exact = c.run_reported.ensures.exact; reads = c.run_reported.ensures.reads; quiet = c.run_reported.ensures.quiet }
-
 pub returns-clause-watched : goal.returns-clause-watched
 returns-clause-watched g c =
     let saw = g.V.Watcher.saw in
-    carried {a = c.run_reported.new.beside.watcher.now} (search rules) (λ v. HasSeenSome saw c.args.watcher.now v) c.run_reported.ensures.watched
+    carried {a = c.run_listed.new.beside.watcher.now} (search rules) (λ v. HasSeenSome saw c.args.watcher.now v) c.run_listed.ensures.watched

@@ -1,20 +1,20 @@
--- Where no report is asked for the run is as without; else the files are opened first.
-use Rattle.std.proofs.Common.{◌∙◌, inr, length, map, sym}
-use Rattle.std.proofs.lemmas.Bool.{eqb-true}
+-- Where no report and no times are asked for the run is as without; else the files are opened first.
+use Rattle.std.proofs.Common.{inr, map}
 use Rattle.launch_options.specs.Asked.{asked_by}
 use Rattle.launch_options.specs.ReportTexts.{parts_of}
 use Rattle.suite_text.specs.Reading.Bytes.{suite_read}
 use Rattle.report_files.proofs.FiledAnswers.{some_watched, unopened_run, unreported_run}
+use Rattle.report_files.proofs.SlowestRuns.{unlisted_run}
 use Rattle.report_files.proofs.filed_run.run_filed.Goals as goal
 
-pub returns-then-is_empty-clause-filed : goal.returns-then-is_empty-clause-filed
-returns-then-is_empty-clause-filed g c =
+pub returns-then-asks_no_more-clause-filed : goal.returns-then-asks_no_more-clause-filed
+returns-then-asks_no_more-clause-filed g c =
     let run = c.run_options_watched.ensures in
     unreported_run g.V.Watcher.saw c.args.watcher.now c.run_options_watched.new.watcher (asked_by c.args.options.now) c.args.wanted.now (g.R.Read.remaining c.args.reader.now) (g.R.Read.remaining c.run_options_watched.new.reader) (g.W.Write.contents c.args.writer.now) (g.W.Write.contents c.run_options_watched.new.writer)
-    (g.K.ReportFiles.deeds c.args.files.now) c.run_options_watched.result (eqb-true (length c.args.wanted.now) 0 (sym c.is_empty.ensures ∙ c.if-is_empty.true)) (record { exact = run.exact; reads = run.reads; quiet = run.quiet }) run.watched
+    (g.K.ReportFiles.deeds c.args.files.now) c.run_options_watched.result (c.asks_no_more.ensures c.if-asks_no_more.true) (record { exact = run.exact; reads = run.reads; quiet = run.quiet }) run.watched
 
-pub returns-then-is_empty-clause-watched : goal.returns-then-is_empty-clause-watched
-returns-then-is_empty-clause-watched g c =
+pub returns-then-asks_no_more-clause-watched : goal.returns-then-asks_no_more-clause-watched
+returns-then-asks_no_more-clause-watched g c =
     let watched = c.run_options_watched.ensures.watched in
     some_watched g.V.Watcher.saw c.args.watcher.now c.run_options_watched.new.watcher (asked_by c.args.options.now) (suite_read watched.bytes) (g.W.Write.contents c.args.writer.now) (g.W.Write.contents c.run_options_watched.new.writer) c.run_options_watched.result watched.judged
 
@@ -24,3 +24,8 @@ returns-in_err-reports-clause-filed g c =
 
 pub returns-clause-filed : goal.returns-clause-filed
 returns-clause-filed g c = inr (c.run_opened.ensures.filed (g.K.ReportFiles.deeds c.args.files.now) c.in_ok-reports.ensures.did)
+
+pub returns-then-asks_no_more-clause-slowest : goal.returns-then-asks_no_more-clause-slowest
+returns-then-asks_no_more-clause-slowest g c =
+    let run = c.run_options_watched in
+    unlisted_run (asked_by c.args.options.now) g.V.Watcher.saw c.args.watcher.now run.new.watcher (g.R.Read.remaining c.args.reader.now) (g.R.Read.remaining run.new.reader) (g.W.Write.contents c.args.writer.now) (g.W.Write.contents run.new.writer) run.result run.ensures.watched

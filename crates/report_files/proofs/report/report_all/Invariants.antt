@@ -4,4 +4,4 @@ use Rattle.report_files.specs.Reports.{IsReported}
 use Rattle.report_files.proofs.report.report_all.Given as goal
 
 abbrev pub invariant-loop-index : goal.invariant-loop-index
-invariant-loop-index g l = AreStepped (IsReported g.F.Write.contents l.theme l.told) l.index l.fn.reports l.reports
+invariant-loop-index g l = AreStepped (IsReported g.F.Write.contents l.theme l.told l.timings.took.items) l.index l.fn.reports l.reports

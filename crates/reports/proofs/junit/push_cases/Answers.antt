@@ -11,8 +11,8 @@ pub returns : goal.returns
 returns c =
     let old = string_bytes c.args.xml.now in
     let begun = string_bytes c.push_str.new.self in
-    let attributes = suite_attributes c.args.class.now c.args.cases.now in
-    let lines = flat_map (case_line c.args.plan.now c.args.texts.now c.args.class.now) c.args.cases.now in
+    let attributes = suite_attributes c.args.timings.now.took.items c.args.class.now c.args.cases.now in
+    let lines = flat_map (case_line c.args.plan.now c.args.texts.now c.args.timings.now.took.items c.args.class.now) c.args.cases.now in
     let start = then begun attributes (codes ">\n") c.in_ok-push_counts.ensures c.in_ok-push_str-2.ensures.bytes in
     let content = then begun (attributes ++ codes ">\n") lines start c.in_ok-push_lines.ensures in
     on_ok_weaker c.push_str-3.result

@@ -7,6 +7,6 @@ use Rattle.reports.proofs.junit.push_lines.Goals as goal
 
 pub loop-case-preserved : goal.loop-case-preserved
 loop-case-preserved c =
-    let line = case_line c.args.plan.now c.args.texts.now c.args.class.now in
+    let line = case_line c.args.plan.now c.args.texts.now c.args.timings.now.took.items c.args.class.now in
     element_more line c.args.cases.now c.loop-case.case-index c.case-item.result (string_bytes c.args.xml.now)
     (omega arith) c.loop-case.invariant (c.in_ok-push_case.ensures ∙ ap (λ (case : Case). string_bytes c.loop-case.xml ++ line case) c.case-item.is)

@@ -6,5 +6,6 @@ use Rattle.reports.proofs.junit.push_suites.Goals as goal
 
 pub loop-number-preserved : goal.loop-number-preserved
 loop-number-preserved c =
-    numbers_more (suite_of c.args.plan.now c.args.texts.now c.args.told.now) c.loop-number.number (string_bytes c.args.xml.now) c.loop-number.invariant
-    (c.in_ok-push_suite.ensures ∙ ap (λ (n : ℕ). string_bytes c.loop-number.xml ++ suite_of c.args.plan.now c.args.texts.now c.args.told.now n) c.new-node.ensures)
+    let suite = suite_of c.args.plan.now c.args.texts.now c.args.timings.now.took.items c.args.told.now in
+    numbers_more suite c.loop-number.number (string_bytes c.args.xml.now) c.loop-number.invariant
+    (c.in_ok-push_suite.ensures ∙ ap (λ (n : ℕ). string_bytes c.loop-number.xml ++ suite n) c.new-node.ensures)

@@ -5,4 +5,4 @@ use Rattle.reports.specs.Junit.{suite_of}
 use Rattle.reports.proofs.junit.push_suites.Given as goal
 
 abbrev pub invariant-loop-number : goal.invariant-loop-number
-invariant-loop-number l = string_bytes l.xml ≡ string_bytes l.fn.xml ++ flat_map (suite_of l.plan l.texts l.told) (range_with_len 0 l.number)
+invariant-loop-number l = string_bytes l.xml ≡ string_bytes l.fn.xml ++ flat_map (suite_of l.plan l.texts l.timings.took.items l.told) (range_with_len 0 l.number)

@@ -10,7 +10,7 @@ pub returns : goal.returns
 returns c =
     let old = string_bytes c.args.xml.now in
     let begun = string_bytes c.push_str.new.self in
-    let attributes = case_attributes c.args.plan.now c.args.class.now c.args.case.node in
+    let attributes = case_attributes c.args.plan.now c.args.timings.now.took.items c.args.class.now c.args.case.node in
     let inside = case_content c.args.plan.now c.args.texts.now c.args.case in
     let tag = then begun attributes (codes ">") c.in_ok-push_attributes.ensures c.in_ok-push_str-2.ensures.bytes in
     let content = then begun (attributes ++ codes ">") inside tag c.in_ok-push_content.ensures in

@@ -6,4 +6,4 @@ pub returns-clause-feed : goal.returns-clause-feed
 returns-clause-feed c = λ p replies workers h texts uids flat legal. feed_back p replies workers h texts uids flat legal
 
 pub returns-clause-json : goal.returns-clause-json
-returns-clause-json c = λ p replies workers h texts uids legal. json_back p replies workers h texts uids legal
+returns-clause-json c = λ p replies workers h texts took times uids legal. json_back p replies workers h texts took times uids legal

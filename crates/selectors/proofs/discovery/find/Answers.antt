@@ -7,6 +7,7 @@ use Rattle.selectors.specs.Selections.{is_selected}
 use Rattle.selectors.specs.Shards.{shard_or_all}
 use Rattle.descriptor.specs.Nodes.{Nodes, size}
 use Rattle.descriptor.specs.Pruned.{pruned}
+use Rattle.tree_orders.specs.Orders.{seeded_or_same}
 use Rattle.selectors.proofs.Answer.{closed, above_of, kept_of, len_is}
 use Rattle.selectors.proofs.discovery.find.Goals as goal
 
@@ -30,7 +31,7 @@ returns-clause-ok c =
     c.as_slice.ensures.value ∙ above_of c.args.tree (is_taken c.args.tree q) c.in_ok-taken.taken.items c.kept-keep.result.items c.in_ok-taken.ensures c.kept-keep.ensures in
     let selection : c.in_ok-selection.selection ≡ pruned c.args.tree (truths (stays c.args.tree q) (size c.args.tree)) =
     c.in_ok-selection.ensures.same ∙ ap (pruned c.args.tree) (kept_of c.args.tree c.requires q c.as_slice.result.now above) in
-    c.in_ok-tree.ensures.ok ∙ ap (λ (t : Nodes). shard_or_all t c.args.request.now.shard) selection
+    c.in_ok-tree.ensures.ok ∙ ap (λ (t : Nodes). seeded_or_same c.args.request.now.seed (shard_or_all t c.args.request.now.shard)) selection
 
 pub returns-clause-children : goal.returns-clause-children
 returns-clause-children c = c.in_ok-tree.ensures.children c.in_ok-selection.ensures.children

@@ -17,5 +17,6 @@ returns g c first before was =
     c.count.ensures.failures c.count.ensures.running in
     let at_note =
     follows_more contents p first counted noted before at_count (left contents counted noted c.note.ensures.terminal (λ done. ap₂ (λ o d. o && not d) c.note.ensures.over c.note.ensures.drawn ∙ done)) t c.note.ensures.kept c.note.ensures.running in
-    let at_redraw = follows_as_much contents p first noted c.redraw.new.self (before ++ t ∷ []) at_note c.redraw.ensures.drawn c.redraw.ensures.failures c.redraw.ensures.running in
+    let at_slow = follows_as_much contents p first noted c.name_slow.new.self (before ++ t ∷ []) at_note c.name_slow.ensures.drawn c.name_slow.ensures.failures c.name_slow.ensures.running in
+    let at_redraw = follows_as_much contents p first c.name_slow.new.self c.redraw.new.self (before ++ t ∷ []) at_slow c.redraw.ensures.drawn c.redraw.ensures.failures c.redraw.ensures.running in
     follows_as_much contents p first c.redraw.new.self c.close.new.self (before ++ t ∷ []) at_redraw c.close.ensures.drawn c.close.ensures.failures c.close.ensures.running
