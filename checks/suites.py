@@ -31,6 +31,7 @@ class Node:
     locks: List[Tuple[str, str]] = field(default_factory=list)
     isolated: bool = False
     spin: Optional[int] = None
+    slow: Optional[int] = None
     pulls: Optional[int] = None
     verdict: Optional[Verdict] = None
     after: Optional[Verdict] = None
@@ -92,6 +93,7 @@ def attributes(node):
     words += [f"lock={key}:{mode}" for key, mode in node.locks]
     words += ["isolated"] if node.isolated else []
     words += [f"spin={node.spin}"] if node.spin is not None else []
+    words += [f"@slow={node.slow}"] if node.slow is not None else []
     words += [f"pulls={node.pulls}"] if node.pulls is not None else []
     return words
 
@@ -128,7 +130,7 @@ class Maker:
         self.keys = random.sample(self.KEYS, random.randint(1, len(self.KEYS)))
         self.often = {
             what: random.choice([0.0, 0.1, 0.3, 0.7])
-            for what in ("lock", "isolated", "mode", "fail", "disabled", "before", "after", "spin")
+            for what in ("lock", "isolated", "mode", "fail", "disabled", "before", "after", "spin", "slow")
         }
         self.often["isolated"] *= 0.4
         self.often["disabled"] *= 0.4
@@ -155,6 +157,10 @@ class Maker:
     def spin(self):
         return self.random.randint(0, self.most_spin) if self.happens("spin") else None
 
+    def slow(self):
+        """Milliseconds that no test of a suite made at random takes."""
+        return self.random.randint(60_000, 86_400_000) if self.happens("slow") else None
+
     def name(self, node, word):
         """A name that no child of this node with this word has."""
         stem = self.random.choice(["a.B", "t()", "x", "p%q", "n[1]", "é"])
@@ -162,14 +168,14 @@ class Maker:
 
     def add_test(self, parent):
         self.left -= 1
-        parent.add("test", self.name(parent, "test"), verdict=self.verdict(), spin=self.spin(), **self.declared())
+        parent.add("test", self.name(parent, "test"), verdict=self.verdict(), spin=self.spin(), slow=self.slow(), **self.declared())
 
     def add_factory(self, parent):
         self.left -= 1
         factory = parent.add("factory", self.name(parent, "factory"), verdict=self.verdict(), **self.declared())
         for number in range(self.random.choice([0, 1, 3, 3, 8])):
             self.left -= 1
-            factory.add("dyn", f"dyn{number}", verdict=self.verdict(), spin=self.spin())
+            factory.add("dyn", f"dyn{number}", verdict=self.verdict(), spin=self.spin(), slow=self.slow())
         if self.random.random() < 0.5:
             factory.pulls = self.random.randint(0, len(factory.children) + 2)
 
