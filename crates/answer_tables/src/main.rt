@@ -12,6 +12,7 @@ mod events;
 mod histories;
 mod ids;
 mod lock_sets;
+mod moments;
 mod nodes;
 mod plans;
 mod repeats;

@@ -3,7 +3,7 @@
 use crate::escapes::push_plain;
 use crate::trees::push_suite_answer;
 use crate::words::{cut, say, subject_and_text};
-use crate::{events, ids, saved, settings, suites, tags};
+use crate::{events, ids, moments, saved, settings, suites, tags};
 use std::alloc::Global;
 use unique_id::UniqueId;
 
@@ -33,6 +33,7 @@ fn push_asked(alloc: Global, answer: &mut String, asked: &str, text: &str) {
         "steps" => suites::push_steps(alloc, answer, text),
         "word" => events::push_event(answer, text),
         "again" => saved::push_again(alloc, answer, text),
+        "moment" => moments::push_moment(alloc, answer, text),
         "get" | "settings" => settings::push_settings_row(alloc, answer, asked, text),
         _ => push_named(alloc, answer, asked, text),
     }

@@ -2,11 +2,13 @@
 #![tactic(auto)]
 
 mod job_times;
+mod run_times;
 mod stopwatch;
 mod timed_job;
 mod timings;
 
 pub use job_times::JobTimes;
+pub use run_times::RunTimes;
 pub use stopwatch::{NoStopwatch, Stopwatch};
 pub use timed_job::{TimedJob, timed_jobs, untimed_jobs};
-pub use timings::{Timings, timings_of};
+pub use timings::{Noted, Timings};

@@ -1,38 +1,60 @@
-//! How long the bodies of a tree's nodes took.
+//! What is noted of a run: how long the bodies of its nodes took, when it began, and on which machine.
 
-ghost use Rattle.std.specs.Prelude.{◌≡◌, ◌<◌, [], IfOk, length};
-ghost use Rattle.descriptor.specs.Nodes.{size};
-ghost use Rattle.job_times.specs.Timings.{took_of};
+ghost use Rattle.std.specs.Prelude.{◌≡◌, [], true, option_map, string_bytes};
+ghost use Rattle.job_times.specs.Timings.{IsNotedWith, is_told, micros_of, no_times, times_of, took_of};
 
 use crate::stopwatch::Stopwatch;
 use descriptor::{BodyId, NodeId, Tree};
-use std::alloc::{AllocError, Global};
+use std::alloc::Global;
 
-/// How long the bodies of each node took, in microseconds, at the place of the node's number; None where it is not known.
-#[derive(Drop)]
-pub struct Timings {
-    pub took: Vec<Option<u64>>,
+/// What is noted of how long a node took.
+#[derive(Clone, Copy, PartialEq, Eq, Debug)]
+pub enum Noted {
+    /// Nothing is noted.
+    NotYet,
+    /// It was asked for and was not known.
+    Unknown,
+    /// So many microseconds.
+    Known(u64),
 }
 
-impl Timings {
-    /// Of no node is anything known.
-    pub fn none(alloc: Global) -> Timings
-        ensures { result.took.items ≡ [] }
+impl Noted {
+    /// What is noted of what took so many microseconds, if it is known how many.
+    pub(crate) fn of(took: Option<u64>) -> Noted
+        ensures told { is_told result ≡ true }
+        ensures same { micros_of result ≡ took }
     {
-        Timings {
-            took: Vec::new(alloc),
+        match took {
+            None => Noted::Unknown,
+            Some(micros) => Noted::Known(micros),
         }
     }
 
-    /// How long the bodies of this node took, if it is known.
-    pub fn of_node(&self, node: NodeId) -> Option<u64>
-        ensures { result ≡ took_of self.now.took.items node }
+    /// The microseconds that are noted.
+    pub fn micros(self) -> Option<u64>
+        ensures { result ≡ micros_of self }
     {
-        match self.took.get(node.index()) {
-            Some(took) => *took,
-            None => None,
+        match self {
+            Noted::NotYet | Noted::Unknown => None,
+            Noted::Known(micros) => Some(micros),
         }
     }
+
+    /// Whether anything is noted.
+    pub fn is_told(self) -> bool
+        ensures { result ≡ is_told self }
+    {
+        !matches!(self, Noted::NotYet)
+    }
+}
+
+/// What is noted of each node, at the place of its number; when the run began, as
+/// `2026-11-28T05:04:59` in UTC, and the name of the machine, where they are known.
+#[derive(Drop)]
+pub struct Timings {
+    pub took: Vec<Noted>,
+    pub moment: Option<String>,
+    pub host: Option<String>,
 }
 
 /// How long the job of this number took, if there is one and it is known.
@@ -51,25 +73,69 @@ fn both(body: Option<u64>, after: Option<u64>) -> Option<u64> {
     }
 }
 
-/// How long this node's body and its after-body took together.
-fn node_took<S: Stopwatch>(tree: &Tree, stopwatch: &S, node: NodeId) -> Option<u64>
-    requires { node < size tree.now }
-{
+/// How long this node's body and its after-body took together; nothing is known of a node that the tree lacks.
+fn node_took<S: Stopwatch>(tree: &Tree, stopwatch: &S, node: NodeId) -> Option<u64> {
+    if node.index() >= tree.len() {
+        return None;
+    }
     let body = job_took(stopwatch, tree.body(node));
     both(body, job_took(stopwatch, tree.after(node)))
 }
 
-/// The timings of a tree's nodes, as the stopwatch has them: a node's body and its after-body together.
-pub fn timings_of<S: Stopwatch>(
-    alloc: Global,
-    tree: &Tree,
-    stopwatch: &S,
-) -> Result<Timings, AllocError>
-    ensures { IfOk result (λ timings. length timings.took.items ≡ size tree.now) }
+/// Notes at this place how long a node took, if there is such a place and nothing is noted there.
+fn note_at(took: &mut Vec<Noted>, place: usize, time: Option<u64>)
+    ensures { IsNotedWith place took.old.items took.new.items }
 {
-    let mut took = Vec::with_capacity(alloc, tree.len())?;
-    for number in 0..tree.len() {
-        took.push(node_took(tree, stopwatch, NodeId::new(number as u16)))?;
+    if place >= took.len() {
+        return;
     }
-    Ok(Timings { took })
+    if took[place].is_told() {
+        return;
+    }
+    took[place] = Noted::of(time);
+}
+
+impl Timings {
+    /// Nothing is known.
+    pub fn none(alloc: Global) -> Timings
+        ensures { times_of result ≡ no_times }
+    {
+        Timings::stamped(alloc, None, None)
+    }
+
+    /// Of no node is anything noted; the run began at this moment, on this machine.
+    pub fn stamped(alloc: Global, moment: Option<String>, host: Option<String>) -> Timings
+        ensures { times_of result ≡ record {
+          took = [];
+          moment = option_map string_bytes moment;
+          host = option_map string_bytes host;
+        } }
+    {
+        Timings {
+            took: Vec::new(alloc),
+            moment,
+            host,
+        }
+    }
+
+    /// How long the bodies of this node took, if it is known.
+    pub fn of_node(&self, node: NodeId) -> Option<u64>
+        ensures { result ≡ took_of self.now.took.items node }
+    {
+        match self.took.get(node.index()) {
+            Some(noted) => noted.micros(),
+            None => None,
+        }
+    }
+
+    /// Notes how long a node of the tree took, its body and its after-body together, as the stopwatch has it now. What
+    /// is noted stays, and a node without a place is not noted.
+    pub fn note<S: Stopwatch>(&mut self, stopwatch: &S, tree: &Tree, node: NodeId)
+        ensures noted { IsNotedWith node self.old.took.items self.new.took.items }
+        ensures moment { self.new.moment ≡ self.old.moment }
+        ensures host { self.new.host ≡ self.old.host }
+    {
+        let time = node_took(tree, stopwatch, node);
+        note_at(&mut self.took, node.index(), time);
+    }
 }

@@ -8,6 +8,7 @@ use Rattle.descriptor.proofs.Children.{children_listed}
 use Rattle.descriptor.specs.declared.lock.Lock.{Lock}
 use Rattle.descriptor.specs.declared.mode.Mode.{Mode}
 use Rattle.descriptor.specs.Nodes.{Nodes, IsTree, size, children_of, parent_of, is_factory_at}
+use Rattle.job_times.specs.Timings.{no_times}
 use Rattle.plan_events.specs.Texts.{TextParts, text_at}
 use Rattle.plan_events.specs.declared.event.Event.{Event}
 use Rattle.listeners.specs.declared.told.NodeEvents.{NodeEvents}
@@ -94,19 +95,19 @@ module _ (p : PlanParts) (tree : IsTree p.tree) (ms : List Mode) (hs : List (Lis
   same_cases class [] h = refl
   same_cases class (c ∷ cs) h = ap₂ (λ (line rest : List ℕ). line ++ rest) (ap (line_with class c) (same c.cause.node h.0)) (same_cases class cs h.1)
 
-  same_suite : (told : List NodeTold) (n : ℕ) → suite_of p a [] told n ≡ suite_of other b [] told n
+  same_suite : (told : List NodeTold) (n : ℕ) → suite_of p a no_times told n ≡ suite_of other b no_times told n
   same_suite told n =
       let class = class_name p.tree n in
       let cases = cases_of p.tree told n in
-      ap (λ (lines : List ℕ). cond (length cases == 0) [] (codes "  " ++ (element (codes "testsuite") (suite_attributes [] class cases) (codes "\n" ++ (lines ++ codes "  ")) ++ codes "\n")))
+      ap (λ (lines : List ℕ). cond (length cases == 0) [] (codes "  " ++ (element (codes "testsuite") (suite_attributes no_times class cases) (codes "\n" ++ (lines ++ codes "  ")) ++ codes "\n")))
       (same_cases class cases (cases_inside p.tree tree told n))
 
-  same_suites : (told : List NodeTold) → suites_element p a [] told ≡ suites_element other b [] told
+  same_suites : (told : List NodeTold) → suites_element p a no_times told ≡ suites_element other b no_times told
   same_suites told =
-      ap (λ (suites : List ℕ). element (codes "testsuites") [] (codes "\n" ++ suites) ++ codes "\n") (same_flat (suite_of p a [] told) (suite_of other b [] told) (range_with_len 0 (size p.tree)) (same_suite told))
+      ap (λ (suites : List ℕ). element (codes "testsuites") [] (codes "\n" ++ suites) ++ codes "\n") (same_flat (suite_of p a no_times told) (suite_of other b no_times told) (range_with_len 0 (size p.tree)) (same_suite told))
 
   -- Events that tell so of each node are reported as one that is told so.
   pub same_report : (events : List Event) (told : ℕ → NodeEvents) → ((n : ℕ) → n < size p.tree → listeners.told_of events n ≡ told n) → junit_of p a events ≡ junit_by other b told
   same_report events told so =
-      ap (λ (all : List NodeTold). suites_element p a [] all) (same_map (λ n. reported (listeners.told_of events n)) (λ n. reported (told n)) 0 (size p.tree) (λ k low high. ap reported (so k (omega (arith, high)))))
+      ap (λ (all : List NodeTold). suites_element p a no_times all) (same_map (λ n. reported (listeners.told_of events n)) (λ n. reported (told n)) 0 (size p.tree) (λ k low high. ap reported (so k (omega (arith, high)))))
       ∙ same_suites (map (λ n. reported (told n)) (range_with_len 0 (size p.tree)))

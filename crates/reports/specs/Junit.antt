@@ -1,8 +1,8 @@
 -- The report that build servers read: JUnit's XML. A suite for each node that has cases, and in it an element for each case.
-use Rattle.std.specs.Prelude.{ℕ, ◌==◌, Bool, cond, List, [], ◌++◌, length, codes}
+use Rattle.std.specs.Prelude.{ℕ, ◌==◌, Bool, cond, List, [], ◌++◌, length, codes, Option, Some, None}
 use Rattle.std.specs.List.{flat_map, count_by, range_with_len}
 use Rattle.descriptor.specs.Nodes.{size}
-use Rattle.job_times.specs.Timings.{Took}
+use Rattle.job_times.specs.Timings.{Took, Times, no_times}
 use Rattle.resource_locks.specs.Plans.{PlanParts}
 use Rattle.plan_events.specs.Texts.{TextParts, text_at}
 use Rattle.plan_events.specs.declared.event.Event.{Event}
@@ -63,8 +63,8 @@ case_line plan texts took class c =
 
 -- the name of a suite and its counts: all cases, those that failed, those below a node that failed, and those that neither passed nor
 -- failed; and how long the nodes of all cases took
-abbrev pub suite_attributes : Took → List ℕ → List Case → List ℕ
-suite_attributes took class cases =
+abbrev pub count_attributes : Took → List ℕ → List Case → List ℕ
+count_attributes took class cases =
     attribute (codes "name") class
     ++ (number_attribute (codes "tests") (length cases)
     ++ (number_attribute (codes "failures") (count_by has_failed cases)
@@ -72,28 +72,41 @@ suite_attributes took class cases =
     ++ (number_attribute (codes "skipped") (count_by is_left_out cases)
     ++ attribute_of (codes "time") (time_text (time_of_cases took cases))))))
 
+-- an attribute whose value is a text, and nothing where that is not known
+abbrev pub known_attribute : List ℕ → Option (List ℕ) → List ℕ
+known_attribute name None = []
+known_attribute name (Some value) = attribute name value
+
+-- the name of the machine, and when the run began
+abbrev pub stamp_attributes : Times → List ℕ
+stamp_attributes times = known_attribute (codes "hostname") times.host ++ known_attribute (codes "timestamp") times.moment
+
+-- all attributes of a suite
+abbrev pub suite_attributes : Times → List ℕ → List Case → List ℕ
+suite_attributes times class cases = count_attributes times.took class cases ++ stamp_attributes times
+
 -- a suite of these cases, from a line of its own to the end of a line
-abbrev pub suite_element : PlanParts → TextParts → Took → List ℕ → List Case → List ℕ
-suite_element plan texts took class cases =
-    codes "  " ++ (element (codes "testsuite") (suite_attributes took class cases) (codes "\n" ++ (flat_map (case_line plan texts took class) cases ++ codes "  ")) ++ codes "\n")
+abbrev pub suite_element : PlanParts → TextParts → Times → List ℕ → List Case → List ℕ
+suite_element plan texts times class cases =
+    codes "  " ++ (element (codes "testsuite") (suite_attributes times class cases) (codes "\n" ++ (flat_map (case_line plan texts times.took class) cases ++ codes "  ")) ++ codes "\n")
 
 -- a suite, and nothing where there is no case
-abbrev pub suite_with : PlanParts → TextParts → Took → List ℕ → List Case → List ℕ
-suite_with plan texts took class cases = cond (length cases == 0) [] (suite_element plan texts took class cases)
+abbrev pub suite_with : PlanParts → TextParts → Times → List ℕ → List Case → List ℕ
+suite_with plan texts times class cases = cond (length cases == 0) [] (suite_element plan texts times class cases)
 
 -- the suite of node n, of whose nodes this was told
-abbrev pub suite_of : PlanParts → TextParts → Took → List NodeTold → ℕ → List ℕ
-suite_of plan texts took told n = suite_with plan texts took (class_name plan.tree n) (cases_of plan.tree told n)
+abbrev pub suite_of : PlanParts → TextParts → Times → List NodeTold → ℕ → List ℕ
+suite_of plan texts times told n = suite_with plan texts times (class_name plan.tree n) (cases_of plan.tree told n)
 
 -- the element of all suites, in the plan's order
-abbrev pub suites_element : PlanParts → TextParts → Took → List NodeTold → List ℕ
-suites_element plan texts took told =
-    element (codes "testsuites") [] (codes "\n" ++ flat_map (suite_of plan texts took told) (range_with_len 0 (size plan.tree))) ++ codes "\n"
+abbrev pub suites_element : PlanParts → TextParts → Times → List NodeTold → List ℕ
+suites_element plan texts times told =
+    element (codes "testsuites") [] (codes "\n" ++ flat_map (suite_of plan texts times told) (range_with_len 0 (size plan.tree))) ++ codes "\n"
 
 -- the whole text, from the line of the document's element
-abbrev pub timed_junit_of : PlanParts → TextParts → Took → List Event → List ℕ
-timed_junit_of plan texts took events = suites_element plan texts took (all_told (size plan.tree) events)
+abbrev pub timed_junit_of : PlanParts → TextParts → Times → List Event → List ℕ
+timed_junit_of plan texts times events = suites_element plan texts times (all_told (size plan.tree) events)
 
 -- the same where no time is known
 abbrev pub junit_of : PlanParts → TextParts → List Event → List ℕ
-junit_of plan texts events = timed_junit_of plan texts [] events
+junit_of plan texts events = timed_junit_of plan texts no_times events

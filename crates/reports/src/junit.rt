@@ -1,10 +1,12 @@
 //! The report that build servers read: JUnit's XML.
 
-ghost use Rattle.std.specs.Prelude.{◌≡◌, ◌<◌, ◌++◌, OnOk, IfOk, codes, length, string_bytes};
+ghost use Rattle.std.specs.Prelude.{◌≡◌, ◌<◌, ◌++◌, OnOk, IfOk, codes, length, option_map, string_bytes};
 ghost use Rattle.std.specs.List.{count_by, flat_map, range_with_len};
 ghost use Rattle.descriptor.specs.Nodes.{size};
+ghost use Rattle.job_times.specs.Timings.{times_of};
 ghost use Rattle.reports.specs.Cases.{has_error, has_failed, is_left_out};
-ghost use Rattle.reports.specs.Junit.{case_line, suite_attributes, suite_element, suite_of, timed_junit_of, junit_of};
+ghost use Rattle.reports.specs.Junit.{case_line, count_attributes, known_attribute, stamp_attributes, suite_element};
+ghost use Rattle.reports.specs.Junit.{suite_of, timed_junit_of, junit_of};
 
 use crate::cases::{Case, cases_of};
 use crate::class_names::class_name;
@@ -65,7 +67,7 @@ fn push_counts(
     cases: &[Case],
 ) -> Result<(), AllocError>
     ensures { OnOk result (string_bytes xml.new ≡ string_bytes xml.old
-        ++ suite_attributes timings.now.took.items class.now cases.now) }
+        ++ count_attributes timings.now.took.items class.now cases.now) }
 {
     push_attribute(xml, "name", class)?;
     push_number(xml, "tests", cases.len())?;
@@ -73,6 +75,26 @@ fn push_counts(
     push_number(xml, "errors", errors(cases))?;
     push_number(xml, "skipped", skips(cases))?;
     push_time(xml, time_of_cases(timings, cases))
+}
+
+/// Appends an attribute whose value is a text; nothing where that is not known.
+fn push_known(xml: &mut String, name: &str, value: &Option<String>) -> Result<(), AllocError>
+    ensures { OnOk result (string_bytes xml.new ≡ string_bytes xml.old
+        ++ known_attribute name.now (option_map string_bytes value.now)) }
+{
+    match value {
+        None => Ok(()),
+        Some(text) => push_attribute(xml, name, text.as_str()),
+    }
+}
+
+/// Appends the name of the machine, and when the run began.
+fn push_stamp(xml: &mut String, timings: &Timings) -> Result<(), AllocError>
+    ensures { OnOk result (string_bytes xml.new ≡ string_bytes xml.old
+        ++ stamp_attributes (times_of timings.now)) }
+{
+    push_known(xml, "hostname", &timings.host)?;
+    push_known(xml, "timestamp", &timings.moment)
 }
 
 /// Appends the element of a suite of these cases.
@@ -85,10 +107,11 @@ fn push_cases(
     cases: &[Case],
 ) -> Result<(), AllocError>
     ensures { OnOk result (string_bytes xml.new ≡ string_bytes xml.old ++ suite_element plan.now texts.now
-        timings.now.took.items class.now cases.now) }
+        (times_of timings.now) class.now cases.now) }
 {
     xml.push_str("  <testsuite")?;
     push_counts(xml, timings, class, cases)?;
+    push_stamp(xml, timings)?;
     xml.push_str(">\n")?;
     push_lines(xml, plan, texts, timings, class, cases)?;
     xml.push_str("  </testsuite>\n")
@@ -106,7 +129,7 @@ fn push_suite(
 ) -> Result<(), AllocError>
     requires { node < size plan.now.tree }
     ensures { OnOk result (string_bytes xml.new ≡ string_bytes xml.old
-        ++ suite_of plan.now texts.now timings.now.took.items told.now node) }
+        ++ suite_of plan.now texts.now (times_of timings.now) told.now node) }
 {
     let tree = plan.tree();
     let cases = cases_of(alloc, tree, told, node)?;
@@ -128,7 +151,7 @@ fn push_suites(
     told: &[NodeTold],
 ) -> Result<(), AllocError>
     ensures { OnOk result (string_bytes xml.new ≡ string_bytes xml.old
-        ++ flat_map (suite_of plan.now texts.now timings.now.took.items told.now) (range_with_len 0 (size plan.now.tree))) }
+        ++ flat_map (suite_of plan.now texts.now (times_of timings.now) told.now) (range_with_len 0 (size plan.now.tree))) }
 {
     let tree = plan.tree();
     for number in 0..tree.len() {
@@ -140,7 +163,8 @@ fn push_suites(
 
 /// The report of these events in JUnit's XML, from the line of the document's element: a suite for
 /// each node of the plan that has cases, and in it an element for each case, with how long its node
-/// took. It takes one pass over the events.
+/// took; each suite says when the run began and on which machine, where that is known. It takes one
+/// pass over the events.
 pub fn timed_junit_text(
     alloc: Global,
     plan: &Plan,
@@ -148,7 +172,7 @@ pub fn timed_junit_text(
     texts: &Texts,
     timings: &Timings,
 ) -> Result<String, AllocError>
-    ensures { IfOk result (λ xml. string_bytes xml ≡ timed_junit_of plan.now texts.now timings.now.took.items
+    ensures { IfOk result (λ xml. string_bytes xml ≡ timed_junit_of plan.now texts.now (times_of timings.now)
         events.now) }
 {
     let told = all_told(alloc, plan.tree().len(), events)?;

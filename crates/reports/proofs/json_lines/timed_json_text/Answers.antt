@@ -1,7 +1,6 @@
 -- One line more.
 use Rattle.std.proofs.Common.{◌++◌, codes, arith}
 use Rattle.std.proofs.lemmas.Grind.{common_steps}
-use Rattle.plan_events.specs.declared.event.Event.{Event}
 use Rattle.reports.specs.Json.{timed_event_object}
 use Rattle.reports.proofs.Growing.{list_more}
 use Rattle.reports.proofs.JsonEvents.{AreSmall, first_more, text_reads}

@@ -1,0 +1,3 @@
+-- The definitions that contracts cite.
+pub mod MomentTexts
+pub mod Moments
