@@ -1,5 +1,5 @@
 -- What `--details` may ask for, and by which names.
-use Rattle.std.specs.Prelude.{Bool, true, false, not, List, [], ◌∷◌, codes, if◌then◌else◌, Option, Some, None}
+use Rattle.std.specs.Prelude.{Bool, true, false, List, [], ◌∷◌, codes, if◌then◌else◌, Option, Some, None}
 use Rattle.std.specs.Str.{bytes_eq}
 use Rattle.launch_options.specs.Given.{Text}
 use Rattle.launch_options.specs.declared.details.Details.{Details}
@@ -34,14 +34,13 @@ abbrev pub all_details : List Details
 all_details =
     details.None ∷ details.Summary ∷ details.Tree ∷ details.Testfeed ∷ details.Json ∷ details.Xml ∷ details.List ∷ details.Plan ∷ []
 
--- whether they are lines of events, so that each can be printed when its event is told; those of JSON can not, if it is to be told how
--- long tests took: that is known when the run is over
-abbrev pub prints_live : Details → (times : Bool) → Bool
-prints_live details.None times = false
-prints_live details.Summary times = false
-prints_live details.Tree times = false
-prints_live details.Testfeed times = true
-prints_live details.Json times = not times
-prints_live details.Xml times = false
-prints_live details.List times = false
-prints_live details.Plan times = false
+-- whether they are lines of events, so that each can be printed when its event is told
+abbrev pub prints_live : Details → Bool
+prints_live details.None = false
+prints_live details.Summary = false
+prints_live details.Tree = false
+prints_live details.Testfeed = true
+prints_live details.Json = true
+prints_live details.Xml = false
+prints_live details.List = false
+prints_live details.Plan = false

@@ -94,14 +94,12 @@ impl Details {
         ]
     }
 
-    /// Whether they are lines of events, each of which is printed when its event is told. If it is to be told how long
-    /// tests took, JSON is printed when the run is over.
-    pub fn prints_live(self, times: bool) -> bool
-        ensures { result ≡ prints_live self times }
+    /// Whether they are lines of events, each of which is printed when its event is told.
+    pub fn prints_live(self) -> bool
+        ensures { result ≡ prints_live self }
     {
         match self {
-            Details::Testfeed => true,
-            Details::Json => !times,
+            Details::Testfeed | Details::Json => true,
             Details::None
             | Details::Summary
             | Details::Tree

@@ -10,7 +10,7 @@ use Rattle.resource_locks.specs.Hoisted.{IsGuarded}
 use Rattle.resource_locks.specs.Plans.{PlanParts}
 use Rattle.event_history.specs.History.{IsLegal}
 use Rattle.event_history.proofs.Apart.{apart}
-use Rattle.job_times.specs.Timings.{Took}
+use Rattle.job_times.specs.Timings.{Times, times_asked}
 use Rattle.listeners.specs.Listeners.{Telling, tellings_of}
 use Rattle.listeners.specs.Results.{tests_found, has_failed}
 use Rattle.reports.specs.Expectations.{IsPrintedAsExpected}
@@ -63,10 +63,10 @@ module _ {B : Type 0} (answers : B → List Reply) (asked : Asked) (settings : S
   printed_so calm = printed_as_expected p tree answered (one_each answered) (λ job. refl) calm settings.workers history published.legal published.complete texts (texts_said p tree may settings.workers history texts report.legal told)
 
   -- this is what is printed of it
-  pub printed_jobs : (known : Option (List (ℕ × Reply))) (left : List (ℕ × B)) → IsBalanced p jobs history left → (took : Took) → (asked.times ≡ false → took ≡ []) → (behind text : List ℕ) (status : ExitStatus) → IsBehindRun asked.details asked.schedule settings.workers p known history texts behind
-      → text ≡ head_of asked.details settings.warnings ++ (details_of asked.details asked.theme p texts took history ++ behind) → status ≡ status_of_run asked.fail_if_no_tests (tests_found p history) (has_failed p history)
-      → IsPrintedJobs answers known asked settings p jobs history texts text status
-  printed_jobs known left balanced took untimed behind text status is_behind printed exits = record {
+  pub printed_jobs : (known : Option (List (ℕ × Reply))) (left : List (ℕ × B)) → IsBalanced p jobs history left → (times : Times) (behind text : List ℕ) (status : ExitStatus) → IsBehindRun asked.details asked.schedule settings.workers p known history texts behind
+      → text ≡ head_of asked.details settings.warnings ++ (details_of asked.details asked.theme p texts (times_asked asked.times times) history ++ behind) → status ≡ status_of_run asked.fail_if_no_tests (tests_found p history) (has_failed p history)
+      → IsPrintedJobs answers known asked settings p jobs history texts times text status
+  printed_jobs known left balanced times behind text status is_behind printed exits = record {
     may_be = report.legal;
     may_say = told;
     reply = answered;
@@ -77,11 +77,9 @@ module _ {B : Type 0} (answers : B → List Reply) (asked : Asked) (settings : S
     balanced = balanced;
     behind = behind;
     is_behind = is_behind;
-    took = took;
-    untimed = untimed;
     printed = printed;
     exits = exits;
-    as_expected = λ calm. expected_output asked settings p answered history texts (printed_so calm) took untimed behind text status printed exits;
+    as_expected = λ calm. expected_output asked settings p answered history texts (printed_so calm) times behind text status printed exits;
   }
 
   -- where there is no memory for a schedule, the line that says so would have been printed
@@ -91,14 +89,14 @@ module _ {B : Type 0} (answers : B → List Reply) (asked : Asked) (settings : S
   some_line None kind true = (schedule_line kind None, record { told = []; line = record { found = None; schedule = tt; namable = tt; printed = refl }; explains = tt })
 
   -- whoever watches has seen a run of which no report was made
-  pub jobs_in_vain : {L : Type 0} (saw : PlanParts → L → L → List Telling → Type 0) (first now : L) → HasSeenMore saw p (tellings_of texts history) first now → (left : List (ℕ × B)) → IsBalanced p jobs history left → (known : Option (List (ℕ × Reply)))
-      → SomeOutput (HasSeenPrinted saw (IsPrintedJobs answers known asked settings p jobs) p first now)
-  jobs_in_vain saw first now seen left balanced known =
+  pub jobs_in_vain : {L : Type 0} (saw : PlanParts → L → L → List Telling → Type 0) (first now : L) (times : Times) → HasSeenMore saw p (tellings_of texts history) first now → (left : List (ℕ × B)) → IsBalanced p jobs history left → (known : Option (List (ℕ × Reply)))
+      → SomeOutput (HasSeenPrinted saw (IsPrintedJobs answers known asked settings p jobs) p first now times)
+  jobs_in_vain saw first now times seen left balanced known =
       let some_behind = some_line known asked.details asked.schedule in
-      let text = head_of asked.details settings.warnings ++ (details_of asked.details asked.theme p texts [] history ++ some_behind.0) in
+      let text = head_of asked.details settings.warnings ++ (details_of asked.details asked.theme p texts (times_asked asked.times times) history ++ some_behind.0) in
       let status = status_of_run asked.fail_if_no_tests (tests_found p history) (has_failed p history) in
       record {
         text = text;
         status = status;
-        output = record { history = history; texts = texts; prints = printed_jobs known left balanced [] (λ untold. refl) some_behind.0 text status some_behind.1 refl refl; seen = seen };
+        output = record { history = history; texts = texts; prints = printed_jobs known left balanced times some_behind.0 text status some_behind.1 refl refl; seen = seen };
       }

@@ -7,6 +7,7 @@ use Rattle.std.specs.Io.KnownBytes.{IsAtEnd}
 use Rattle.resource_locks.specs.Plans.{PlanParts}
 use Rattle.resource_locks.specs.Spares.{HasBareSpares}
 use Rattle.listeners.specs.Listeners.{Telling}
+use Rattle.job_times.specs.Timings.{Times}
 use Rattle.suite_text.specs.Reading.Bytes.{suite_read}
 use Rattle.suite_text.specs.Reading.Parts.{SuiteParts}
 use Rattle.suite_text.specs.Suites.{suite_parts}
@@ -143,12 +144,12 @@ module _ (old new : Option (List ℕ)) where
   takes_none fault (Ok status) Comes same comes taken = absurd same
   takes_none fault (Err e) Comes same comes taken = rw same (takes_as (Some fault) (Some fault) (λ read. FailsToRead (suite_read read) fault) Comes comes (λ read fails ends. ends) taken)
 
-module _ {L : Type 0} (saw : PlanParts → L → L → List Telling → Type 0) (first now : L) (asked : Asked) (old new : Option (List ℕ)) where
+module _ {L : Type 0} (saw : PlanParts → L → L → List Telling → Type 0) (first now : L) (times : Times) (asked : Asked) (old new : Option (List ℕ)) where
   -- a suite was read, and this is the answer of a run that somebody watches
-  pub seen_read : (suite : Suite) (read : Result SuiteParts SuiteFault) (result : Result ExitStatus LaunchFault) → ReadsSuite read (Ok suite) → HasBareSpares suite.tree → IsSeenSuiteRun saw first now asked (suite_parts suite) old new result → IsSeenRun saw first now asked read old new result
+  pub seen_read : (suite : Suite) (read : Result SuiteParts SuiteFault) (result : Result ExitStatus LaunchFault) → ReadsSuite read (Ok suite) → HasBareSpares suite.tree → IsSeenSuiteRun saw first now times asked (suite_parts suite) old new result → IsSeenRun saw first now times asked read old new result
   seen_read suite read result is bare run = record { loaded = Ok suite; reads = is; runs = (bare, run); unread = tt }
 
   -- no suite was read
-  pub seen_unread : (fault : LaunchFault) (read : Result SuiteParts SuiteFault) (result : Result ExitStatus LaunchFault) → IsErrAnd result (λ e. e ≡ fault) → now ≡ first → FailsToRead read fault → IsSeenRun saw first now asked read old new result
+  pub seen_unread : (fault : LaunchFault) (read : Result SuiteParts SuiteFault) (result : Result ExitStatus LaunchFault) → IsErrAnd result (λ e. e ≡ fault) → now ≡ first → FailsToRead read fault → IsSeenRun saw first now times asked read old new result
   seen_unread fault read (Ok status) same still fails = absurd same
   seen_unread fault read (Err e) same still fails = record { loaded = Err fault; reads = fails; runs = ap Err same; unread = still }

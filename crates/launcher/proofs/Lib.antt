@@ -12,7 +12,6 @@ pub mod Reading
 pub mod Replaying
 pub mod Reporting
 pub mod Scripting
-pub mod Seen
 pub mod SeenBeside
 pub mod Selected
 pub mod Showing

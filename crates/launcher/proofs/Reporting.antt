@@ -1,6 +1,6 @@
 -- What a run prints, from what each of its parts says.
 use Rattle.std.proofs.Common.{◌≡◌, ◌∙◌, ◌<◌, ◌≤◌, ℕ, Bool, true, false, arith, List, [], ◌++◌, Some, None, Result, Ok, Err, refl, ap, ap₂, subst, inl, inr}
-use Rattle.std.specs.Prelude.{◌⊎◌, IfOk, string_bytes}
+use Rattle.std.specs.Prelude.{◌⊎◌}
 use Rattle.std.proofs.lemmas.Option.{none-some, same_Some}
 use Rattle.config_params.specs.declared.settings.Settings.{Settings}
 use Rattle.descriptor.specs.Nodes.{IsTree}
@@ -12,11 +12,10 @@ use Rattle.resource_locks.specs.Hoisted.{IsGuarded}
 use Rattle.resource_locks.specs.Plans.{PlanParts}
 use Rattle.event_history.specs.History.{IsLegal}
 use Rattle.event_history.proofs.Apart.{apart}
-use Rattle.job_times.specs.Timings.{Took}
+use Rattle.job_times.specs.Timings.{Times, times_asked}
 use Rattle.listeners.specs.Results.{tests_found, has_failed}
 use Rattle.listeners.specs.SummaryTexts.{summary_of}
 use Rattle.reports.specs.Expectations.{IsPrintedAsExpected}
-use Rattle.reports.specs.Junit.{timed_junit_of}
 use Rattle.reports.proofs.PrintedAsExpected.{printed_as_expected}
 use Rattle.scheduling.proofs.OnlyHistory.{only_history, as_expected}
 use Rattle.sched_core.specs.Replies.{reply_of, replies_of as replies_by}
@@ -43,7 +42,8 @@ use Rattle.launcher.specs.Watched.{HasSeenPrinted, SomeOutput, Watches}
 use Rattle.launch_options.specs.declared.fault.LaunchFault.{LaunchFault}
 use Rattle.launch_options.specs.declared.fault.LaunchFault.TheVariants as launches
 use Rattle.launcher.specs.declared.report.Output.{Output}
-use Rattle.listeners.specs.Listeners.{Telling}
+use Rattle.listeners.specs.Listeners.{Telling, tellings_of}
+use Rattle.worker_pool.specs.Watching.{HasSeenMore}
 use Rattle.std.specs.Result.{IsErrAnd}
 use Rattle.launcher.proofs.Scripting.{legal_as_said, text_as_said}
 
@@ -100,22 +100,22 @@ unrun p workers ring jobs (Table (JobsMissing number)) is some few right all = a
 unrun p workers ring jobs NoWorker is some few right all = inr refl
 
 -- what is printed of a history by which all is as it is expected to be
-module _ (asked : Asked) (settings : Settings) (p : PlanParts) (reply : ℕ → Reply) (history : List Event) (texts : TextParts) (is : IsPrintedAsExpected p reply history texts) (took : Took) where
-  expected_text : (kind : Details) (times : Bool) → (times ≡ false → took ≡ []) → (text : List ℕ) → expected_details kind times asked.theme p.tree reply ≡ Some text → details_of kind asked.theme p texts took history ≡ text
-  expected_text details.None times untimed text so = same_Some _ _ so
-  expected_text details.Summary times untimed text so = ap summary_of is.counts ∙ same_Some _ _ so
-  expected_text details.Tree times untimed text so = ap₂ (λ a b. a ++ b) (is.tree asked.theme) (ap summary_of is.counts) ∙ same_Some _ _ so
-  expected_text details.Testfeed times untimed text so = absurd (none-some text so)
-  expected_text details.Json times untimed text so = absurd (none-some text so)
-  expected_text details.Xml true untimed text so = absurd (none-some text so)
-  expected_text details.Xml false untimed text so = ap (λ (known : Took). timed_junit_of p texts known history) (untimed refl) ∙ is.xml ∙ same_Some _ _ so
-  expected_text details.List times untimed text so = absurd (none-some text so)
-  expected_text details.Plan times untimed text so = absurd (none-some text so)
+module _ (asked : Asked) (settings : Settings) (p : PlanParts) (reply : ℕ → Reply) (history : List Event) (texts : TextParts) (is : IsPrintedAsExpected p reply history texts) (times : Times) where
+  expected_text : (kind : Details) (asks : Bool) (text : List ℕ) → expected_details kind asks asked.theme p.tree reply ≡ Some text → details_of kind asked.theme p texts (times_asked asks times) history ≡ text
+  expected_text details.None asks text so = same_Some _ _ so
+  expected_text details.Summary asks text so = ap summary_of is.counts ∙ same_Some _ _ so
+  expected_text details.Tree asks text so = ap₂ (λ a b. a ++ b) (is.tree asked.theme) (ap summary_of is.counts) ∙ same_Some _ _ so
+  expected_text details.Testfeed asks text so = absurd (none-some text so)
+  expected_text details.Json asks text so = absurd (none-some text so)
+  expected_text details.Xml true text so = absurd (none-some text so)
+  expected_text details.Xml false text so = is.xml ∙ same_Some _ _ so
+  expected_text details.List asks text so = absurd (none-some text so)
+  expected_text details.Plan asks text so = absurd (none-some text so)
 
-  pub expected_output : (asked.times ≡ false → took ≡ []) → (behind text : List ℕ) (status : ExitStatus) → text ≡ head_of asked.details settings.warnings ++ (details_of asked.details asked.theme p texts took history ++ behind)
+  pub expected_output : (behind text : List ℕ) (status : ExitStatus) → text ≡ head_of asked.details settings.warnings ++ (details_of asked.details asked.theme p texts (times_asked asked.times times) history ++ behind)
       → status ≡ status_of_run asked.fail_if_no_tests (tests_found p history) (has_failed p history) → IsExpectedOutput asked settings p.tree reply behind text status
-  expected_output untimed behind text status printed exits = record {
-    printed = λ shown so. printed ∙ ap (λ (xs : List ℕ). head_of asked.details settings.warnings ++ (xs ++ behind)) (expected_text asked.details asked.times untimed shown so);
+  expected_output behind text status printed exits = record {
+    printed = λ shown so. printed ∙ ap (λ (xs : List ℕ). head_of asked.details settings.warnings ++ (xs ++ behind)) (expected_text asked.details asked.times shown so);
     exits = exits ∙ ap₂ (λ (tests : ℕ) (failed : Bool). status_of_run asked.fail_if_no_tests tests failed) is.tests is.failure;
   }
 
@@ -125,19 +125,17 @@ printed_so workers p answers history texts told calm = printed_as_expected p tol
 
 -- this is what is printed of it
 pub printed_run : (schedule text : List ℕ) (status : ExitStatus) (asked : Asked) (settings : Settings) (p : PlanParts) (answers : List (ℕ × Reply)) (history : List Event) (texts : TextParts) → IsTold settings.workers p answers history texts
-    → (took : Took) → (asked.times ≡ false → took ≡ [])
-    → IsBehindDetails asked.details asked.schedule settings.workers p answers history schedule → text ≡ head_of asked.details settings.warnings ++ (details_of asked.details asked.theme p texts took history ++ schedule) → status ≡ status_of_run asked.fail_if_no_tests (tests_found p history) (has_failed p history)
-    → IsPrintedRun asked settings p answers history texts text status
-printed_run schedule text status asked settings p answers history texts told took untimed behind printed exits = record {
+    → (times : Times)
+    → IsBehindDetails asked.details asked.schedule settings.workers p answers history schedule → text ≡ head_of asked.details settings.warnings ++ (details_of asked.details asked.theme p texts (times_asked asked.times times) history ++ schedule)
+    → status ≡ status_of_run asked.fail_if_no_tests (tests_found p history) (has_failed p history) → IsPrintedRun asked settings p answers history texts times text status
+printed_run schedule text status asked settings p answers history texts told times behind printed exits = record {
   published = told.published;
   are = told.are;
   schedule = schedule;
   behind_details = behind;
-  took = took;
-  untimed = untimed;
   printed = printed;
   exits = exits;
-  as_expected = λ calm. expected_output asked settings p (reply_of answers) history texts (printed_so settings.workers p answers history texts told calm) took untimed schedule text status printed exits;
+  as_expected = λ calm. expected_output asked settings p (reply_of answers) history texts (printed_so settings.workers p answers history texts told calm) times schedule text status printed exits;
 }
 
 -- where there is no memory for a schedule, the line that says so would have been printed
@@ -145,15 +143,22 @@ pub schedule_behind : (kind : Details) (asked : Bool) (workers : ℕ) (p : PlanP
 schedule_behind kind false workers p answers history = ([], refl)
 schedule_behind kind true workers p answers history = (schedule_line kind None, record { found = None; schedule = tt; namable = tt; printed = refl })
 
--- what is told with these times is told with some
-pub some_times : {E : Type 0} (result : Result Output E) (times : Bool) (took : Took) (Behind : List ℕ → Type 0) (front : List ℕ) (shown : Took → List ℕ) → (times ≡ false → took ≡ [])
-    → IfOk result (λ report. (schedule : List ℕ) × Behind schedule × (string_bytes report.text ≡ front ++ (shown took ++ schedule)))
-    → IfOk result (λ report. (known : Took) × (times ≡ false → known ≡ []) × (schedule : List ℕ) × Behind schedule × (string_bytes report.text ≡ front ++ (shown known ++ schedule)))
-some_times (Ok report) times took Behind front shown untimed is = (took, untimed, is.0, is.1, is.2)
-some_times (Err e) times took Behind front shown untimed is = tt
-
 -- whoever watches has seen a run of which no report was made
-pub watches_in_vain : {L : Type 0} (saw : PlanParts → L → L → List Telling → Type 0) (Prints : List Event → TextParts → List ℕ → ExitStatus → Type 0) (p : PlanParts) (first now : L) (result : Result Output LaunchFault) → IsErrAnd result (λ e. e ≡ launches.NoMemory)
-    → SomeOutput (HasSeenPrinted saw Prints p first now) → Watches saw Prints p first now result
-watches_in_vain saw Prints p first now (Ok report) same vain = absurd same
-watches_in_vain saw Prints p first now (Err e) same vain = inr (same, vain)
+module _ {L : Type 0} (saw : PlanParts → L → L → List Telling → Type 0) (first now : L) (times : Times) where
+  pub watches_in_vain : (Prints : List Event → TextParts → Times → List ℕ → ExitStatus → Type 0) (p : PlanParts) (result : Result Output LaunchFault) → IsErrAnd result (λ e. e ≡ launches.NoMemory) → SomeOutput (HasSeenPrinted saw Prints p first now times)
+      → Watches saw Prints p first now times result
+  watches_in_vain Prints p (Ok report) same vain = absurd same
+  watches_in_vain Prints p (Err e) same vain = inr (same, vain)
+
+  -- which would have been this one
+  pub run_in_vain : (asked : Asked) (settings : Settings) (p : PlanParts) (answers : List (ℕ × Reply)) (history : List Event) (texts : TextParts) → IsTold settings.workers p answers history texts → HasSeenMore saw p (tellings_of texts history) first now
+      → SomeOutput (HasSeenPrinted saw (IsPrintedRun asked settings p answers) p first now times)
+  run_in_vain asked settings p answers history texts told seen =
+      let behind = schedule_behind asked.details asked.schedule settings.workers p answers history in
+      let text = head_of asked.details settings.warnings ++ (details_of asked.details asked.theme p texts (times_asked asked.times times) history ++ behind.0) in
+      let status = status_of_run asked.fail_if_no_tests (tests_found p history) (has_failed p history) in
+      record {
+        text = text;
+        status = status;
+        output = record { history = history; texts = texts; prints = printed_run behind.0 text status asked settings p answers history texts told times behind.1 refl refl; seen = seen };
+      }

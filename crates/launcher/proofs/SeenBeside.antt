@@ -7,7 +7,7 @@ use Rattle.worker_pool.specs.Watching.{HasSeenMore, KeepsSight}
 use Rattle.launcher.specs.Beside.{SeesBeside}
 use Rattle.launcher.specs.declared.watched_feed.WatchedFeed.{WatchedFeed}
 
-module _ {W V : Type 0} (contents : W → Option (List ℕ)) (saw : PlanParts → V → V → List Telling → Type 0) (p : PlanParts) (first old new : WatchedFeed W V) (before : List Telling) (is : SeesBeside contents saw p first old before) (same : new.watcher.ghost_name ≡ old.watcher.ghost_name) where
+module _ {W V S : Type 0} (contents : W → Option (List ℕ)) (saw : PlanParts → V → V → List Telling → Type 0) (p : PlanParts) (first old new : WatchedFeed W V S) (before : List Telling) (is : SeesBeside contents saw p first old before) (same : new.watcher.ghost_name ≡ old.watcher.ghost_name) where
   -- both were shown it
   pub sees_more : (t : Telling) → HasSeenMore (IsPrinted contents) p (t ∷ []) old.feed new.feed → HasSeenMore saw p (t ∷ []) old.watcher.now new.watcher.now → SeesBeside contents saw p first new (before ++ t ∷ [])
   sees_more t printed seen = record {

@@ -9,6 +9,7 @@ use Rattle.plan_events.specs.Texts.{TextParts}
 use Rattle.resource_locks.specs.Declarations.{declared_of}
 use Rattle.resource_locks.specs.Hoisted.{IsGuarded}
 use Rattle.resource_locks.specs.Plans.{PlanParts}
+use Rattle.job_times.specs.Timings.{Times}
 use Rattle.listeners.specs.Listeners.{Telling}
 use Rattle.table_rule.specs.Picture.{replies_of}
 use Rattle.table_rule.specs.Slots.{slot_count}
@@ -25,24 +26,24 @@ use Rattle.launcher.specs.Watched.{HasSeenPrinted, Watches}
 use Rattle.launcher.proofs.Reporting.{printed_run, told_of}
 
 module _ (asked : Asked) (settings : Settings) (p : PlanParts) (tree : IsTree p.tree) (safe : IsGuarded (declared_of p.tree) p) (answers : List (ℕ × Reply)) (jobs : List (ℕ × ScriptedJob)) (are : AreScripted p answers (slot_count p) jobs) where
-  abbrev JobsPrint : List Event → TextParts → List ℕ → ExitStatus → Type 0
+  abbrev JobsPrint : List Event → TextParts → Times → List ℕ → ExitStatus → Type 0
   JobsPrint = IsPrintedJobs replies_left (Some answers) asked settings p jobs
 
-  suite_prints : (history : List Event) (texts : TextParts) (text : List ℕ) (status : ExitStatus) → JobsPrint history texts text status → IsPrintedRun asked settings p answers history texts text status
-  suite_prints history texts text status out =
+  suite_prints : (history : List Event) (texts : TextParts) (times : Times) (text : List ℕ) (status : ExitStatus) → JobsPrint history texts times text status → IsPrintedRun asked settings p answers history texts times text status
+  suite_prints history texts times text status out =
       let report : IsReport (run_of p settings.workers asked.ring jobs) (replies_of replies_left (run_of p settings.workers asked.ring jobs)) history = record { legal = out.may_be; order = out.published.order; exclusive = out.published.exclusive; complete = out.published.complete; ends = out.published.ends } in
-      printed_run out.behind text status asked settings p answers history texts (told_of p tree safe answers jobs are settings.workers asked.ring history texts report out.may_say) out.took out.untimed out.is_behind out.printed out.exits
+      printed_run out.behind text status asked settings p answers history texts (told_of p tree safe answers jobs are settings.workers asked.ring history texts report out.may_say) times out.is_behind out.printed out.exits
 
   pub suite_outputs : (result : Result Output LaunchFault) → IfOk result (λ report. HasHistory JobsPrint (string_bytes report.text) report.status) → IfOk result (λ report. IsRunOutput asked settings p answers (string_bytes report.text) report.status)
-  suite_outputs (Ok report) out = record { history = out.history; texts = out.texts; prints = suite_prints out.history out.texts (string_bytes report.text) report.status out.prints }
+  suite_outputs (Ok report) out = record { history = out.history; texts = out.texts; times = out.times; prints = suite_prints out.history out.texts out.times (string_bytes report.text) report.status out.prints }
   suite_outputs (Err fault) out = tt
 
-  module _ {L : Type 0} (saw : PlanParts → L → L → List Telling → Type 0) (first now : L) where
-    seen_so : (text : List ℕ) (status : ExitStatus) → HasSeenPrinted saw JobsPrint p first now text status → HasSeenPrinted saw (IsPrintedRun asked settings p answers) p first now text status
-    seen_so text status is = record { history = is.history; texts = is.texts; prints = suite_prints is.history is.texts text status is.prints; seen = is.seen }
+  module _ {L : Type 0} (saw : PlanParts → L → L → List Telling → Type 0) (first now : L) (times : Times) where
+    seen_so : (text : List ℕ) (status : ExitStatus) → HasSeenPrinted saw JobsPrint p first now times text status → HasSeenPrinted saw (IsPrintedRun asked settings p answers) p first now times text status
+    seen_so text status is = record { history = is.history; texts = is.texts; prints = suite_prints is.history is.texts times text status is.prints; seen = is.seen }
 
     -- and whoever watches has seen it
-    pub suite_watched : (result : Result Output LaunchFault) → Watches saw JobsPrint p first now result → Watches saw (IsPrintedRun asked settings p answers) p first now result
+    pub suite_watched : (result : Result Output LaunchFault) → Watches saw JobsPrint p first now times result → Watches saw (IsPrintedRun asked settings p answers) p first now times result
     suite_watched (Ok report) is = seen_so (string_bytes report.text) report.status is
     suite_watched (Err fault) is = elim is [
       | inl same ↦ inl same

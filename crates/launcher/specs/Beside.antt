@@ -6,9 +6,9 @@ use Rattle.live.specs.LiveFeeds.{IsPrinted}
 use Rattle.worker_pool.specs.Watching.{HasSeenMore}
 use Rattle.launcher.specs.declared.watched_feed.WatchedFeed.{WatchedFeed}
 
-module _ {W V : Type 0} (contents : W → Option (List ℕ)) (saw : PlanParts → V → V → List Telling → Type 0) where
+module _ {W V S : Type 0} (contents : W → Option (List ℕ)) (saw : PlanParts → V → V → List Telling → Type 0) where
   -- the feed has printed these events, and the other, who is still the same, has seen them
-  pub record SeesBeside (p : PlanParts) (first now : WatchedFeed W V) (ts : List Telling) : Type 0 where
+  pub record SeesBeside (p : PlanParts) (first now : WatchedFeed W V S) (ts : List Telling) : Type 0 where
     pub printed : IsPrinted contents p first.feed now.feed ts
     pub same : now.watcher.ghost_name ≡ first.watcher.ghost_name
     pub seen : HasSeenMore saw p ts first.watcher.now now.watcher.now

@@ -25,7 +25,7 @@ use Rattle.table_rule.specs.Picture.{replies_of}
 use Rattle.table_rule.specs.Slots.{job_with}
 use Rattle.run_table.specs.Balance.{IsBalanced, IsUsed}
 use Rattle.worker_pool.specs.Reports.{run_of, AreTexts}
-use Rattle.job_times.specs.Timings.{Took}
+use Rattle.job_times.specs.Timings.{Times, times_asked}
 use Rattle.listeners.specs.Listeners.{Telling}
 use Rattle.listeners.specs.Results.{tests_found, has_failed}
 use Rattle.launch_options.specs.Asked.{Asked}
@@ -90,10 +90,10 @@ IsBehindRun kind asked workers p (Some known) history texts behind = IsBehindDet
 
 -- of jobs that may answer so, and what is known beforehand of what they do, if it is
 module _ {B : Type 0} (answers : B → List Reply) (known : Option (List (ℕ × Reply))) where
-  -- What is printed of this history of a run of these jobs by the settings' workers, with these texts of its nodes. There is one
-  -- reply of each job, such that the history is one in which the jobs gave these replies: a line for each warning, then the history as
-  -- the options say, with the times that are known of its nodes, and then what is to stand behind it; its failures make the status.
-  pub record IsPrintedJobs (asked : Asked) (settings : Settings) (p : PlanParts) (jobs : List (ℕ × B)) (history : List Event) (texts : TextParts) (text : List ℕ) (status : ExitStatus) : Type 0 where
+  -- What is printed of this history of a run of these jobs by the settings' workers, with these texts and times of its nodes. There is
+  -- one reply of each job, such that the history is one in which the jobs gave these replies: a line for each warning, then the history
+  -- as the options say, with the times if they are asked for, and then what is to stand behind it; its failures make the status.
+  pub record IsPrintedJobs (asked : Asked) (settings : Settings) (p : PlanParts) (jobs : List (ℕ × B)) (history : List Event) (texts : TextParts) (times : Times) (text : List ℕ) (status : ExitStatus) : Type 0 where
     -- the history is legal by what the jobs may answer, and the texts of its nodes are by that too;
     pub may_be : IsLegal p (replies_of answers (run_of p settings.workers asked.ring jobs)) settings.workers history
     pub may_say : AreTexts p (replies_of answers (run_of p settings.workers asked.ring jobs)) history texts
@@ -108,10 +108,7 @@ module _ {B : Type 0} (answers : B → List Reply) (known : Option (List (ℕ ×
     -- what is printed, to the end
     pub behind : List ℕ
     pub is_behind : IsBehindRun asked.details asked.schedule settings.workers p known history texts behind
-    -- how long nodes took, which is known of none unless it is asked for
-    pub took : Took
-    pub untimed : asked.times ≡ false → took ≡ []
-    pub printed : text ≡ head_of asked.details settings.warnings ++ (details_of asked.details asked.theme p texts took history ++ behind)
+    pub printed : text ≡ head_of asked.details settings.warnings ++ (details_of asked.details asked.theme p texts (times_asked asked.times times) history ++ behind)
     pub exits : status ≡ status_of_run asked.fail_if_no_tests (tests_found p history) (has_failed p history)
     -- and unless the plan fails fast all this but a feed and what stands behind is what is expected by these replies, whatever the
     -- workers did
@@ -132,10 +129,11 @@ module _ {B : Type 0} (answers : B → List Reply) (known : Option (List (ℕ ×
   IsProgramOutput details.List asked settings p jobs text status = IsListing asked.fail_if_no_tests p text status
   IsProgramOutput details.Plan asked settings p jobs text status = IsPlanned asked.fail_if_no_tests settings.warnings p text status
 
-module _ {B : Type 0} (answers : B → List Reply) (known : Option (List (ℕ × Reply))) {L : Type 0} (saw : PlanParts → L → L → List Telling → Type 0) (first now : L) (asked : Asked) (settings : Settings) (p : PlanParts) (jobs : List (ℕ × B)) where
-  -- what is printed of a plan; and whoever watches has seen the very history that is printed, or, where nothing is run, nothing
+module _ {B : Type 0} (answers : B → List Reply) (known : Option (List (ℕ × Reply))) {L : Type 0} (saw : PlanParts → L → L → List Telling → Type 0) (first now : L) (times : Times) (asked : Asked) (settings : Settings) (p : PlanParts) (jobs : List (ℕ × B)) where
+  -- what is printed of a plan; and whoever watches has seen the very history that is printed, with these times, or, where nothing is run,
+  -- nothing
   abbrev pub IsSeenProgram : List ℕ → ExitStatus → Type 0
-  IsSeenProgram text status = IsProgramOutput answers known asked.details asked settings p jobs text status × SeesTextBy saw (IsPrintedJobs answers known asked settings p jobs) p first now (is_run None asked.details) text status
+  IsSeenProgram text status = IsProgramOutput answers known asked.details asked settings p jobs text status × SeesTextBy saw (IsPrintedJobs answers known asked settings p jobs) p first now times (is_run None asked.details) text status
 
   -- the answer of a run of this plan that somebody watches
   abbrev pub IsSeenPlanRun : Option (List ℕ) → Option (List ℕ) → Result ExitStatus LaunchFault → Type 0
@@ -185,11 +183,11 @@ module _ {B : Type 0} (answers : B → List Reply) (asked : Asked) (parts : Suit
   abbrev pub IsProgramRun : Option (List ℕ) → Option (List ℕ) → Result ExitStatus LaunchFault → Type 0
   IsProgramRun = IsAnswered asked IsSelectedOutput (FailsProgram asked parts)
 
-  module _ {L : Type 0} (saw : PlanParts → L → L → List Telling → Type 0) (first now : L) where
-    -- the same; and whoever watches has seen the very history that is printed, or, where nothing is run, nothing
+  module _ {L : Type 0} (saw : PlanParts → L → L → List Telling → Type 0) (first now : L) (times : Times) where
+    -- the same; and whoever watches has seen the very history that is printed, with these times, or, where nothing is run, nothing
     abbrev pub IsSeenSelectedOutput : List ℕ → ExitStatus → Type 0
-    IsSeenSelectedOutput = IsJudged (is_missing asked parts.tree) (IsSelectedBy (λ settings p. IsSeenProgram answers None saw first now asked settings p jobs) asked parts)
+    IsSeenSelectedOutput = IsJudged (is_missing asked parts.tree) (IsSelectedBy (λ settings p. IsSeenProgram answers None saw first now times asked settings p jobs) asked parts)
 
-    -- the answer of a run that somebody watches, who was like this at first and is like this in the end
+    -- the answer of a run that somebody watches, who was like this at first and is like this in the end, with these times in the end
     abbrev pub IsSeenProgramRun : Option (List ℕ) → Option (List ℕ) → Result ExitStatus LaunchFault → Type 0
     IsSeenProgramRun = IsAnswered asked IsSeenSelectedOutput (λ fault. FailsProgram asked parts fault × SeesRefusal first now IsSeenSelectedOutput fault)

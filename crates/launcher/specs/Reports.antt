@@ -23,7 +23,7 @@ use Rattle.sched_core.specs.Texts.{AreTexts}
 use Rattle.schedules.specs.Schedules.{IsSchedule}
 use Rattle.step_text.specs.StepSpelling.{AreNamable}
 use Rattle.worker_pool.specs.Reports.{AreTexts as AreRunTexts}
-use Rattle.job_times.specs.Timings.{Took}
+use Rattle.job_times.specs.Timings.{Times, times_asked}
 use Rattle.listeners.specs.declared.theme.Theme.{Theme}
 use Rattle.listeners.specs.Counts.{counts_of as node_counts}
 use Rattle.listeners.specs.Feed.{feed_of}
@@ -63,15 +63,15 @@ pub record IsHistory (workers : ℕ) (p : PlanParts) (answers : List (ℕ × Rep
 
 -- what is printed of these events with these texts: nothing; the summary; the tree, and then the summary; the feed; the same as
 -- JSON, or the report in XML, both with the times that are known; or, whatever they are, the list of what would be run, or the plan's nodes
-abbrev pub details_of : Details → Theme → PlanParts → TextParts → Took → List Event → List ℕ
-details_of details.None theme p texts took events = []
-details_of details.Summary theme p texts took events = summary_of (node_counts p events)
-details_of details.Tree theme p texts took events = tree_of theme p texts events ++ summary_of (node_counts p events)
-details_of details.Testfeed theme p texts took events = feed_of p texts events
-details_of details.Json theme p texts took events = timed_json_of p texts took events
-details_of details.Xml theme p texts took events = timed_junit_of p texts took events
-details_of details.List theme p texts took events = list_of p
-details_of details.Plan theme p texts took events = plan_lines p
+abbrev pub details_of : Details → Theme → PlanParts → TextParts → Times → List Event → List ℕ
+details_of details.None theme p texts times events = []
+details_of details.Summary theme p texts times events = summary_of (node_counts p events)
+details_of details.Tree theme p texts times events = tree_of theme p texts events ++ summary_of (node_counts p events)
+details_of details.Testfeed theme p texts times events = feed_of p texts events
+details_of details.Json theme p texts times events = timed_json_of p texts times.took events
+details_of details.Xml theme p texts times events = timed_junit_of p texts times events
+details_of details.List theme p texts times events = list_of p
+details_of details.Plan theme p texts times events = plan_lines p
 
 -- what is expected to be printed of a tree whose bodies answer so, where nothing fails fast; of a feed and of JSON nothing is, since
 -- they tell in which order things happened, nor of XML that tells how long they took; of the list and the nodes, for which nothing is
@@ -111,27 +111,25 @@ abbrev pub IsBehindDetails : Details → Bool → ℕ → PlanParts → List (�
 IsBehindDetails kind false workers p answers history schedule = schedule ≡ []
 IsBehindDetails kind true workers p answers history schedule = IsScheduleLine kind workers p answers history schedule
 
--- What is printed of this history of a run of the plan by the settings' workers, with these texts of its nodes: what the output
--- begins with and a line for each warning, then the history as the options say, with the times that are known of its nodes, then its
+-- What is printed of this history of a run of the plan by the settings' workers, with these texts and times of its nodes: what the
+-- output begins with and a line for each warning, then the history as the options say, with the times if they are asked for, then its
 -- schedule, if one is asked for; and its failures make the status.
-pub record IsPrintedRun (asked : Asked) (settings : Settings) (p : PlanParts) (answers : List (ℕ × Reply)) (history : List Event) (texts : TextParts) (text : List ℕ) (status : ExitStatus) : Type 0 where
+pub record IsPrintedRun (asked : Asked) (settings : Settings) (p : PlanParts) (answers : List (ℕ × Reply)) (history : List Event) (texts : TextParts) (times : Times) (text : List ℕ) (status : ExitStatus) : Type 0 where
   pub published : IsHistory settings.workers p answers history
   pub are : AreRunTexts p (replies_of answers) history texts
   pub schedule : List ℕ
   pub behind_details : IsBehindDetails asked.details asked.schedule settings.workers p answers history schedule
-  -- how long nodes took, which is known of none unless it is asked for
-  pub took : Took
-  pub untimed : asked.times ≡ false → took ≡ []
-  pub printed : text ≡ head_of asked.details settings.warnings ++ (details_of asked.details asked.theme p texts took history ++ schedule)
+  pub printed : text ≡ head_of asked.details settings.warnings ++ (details_of asked.details asked.theme p texts (times_asked asked.times times) history ++ schedule)
   pub exits : status ≡ status_of_run asked.fail_if_no_tests (tests_found p history) (has_failed p history)
   -- and unless the plan fails fast all this but a feed and the schedule is what is expected, whatever the workers did
   pub as_expected : p.fail_fast ≡ false → IsExpectedOutput asked settings p.tree (reply_of answers) schedule text status
 
--- there is a history, with the texts of its nodes, of which this is printed
-pub record HasHistory (Prints : List Event → TextParts → List ℕ → ExitStatus → Type 0) (text : List ℕ) (status : ExitStatus) : Type 0 where
+-- there is a history, with the texts and the times of its nodes, of which this is printed
+pub record HasHistory (Prints : List Event → TextParts → Times → List ℕ → ExitStatus → Type 0) (text : List ℕ) (status : ExitStatus) : Type 0 where
   pub history : List Event
   pub texts : TextParts
-  pub prints : Prints history texts text status
+  pub times : Times
+  pub prints : Prints history texts times text status
 
 -- the settings' workers run the plan, and this is printed of it
 abbrev pub IsRunOutput : Asked → Settings → PlanParts → List (ℕ × Reply) → List ℕ → ExitStatus → Type 0

@@ -30,6 +30,7 @@ use Rattle.suite_text.specs.declared.suite.Suite as suites
 use Rattle.launch_options.specs.Asked.{Asked}
 use Rattle.launch_options.specs.Workers.{answer_with}
 use Rattle.listeners.specs.Listeners.{Telling}
+use Rattle.job_times.specs.Timings.{Times}
 use Rattle.launcher.specs.Missing.{IsJudged, is_missing}
 use Rattle.launcher.specs.Reports.{IsOutput, IsPrintedRun}
 use Rattle.launcher.specs.Watched.{IsAnswered, LacksBy, SeesRefusal, SeesTextBy, is_run}
@@ -145,10 +146,11 @@ IsUnrun asked = LacksBy (is_run asked.replay asked.details)
 abbrev pub IsSuiteRun : Asked → SuiteParts → Option (List ℕ) → Option (List ℕ) → Result ExitStatus LaunchFault → Type 0
 IsSuiteRun asked suite = IsAnswered asked (IsSuiteOutput asked suite) (FailsSuite asked suite)
 
-module _ {L : Type 0} (saw : PlanParts → L → L → List Telling → Type 0) (first now : L) (asked : Asked) where
-  -- what is printed of a plan; and whoever watches has seen the very history that is printed, or, where nothing is run, nothing
+module _ {L : Type 0} (saw : PlanParts → L → L → List Telling → Type 0) (first now : L) (times : Times) (asked : Asked) where
+  -- what is printed of a plan; and whoever watches has seen the very history that is printed, with these times, or, where nothing is run,
+  -- nothing
   abbrev pub IsSeenOutput : Settings → PlanParts → List (ℕ × Reply) → List ℕ → ExitStatus → Type 0
-  IsSeenOutput settings p answers text status = IsOutput asked settings p answers text status × SeesTextBy saw (IsPrintedRun asked settings p answers) p first now (is_run asked.replay asked.details) text status
+  IsSeenOutput settings p answers text status = IsOutput asked settings p answers text status × SeesTextBy saw (IsPrintedRun asked settings p answers) p first now times (is_run asked.replay asked.details) text status
 
   -- the same of a suite
   abbrev pub IsSeenSuiteOutput : SuiteParts → List ℕ → ExitStatus → Type 0
@@ -158,7 +160,8 @@ module _ {L : Type 0} (saw : PlanParts → L → L → List Telling → Type 0) 
   abbrev pub IsSeenReadyRun : SuiteParts → Option (List ℕ) → Option (List ℕ) → Result ExitStatus LaunchFault → Type 0
   IsSeenReadyRun suite = IsAnswered asked (IsSuiteOutputBy IsSeenOutput asked suite) (λ fault. FailsSuite asked suite fault × SeesRefusal first now (IsSuiteOutputBy IsSeenOutput asked suite) fault)
 
-  -- the answer of a run of this suite that somebody watches, who was like this at first and is like this in the end
+  -- the answer of a run of this suite that somebody watches, who was like this at first and is like this in the end, with these times in
+  -- the end
   abbrev pub IsSeenSuiteRun : SuiteParts → Option (List ℕ) → Option (List ℕ) → Result ExitStatus LaunchFault → Type 0
   IsSeenSuiteRun suite = IsAnswered asked (IsSeenSuiteOutput suite) (λ fault. FailsSuite asked suite fault × SeesRefusal first now (IsSeenSuiteOutput suite) fault)
 
@@ -203,10 +206,10 @@ pub record IsRun (asked : Asked) (read : Result SuiteParts SuiteFault) (old new 
   pub runs : RunsLoaded (λ suite. IsSuiteRun asked suite old new) loaded result
 
 -- the same of a run that somebody watches: of what could not be read nothing was seen
-pub record IsSeenRun {L : Type 0} (saw : PlanParts → L → L → List Telling → Type 0) (first now : L) (asked : Asked) (read : Result SuiteParts SuiteFault) (old new : Option (List ℕ)) (result : Result ExitStatus LaunchFault) : Type 0 where
+pub record IsSeenRun {L : Type 0} (saw : PlanParts → L → L → List Telling → Type 0) (first now : L) (times : Times) (asked : Asked) (read : Result SuiteParts SuiteFault) (old new : Option (List ℕ)) (result : Result ExitStatus LaunchFault) : Type 0 where
   pub loaded : Result suites.Suite LaunchFault
   pub reads : ReadsSuite read loaded
-  pub runs : RunsLoaded (λ suite. IsSeenSuiteRun saw first now asked suite old new) loaded result
+  pub runs : RunsLoaded (λ suite. IsSeenSuiteRun saw first now times asked suite old new) loaded result
   pub unread : IfErr loaded (λ fault. now ≡ first)
 
 -- the fault is the writer's

@@ -5,6 +5,7 @@ use Rattle.plan_events.specs.declared.event.Event.{Event}
 use Rattle.plan_events.specs.Texts.{TextParts}
 use Rattle.resource_locks.specs.Plans.{PlanParts}
 use Rattle.scheduling.specs.declared.step.Step.{Step}
+use Rattle.job_times.specs.Timings.{Times}
 use Rattle.listeners.specs.Listeners.{Telling, tellings_of}
 use Rattle.live.specs.declared.line_form.LineForm.{LineForm}
 use Rattle.live.specs.declared.line_form.LineForm.TheVariants.{Feed, Json}
@@ -23,10 +24,12 @@ use Rattle.launcher.specs.declared.report.Output.{Output}
 use Rattle.launch_options.specs.Asked.{Asked}
 use Rattle.launch_options.specs.DetailsTexts.{prints_live}
 
--- whether lines are printed while a run goes on: those of events are, unless steps are replayed, or it is JSON that tells how long tests took
-abbrev pub outlet_by : Details → (times : Bool) → Option (List Step) → Outlet
-outlet_by kind times None = if prints_live kind times then Waiting else Closed
-outlet_by kind times (Some steps) = Closed
+-- whether lines are printed while a run goes on: those of events are, unless steps are taken without threads, those of a replay or of the
+-- fixed schedule
+abbrev pub outlet_by : Details → (replay : Option (List Step)) → (drive : Option ℕ) → Outlet
+outlet_by kind None None = if prints_live kind then Waiting else Closed
+outlet_by kind None (Some workers) = Closed
+outlet_by kind (Some steps) drive = Closed
 
 -- the form of these lines
 abbrev pub form_by : Details → LineForm
@@ -57,12 +60,12 @@ pub record SomeOutput (Output : List ℕ → ExitStatus → Type 0) : Type 0 whe
   pub status : ExitStatus
   pub output : Output text status
 
-module _ {L : Type 0} (saw : PlanParts → L → L → List Telling → Type 0) (Prints : List Event → TextParts → List ℕ → ExitStatus → Type 0) (p : PlanParts) (first now : L) where
-  -- whoever watches has seen the very history of which this is printed, each event with its text
+module _ {L : Type 0} (saw : PlanParts → L → L → List Telling → Type 0) (Prints : List Event → TextParts → Times → List ℕ → ExitStatus → Type 0) (p : PlanParts) (first now : L) (times : Times) where
+  -- whoever watches has seen the very history of which this is printed with these times, each event with its text
   pub record HasSeenPrinted (text : List ℕ) (status : ExitStatus) : Type 0 where
     pub history : List Event
     pub texts : TextParts
-    pub prints : Prints history texts text status
+    pub prints : Prints history texts times text status
     pub seen : HasSeenMore saw p (tellings_of texts history) first now
 
   -- of a run whoever watches has seen the history that is printed; of one that was not begun nothing; and where there is no output, since
@@ -85,9 +88,9 @@ module _ {L : Type 0} (saw : PlanParts → L → L → List Telling → Type 0) 
 abbrev pub SeesRefusal : {L : Type 0} → (first now : L) → (Output : List ℕ → ExitStatus → Type 0) → LaunchFault → Type 0
 SeesRefusal first now Output fault = (now ≡ first) ⊎ ((fault ≡ NoMemory) × SomeOutput Output)
 
--- lines of events are asked for that do not wait for times, and no replay: so they are printed while the run goes on
+-- lines of events are asked for, and a run on threads: so they are printed while it goes on
 abbrev pub HasLiveFeed : Asked → Type 0
-HasLiveFeed asked = (prints_live asked.details asked.times ≡ true) × (asked.replay ≡ None)
+HasLiveFeed asked = (prints_live asked.details ≡ true) × (asked.replay ≡ None) × (asked.drive ≡ None)
 
 -- why the writer has a part of an output alone: it failed; or of lines of events so many bytes were printed, and memory for the rest was
 -- wanting

@@ -12,9 +12,8 @@ ghost use Rattle.launcher.specs.Reports.{IsHistory, IsPrintedRun, IsRunOutput};
 ghost use Rattle.launcher.specs.Watched.{LacksMeans, Watches};
 
 use crate::report::{Output, told_report};
-use crate::watched_feed::show;
+use crate::watched_feed::{NotesTimes, show};
 use config_params::Settings;
-use job_times::Timings;
 use launch_options::{LaunchFault, Options};
 use plan_events::{Event, Texts};
 use resource_locks::Plan;
@@ -51,10 +50,10 @@ fn show_all<V: Watcher>(watcher: &mut V, plan: &Plan, texts: &Texts, events: &[E
     }
 }
 
-/// The report of a run of what the suite says, by the fixed schedule of the settings' workers. It runs no job, so no
-/// time is known of any node. Whoever watches is shown its events when the report is made, so that nothing was seen of
-/// a run for which memory is wanting.
-pub(crate) fn drive_report<V: Watcher>(
+/// The report of a run of what the suite says, by the fixed schedule of the settings' workers. Whoever watches is shown
+/// its events first, since what is noted of the times then is what the report tells: it runs no job, so no time is known
+/// of any node.
+pub(crate) fn drive_report<V: Watcher + NotesTimes>(
     alloc: Global,
     options: &Options,
     settings: &Settings,
@@ -67,13 +66,13 @@ pub(crate) fn drive_report<V: Watcher>(
     ensures output { IfOk result (λ report. IsRunOutput (asked_by options.now) settings.now plan.now answers.now
         (string_bytes report.text) report.status) }
     ensures watched { Watches V.saw (IsPrintedRun (asked_by options.now) settings.now plan.now answers.now) plan.now
-        watcher.old watcher.new result }
+        watcher.old watcher.new (V.noted watcher.new) result }
     ensures refused { IfErr result LacksMeans }
 {
     let trace = fixed_trace(alloc, plan, answers, settings.workers)?;
     let history = trace.published.as_slice();
     let texts = texts_of(alloc, plan, answers, history)?;
-    let untimed = Timings::none(alloc);
+    show_all(&mut *watcher, plan, &texts, history);
     let report = told_report(
         alloc,
         options,
@@ -82,8 +81,7 @@ pub(crate) fn drive_report<V: Watcher>(
         Some(answers),
         history,
         &texts,
-        &untimed,
+        watcher.timings(),
     )?;
-    show_all(watcher, plan, &texts, history);
     Ok(report)
 }

@@ -2,6 +2,7 @@
 //! What is asked for, and each refusal, stand in `launch_options`.
 #![tactic(auto)]
 
+mod asked_times;
 mod bytes;
 mod closing;
 mod driven;

@@ -3,6 +3,7 @@
 ghost use Rattle.std.specs.Prelude.{◌≡◌, ◌≤◌, ℕ, [], None, Some, IfOk, IfErr, false, string_bytes};
 ghost use Rattle.std.specs.Io.KnownBytes.{Keeps};
 ghost use Rattle.descriptor.specs.Nodes.{IsTree};
+ghost use Rattle.job_times.specs.Timings.{times_of};
 ghost use Rattle.launch_options.specs.Asked.{asked_by};
 ghost use Rattle.launcher.specs.Missing.{is_missing};
 ghost use Rattle.launcher.specs.Programs.{FailsProgram, HasJobs, IsProgramRun};
@@ -19,16 +20,16 @@ ghost use Rattle.run_table.specs.Prepared.{HasAllJobs};
 ghost use Rattle.worker_pool.specs.Premises.{JobsMayAnswer};
 ghost use Rattle.worker_pool.specs.Reports.{run_of};
 
+use crate::asked_times::head_of_run;
 use crate::exit_status::ExitStatus;
 use crate::missing::answer_unless;
 use crate::report::{Output, program_report};
 use crate::run::{SelectedPlan, broken_off, crewed_plan, form_for, outlet_for, settings_over};
 use crate::slow_limits::{set_default_limits, set_limits};
-use crate::warning_lines::head_text;
 use crate::watched_feed::WatchedFeed;
 use config_params::{Params, Settings};
 use descriptor::{BodyId, Tree};
-use job_times::{NoStopwatch, Stopwatch};
+use job_times::{NoStopwatch, RunTimes, Stopwatch, Timings};
 use launch_options::{LaunchFault, Options};
 use live::LiveFeed;
 use plan_events::Job;
@@ -76,12 +77,14 @@ fn refuse_steps(options: &Options) -> Result<(), LaunchFault>
     }
 }
 
-/// Makes the settings and the plan of what the request selects of a program's tree.
-fn planned_program(
+/// Makes the settings and the plan of what the request selects of a program's tree, and a place for the time of each of
+/// its nodes.
+fn planned_program<S: Stopwatch>(
     alloc: Global,
     options: &Options,
     properties: Params,
     tree: Tree,
+    times: &mut RunTimes<'_, S>,
 ) -> Result<PlannedProgram, LaunchFault>
     ensures steps { IfOk result (λ _. steps_refusal (asked_by options.now).replay options.now.drive ≡ None) }
     ensures ready { IfOk result (λ planned. IsReady (asked_by options.now) (program_parts tree properties)
@@ -93,7 +96,7 @@ fn planned_program(
     refuse_steps(options)?;
     let settings = settings_over(options, properties)?;
     let selected = crewed_plan(alloc, options, &settings, tree)?;
-    let head = head_text(alloc, options.details, settings.warnings)?;
+    let head = head_of_run(alloc, options, settings.warnings, &selected.plan, times)?;
     let SelectedPlan { plan, is_missing } = selected;
     Ok(PlannedProgram {
         settings,
@@ -117,7 +120,7 @@ fn shown_program<
     settings: &Settings,
     plan: Plan,
     jobs: Jobs<B>,
-    live: &mut WatchedFeed<'_, '_, W, V>,
+    live: &mut WatchedFeed<'_, '_, '_, '_, W, V, S>,
     stopwatch: &S,
 ) -> Result<Output, LaunchFault>
     requires some { 1 ≤ settings.now.workers }
@@ -128,22 +131,24 @@ fn shown_program<
     requires all { HasAllJobs plan jobs.items }
     requires head { live.old.feed.head.now ≡ head_of options.now.details settings.now.warnings }
     requires form { live.old.feed.form ≡ form_by options.now.details }
-    requires outlet { live.old.feed.outlet ≡ outlet_by options.now.details options.now.times
-        (asked_by options.now).replay }
+    requires outlet { live.old.feed.outlet ≡ outlet_by options.now.details (asked_by options.now).replay
+        options.now.drive }
+    requires timed { live.old.feed.timed ≡ options.now.times }
     requires none { live.old.feed.sent ≡ 0 }
     ensures same { live.new.feed.writer.ghost_name ≡ live.old.feed.writer.ghost_name }
+    ensures same_timings { live.new.feed.timings.ghost_name ≡ live.old.feed.timings.ghost_name }
     ensures same_watcher { live.new.watcher.ghost_name ≡ live.old.watcher.ghost_name }
-    ensures output { IfOk result (λ report. IsSeenProgram B.answers None V.saw live.old.watcher.now live.new.watcher.now (asked_by options.now)
-        settings.now plan jobs.items (string_bytes report.text) report.status) }
+    ensures output { IfOk result (λ report. IsSeenProgram B.answers None V.saw live.old.watcher.now live.new.watcher.now
+        (times_of live.new.feed.timings.now) (asked_by options.now) settings.now plan jobs.items (string_bytes report.text) report.status) }
     ensures front { IfOk result (λ report. IsFront (W.contents live.old.feed.writer.now) (W.contents live.new.feed.writer.now)
         live.new.feed.outlet live.new.feed.sent (string_bytes report.text)) }
     ensures refused { IfErr result (LacksBy (is_run None options.now.details)) }
     ensures seen { IfErr result (SeesRefusal live.old.watcher.now live.new.watcher.now (IsSeenProgram B.answers
-        None V.saw live.old.watcher.now
-        live.new.watcher.now (asked_by options.now) settings.now plan jobs.items)) }
+        None V.saw live.old.watcher.now live.new.watcher.now (times_of live.new.feed.timings.now)
+        (asked_by options.now) settings.now plan jobs.items)) }
     ensures broken_off { IfErr result
-        (λ _. IsBrokenOff (asked_by options.now) (IsSeenProgram B.answers None V.saw live.old.watcher.now live.new.watcher.now (asked_by options.now)
-        settings.now plan jobs.items) live.new.feed.outlet (W.contents live.old.feed.writer.now) (W.contents live.new.feed.writer.now)
+        (λ _. IsBrokenOff (asked_by options.now) (IsSeenProgram B.answers None V.saw live.old.watcher.now live.new.watcher.now
+        (times_of live.new.feed.timings.now) (asked_by options.now) settings.now plan jobs.items) live.new.feed.outlet (W.contents live.old.feed.writer.now) (W.contents live.new.feed.writer.now)
         live.new.feed.sent) }
 {
     program_report(rt, alloc, options, settings, plan, jobs, live, stopwatch)
@@ -160,7 +165,7 @@ fn run_planned<B: Job + Send, T: Threads + Wait + Sync, W: Write, V: Watcher, S:
     head: &str,
     writer: &mut W,
     watcher: &mut V,
-    stopwatch: &S,
+    times: &mut RunTimes<'_, S>,
 ) -> Result<ExitStatus, LaunchFault>
     requires some { 1 ≤ settings.now.workers }
     requires few { settings.now.workers ≤ 64 }
@@ -170,13 +175,17 @@ fn run_planned<B: Job + Send, T: Threads + Wait + Sync, W: Write, V: Watcher, S:
     requires all { HasAllJobs plan jobs.items }
     requires head { head.now ≡ head_of options.now.details settings.now.warnings }
     ensures exact { IsSeenPlanRun B.answers None V.saw
-        watcher.old watcher.new (asked_by options.now) settings.now plan jobs.items (W.contents writer.old)
-        (W.contents writer.new) result }
+        watcher.old watcher.new (times_of times.new.timings) (asked_by options.now) settings.now plan jobs.items
+        (W.contents writer.old) (W.contents writer.new) result }
     ensures quiet { IfErr result (λ fault. is_writing fault ≡ false →
         Keeps (W.contents writer.old) (W.contents writer.new)) }
 {
     let form = form_for(options.details);
-    let feed = LiveFeed::new(alloc, writer, head, form, outlet_for(options));
+    let outlet = outlet_for(options);
+    let stopwatch = times.stopwatch;
+    let timings = &mut times.timings;
+    let timed = options.times;
+    let feed = LiveFeed::new(alloc, writer, head, form, outlet, timings, stopwatch, timed);
     let mut live = WatchedFeed { feed, watcher };
     match shown_program(
         rt, alloc, options, settings, plan, jobs, &mut live, stopwatch,
@@ -210,7 +219,7 @@ pub fn run_jobs_watched<
     program: Program<B>,
     writer: &mut W,
     watcher: &mut V,
-    stopwatch: &S,
+    times: &mut RunTimes<'_, S>,
 ) -> Result<ExitStatus, LaunchFault>
     requires jobs { (plan : PlanParts) (workers ring : ℕ) → JobsMayAnswer B.answers
         (run_of plan workers ring program.jobs.items) }
@@ -222,8 +231,8 @@ pub fn run_jobs_watched<
     ensures quiet { IfErr result (λ fault. is_writing fault ≡ false →
         Keeps (W.contents writer.old) (W.contents writer.new)) }
     ensures watched { IsSeenProgramRun B.answers (asked_by options.now) (program_parts program.tree
-        program.properties) program.jobs.items V.saw watcher.old watcher.new (W.contents writer.old)
-        (W.contents writer.new) result }
+        program.properties) program.jobs.items V.saw watcher.old watcher.new (times_of times.new.timings)
+        (W.contents writer.old) (W.contents writer.new) result }
 {
     let Program {
         tree,
@@ -231,7 +240,7 @@ pub fn run_jobs_watched<
         jobs,
         slow,
     } = program;
-    set_limits(stopwatch, slow.as_slice());
+    set_limits(times.stopwatch, slow.as_slice());
     drop(slow);
     // the contract of `len` tells that it is a tree
     let _ = tree.len();
@@ -240,10 +249,10 @@ pub fn run_jobs_watched<
         plan,
         is_missing,
         head,
-    } = planned_program(alloc, options, properties, tree)?;
+    } = planned_program(alloc, options, properties, tree, &mut *times)?;
     // and that of `tree`, that what is selected is one
     let _ = plan.tree();
-    set_default_limits(stopwatch, &plan, settings.slow);
+    set_default_limits(times.stopwatch, &plan, settings.slow);
     let answer = run_planned(
         rt,
         alloc,
@@ -254,7 +263,7 @@ pub fn run_jobs_watched<
         head.as_str(),
         writer,
         watcher,
-        stopwatch,
+        times,
     );
     answer_unless(is_missing, answer)
 }
@@ -278,13 +287,7 @@ pub fn run_jobs<B: Job + Send, T: Threads + Wait + Sync, W: Write>(
         Keeps (W.contents writer.old) (W.contents writer.new)) }
 {
     let mut nobody = Nobody;
-    run_jobs_watched(
-        rt,
-        alloc,
-        options,
-        program,
-        writer,
-        &mut nobody,
-        &NoStopwatch,
-    )
+    let stopwatch = NoStopwatch;
+    let mut times = RunTimes::new(&stopwatch, Timings::none(alloc));
+    run_jobs_watched(rt, alloc, options, program, writer, &mut nobody, &mut times)
 }

@@ -1,8 +1,8 @@
 //! What is printed of a run or of a replay, and its status.
 
-ghost use Rattle.std.specs.Prelude.{◌≡◌, ℕ, ◌≤◌, List, [], ◌++◌, ◌⊎◌, None, false, option_map, IfOk, IfErr, string_bytes};
+ghost use Rattle.std.specs.Prelude.{◌≡◌, ℕ, ◌≤◌, List, ◌++◌, ◌⊎◌, None, option_map, IfOk, IfErr, string_bytes};
 ghost use Rattle.descriptor.specs.Nodes.{IsTree};
-ghost use Rattle.job_times.specs.Timings.{Took};
+ghost use Rattle.job_times.specs.Timings.{times_asked, times_of};
 ghost use Rattle.listeners.specs.Counts.{counts_of};
 ghost use Rattle.listeners.specs.Results.{tests_found, has_failed};
 ghost use Rattle.listeners.specs.SummaryTexts.{summary_of};
@@ -22,15 +22,16 @@ ghost use Rattle.run_table.specs.Prepared.{HasAllJobs};
 ghost use Rattle.worker_pool.specs.Premises.{JobsMayAnswer};
 ghost use Rattle.worker_pool.specs.Reports.{run_of};
 
+use crate::asked_times::asked_timings;
 use crate::driven::drive_report;
 use crate::exit_status::ExitStatus;
 use crate::replay::{ReplayCounts, push_replay_line};
 use crate::schedule_line::behind_run;
 use crate::scripted::scripted_jobs;
 use crate::warning_lines::head_text;
+use crate::watched_feed::NotesTimes;
 use config_params::{Settings, Warnings};
-use descriptor::Tree;
-use job_times::{Stopwatch, Timings, timings_of};
+use job_times::{Stopwatch, Timings};
 use launch_options::{Details, LaunchFault, Options};
 use listeners::{Audience, Results, Theme, feed_text};
 use plan_events::{Event, Job, Texts};
@@ -81,7 +82,7 @@ fn details_text(
     requires plan { plan.now ≡ results.now.plan }
     requires events { history.now ≡ results.now.events }
     ensures { IfOk result (λ text. string_bytes text ≡ details_of options.now.details options.now.theme
-        results.now.plan texts.now timings.now.took.items results.now.events) }
+        results.now.plan texts.now (times_of timings.now) results.now.events) }
 {
     match options.details {
         Details::None => Ok(String::new(alloc)),
@@ -123,7 +124,7 @@ fn run_text(
     requires plan { plan.now ≡ results.now.plan }
     requires events { history.now ≡ results.now.events }
     ensures { IfOk result (λ text. string_bytes text ≡ head_of options.now.details warnings
-        ++ (details_of options.now.details options.now.theme results.now.plan texts.now timings.now.took.items
+        ++ (details_of options.now.details options.now.theme results.now.plan texts.now (times_of timings.now)
         results.now.events ++ schedule.now)) }
 {
     let head = head_text(alloc, options.details, warnings)?;
@@ -145,7 +146,7 @@ fn history_report(
     schedule: &str,
 ) -> Result<Output, AllocError>
     ensures text { IfOk result (λ report. string_bytes report.text ≡ head_of options.now.details warnings
-        ++ (details_of options.now.details options.now.theme plan.now texts.now timings.now.took.items history.now
+        ++ (details_of options.now.details options.now.theme plan.now texts.now (times_of timings.now) history.now
         ++ schedule.now)) }
     ensures status { IfOk result (λ report. report.status ≡ status_of_run options.now.fail_if_no_tests
         (tests_found plan.now history.now) (has_failed plan.now history.now)) }
@@ -177,7 +178,7 @@ fn unrun(cause: RunCause) -> LaunchFault
     }
 }
 
-/// The report of this history, with these times, and with its schedule if one is asked for.
+/// The report of this history, with these times if they are asked for, and with its schedule if one is.
 pub(crate) fn told_report(
     alloc: Global,
     options: &Options,
@@ -191,8 +192,8 @@ pub(crate) fn told_report(
     ensures text { IfOk result (λ report. (schedule : List ℕ) × IsBehindRun options.now.details options.now.schedule
         settings.now.workers plan.now (option_map (λ a. a.now) known.entry) history.now texts.now schedule
         × (string_bytes report.text ≡ head_of options.now.details settings.now.warnings
-        ++ (details_of options.now.details options.now.theme plan.now texts.now timings.now.took.items history.now
-        ++ schedule))) }
+        ++ (details_of options.now.details options.now.theme plan.now texts.now
+        (times_asked options.now.times (times_of timings.now)) history.now ++ schedule))) }
     ensures status { IfOk result (λ report. report.status ≡ status_of_run options.now.fail_if_no_tests
         (tests_found plan.now history.now) (has_failed plan.now history.now)) }
 {
@@ -206,35 +207,20 @@ pub(crate) fn told_report(
         history,
         texts,
     )?;
+    let none = Timings::none(alloc);
     history_report(
         alloc,
         options,
         settings.warnings,
         plan,
         texts,
-        timings,
+        asked_timings(options.times, timings, &none),
         history,
         schedule.as_str(),
     )
 }
 
-/// How long the bodies of each node of the tree took, if that is asked for.
-fn timings_asked<S: Stopwatch>(
-    alloc: Global,
-    times: bool,
-    tree: &Tree,
-    stopwatch: &S,
-) -> Result<Timings, AllocError>
-    ensures untimed { IfOk result (λ timings. times ≡ false → timings.took.items ≡ []) }
-{
-    if times {
-        timings_of(alloc, tree, stopwatch)
-    } else {
-        Ok(Timings::none(alloc))
-    }
-}
-
-/// The report of a run that is over, with these times.
+/// The report of a run that is over, with these times if they are asked for.
 fn ended_report<B: Job>(
     alloc: Global,
     options: &Options,
@@ -246,8 +232,8 @@ fn ended_report<B: Job>(
     ensures text { IfOk result (λ report. (schedule : List ℕ) × IsBehindRun options.now.details options.now.schedule
         settings.now.workers ran.now.plan (option_map (λ a. a.now) known.entry) ran.now.events.items ran.now.texts schedule
         × (string_bytes report.text ≡ head_of options.now.details settings.now.warnings
-        ++ (details_of options.now.details options.now.theme ran.now.plan ran.now.texts timings.now.took.items
-        ran.now.events.items ++ schedule))) }
+        ++ (details_of options.now.details options.now.theme ran.now.plan ran.now.texts
+        (times_asked options.now.times (times_of timings.now)) ran.now.events.items ++ schedule))) }
     ensures status { IfOk result (λ report. report.status ≡ status_of_run options.now.fail_if_no_tests
         (tests_found ran.now.plan ran.now.events.items) (has_failed ran.now.plan ran.now.events.items)) }
 {
@@ -257,53 +243,35 @@ fn ended_report<B: Job>(
     )
 }
 
-/// The same with what the stopwatch tells.
-fn timed_report<B: Job, S: Stopwatch>(
-    alloc: Global,
-    options: &Options,
-    settings: &Settings,
-    known: Option<&Answers>,
-    ran: &Report<B>,
-    stopwatch: &S,
-) -> Result<Output, AllocError>
-    ensures text { IfOk result (λ report. (took : Took) × (options.now.times ≡ false → took ≡ []) × (schedule : List ℕ)
-        × IsBehindRun options.now.details options.now.schedule
-        settings.now.workers ran.now.plan (option_map (λ a. a.now) known.entry) ran.now.events.items ran.now.texts schedule
-        × (string_bytes report.text ≡ head_of options.now.details settings.now.warnings
-        ++ (details_of options.now.details options.now.theme ran.now.plan ran.now.texts took ran.now.events.items
-        ++ schedule))) }
-    ensures status { IfOk result (λ report. report.status ≡ status_of_run options.now.fail_if_no_tests
-        (tests_found ran.now.plan ran.now.events.items) (has_failed ran.now.plan ran.now.events.items)) }
-{
-    let timings = timings_asked(alloc, options.times, ran.plan.tree(), stopwatch)?;
-    ended_report(alloc, options, settings, known, ran, &timings)
-}
-
-/// The same of a report that is not looked at again.
-fn output_of<B: Job, S: Stopwatch>(
+/// The same of a report that is not looked at again, with the times that were noted by who watched.
+fn output_of<B: Job, V: NotesTimes>(
     alloc: Global,
     options: &Options,
     settings: &Settings,
     known: Option<&Answers>,
     ran: Report<B>,
-    stopwatch: &S,
+    watcher: &V,
 ) -> Result<Output, AllocError>
-    ensures text { IfOk result (λ report. (took : Took) × (options.now.times ≡ false → took ≡ []) × (schedule : List ℕ)
-        × IsBehindRun options.now.details options.now.schedule
+    ensures text { IfOk result (λ report. (schedule : List ℕ) × IsBehindRun options.now.details options.now.schedule
         settings.now.workers ran.plan (option_map (λ a. a.now) known.entry) ran.events.items ran.texts schedule
         × (string_bytes report.text ≡ head_of options.now.details settings.now.warnings
-        ++ (details_of options.now.details options.now.theme ran.plan ran.texts took ran.events.items
-        ++ schedule))) }
+        ++ (details_of options.now.details options.now.theme ran.plan ran.texts
+        (times_asked options.now.times (V.noted watcher.now)) ran.events.items ++ schedule))) }
     ensures status { IfOk result (λ report. report.status ≡ status_of_run options.now.fail_if_no_tests
         (tests_found ran.plan ran.events.items) (has_failed ran.plan ran.events.items)) }
 {
-    timed_report(alloc, options, settings, known, &ran, stopwatch)
+    ended_report(alloc, options, settings, known, &ran, watcher.timings())
 }
 
 /// The report of a run of these jobs by the settings' workers, on threads of their own, which is shown to
 /// whoever watches, and of which the stopwatch takes note. What is known of what the jobs answer is asked for a
 /// schedule alone.
-fn ran_report<B: Job + Send, T: Threads + Wait + Sync, V: Watcher, S: Stopwatch + Sync>(
+fn ran_report<
+    B: Job + Send,
+    T: Threads + Wait + Sync,
+    V: Watcher + NotesTimes,
+    S: Stopwatch + Sync,
+>(
     rt: &T,
     alloc: Global,
     options: &Options,
@@ -322,7 +290,8 @@ fn ran_report<B: Job + Send, T: Threads + Wait + Sync, V: Watcher, S: Stopwatch 
     requires all { HasAllJobs plan jobs.items }
     ensures output { IfOk result (λ report. IsJobsOutput B.answers (option_map (λ a. a.now) known.entry) (asked_by options.now) settings.now plan jobs.items
         (string_bytes report.text) report.status) }
-    ensures watched { Watches V.saw (IsPrintedJobs B.answers (option_map (λ a. a.now) known.entry) (asked_by options.now) settings.now plan jobs.items) plan watcher.old watcher.new result }
+    ensures watched { Watches V.saw (IsPrintedJobs B.answers (option_map (λ a. a.now) known.entry) (asked_by options.now) settings.now plan jobs.items) plan watcher.old watcher.new
+        (V.noted watcher.new) result }
     ensures refused { IfErr result LacksMeans }
 {
     let Ok(mut nobody) = Audience::new(Vec::new(alloc)) else {
@@ -339,13 +308,13 @@ fn ran_report<B: Job + Send, T: Threads + Wait + Sync, V: Watcher, S: Stopwatch 
         watcher,
         stopwatch,
     ) {
-        Ok(ran) => Ok(output_of(alloc, options, settings, known, ran, stopwatch)?),
+        Ok(ran) => Ok(output_of(alloc, options, settings, known, ran, &*watcher)?),
         Err(fault) => Err(unrun(fault.cause)),
     }
 }
 
 /// The report of a run by the settings' workers of the jobs that the suite says.
-fn run_report<T: Threads + Wait + Sync, V: Watcher, S: Stopwatch + Sync>(
+fn run_report<T: Threads + Wait + Sync, V: Watcher + NotesTimes, S: Stopwatch + Sync>(
     rt: &T,
     alloc: Global,
     options: &Options,
@@ -362,7 +331,7 @@ fn run_report<T: Threads + Wait + Sync, V: Watcher, S: Stopwatch + Sync>(
     ensures output { IfOk result (λ report. IsRunOutput (asked_by options.now) settings.now plan answers.now
         (string_bytes report.text) report.status) }
     ensures watched { Watches V.saw (IsPrintedRun (asked_by options.now) settings.now plan answers.now) plan
-        watcher.old watcher.new result }
+        watcher.old watcher.new (V.noted watcher.new) result }
     ensures refused { IfErr result LacksMeans }
 {
     let jobs = scripted_jobs(alloc, &plan, answers, spins)?;
@@ -381,7 +350,7 @@ fn run_report<T: Threads + Wait + Sync, V: Watcher, S: Stopwatch + Sync>(
 
 /// The report of a run of what the suite says: with `--drive` by the fixed schedule, and else on threads; on threads
 /// also where a dynamic test holds a key, which none of a suite's text does, since no schedule is known to end that.
-fn suite_report<T: Threads + Wait + Sync, V: Watcher, S: Stopwatch + Sync>(
+fn suite_report<T: Threads + Wait + Sync, V: Watcher + NotesTimes, S: Stopwatch + Sync>(
     rt: &T,
     alloc: Global,
     options: &Options,
@@ -398,7 +367,7 @@ fn suite_report<T: Threads + Wait + Sync, V: Watcher, S: Stopwatch + Sync>(
     ensures output { IfOk result (λ report. IsRunOutput (asked_by options.now) settings.now plan answers.now
         (string_bytes report.text) report.status) }
     ensures watched { Watches V.saw (IsPrintedRun (asked_by options.now) settings.now plan answers.now) plan
-        watcher.old watcher.new result }
+        watcher.old watcher.new (V.noted watcher.new) result }
     ensures refused { IfErr result LacksMeans }
 {
     if options.drive.is_some() && plan.has_free_spares() {
@@ -469,7 +438,7 @@ fn planned(
 
 /// What the options print of a plan where there are no steps to be replayed: it is run, unless its list or its nodes
 /// are asked for.
-fn plan_report<T: Threads + Wait + Sync, V: Watcher, S: Stopwatch + Sync>(
+fn plan_report<T: Threads + Wait + Sync, V: Watcher + NotesTimes, S: Stopwatch + Sync>(
     rt: &T,
     alloc: Global,
     options: &Options,
@@ -486,7 +455,7 @@ fn plan_report<T: Threads + Wait + Sync, V: Watcher, S: Stopwatch + Sync>(
     ensures output { IfOk result (λ report. IsPlanOutput options.now.details (asked_by options.now) settings.now plan
         answers.now (string_bytes report.text) report.status) }
     ensures watched { WatchesBy V.saw (IsPrintedRun (asked_by options.now) settings.now plan answers.now) plan
-        watcher.old watcher.new (is_run None options.now.details) result }
+        watcher.old watcher.new (V.noted watcher.new) (is_run None options.now.details) result }
     ensures refused { IfErr result (LacksBy (is_run None options.now.details)) }
 {
     match options.details {
@@ -506,7 +475,7 @@ fn plan_report<T: Threads + Wait + Sync, V: Watcher, S: Stopwatch + Sync>(
 /// What these options print of a plan with these answers under these settings, and the status. Want
 /// of memory is refused, and where there are no steps to be replayed that no thread could be
 /// started.
-pub(crate) fn report_of<T: Threads + Wait + Sync, V: Watcher, S: Stopwatch + Sync>(
+pub(crate) fn report_of<T: Threads + Wait + Sync, V: Watcher + NotesTimes, S: Stopwatch + Sync>(
     rt: &T,
     alloc: Global,
     options: &Options,
@@ -523,7 +492,7 @@ pub(crate) fn report_of<T: Threads + Wait + Sync, V: Watcher, S: Stopwatch + Syn
     ensures output { IfOk result (λ report. IsOutput (asked_by options.now) settings.now plan answers.now
         (string_bytes report.text) report.status) }
     ensures watched { WatchesBy V.saw (IsPrintedRun (asked_by options.now) settings.now plan answers.now) plan
-        watcher.old watcher.new (is_run (asked_by options.now).replay options.now.details) result }
+        watcher.old watcher.new (V.noted watcher.new) (is_run (asked_by options.now).replay options.now.details) result }
     ensures refused { IfErr result (IsUnrun (asked_by options.now)) }
 {
     match &options.replay {
@@ -542,7 +511,7 @@ pub(crate) fn report_of<T: Threads + Wait + Sync, V: Watcher, S: Stopwatch + Syn
 pub(crate) fn program_report<
     B: Job + Send,
     T: Threads + Wait + Sync,
-    V: Watcher,
+    V: Watcher + NotesTimes,
     S: Stopwatch + Sync,
 >(
     rt: &T,
@@ -563,7 +532,7 @@ pub(crate) fn program_report<
     ensures output { IfOk result (λ report. IsProgramOutput B.answers None options.now.details (asked_by options.now) settings.now plan jobs.items
         (string_bytes report.text) report.status) }
     ensures watched { WatchesBy V.saw (IsPrintedJobs B.answers None (asked_by options.now) settings.now plan jobs.items) plan watcher.old watcher.new
-        (is_run None options.now.details) result }
+        (V.noted watcher.new) (is_run None options.now.details) result }
     ensures refused { IfErr result (LacksBy (is_run None options.now.details)) }
 {
     match options.details {

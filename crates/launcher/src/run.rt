@@ -4,6 +4,7 @@ ghost use Rattle.std.specs.Prelude.{◌≡◌, ◌≢◌, ◌<◌, ◌≤◌, No
 ghost use Rattle.std.specs.Io.KnownBytes.{Keeps};
 ghost use Rattle.std.specs.Option.{option_or};
 ghost use Rattle.config_params.specs.Settings.{settings_of};
+ghost use Rattle.job_times.specs.Timings.{times_of};
 ghost use Rattle.resource_locks.specs.Spares.{HasBareSpares};
 ghost use Rattle.never_stuck.specs.Reaching.{NeverStuck};
 ghost use Rattle.suite_text.specs.Reading.Bytes.{suite_read};
@@ -24,17 +25,17 @@ ghost use Rattle.launcher.specs.Watched.{IsBrokenOff, SeesRefusal, form_by, outl
 ghost use Rattle.launcher.specs.WarningTexts.{head_of};
 ghost use Rattle.live.specs.LiveFeeds.{IsFront};
 
+use crate::asked_times::head_of_run;
 use crate::bytes::{ReadFault, read_front};
 use crate::exit_status::ExitStatus;
 use crate::missing::{answer_unless, is_missing};
 use crate::report::{Output, report_of};
 use crate::scripted::spins_of;
 use crate::slow_limits::{set_default_limits, set_script_limits};
-use crate::warning_lines::head_text;
 use crate::watched_feed::WatchedFeed;
 use config_params::{Params, Settings, SettingsFault, modes};
 use descriptor::Tree;
-use job_times::{NoStopwatch, Stopwatch};
+use job_times::{NoStopwatch, RunTimes, Stopwatch, Timings};
 use launch_options::{CutCause, CutOutput, Details, LaunchFault, Options};
 use live::{LineForm, LiveFeed, Outlet};
 use plan_events::MOST_WORKERS;
@@ -236,19 +237,27 @@ fn ready_run(alloc: Global, options: &Options, suite: Suite) -> Result<ReadyRun,
     Ok(with_scripts(alloc, settings, selected, scripts)?)
 }
 
-/// Whether lines are printed while the run goes on: those of events are, unless they wait for times.
+/// Whether lines are printed while a run on threads goes on: those of events are.
+fn threads_outlet(details: Details) -> Outlet
+    ensures { result ≡ outlet_by details None None }
+{
+    if details.prints_live() {
+        Outlet::Waiting
+    } else {
+        Outlet::Closed
+    }
+}
+
+/// Whether lines are printed while the run goes on: never of steps that are taken without threads.
 pub(crate) fn outlet_for(options: &Options) -> Outlet
-    ensures { result ≡ outlet_by options.now.details options.now.times (asked_by options.now).replay }
+    ensures { result ≡ outlet_by options.now.details (asked_by options.now).replay options.now.drive }
 {
     match &options.replay {
         Some(_) => Outlet::Closed,
-        None => {
-            if options.details.prints_live(options.times) {
-                Outlet::Waiting
-            } else {
-                Outlet::Closed
-            }
-        }
+        None => match options.drive {
+            Some(_) => Outlet::Closed,
+            None => threads_outlet(options.details),
+        },
     }
 }
 
@@ -274,7 +283,7 @@ fn shown_report<T: Threads + Wait + Sync, W: Write, V: Watcher, S: Stopwatch + S
     alloc: Global,
     options: &Options,
     ready: ReadyRun,
-    live: &mut WatchedFeed<'_, '_, W, V>,
+    live: &mut WatchedFeed<'_, '_, '_, '_, W, V, S>,
     stopwatch: &S,
 ) -> Result<Output, LaunchFault>
     requires some { 1 ≤ ready.settings.workers }
@@ -282,21 +291,24 @@ fn shown_report<T: Threads + Wait + Sync, W: Write, V: Watcher, S: Stopwatch + S
     requires guarded { IsGuarded (declared_of ready.plan.tree) ready.plan }
     requires head { live.old.feed.head.now ≡ head_of options.now.details ready.settings.warnings }
     requires form { live.old.feed.form ≡ form_by options.now.details }
-    requires outlet { live.old.feed.outlet ≡ outlet_by options.now.details options.now.times
-        (asked_by options.now).replay }
+    requires outlet { live.old.feed.outlet ≡ outlet_by options.now.details (asked_by options.now).replay
+        options.now.drive }
+    requires timed { live.old.feed.timed ≡ options.now.times }
     requires none { live.old.feed.sent ≡ 0 }
     ensures same { live.new.feed.writer.ghost_name ≡ live.old.feed.writer.ghost_name }
+    ensures same_timings { live.new.feed.timings.ghost_name ≡ live.old.feed.timings.ghost_name }
     ensures same_watcher { live.new.watcher.ghost_name ≡ live.old.watcher.ghost_name }
     ensures output { IfOk result (λ report. IsSeenOutput V.saw live.old.watcher.now live.new.watcher.now
-        (asked_by options.now) ready.settings ready.plan ready.answers (string_bytes report.text) report.status) }
+        (times_of live.new.feed.timings.now) (asked_by options.now) ready.settings ready.plan ready.answers (string_bytes report.text) report.status) }
     ensures front { IfOk result (λ report. IsFront (W.contents live.old.feed.writer.now) (W.contents live.new.feed.writer.now)
         live.new.feed.outlet live.new.feed.sent (string_bytes report.text)) }
     ensures refused { IfErr result (IsUnrun (asked_by options.now)) }
     ensures seen { IfErr result (SeesRefusal live.old.watcher.now live.new.watcher.now (IsSeenOutput V.saw
-        live.old.watcher.now live.new.watcher.now (asked_by options.now) ready.settings ready.plan ready.answers)) }
+        live.old.watcher.now live.new.watcher.now (times_of live.new.feed.timings.now) (asked_by options.now)
+        ready.settings ready.plan ready.answers)) }
     ensures broken_off { IfErr result
         (λ _. IsBrokenOff (asked_by options.now) (IsSeenOutput V.saw live.old.watcher.now live.new.watcher.now
-        (asked_by options.now) ready.settings ready.plan ready.answers) live.new.feed.outlet (W.contents live.old.feed.writer.now)
+        (times_of live.new.feed.timings.now) (asked_by options.now) ready.settings ready.plan ready.answers) live.new.feed.outlet (W.contents live.old.feed.writer.now)
         (W.contents live.new.feed.writer.now) live.new.feed.sent) }
 {
     let ReadyRun {
@@ -353,20 +365,24 @@ fn run_ready<T: Threads + Wait + Sync, W: Write, V: Watcher, S: Stopwatch + Sync
     head: &str,
     writer: &mut W,
     watcher: &mut V,
-    stopwatch: &S,
+    times: &mut RunTimes<'_, S>,
 ) -> Result<ExitStatus, LaunchFault>
     requires some { 1 ≤ ready.settings.workers }
     requires few { ready.settings.workers ≤ 64 }
     requires guarded { IsGuarded (declared_of ready.plan.tree) ready.plan }
     requires head { head.now ≡ head_of options.now.details ready.settings.warnings }
     ensures exact { (suite : SuiteParts) → IsReady (asked_by options.now) suite ready.settings ready.plan ready.answers
-        → IsSeenReadyRun V.saw watcher.old watcher.new (asked_by options.now) suite (W.contents writer.old)
-        (W.contents writer.new) result }
+        → IsSeenReadyRun V.saw watcher.old watcher.new (times_of times.new.timings) (asked_by options.now) suite
+        (W.contents writer.old) (W.contents writer.new) result }
     ensures quiet { IfErr result (λ fault. is_writing fault ≡ false →
         Keeps (W.contents writer.old) (W.contents writer.new)) }
 {
     let form = form_for(options.details);
-    let feed = LiveFeed::new(alloc, writer, head, form, outlet_for(options));
+    let outlet = outlet_for(options);
+    let stopwatch = times.stopwatch;
+    let timings = &mut times.timings;
+    let timed = options.times;
+    let feed = LiveFeed::new(alloc, writer, head, form, outlet, timings, stopwatch, timed);
     let mut live = WatchedFeed { feed, watcher };
     match shown_report(rt, alloc, options, ready, &mut live, stopwatch) {
         Ok(report) => {
@@ -387,8 +403,9 @@ fn run_ready<T: Threads + Wait + Sync, W: Write, V: Watcher, S: Stopwatch + Sync
 /// since there was no memory for the rest of a feed. On any refusal but 81 nothing is written. Each event of a
 /// run is shown to the watcher, before its line is written if it has one; what is written when the
 /// run is over is written when the watcher has seen all. Of a replay and of a list it sees nothing.
-/// If it is to be told how long tests took, that is what the stopwatch tells when the run is over, of
-/// a run on threads; no clause says what it is.
+/// If it is to be told how long tests took, the time of each node is noted once, when its finish is
+/// told, as the stopwatch has it then; what is printed tells these times, and they are left to the caller.
+/// No clause says what they are. Of a run by the fixed schedule nothing is known, nor when or where it was.
 pub fn run_suite_watched<T: Threads + Wait + Sync, W: Write, V: Watcher, S: Stopwatch + Sync>(
     rt: &T,
     alloc: Global,
@@ -396,7 +413,7 @@ pub fn run_suite_watched<T: Threads + Wait + Sync, W: Write, V: Watcher, S: Stop
     suite: Suite,
     writer: &mut W,
     watcher: &mut V,
-    stopwatch: &S,
+    times: &mut RunTimes<'_, S>,
 ) -> Result<ExitStatus, LaunchFault>
     ensures exact { IsSuiteRun (asked_by options.now) (suite_parts suite) (W.contents writer.old)
         (W.contents writer.new) result }
@@ -404,14 +421,15 @@ pub fn run_suite_watched<T: Threads + Wait + Sync, W: Write, V: Watcher, S: Stop
         (λ fault. fault ≡ LaunchFault.NoMemory → TakesMemory (asked_by options.now) (suite_parts suite)) }
     ensures quiet { IfErr result (λ fault. is_writing fault ≡ false →
         Keeps (W.contents writer.old) (W.contents writer.new)) }
-    ensures watched { IsSeenSuiteRun V.saw watcher.old watcher.new (asked_by options.now) (suite_parts suite)
-        (W.contents writer.old) (W.contents writer.new) result }
+    ensures watched { IsSeenSuiteRun V.saw watcher.old watcher.new (times_of times.new.timings) (asked_by options.now)
+        (suite_parts suite) (W.contents writer.old) (W.contents writer.new) result }
 {
-    set_script_limits(stopwatch, suite.scripts.as_slice());
+    set_script_limits(times.stopwatch, suite.scripts.as_slice());
     let ready = ready_run(alloc, options, suite)?;
-    set_default_limits(stopwatch, &ready.plan, ready.settings.slow);
+    set_default_limits(times.stopwatch, &ready.plan, ready.settings.slow);
     let is_missing = ready.is_missing;
-    let head = head_text(alloc, options.details, ready.settings.warnings)?;
+    let warnings = ready.settings.warnings;
+    let head = head_of_run(alloc, options, warnings, &ready.plan, &mut *times)?;
     let answer = run_ready(
         rt,
         alloc,
@@ -420,7 +438,7 @@ pub fn run_suite_watched<T: Threads + Wait + Sync, W: Write, V: Watcher, S: Stop
         head.as_str(),
         writer,
         watcher,
-        stopwatch,
+        times,
     );
     answer_unless(is_missing, answer)
 }
@@ -441,7 +459,9 @@ pub fn run_suite<T: Threads + Wait + Sync, W: Write>(
         Keeps (W.contents writer.old) (W.contents writer.new)) }
 {
     let mut nobody = Nobody;
-    run_suite_watched(rt, alloc, options, suite, writer, &mut nobody, &NoStopwatch)
+    let stopwatch = NoStopwatch;
+    let mut times = RunTimes::new(&stopwatch, Timings::none(alloc));
+    run_suite_watched(rt, alloc, options, suite, writer, &mut nobody, &mut times)
 }
 
 /// Reads a suite and runs it, as `read_suite` and `run_suite_watched` say. The reading takes memory before
@@ -461,7 +481,7 @@ pub fn run_options_watched<
     reader: &mut R,
     writer: &mut W,
     watcher: &mut V,
-    stopwatch: &S,
+    times: &mut RunTimes<'_, S>,
 ) -> Result<ExitStatus, LaunchFault>
     ensures exact { IfSome (R.remaining reader.old)
         (λ bytes. IsRun (asked_by options.now) (suite_read (take 1048577 bytes)) (W.contents writer.old)
@@ -473,11 +493,11 @@ pub fn run_options_watched<
     ensures quiet { IfErr result (λ fault. is_writing fault ≡ false →
         Keeps (W.contents writer.old) (W.contents writer.new)) }
     ensures watched { TakesFrom (R.remaining reader.old) (R.remaining reader.new) (fault_in result)
-        (λ bytes. IsSeenRun V.saw watcher.old watcher.new (asked_by options.now) (suite_read bytes)
-        (W.contents writer.old) (W.contents writer.new) result) }
+        (λ bytes. IsSeenRun V.saw watcher.old watcher.new (times_of times.new.timings) (asked_by options.now)
+        (suite_read bytes) (W.contents writer.old) (W.contents writer.new) result) }
 {
     let suite = read_suite(alloc, reader)?;
-    run_suite_watched(rt, alloc, options, suite, writer, watcher, stopwatch)
+    run_suite_watched(rt, alloc, options, suite, writer, watcher, times)
 }
 
 /// Reads a suite and runs it as `run_options_watched` does, where nobody watches and no time is known.
@@ -499,13 +519,7 @@ pub fn run_options<T: Threads + Wait + Sync, R: Read, W: Write>(
         Keeps (W.contents writer.old) (W.contents writer.new)) }
 {
     let mut nobody = Nobody;
-    run_options_watched(
-        rt,
-        alloc,
-        options,
-        reader,
-        writer,
-        &mut nobody,
-        &NoStopwatch,
-    )
+    let stopwatch = NoStopwatch;
+    let mut times = RunTimes::new(&stopwatch, Timings::none(alloc));
+    run_options_watched(rt, alloc, options, reader, writer, &mut nobody, &mut times)
 }

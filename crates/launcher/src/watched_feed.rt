@@ -1,11 +1,13 @@
-//! The feed of a run, and who watches the run beside it.
+//! The feed of a run, who watches the run beside it, and what is noted of the nodes' times meanwhile.
 
 ghost use Rattle.std.specs.Prelude.{◌≡◌, ◌≤◌, ◌<◌, ◌∷◌, [], ℕ, List, Option, length, take};
 ghost use Rattle.std.specs.Io.KnownBytes.{Appends};
+ghost use Rattle.job_times.specs.Timings.{times_of};
 ghost use Rattle.listeners.specs.Listeners.{telling};
 ghost use Rattle.listeners.specs.Sending.{SendsExactly};
 ghost use Rattle.worker_pool.specs.Watching.{HasSeenMore};
 
+use job_times::{Stopwatch, Timings};
 use listeners::WriteFault;
 use live::{LiveFeed, Outlet};
 use plan_events::{Event, Texts};
@@ -13,15 +15,27 @@ use resource_locks::Plan;
 use std::io::Write;
 use worker_pool::Watcher;
 
-/// A feed that is printed while the run goes on, and one who watches the run. It is shown each event
-/// before its line is printed.
+/// Knows what was noted of how long the nodes of a run took.
+pub(crate) trait NotesTimes {
+    ghost use Rattle.job_times.specs.Timings.{Times};
+
+    /// What was noted.
+    ghost noted: { Self → Times };
+
+    /// That, to be printed.
+    fn timings(&self) -> &Timings
+        ensures { times_of result.now ≡ noted self.now };
+}
+
+/// A feed that is printed while the run goes on and notes its times, and one who watches the run. It is shown each
+/// event before its line is printed.
 #[derive(Drop)]
-pub(crate) struct WatchedFeed<'w, 'v, W: Write, V: Watcher> {
-    pub(crate) feed: LiveFeed<'w, W>,
+pub(crate) struct WatchedFeed<'w, 't, 's, 'v, W: Write, V: Watcher, S: Stopwatch> {
+    pub(crate) feed: LiveFeed<'w, 't, 's, W, S>,
     pub(crate) watcher: &'v mut V,
 }
 
-impl<'w, 'v, W: Write, V: Watcher> WatchedFeed<'w, 'v, W, V> {
+impl<'w, 't, 's, 'v, W: Write, V: Watcher, S: Stopwatch> WatchedFeed<'w, 't, 's, 'v, W, V, S> {
     /// How many bytes the feed's writer took.
     pub(crate) fn sent(&self) -> usize
         ensures { result ≡ self.now.feed.sent }
@@ -41,6 +55,7 @@ impl<'w, 'v, W: Write, V: Watcher> WatchedFeed<'w, 'v, W, V> {
         requires fits { self.old.feed.sent ≤ length whole.now }
         requires short { self.old.feed.outlet ≡ Outlet.Failed → self.old.feed.sent < length whole.now }
         ensures same { self.new.feed.writer.ghost_name ≡ self.old.feed.writer.ghost_name }
+        ensures timings { self.new.feed.timings ≡ self.old.feed.timings }
         ensures watcher { self.new.watcher ≡ self.old.watcher }
         ensures whole { (first : Option (List ℕ)) → Appends first (W.contents self.old.feed.writer.now)
             (take self.old.feed.sent whole.now) → SendsExactly first (W.contents self.new.feed.writer.now) whole.now
@@ -57,7 +72,17 @@ pub(crate) fn show<V: Watcher>(watcher: &mut V, plan: &Plan, texts: &Texts, even
     watcher.watch(plan, texts, event);
 }
 
-impl<'w, 'v, W: Write, V: Watcher> Watcher for WatchedFeed<'w, 'v, W, V> {
+impl<'w, 't, 's, 'v, W: Write, V: Watcher, S: Stopwatch> NotesTimes
+    for WatchedFeed<'w, 't, 's, 'v, W, V, S> {
+    ghost noted = { λ watched. times_of watched.feed.timings.now };
+
+    fn timings(&self) -> &Timings {
+        self.feed.timings()
+    }
+}
+
+impl<'w, 't, 's, 'v, W: Write, V: Watcher, S: Stopwatch> Watcher
+    for WatchedFeed<'w, 't, 's, 'v, W, V, S> {
     ghost use Rattle.launcher.specs.Beside.{SeesBeside};
 
     ghost saw = { SeesBeside W.contents V.saw };

@@ -12,7 +12,7 @@ use Rattle.resource_locks.specs.Plans.{PlanParts}
 use Rattle.event_history.specs.Parts.{EndsInPlan}
 use Rattle.listeners.specs.Listeners.{tellings_of}
 use Rattle.worker_pool.specs.Endings.{ends_plan, is_finish}
-use Rattle.live.specs.LiveFeeds.{lines_of, telling_line, output_of, has_end, IsSoFar, IsPrinted, IsFront, is_stopped}
+use Rattle.live.specs.LiveFeeds.{lines_of, telling_line, output_of, has_end, IsSoFar, IsPrinted, IsFront, is_stopped, shown_times}
 use Rattle.live.specs.declared.live_feed.LiveFeed.{LiveFeed}
 use Rattle.live.specs.declared.live_feed.Outlet.{Outlet}
 use Rattle.live.specs.declared.live_feed.Outlet.TheVariants.{Waiting, Open, Closed, Failed}
@@ -54,12 +54,16 @@ module _ (texts : TextParts) (h : List Event) (ends : EndsInPlan h) where
   short Closed sent output so = elim so [ inl none ↦ inl (closed_whole, none) | inr few ↦ inr few ]
   short Failed sent output so = inr so
 
-  module _ {W : Type 0} (contents : W → Option (List ℕ)) (p : PlanParts) (first now : LiveFeed W) (is : IsPrinted contents p first now (tellings_of texts h)) (live : is_stopped first.outlet ≡ false) (rest text : List ℕ) (whole : text ≡ first.head.now ++ (lines_of first.form p texts h ++ rest)) where
+  module _ {W S : Type 0} (contents : W → Option (List ℕ)) (p : PlanParts) (first now : LiveFeed W S) (is : IsPrinted contents p first now (tellings_of texts h)) (live : is_stopped first.outlet ≡ false) (rest text : List ℕ)
+      (whole : text ≡ first.head.now ++ (lines_of first.form p texts (shown_times now) h ++ rest)) where
     abbrev output : List ℕ
-    output = output_of first.form first.head.now p (tellings_of texts h)
+    output = output_of first.form first.head.now p (shown_times now) (tellings_of texts h)
 
     begins : text ≡ output ++ rest
-    begins = whole ∙ ap (λ (lines : List ℕ). first.head.now ++ (lines ++ rest)) (lines_are p first.form texts h) ∙ sym (append_assoc first.head.now (flat_map (telling_line first.form p) (tellings_of texts h)) rest)
+    begins =
+        whole
+        ∙ ap (λ (lines : List ℕ). first.head.now ++ (lines ++ rest)) (lines_are p (shown_times now) first.form texts h)
+        ∙ sym (append_assoc first.head.now (flat_map (telling_line first.form p (shown_times now)) (tellings_of texts h)) rest)
 
     longer : length output ≤ length text
     longer = omega (arith, ap length begins, length-append output rest)

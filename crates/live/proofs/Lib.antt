@@ -6,6 +6,7 @@ pub mod Fronts
 pub mod Drawing
 pub mod Growing
 pub mod Keeping
+pub mod Noting
 pub mod Placing
 pub mod Pushing
 pub mod SlowNaming

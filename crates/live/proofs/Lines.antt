@@ -11,8 +11,9 @@ use Rattle.resource_locks.specs.Plans.{PlanParts}
 use Rattle.listeners.specs.Feed.{kind_word, ending, event_line, id_at, text_or, feed_of}
 use Rattle.listeners.specs.Listeners.{Telling, text_by, telling, tellings_of}
 use Rattle.listeners.specs.TreeTexts.{name_at}
+use Rattle.job_times.specs.Timings.{took_of, Times}
 use Rattle.json.specs.Json.{Members, no_members, object}
-use Rattle.reports.specs.Json.{ending_members, json_of, number_member, object_with, text_member, type_word, written}
+use Rattle.reports.specs.Json.{event_json, number_member, text_member, timed_ending_members, timed_json_of, type_word, written}
 use Rattle.descriptor.specs.Nodes.{kind_of}
 use Rattle.worker_pool.specs.Endings.{ends_plan}
 use Rattle.live.specs.LiveFeeds.{lines_of, telling_line, has_end}
@@ -27,14 +28,14 @@ text_shown Skipped s t = refl
 text_shown Registered s t = refl
 
 -- and its members in an object
-members_shown : (k : EventKind) (s : Option Status) (t : Option (List ℕ)) → ending_members k s (text_or (text_by k t)) ≡ ending_members k s (text_or t)
-members_shown Started s t = refl
-members_shown Finished s t = refl
-members_shown Skipped s t = refl
-members_shown Registered s t = refl
+members_shown : (k : EventKind) (s : Option Status) (t : Option (List ℕ)) (took : Option ℕ) → timed_ending_members k s (text_or (text_by k t)) took ≡ timed_ending_members k s (text_or t) took
+members_shown Started s t took = refl
+members_shown Finished s t took = refl
+members_shown Skipped s t took = refl
+members_shown Registered s t took = refl
 
 -- the line of an event whose object ends in these members
-abbrev object_ending : PlanParts → Event → Members → List ℕ
+abbrev pub object_ending : PlanParts → Event → Members → List ℕ
 object_ending p e ending =
     written (object (text_member (codes "event") (kind_word e.kind)
     (number_member (codes "worker") e.worker
@@ -42,24 +43,25 @@ object_ending p e ending =
     (text_member (codes "type") (codes "PLAN") no_members)
     (text_member (codes "type") (type_word (kind_of p.tree e.node)) (text_member (codes "id") (id_at p e.node) (text_member (codes "name") (name_at p.tree e.node) ending))))))) ++ codes "\n"
 
-module _ (p : PlanParts) where
-  line_is : (texts : TextParts) (e : Event) → telling_line Feed p (telling texts e) ≡ event_line e (id_at p e.node) (text_or (text_at texts e.node))
+module _ (p : PlanParts) (times : Times) where
+  line_is : (texts : TextParts) (e : Event) → telling_line Feed p times (telling texts e) ≡ event_line e (id_at p e.node) (text_or (text_at texts e.node))
   line_is texts e =
       ap (λ (shown : List ℕ). cond (e.node == 0)
       (codes "w" ++ decimal e.worker ++ codes " plan " ++ kind_word e.kind ++ codes "\n")
       (codes "w" ++ decimal e.worker ++ codes " " ++ kind_word e.kind ++ codes " " ++ id_at p e.node ++ shown ++ codes "\n"))
       (text_shown e.kind e.status (text_at texts e.node))
 
-  object_is : (texts : TextParts) (e : Event) → telling_line Json p (telling texts e) ≡ object_with p e (text_or (text_at texts e.node)) ++ codes "\n"
-  object_is texts e = ap (λ (ending : Members). object_ending p e ending) (members_shown e.kind e.status (text_at texts e.node))
+  object_is : (texts : TextParts) (e : Event) → telling_line Json p times (telling texts e) ≡ written (event_json p e (text_or (text_at texts e.node)) (took_of times.took e.node)) ++ codes "\n"
+  object_is texts e = ap (λ (ending : Members). object_ending p e ending) (members_shown e.kind e.status (text_at texts e.node) (took_of times.took e.node))
 
-  pub lines_are : (form : LineForm) (texts : TextParts) (es : List Event) → lines_of form p texts es ≡ flat_map (telling_line form p) (tellings_of texts es)
+  pub lines_are : (form : LineForm) (texts : TextParts) (es : List Event) → lines_of form p texts times es ≡ flat_map (telling_line form p times) (tellings_of texts es)
   lines_are Feed texts [] = refl
   lines_are Json texts [] = refl
-  lines_are Feed texts (e ∷ es) = ap (λ (line : List ℕ). line ++ feed_of p texts es) (sym (line_is texts e)) ∙ ap (λ (rest : List ℕ). telling_line Feed p (telling texts e) ++ rest) (lines_are Feed texts es)
-  lines_are Json texts (e ∷ es) = ap (λ (line : List ℕ). line ++ json_of p texts es) (sym (object_is texts e)) ∙ ap (λ (rest : List ℕ). telling_line Json p (telling texts e) ++ rest) (lines_are Json texts es)
+  lines_are Feed texts (e ∷ es) = ap (λ (line : List ℕ). line ++ feed_of p texts es) (sym (line_is texts e)) ∙ ap (λ (rest : List ℕ). telling_line Feed p times (telling texts e) ++ rest) (lines_are Feed texts es)
+  lines_are Json texts (e ∷ es) =
+      ap (λ (line : List ℕ). line ++ timed_json_of p texts times.took es) (sym (object_is texts e)) ∙ ap (λ (rest : List ℕ). telling_line Json p times (telling texts e) ++ rest) (lines_are Json texts es)
 
-  pub one_line : (form : LineForm) (texts : TextParts) (e : Event) → lines_of form p texts (e ∷ []) ≡ telling_line form p (telling texts e)
+  pub one_line : (form : LineForm) (texts : TextParts) (e : Event) → lines_of form p texts times (e ∷ []) ≡ telling_line form p times (telling texts e)
   one_line form texts e = lines_are form texts (e ∷ []) ∙ append-nil _
 
   long_by : (b : Bool) (xs ys : List ℕ) → 0 < length xs → 0 < length ys → 0 < length (cond b xs ys)
@@ -67,9 +69,9 @@ module _ (p : PlanParts) where
   long_by false xs ys some other = other
 
   -- no line is empty
-  pub line_long : (form : LineForm) (t : Telling) → 0 < length (telling_line form p t)
+  pub line_long : (form : LineForm) (t : Telling) → 0 < length (telling_line form p times t)
   line_long Feed t = long_by (t.event.node == 0) _ _ (omega arith) (omega arith)
-  line_long Json t = omega (arith, length-append (object_with p t.event (text_or t.text)) (codes "\n"))
+  line_long Json t = omega (arith, length-append (written (event_json p t.event (text_or t.text) (took_of times.took t.event.node))) (codes "\n"))
 
 end_by : (b : Bool) (xs ys : Bool) → (b || xs) ≡ false → (xs ≡ false → ys ≡ false) → (b || ys) ≡ false
 end_by true xs ys none so = none

@@ -1,33 +1,34 @@
 -- What a writer was given of the lines of a run that goes on.
-use Rattle.std.specs.Prelude.{◌≡◌, ℕ, ◌+◌, ◌<◌, ◌≤◌, ◌⊎◌, ◌==◌, ◌&&◌, ◌||◌, Bool, true, false, List, [], ◌∷◌, ◌++◌, codes, length, take, Option}
-use Rattle.std.specs.List.{flat_map}
+use Rattle.std.specs.Prelude.{◌≡◌, ℕ, ◌+◌, ◌<◌, ◌≤◌, ◌⊎◌, ◌||◌, Bool, true, false, List, [], ◌∷◌, ◌++◌, codes, length, take, Option}
+use Rattle.std.specs.List.{All, flat_map}
 use Rattle.std.specs.Io.KnownBytes.{Appends}
 use Rattle.plan_events.specs.declared.event.Event.{Event}
 use Rattle.plan_events.specs.Texts.{TextParts}
 use Rattle.resource_locks.specs.Plans.{PlanParts}
 use Rattle.listeners.specs.Feed.{event_line, feed_of, id_at, text_or}
 use Rattle.listeners.specs.Listeners.{Telling}
-use Rattle.reports.specs.Json.{json_of, object_with}
-use Rattle.worker_pool.specs.Endings.{ends_plan}
+use Rattle.job_times.specs.Timings.{Took, took_of, is_noted, IsNotedWith, Times, times_of, times_asked}
+use Rattle.reports.specs.Json.{event_json, timed_json_of, written}
+use Rattle.worker_pool.specs.Endings.{ends_plan, is_finish}
 use Rattle.live.specs.declared.line_form.LineForm.{LineForm}
 use Rattle.live.specs.declared.line_form.LineForm.TheVariants.{Feed, Json}
 use Rattle.live.specs.declared.live_feed.LiveFeed.{LiveFeed}
 use Rattle.live.specs.declared.live_feed.Outlet.{Outlet}
 use Rattle.live.specs.declared.live_feed.Outlet.TheVariants.{Waiting, Open, Closed, Failed}
 
--- the line of an event in this form, with the text that is told with it
-abbrev pub telling_line : LineForm → PlanParts → Telling → List ℕ
-telling_line Feed p t = event_line t.event (id_at p t.event.node) (text_or t.text)
-telling_line Json p t = object_with p t.event (text_or t.text) ++ codes "\n"
+-- the line of an event in this form, with the text that is told with it, and in JSON the time of its node
+abbrev pub telling_line : LineForm → PlanParts → Times → Telling → List ℕ
+telling_line Feed p times t = event_line t.event (id_at p t.event.node) (text_or t.text)
+telling_line Json p times t = written (event_json p t.event (text_or t.text) (took_of times.took t.event.node)) ++ codes "\n"
 
--- the lines of these events in this form: the feed, or the JSON
-abbrev pub lines_of : LineForm → PlanParts → TextParts → List Event → List ℕ
-lines_of Feed = feed_of
-lines_of Json = json_of
+-- the lines of these events in this form: the feed, or the JSON with these times
+abbrev pub lines_of : LineForm → PlanParts → TextParts → Times → List Event → List ℕ
+lines_of Feed p texts times events = feed_of p texts events
+lines_of Json p texts times events = timed_json_of p texts times.took events
 
 -- what is printed of these events: what stands in front, then a line for each
-abbrev pub output_of : LineForm → List ℕ → PlanParts → List Telling → List ℕ
-output_of form head p ts = head ++ flat_map (telling_line form p) ts
+abbrev pub output_of : LineForm → List ℕ → PlanParts → Times → List Telling → List ℕ
+output_of form head p times ts = head ++ flat_map (telling_line form p times) ts
 
 -- one of them is the plan's finish
 abbrev pub has_end : List Telling → Bool
@@ -56,21 +57,39 @@ is_stopped Open = false
 is_stopped Closed = true
 is_stopped Failed = true
 
--- it is as it was, and its writer was left alone
-pub record StaysAs {W : Type 0} (first now : LiveFeed W) : Type 0 where
-  pub outlet : now.outlet ≡ first.outlet
-  pub sent : now.sent ≡ first.sent
-  pub writer : now.writer.now ≡ first.writer.now
+-- what is noted of node n, which has finished and whose time is told; of another nothing is
+abbrev pub NotesIf : Bool → (n : ℕ) → (old new : Took) → Type 0
+NotesIf true n old new = IsNotedWith n old new
+NotesIf false n old new = new ≡ old
 
--- The writer is that of the feed at first, and has taken besides the first so many bytes of what is printed of these events. A feed
--- that had stopped, since it was closed or its writer failed, has done nothing.
-pub record IsPrinted {W : Type 0} (contents : W → Option (List ℕ)) (p : PlanParts) (first now : LiveFeed W) (ts : List Telling) : Type 0 where
+-- of a node whose finish this is the time is noted, if it has a place: so no time that was told with it changes
+abbrev pub IsNotedIn : Took → Telling → Type 0
+IsNotedIn took t = is_finish t.event.kind ≡ true → t.event.node < length took → is_noted took t.event.node ≡ true
+
+module _ {W S : Type 0} where
+  -- the times that stand in its lines: those that are noted, if it tells times
+  abbrev pub shown_times : LiveFeed W S → Times
+  shown_times feed = times_asked feed.timed (times_of feed.timings.now)
+
+  -- nothing was printed since, and its writer was left alone
+  pub record StaysAs (first now : LiveFeed W S) : Type 0 where
+    pub outlet : now.outlet ≡ first.outlet
+    pub sent : now.sent ≡ first.sent
+    pub writer : now.writer.now ≡ first.writer.now
+
+-- The writer is that of the feed at first, and has taken besides the first so many bytes of what is printed of these events, with the
+-- times that are noted now: the table is that of the feed at first, and what was told is noted. A feed that had stopped, since it was
+-- closed or its writer failed, has printed nothing.
+pub record IsPrinted {W S : Type 0} (contents : W → Option (List ℕ)) (p : PlanParts) (first now : LiveFeed W S) (ts : List Telling) : Type 0 where
   pub same : now.writer.ghost_name ≡ first.writer.ghost_name
   pub head : now.head ≡ first.head
   pub form : now.form ≡ first.form
+  pub timed : now.timed ≡ first.timed
+  pub same_timings : now.timings.ghost_name ≡ first.timings.ghost_name
+  pub noted : All (IsNotedIn (shown_times now).took) ts
   pub stopped : is_stopped first.outlet ≡ true → StaysAs first now
-  pub so_far : is_stopped first.outlet ≡ false → IsSoFar now.outlet now.sent (output_of first.form first.head.now p ts) ts
-  pub printed : is_stopped first.outlet ≡ false → Appends (contents first.writer.now) (contents now.writer.now) (take now.sent (output_of first.form first.head.now p ts))
+  pub so_far : is_stopped first.outlet ≡ false → IsSoFar now.outlet now.sent (output_of first.form first.head.now p (shown_times now) ts) ts
+  pub printed : is_stopped first.outlet ≡ false → Appends (contents first.writer.now) (contents now.writer.now) (take now.sent (output_of first.form first.head.now p (shown_times now) ts))
 
 -- What was done with bytes that were to be printed next: the writer took all, or none was handed to it, or it failed behind the first so many.
 abbrev pub IsHandedOn : Outlet → Option (List ℕ) → Option (List ℕ) → (was now : ℕ) → List ℕ → Type 0

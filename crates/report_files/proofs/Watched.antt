@@ -1,5 +1,6 @@
 -- What follows of one who watched a run, whatever was run.
 use Rattle.std.proofs.Common.{◌≡◌, ℕ, Bool, true, false, List, Option, Some, None, IfErr, Result, Ok, Err, inl, inr}
+use Rattle.job_times.specs.Timings.{Times}
 use Rattle.plan_events.specs.declared.event.Event.{Event}
 use Rattle.plan_events.specs.Texts.{TextParts}
 use Rattle.resource_locks.specs.Plans.{PlanParts}
@@ -18,9 +19,9 @@ use Rattle.launcher.specs.Reports.{IsPrintedRun}
 use Rattle.launcher.specs.Runs.{FailsSuite, IsSeenRun, IsSeenSuiteOutput, IsSeenSuiteRun, RunsLoaded, answers_of, plan_of}
 use Rattle.launcher.specs.Watched.{IsAnswered, IsRefusedBy, SeesRefusal, SeesTextBy, cut_in, is_run}
 
-module _ {L : Type 0} (saw : PlanParts → L → L → List Telling → Type 0) (first now : L) (Holds : Type 0) (same : now ≡ first → Holds) (seen : (p : PlanParts) (ts : List Telling) → HasSeenMore saw p ts first now → Holds) where
+module _ {L : Type 0} (saw : PlanParts → L → L → List Telling → Type 0) (first now : L) (times : Times) (Holds : Type 0) (same : now ≡ first → Holds) (seen : (p : PlanParts) (ts : List Telling) → HasSeenMore saw p ts first now → Holds) where
   -- of a text that was printed of a run, or of none
-  pub of_text : (Prints : List Event → TextParts → List ℕ → ExitStatus → Type 0) (p : PlanParts) (runs : Bool) (text : List ℕ) (status : ExitStatus) → SeesTextBy saw Prints p first now runs text status → Holds
+  pub of_text : (Prints : List Event → TextParts → Times → List ℕ → ExitStatus → Type 0) (p : PlanParts) (runs : Bool) (text : List ℕ) (status : ExitStatus) → SeesTextBy saw Prints p first now times runs text status → Holds
   of_text Prints p true text status sees = seen p (tellings_of sees.texts sees.history) sees.seen
   of_text Prints p false text status sees = same sees
 
@@ -37,18 +38,18 @@ module _ {L : Type 0} (saw : PlanParts → L → L → List Telling → Type 0) 
     of_answer asked Fails old new (Ok status) fails is = output is.text status is.output
     of_answer asked Fails old new (Err fault) fails is = of_refusal asked Fails (cut_in fault) fault old new (fails fault) is
 
-  of_suite : (asked : Asked) (suite : SuiteParts) (old new : Option (List ℕ)) (result : Result ExitStatus LaunchFault) → IsSeenSuiteRun saw first now asked suite old new result → Holds
+  of_suite : (asked : Asked) (suite : SuiteParts) (old new : Option (List ℕ)) (result : Result ExitStatus LaunchFault) → IsSeenSuiteRun saw first now times asked suite old new result → Holds
   of_suite asked suite old new result is =
-      let Output = IsSeenSuiteOutput saw first now asked suite in
+      let Output = IsSeenSuiteOutput saw first now times asked suite in
       let output : (text : List ℕ) (status : ExitStatus) → Output text status → Holds =
       λ text status out. let p = plan_of asked.fail_fast out.output.settings (answer suite.tree asked.request) in
       of_text (IsPrintedRun asked out.output.settings p (answers_of suite.scripts)) p (is_run asked.replay asked.details) text out.told out.output.output.1 in
       of_answer Output output asked (λ fault. FailsSuite asked suite fault × SeesRefusal first now Output fault) old new result (λ fault fails. of_fault Output output fault fails.1) is
 
-  of_loaded : (asked : Asked) (loaded : Result suites.Suite LaunchFault) (old new : Option (List ℕ)) (result : Result ExitStatus LaunchFault) → RunsLoaded (λ suite. IsSeenSuiteRun saw first now asked suite old new) loaded result → IfErr loaded (λ fault. now ≡ first) → Holds
+  of_loaded : (asked : Asked) (loaded : Result suites.Suite LaunchFault) (old new : Option (List ℕ)) (result : Result ExitStatus LaunchFault) → RunsLoaded (λ suite. IsSeenSuiteRun saw first now times asked suite old new) loaded result → IfErr loaded (λ fault. now ≡ first) → Holds
   of_loaded asked (Ok suite) old new result runs unread = of_suite asked (suite_parts suite) old new result runs.1
   of_loaded asked (Err fault) old new result runs unread = same unread
 
   -- of a suite that was read and run
-  pub of_run : (asked : Asked) (read : Result SuiteParts SuiteFault) (old new : Option (List ℕ)) (result : Result ExitStatus LaunchFault) → IsSeenRun saw first now asked read old new result → Holds
+  pub of_run : (asked : Asked) (read : Result SuiteParts SuiteFault) (old new : Option (List ℕ)) (result : Result ExitStatus LaunchFault) → IsSeenRun saw first now times asked read old new result → Holds
   of_run asked read old new result is = of_loaded asked is.loaded old new result is.runs is.unread

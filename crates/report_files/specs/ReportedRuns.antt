@@ -1,8 +1,8 @@
 -- A run of which reports are written besides what it prints.
-use Rattle.std.specs.Prelude.{◌≡◌, ◌⊎◌, ℕ, Bool, List, Option, Result, Ok}
+use Rattle.std.specs.Prelude.{◌≡◌, ◌⊎◌, ℕ, List, Option, Result, Ok}
 use Rattle.std.specs.Io.KnownBytes.{Appends}
 use Rattle.config_params.specs.declared.settings.Settings.{Settings}
-use Rattle.job_times.specs.Timings.{Took}
+use Rattle.job_times.specs.Timings.{Times, times_asked}
 use Rattle.plan_events.specs.declared.event.Event.{Event}
 use Rattle.plan_events.specs.Texts.{TextParts, text_at}
 use Rattle.resource_locks.specs.Plans.{PlanParts}
@@ -21,16 +21,15 @@ use Rattle.report_files.specs.Told.{ToldParts}
 use Rattle.report_files.specs.declared.recording.Recorded.{Recorded}
 use Rattle.worker_pool.specs.Watching.{HasSeenMore}
 use Rattle.report_files.specs.Reports.{IsLacking, IsReported}
-use Rattle.report_files.specs.ReportTexts.{AreAskedFor}
 use Rattle.report_files.specs.declared.report.Report.{Report}
 
 -- whoever watches has seen nothing, or these events of a plan
 abbrev pub HasSeenSome : {V : Type 0} → (PlanParts → V → V → List Telling → Type 0) → V → V → Type 0
 HasSeenSome saw first now = (now ≡ first) ⊎ ((p : PlanParts) × (ts : List Telling) × HasSeenMore saw p ts first now)
 
--- A suite was read and run, and all of this output was written; and this holds of its plan, of the history of which that is printed,
--- and of the texts of its nodes.
-pub record IsRunWith (Holds : PlanParts → List Event → TextParts → Type 0) (asked : Asked) (read : Result SuiteParts SuiteFault) (old new : Option (List ℕ)) (status : ExitStatus) : Type 0 where
+-- A suite was read and run, and all of this output, with these times, was written; and this holds of its plan, of the history of which
+-- that is printed, and of the texts of its nodes.
+pub record IsRunWith (Holds : PlanParts → List Event → TextParts → Type 0) (asked : Asked) (times : Times) (read : Result SuiteParts SuiteFault) (old new : Option (List ℕ)) (status : ExitStatus) : Type 0 where
   pub suite : SuiteParts
   pub is : read ≡ Ok suite
   pub settings : Settings
@@ -39,14 +38,14 @@ pub record IsRunWith (Holds : PlanParts → List Event → TextParts → Type 0)
   pub texts : TextParts
   pub text : List ℕ
   pub told : ExitStatus
-  pub printed : IsPrintedRun asked settings (plan_of asked.fail_fast settings (answer suite.tree asked.request)) (answers_of suite.scripts) history texts text told
+  pub printed : IsPrintedRun asked settings (plan_of asked.fail_fast settings (answer suite.tree asked.request)) (answers_of suite.scripts) history texts times text told
   pub exits : status ≡ status_unless (is_missing asked suite.tree) told
   pub written : Appends old new text
   pub holds : Holds (plan_of asked.fail_fast settings (answer suite.tree asked.request)) history texts
 
 -- the history that is printed is recorded, each event with its text
-abbrev pub IsRecordedRun : Asked → Result SuiteParts SuiteFault → Option (List ℕ) → Option (List ℕ) → ExitStatus → Recorded → Type 0
-IsRecordedRun asked read old new status recorded = IsRunWith (λ p history texts. IsRecorded p (tellings_of texts history) recorded) asked read old new status
+abbrev pub IsRecordedRun : Asked → Times → Result SuiteParts SuiteFault → Option (List ℕ) → Option (List ℕ) → ExitStatus → Recorded → Type 0
+IsRecordedRun asked times read old new status recorded = IsRunWith (λ p history texts. IsRecorded p (tellings_of texts history) recorded) asked times read old new status
 
 -- what was told is this history of the plan, and of each node the text that is told with the event which says that it is over
 pub record IsOfHistory (p : PlanParts) (history : List Event) (texts : TextParts) (told : ToldParts) : Type 0 where
@@ -55,11 +54,10 @@ pub record IsOfHistory (p : PlanParts) (history : List Event) (texts : TextParts
   pub texts_are : (n : ℕ) → text_at told.texts n ≡ text_in (tellings_of texts history) n
 
 module _ {F : Type 0} (contents : F → Option (List ℕ)) where
-  -- each report is written of just this history, and with the same times; or there was no memory for it, and no report is
-  abbrev pub AreReportsOf : (times : Bool) → Theme → PlanParts → List Event → TextParts → List (Report F) → List (Report F) → Type 0
-  AreReportsOf times theme p history texts old new =
-      ((told : ToldParts) × (took : Took) × IsOfHistory p history texts told × AreAskedFor times took × EachPlace (IsReported contents theme told took) old new) ⊎ EachPlace IsLacking old new
+  -- each report is written of just this history, and with just these times; or there was no memory for it, and no report is
+  abbrev pub AreReportsOf : Theme → PlanParts → List Event → TextParts → Times → List (Report F) → List (Report F) → Type 0
+  AreReportsOf theme p history texts times old new = ((told : ToldParts) × IsOfHistory p history texts told × EachPlace (IsReported contents theme told times) old new) ⊎ EachPlace IsLacking old new
 
-  -- one history is printed, and each report is written of it
-  abbrev pub IsReportedRun : Asked → Result SuiteParts SuiteFault → Option (List ℕ) → Option (List ℕ) → ExitStatus → List (Report F) → List (Report F) → Type 0
-  IsReportedRun asked read old new status was now = IsRunWith (λ p history texts. AreReportsOf asked.times asked.theme p history texts was now) asked read old new status
+  -- one history is printed with these times, and each report is written of it, with the same, if times are asked for, and else with none
+  abbrev pub IsReportedRun : Asked → Times → Result SuiteParts SuiteFault → Option (List ℕ) → Option (List ℕ) → ExitStatus → List (Report F) → List (Report F) → Type 0
+  IsReportedRun asked times read old new status was now = IsRunWith (λ p history texts. AreReportsOf asked.theme p history texts (times_asked asked.times times) was now) asked times read old new status

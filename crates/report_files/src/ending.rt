@@ -44,7 +44,7 @@ fn lost_with(lost: Option<usize>, kept: bool, number: usize) -> Option<usize>
 
 /// Keeps each report that is written whole, and gives up the others: those of the first reports that
 /// are asked for. Tells the number of the first that is not kept, from 1.
-pub(crate) fn end_all<K: ReportFiles>(
+pub fn end_all<K: ReportFiles>(
     files: &mut K,
     wanted: &[ReportAsked<'_>],
     reports: &[Report<K::File>],
@@ -62,7 +62,7 @@ pub(crate) fn end_all<K: ReportFiles>(
 }
 
 /// The answer of a run, where the report of this number is the first that is not kept, if one is not.
-pub(crate) fn answer_with(
+pub fn answer_with(
     answer: Result<ExitStatus, LaunchFault>,
     lost: Option<usize>,
 ) -> Result<ExitStatus, LaunchFault>

@@ -1,6 +1,7 @@
 //! A run of which reports are kept in files besides what it prints, and whose slowest tests are listed.
 
 ghost use Rattle.std.specs.Prelude.{◌≡◌, IfOk, IfErr, IsTrue, List, Option, length, map, option_map, string_bytes, true};
+ghost use Rattle.job_times.specs.Timings.{times_of};
 ghost use Rattle.launch_options.specs.Asked.{asked_by};
 ghost use Rattle.launch_options.specs.ReportTexts.{parts_of};
 ghost use Rattle.launcher.specs.Runs.{TakesFrom, fault_in};
@@ -20,7 +21,7 @@ use crate::recording::{Recorded, Recording};
 use crate::report::Report;
 use crate::reported_run::run_reported;
 use crate::slowest_tests::slowest_in;
-use job_times::Stopwatch;
+use job_times::{RunTimes, Stopwatch};
 use launch_options::{LaunchFault, Options, ReportAsked};
 use launcher::{ExitStatus, run_options_watched};
 use std::alloc::Global;
@@ -47,7 +48,7 @@ fn run_listed<
     writer: &mut W,
     beside: &mut Beside<'_, '_, V, Recording>,
     slowest: &mut Option<String>,
-    stopwatch: &S,
+    times: &mut RunTimes<'_, S>,
 ) -> Result<ExitStatus, LaunchFault>
     requires fresh { beside.old.other.now.recorded ≡ Recorded.Nothing }
     ensures same { beside.new.watcher.ghost_name ≡ beside.old.watcher.ghost_name }
@@ -56,12 +57,12 @@ fn run_listed<
     ensures watched { HasSeenSome V.saw beside.old.watcher.now beside.new.watcher.now }
     ensures reported { is_run (asked_by options.now).replay (asked_by options.now).details ≡ true →
         TakesFrom (R.remaining reader.old) (R.remaining reader.new) (fault_in result)
-        (λ bytes. IfOk result (λ status. IsReportedRun F.contents (asked_by options.now) (suite_read bytes)
-        (W.contents writer.old) (W.contents writer.new) status reports.old reports.new)) }
+        (λ bytes. IfOk result (λ status. IsReportedRun F.contents (asked_by options.now) (times_of times.new.timings)
+        (suite_read bytes) (W.contents writer.old) (W.contents writer.new) status reports.old reports.new)) }
     ensures refused { IfErr result (λ _. reports.new ≡ reports.old) }
     ensures many { length reports.new ≡ length reports.old }
-    ensures slowest { IfOk result (λ status. IsSlowestRun (asked_by options.now) (R.remaining reader.old)
-        (R.remaining reader.new) (W.contents writer.old) (W.contents writer.new) status
+    ensures slowest { IfOk result (λ status. IsSlowestRun (asked_by options.now) (times_of times.new.timings)
+        (R.remaining reader.old) (R.remaining reader.new) (W.contents writer.old) (W.contents writer.new) status
         (option_map string_bytes slowest.new)) }
 {
     let answer = run_reported(
@@ -72,9 +73,9 @@ fn run_listed<
         reader,
         writer,
         &mut *beside,
-        stopwatch,
+        &mut *times,
     );
-    *slowest = slowest_in(alloc, options.times, &beside.other.recorded, stopwatch);
+    *slowest = slowest_in(alloc, options.times, &beside.other.recorded, &times.timings);
     answer
 }
 
@@ -95,19 +96,19 @@ fn run_beside<
     writer: &mut W,
     watcher: &mut V,
     slowest: &mut Option<String>,
-    stopwatch: &S,
+    times: &mut RunTimes<'_, S>,
 ) -> Result<ExitStatus, LaunchFault>
     ensures runs { RunsAsked (asked_by options.now) (R.remaining reader.old) (R.remaining reader.new)
         (W.contents writer.old) (W.contents writer.new) result }
     ensures watched { HasSeenSome V.saw watcher.old watcher.new }
     ensures reported { is_run (asked_by options.now).replay (asked_by options.now).details ≡ true →
         TakesFrom (R.remaining reader.old) (R.remaining reader.new) (fault_in result)
-        (λ bytes. IfOk result (λ status. IsReportedRun F.contents (asked_by options.now) (suite_read bytes)
-        (W.contents writer.old) (W.contents writer.new) status reports.old reports.new)) }
+        (λ bytes. IfOk result (λ status. IsReportedRun F.contents (asked_by options.now) (times_of times.new.timings)
+        (suite_read bytes) (W.contents writer.old) (W.contents writer.new) status reports.old reports.new)) }
     ensures refused { IfErr result (λ _. reports.new ≡ reports.old) }
     ensures many { length reports.new ≡ length reports.old }
-    ensures slowest { IfOk result (λ status. IsSlowestRun (asked_by options.now) (R.remaining reader.old)
-        (R.remaining reader.new) (W.contents writer.old) (W.contents writer.new) status
+    ensures slowest { IfOk result (λ status. IsSlowestRun (asked_by options.now) (times_of times.new.timings)
+        (R.remaining reader.old) (R.remaining reader.new) (W.contents writer.old) (W.contents writer.new) status
         (option_map string_bytes slowest.new)) }
 {
     let mut recording = Recording::new(alloc);
@@ -122,7 +123,7 @@ fn run_beside<
         writer,
         &mut beside,
         slowest,
-        stopwatch,
+        times,
     )
 }
 
@@ -145,17 +146,18 @@ fn run_opened<
     writer: &mut W,
     watcher: &mut V,
     slowest: &mut Option<String>,
-    stopwatch: &S,
+    times: &mut RunTimes<'_, S>,
 ) -> Result<ExitStatus, LaunchFault>
     requires opened { AreOpened K.File.contents reports.old (map parts_of wanted.now) }
     requires all { length reports.old ≡ length wanted.now }
     ensures filed { (before : Option (List Deed)) →
         Does before (K.deeds files.old) (openings (map parts_of wanted.now)) →
-        IsOpenedRun (asked_by options.now) (map parts_of wanted.now) (R.remaining reader.old) (R.remaining reader.new)
-        (W.contents writer.old) (W.contents writer.new) before (K.deeds files.new) result }
+        IsOpenedRun (asked_by options.now) (map parts_of wanted.now) (times_of times.new.timings)
+        (R.remaining reader.old) (R.remaining reader.new) (W.contents writer.old) (W.contents writer.new) before
+        (K.deeds files.new) result }
     ensures watched { HasSeenSome V.saw watcher.old watcher.new }
-    ensures slowest { IfOk result (λ status. IsSlowestRun (asked_by options.now) (R.remaining reader.old)
-        (R.remaining reader.new) (W.contents writer.old) (W.contents writer.new) status
+    ensures slowest { IfOk result (λ status. IsSlowestRun (asked_by options.now) (times_of times.new.timings)
+        (R.remaining reader.old) (R.remaining reader.new) (W.contents writer.old) (W.contents writer.new) status
         (option_map string_bytes slowest.new)) }
 {
     let answer = run_beside(
@@ -167,7 +169,7 @@ fn run_opened<
         writer,
         watcher,
         slowest,
-        stopwatch,
+        times,
     );
     let lost = end_all(files, wanted, reports);
     answer_with(answer, lost)
@@ -186,8 +188,8 @@ fn asks_no_more(options: &Options, wanted: &[ReportAsked<'_>]) -> bool
 /// Runs what these options ask for, and keeps these reports of it in files, if some are asked for. The files are
 /// opened before anything is read, and 107 is refused if one cannot be: then all are given up, and nothing is read or
 /// written. When the run is over and all that it prints was printed, each report is written and kept; those of
-/// what is refused are given up. 82 is answered if one is not kept: the others are. If times are asked for the list of
-/// the slowest tests is made, as far as the stopwatch knows how long they took, and there is memory for it.
+/// what is refused are given up. 82 is answered if one is not kept: the others are. If times are asked for, those that
+/// are printed stand in each report, and the list of the slowest tests is made by them, if there is memory for it.
 pub fn run_filed<
     T: Threads + Wait + Sync,
     R: Read,
@@ -205,20 +207,20 @@ pub fn run_filed<
     writer: &mut W,
     watcher: &mut V,
     slowest: &mut Option<String>,
-    stopwatch: &S,
+    times: &mut RunTimes<'_, S>,
 ) -> Result<ExitStatus, LaunchFault>
-    ensures filed { RunsFiled (asked_by options.now) (map parts_of wanted.now) (R.remaining reader.old)
-        (R.remaining reader.new) (W.contents writer.old) (W.contents writer.new) (K.deeds files.old) (K.deeds files.new)
-        result }
+    ensures filed { RunsFiled (asked_by options.now) (map parts_of wanted.now) (times_of times.new.timings)
+        (R.remaining reader.old) (R.remaining reader.new) (W.contents writer.old) (W.contents writer.new)
+        (K.deeds files.old) (K.deeds files.new) result }
     ensures watched { HasSeenSome V.saw watcher.old watcher.new }
-    // The list is of the plan that was run.
-    ensures slowest { IfOk result (λ status. IsSlowestRun (asked_by options.now) (R.remaining reader.old)
-        (R.remaining reader.new) (W.contents writer.old) (W.contents writer.new) status
+    // The list is of the plan that was run, by the same times.
+    ensures slowest { IfOk result (λ status. IsSlowestRun (asked_by options.now) (times_of times.new.timings)
+        (R.remaining reader.old) (R.remaining reader.new) (W.contents writer.old) (W.contents writer.new) status
         (option_map string_bytes slowest.new)) }
 {
     *slowest = None;
     if asks_no_more(options, wanted) {
-        return run_options_watched(rt, alloc, options, reader, writer, watcher, stopwatch);
+        return run_options_watched(rt, alloc, options, reader, writer, watcher, times);
     }
     let mut reports = open_all(alloc, &mut *files, wanted)?;
     run_opened(
@@ -232,6 +234,6 @@ pub fn run_filed<
         writer,
         watcher,
         slowest,
-        stopwatch,
+        times,
     )
 }

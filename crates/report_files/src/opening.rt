@@ -61,7 +61,7 @@ fn open_each<K: ReportFiles>(
 
 /// The reports that are asked for, each with an empty file. If one cannot be opened (107) those before it are
 /// given up.
-pub(crate) fn open_all<K: ReportFiles>(
+pub fn open_all<K: ReportFiles>(
     alloc: Global,
     files: &mut K,
     wanted: &[ReportAsked<'_>],

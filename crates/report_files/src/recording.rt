@@ -196,20 +196,6 @@ impl Recording {
         }
     }
 
-    /// Nothing was told yet; and where that is not asked for, nothing is kept of what is told.
-    pub fn if_asked(alloc: Global, is_asked: bool) -> Recording
-        ensures { (p : PlanParts) → IsRecorded p [] result.recorded }
-    {
-        if is_asked {
-            Recording::new(alloc)
-        } else {
-            Recording {
-                alloc,
-                recorded: Recorded::Lacking,
-            }
-        }
-    }
-
     /// Makes a copy of the plan when the first event is told.
     fn begin(&mut self, plan: &Plan)
         ensures { (ts : List Telling) → IsRecorded plan.now ts self.old.recorded →

@@ -1,13 +1,13 @@
 //! A report on its way to its writer.
 
 ghost use Rattle.std.specs.Prelude.{◌≡◌, length};
+ghost use Rattle.job_times.specs.Timings.{times_asked, times_of};
 ghost use Rattle.listeners.specs.Listeners.{EachPlace};
-ghost use Rattle.report_files.specs.Reports.{AreReported, IsLacking, IsRecordedIn, IsReported};
+ghost use Rattle.report_files.specs.Reports.{IsLacking, IsRecordedIn, IsReported};
 
 use crate::recording::{Recorded, ToldRun};
 use crate::report_text::report_text;
-use crate::slowest_tests::timings_for;
-use job_times::{Stopwatch, Timings};
+use job_times::Timings;
 use launch_options::{CutCause, Details, Options};
 use listeners::{Theme, print_to};
 use std::alloc::Global;
@@ -32,7 +32,7 @@ pub struct Report<F: Write + Drop> {
     pub outcome: Outcome,
 }
 
-/// Writes a report of this run, with these times of its nodes.
+/// Writes a report of this run, with these times.
 fn report_run<F: Write + Drop>(
     alloc: Global,
     theme: Theme,
@@ -40,7 +40,7 @@ fn report_run<F: Write + Drop>(
     timings: &Timings,
     report: &mut Report<F>,
 )
-    ensures { IsReported F.contents theme told.now timings.now.took.items report.old report.new }
+    ensures { IsReported F.contents theme told.now (times_of timings.now) report.old report.new }
 {
     match report_text(alloc, report.form, theme, told, timings) {
         Ok(text) => match print_to(&mut report.file, text.as_bytes()) {
@@ -51,7 +51,7 @@ fn report_run<F: Write + Drop>(
     }
 }
 
-/// Writes each report of this run, with these times of its nodes.
+/// Writes each report of this run, with these times.
 fn report_all<F: Write + Drop>(
     alloc: Global,
     theme: Theme,
@@ -59,7 +59,7 @@ fn report_all<F: Write + Drop>(
     timings: &Timings,
     reports: &mut [Report<F>],
 )
-    ensures each { EachPlace (IsReported F.contents theme told.now timings.now.took.items) reports.old reports.new }
+    ensures each { EachPlace (IsReported F.contents theme told.now (times_of timings.now)) reports.old reports.new }
     ensures many { length reports.new ≡ length reports.old }
 {
     for index in 0..reports.len() {
@@ -84,37 +84,39 @@ fn miss_all<F: Write + Drop>(reports: &mut [Report<F>])
     }
 }
 
-/// Writes each report of this run, with the times of its nodes if they are asked for.
-fn report_told<F: Write + Drop, S: Stopwatch>(
+/// Writes each report of this run, with these times if they are asked for, and else with none.
+fn report_told<F: Write + Drop>(
     alloc: Global,
     options: &Options,
     told: &ToldRun,
     reports: &mut [Report<F>],
-    stopwatch: &S,
+    timings: &Timings,
 )
-    ensures each { AreReported F.contents options.now.theme options.now.times told.now reports.old reports.new }
+    ensures each { EachPlace (IsReported F.contents options.now.theme told.now
+        (times_asked options.now.times (times_of timings.now))) reports.old reports.new }
     ensures many { length reports.new ≡ length reports.old }
 {
-    match timings_for(alloc, options.times, told, stopwatch) {
-        Ok(timings) => report_all(alloc, options.theme, told, &timings, reports),
-        Err(_) => miss_all(reports),
+    if options.times {
+        report_all(alloc, options.theme, told, timings, reports)
+    } else {
+        report_all(alloc, options.theme, told, &Timings::none(alloc), reports)
     }
 }
 
-/// Writes each report of what was recorded, if all was.
-pub(crate) fn write_reports<F: Write + Drop, S: Stopwatch>(
+/// Writes each report of what was recorded, if all was; with these times if they are asked for, and else with none.
+pub fn write_reports<F: Write + Drop>(
     alloc: Global,
     options: &Options,
     recorded: &Recorded,
     reports: &mut [Report<F>],
-    stopwatch: &S,
+    timings: &Timings,
 )
-    ensures recorded { IsRecordedIn F.contents options.now.theme options.now.times recorded.now reports.old
-        reports.new }
+    ensures recorded { IsRecordedIn F.contents options.now.theme (times_asked options.now.times (times_of timings.now))
+        recorded.now reports.old reports.new }
     ensures many { length reports.new ≡ length reports.old }
 {
     match recorded {
-        Recorded::Told(told) => report_told(alloc, options, told, reports, stopwatch),
+        Recorded::Told(told) => report_told(alloc, options, told, reports, timings),
         Recorded::Nothing | Recorded::Lacking => miss_all(reports),
     }
 }

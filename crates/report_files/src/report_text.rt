@@ -1,6 +1,7 @@
 //! What a report holds.
 
 ghost use Rattle.std.specs.Prelude.{◌≡◌, ◌++◌, IfOk, string_bytes};
+ghost use Rattle.job_times.specs.Timings.{times_of};
 ghost use Rattle.launcher.specs.Reports.{details_of};
 ghost use Rattle.listeners.specs.Counts.{counts_of};
 ghost use Rattle.listeners.specs.SummaryTexts.{summary_of};
@@ -49,7 +50,7 @@ fn tree_text(alloc: Global, theme: Theme, told: &ToldRun) -> Result<String, Allo
     tree_and_summary(alloc, theme, &results, told.texts())
 }
 
-/// The text of this form of a run, with these times of its nodes.
+/// The text of this form of a run, with these times.
 fn form_text(
     alloc: Global,
     form: Details,
@@ -58,7 +59,7 @@ fn form_text(
     timings: &Timings,
 ) -> Result<String, AllocError>
     ensures { IfOk result (λ text. string_bytes text ≡ details_of form theme told.now.plan told.now.texts
-        timings.now.took.items told.now.events) }
+        (times_of timings.now) told.now.events) }
 {
     match form {
         Details::None => Ok(String::new(alloc)),
@@ -72,7 +73,7 @@ fn form_text(
     }
 }
 
-/// The report of this form of a run, with these times of its nodes.
+/// The report of this form of a run, with these times.
 pub(crate) fn report_text(
     alloc: Global,
     form: Details,
@@ -80,7 +81,7 @@ pub(crate) fn report_text(
     told: &ToldRun,
     timings: &Timings,
 ) -> Result<String, AllocError>
-    ensures { IfOk result (λ text. string_bytes text ≡ report_of form theme told.now timings.now.took.items) }
+    ensures { IfOk result (λ text. string_bytes text ≡ report_of form theme told.now (times_of timings.now)) }
 {
     let mut text = String::from_str(alloc, beginning(form))?;
     text.push_str(form_text(alloc, form, theme, told, timings)?.as_str())?;

@@ -2,6 +2,7 @@
 
 ghost use Rattle.std.specs.Prelude.{◌≡◌, IfOk, IfErr, IfSome, false, length, take, true};
 ghost use Rattle.std.specs.Io.KnownBytes.{Keeps};
+ghost use Rattle.job_times.specs.Timings.{times_of};
 ghost use Rattle.launch_options.specs.Asked.{asked_by};
 ghost use Rattle.launcher.specs.Runs.{IsRun, TakesFrom, fault_in, is_writing};
 ghost use Rattle.launcher.specs.Watched.{is_run};
@@ -11,7 +12,7 @@ ghost use Rattle.report_files.specs.ReportedRuns.{HasSeenSome, IsRecordedRun, Is
 use crate::beside::Beside;
 use crate::recording::{Recorded, Recording};
 use crate::report::{Report, write_reports};
-use job_times::Stopwatch;
+use job_times::{RunTimes, Stopwatch};
 use launch_options::{LaunchFault, Options};
 use launcher::{ExitStatus, run_options_watched};
 use std::alloc::Global;
@@ -28,7 +29,7 @@ fn run_recorded<T: Threads + Wait + Sync, R: Read, W: Write, V: Watcher, S: Stop
     reader: &mut R,
     writer: &mut W,
     beside: &mut Beside<'_, '_, V, Recording>,
-    stopwatch: &S,
+    times: &mut RunTimes<'_, S>,
 ) -> Result<ExitStatus, LaunchFault>
     requires fresh { beside.old.other.now.recorded ≡ Recorded.Nothing }
     ensures same { beside.new.watcher.ghost_name ≡ beside.old.watcher.ghost_name }
@@ -43,18 +44,18 @@ fn run_recorded<T: Threads + Wait + Sync, R: Read, W: Write, V: Watcher, S: Stop
     ensures seen { HasSeenSome V.saw beside.old.watcher.now beside.new.watcher.now }
     ensures recorded { is_run (asked_by options.now).replay (asked_by options.now).details ≡ true →
         TakesFrom (R.remaining reader.old) (R.remaining reader.new) (fault_in result)
-        (λ bytes. IfOk result (λ status. IsRecordedRun (asked_by options.now) (suite_read bytes) (W.contents writer.old)
-        (W.contents writer.new) status beside.new.other.now.recorded)) }
+        (λ bytes. IfOk result (λ status. IsRecordedRun (asked_by options.now) (times_of times.new.timings)
+        (suite_read bytes) (W.contents writer.old) (W.contents writer.new) status beside.new.other.now.recorded)) }
     ensures unrecorded { is_run (asked_by options.now).replay (asked_by options.now).details ≡ false →
         IfOk result (λ _. beside.new.other.now.recorded ≡ Recorded.Nothing) }
 {
-    run_options_watched(rt, alloc, options, reader, writer, beside, stopwatch)
+    run_options_watched(rt, alloc, options, reader, writer, beside, times)
 }
 
 /// Runs what these options ask for, as `run_options_watched` does, records what is told of it, and writes each report
-/// when the run is over: there is one history that is printed and
-/// that the reports are of, with the texts that were told with it, and with the same times in each, if times are asked
-/// for. How the writing of each went stands in it. Of what is refused no report is written, and its writer is left alone.
+/// when the run is over: there is one history that is printed and that the reports are of, with the texts that were told
+/// with it; and if times are asked for, those that are printed stand in each report. How the writing of each went stands
+/// in it. Of what is refused no report is written, and its writer is left alone.
 pub fn run_reported<
     T: Threads + Wait + Sync,
     R: Read,
@@ -70,7 +71,7 @@ pub fn run_reported<
     reader: &mut R,
     writer: &mut W,
     beside: &mut Beside<'_, '_, V, Recording>,
-    stopwatch: &S,
+    times: &mut RunTimes<'_, S>,
 ) -> Result<ExitStatus, LaunchFault>
     requires fresh { beside.old.other.now.recorded ≡ Recorded.Nothing }
     ensures same { beside.new.watcher.ghost_name ≡ beside.old.watcher.ghost_name }
@@ -83,24 +84,38 @@ pub fn run_reported<
     ensures quiet { IfErr result (λ fault. is_writing fault ≡ false →
         Keeps (W.contents writer.old) (W.contents writer.new)) }
     ensures watched { HasSeenSome V.saw beside.old.watcher.now beside.new.watcher.now }
-    // One history witnesses what is printed and every report.
+    // One history witnesses what is printed and every report, and so do these times.
     ensures reported { is_run (asked_by options.now).replay (asked_by options.now).details ≡ true →
         TakesFrom (R.remaining reader.old) (R.remaining reader.new) (fault_in result)
-        (λ bytes. IfOk result (λ status. IsReportedRun F.contents (asked_by options.now) (suite_read bytes)
-        (W.contents writer.old) (W.contents writer.new) status reports.old reports.new)) }
+        (λ bytes. IfOk result (λ status. IsReportedRun F.contents (asked_by options.now) (times_of times.new.timings)
+        (suite_read bytes) (W.contents writer.old) (W.contents writer.new) status reports.old reports.new)) }
     ensures refused { IfErr result (λ _. reports.new ≡ reports.old) }
     ensures many { length reports.new ≡ length reports.old }
     // The same history is what was recorded; where nothing is run nothing was.
     ensures recorded { is_run (asked_by options.now).replay (asked_by options.now).details ≡ true →
         TakesFrom (R.remaining reader.old) (R.remaining reader.new) (fault_in result)
-        (λ bytes. IfOk result (λ status. IsRecordedRun (asked_by options.now) (suite_read bytes) (W.contents writer.old)
-        (W.contents writer.new) status beside.new.other.now.recorded)) }
+        (λ bytes. IfOk result (λ status. IsRecordedRun (asked_by options.now) (times_of times.new.timings)
+        (suite_read bytes) (W.contents writer.old) (W.contents writer.new) status beside.new.other.now.recorded)) }
     ensures unrecorded { is_run (asked_by options.now).replay (asked_by options.now).details ≡ false →
         IfOk result (λ _. beside.new.other.now.recorded ≡ Recorded.Nothing) }
 {
-    match run_recorded(rt, alloc, options, reader, writer, &mut *beside, stopwatch) {
+    match run_recorded(
+        rt,
+        alloc,
+        options,
+        reader,
+        writer,
+        &mut *beside,
+        &mut *times,
+    ) {
         Ok(status) => {
-            write_reports(alloc, options, &beside.other.recorded, reports, stopwatch);
+            write_reports(
+                alloc,
+                options,
+                &beside.other.recorded,
+                reports,
+                &times.timings,
+            );
             Ok(status)
         }
         Err(fault) => Err(fault),

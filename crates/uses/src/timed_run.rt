@@ -1,22 +1,41 @@
 //! Calls `timed_runs` and `job_times`: two threads run a plan with two jobs of one's own, and a clock says how long its
 //! nodes took.
 
-ghost use Rattle.std.specs.Prelude.{◌≡◌, IfSome, length};
+ghost use Rattle.std.specs.Prelude.{◌≡◌, ◌<◌, IfOk, IfSome, ℕ, true};
 ghost use Rattle.descriptor.specs.Nodes.{size};
 ghost use Rattle.event_history.specs.History.{IsComplete};
+ghost use Rattle.job_times.specs.Timings.{is_noted};
 
 use crate::threaded_run::two_jobs;
-use descriptor::BodyId;
-use job_times::{JobTimes, Timings, timings_of};
+use descriptor::{BodyId, NodeId, Tree};
+use job_times::{JobTimes, RunTimes, Stopwatch, Timings};
 use listeners::Audience;
 use plan_events::Event;
 use resource_locks::Plan;
-use std::alloc::Global;
+use std::alloc::{AllocError, Global};
 use std::sync::Wait;
 use std::thread::Threads;
 use std::time::Clock;
 use timed_runs::run_timed;
 use worker_pool::Nobody;
+
+/// How long each node of a tree took, as this stopwatch has it now.
+fn noted<S: Stopwatch>(alloc: Global, tree: &Tree, stopwatch: &S) -> Result<Timings, AllocError>
+    ensures { IfOk result (λ timings. (n : ℕ) → n < size tree.now → is_noted timings.took.items n ≡ true) }
+{
+    let mut times = RunTimes::new(stopwatch, Timings::none(alloc));
+    times.prepare(alloc, true, tree.len())?;
+    for number in 0..tree.len() {
+        times
+            .timings
+            .note(stopwatch, tree, NodeId::new(number as u16));
+    }
+    let RunTimes {
+        stopwatch: _,
+        timings,
+    } = times;
+    Ok(timings)
+}
 
 /// What happens where two threads run this plan, whose only bodies are these two, and how long its nodes took; or None,
 /// if it is not run.
@@ -28,7 +47,7 @@ pub fn run_two_timed<R: Threads + Wait + Sync + Clock>(
     second: BodyId,
 ) -> Option<(Vec<Event>, Timings)>
     ensures complete { IfSome result (λ told. IsComplete plan told.0.items) }
-    ensures each { IfSome result (λ told. length told.1.took.items ≡ size plan.tree) }
+    ensures each { IfSome result (λ told. (n : ℕ) → n < size plan.tree → is_noted told.1.took.items n ≡ true) }
 {
     let Ok(jobs) = two_jobs(alloc, first, second) else {
         return None;
@@ -36,7 +55,7 @@ pub fn run_two_timed<R: Threads + Wait + Sync + Clock>(
     let Ok(mut nobody) = Audience::new(Vec::new(alloc)) else {
         return None;
     };
-    let times = JobTimes::new(alloc, rt).ok()?;
+    let stopwatch = JobTimes::new(alloc, rt).ok()?;
     let mut watcher = Nobody;
     match run_timed(
         rt,
@@ -47,9 +66,9 @@ pub fn run_two_timed<R: Threads + Wait + Sync + Clock>(
         1024,
         &mut nobody,
         &mut watcher,
-        &times,
+        &stopwatch,
     ) {
-        Ok(report) => match timings_of(alloc, report.plan.tree(), &times) {
+        Ok(report) => match noted(alloc, report.plan.tree(), &stopwatch) {
             Ok(timings) => Some((report.events, timings)),
             Err(_) => None,
         },

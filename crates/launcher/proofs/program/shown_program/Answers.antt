@@ -4,7 +4,7 @@ use Rattle.launch_options.specs.Asked.{asked_by}
 use Rattle.launcher.specs.Programs.{IsPrintedJobs, IsProgramOutput}
 use Rattle.launcher.specs.Watched.{is_run}
 use Rattle.launcher.proofs.ProgramRuns.{jobs_feed_runs, jobs_text_of, program_output_of}
-use Rattle.launcher.proofs.Showing.{same_watcher, shown_broken, shown_front, shown_output, shown_refusal, still_same}
+use Rattle.launcher.proofs.Showing.{same_timings, same_watcher, shown_broken, shown_front, shown_output, shown_refusal, still_same}
 use Rattle.launcher.proofs.program.shown_program.Goals as goal
 
 pub returns-clause-same : goal.returns-clause-same
@@ -15,7 +15,17 @@ returns-clause-same g c =
     let jobs = c.args.jobs.items in
     let answers = g.B.Job.answers in
     still_same g.W.Write.contents g.V.Watcher.saw asked settings p (IsPrintedJobs answers None asked settings p jobs) (IsProgramOutput answers None asked.details asked settings p jobs) (is_run None asked.details) (program_output_of answers None asked settings p jobs)
-    (jobs_text_of answers None asked settings p jobs) (jobs_feed_runs asked) c.args.live.now c.program_report.new.watcher c.requires.head c.requires.form c.requires.outlet c.requires.none c.program_report.result c.program_report.ensures.watched
+    (jobs_text_of answers None asked settings p jobs) (jobs_feed_runs asked) c.args.live.now c.program_report.new.watcher c.requires.head c.requires.form c.requires.outlet c.requires.timed c.requires.none c.program_report.result c.program_report.ensures.watched
+
+pub returns-clause-same_timings : goal.returns-clause-same_timings
+returns-clause-same_timings g c =
+    let asked = asked_by c.args.options.now in
+    let settings = c.args.settings.now in
+    let p = c.args.plan in
+    let jobs = c.args.jobs.items in
+    let answers = g.B.Job.answers in
+    same_timings g.W.Write.contents g.V.Watcher.saw asked settings p (IsPrintedJobs answers None asked settings p jobs) (IsProgramOutput answers None asked.details asked settings p jobs) (is_run None asked.details) (program_output_of answers None asked settings p jobs)
+    (jobs_text_of answers None asked settings p jobs) (jobs_feed_runs asked) c.args.live.now c.program_report.new.watcher c.requires.head c.requires.form c.requires.outlet c.requires.timed c.requires.none c.program_report.result c.program_report.ensures.watched
 
 pub returns-clause-same_watcher : goal.returns-clause-same_watcher
 returns-clause-same_watcher g c =
@@ -25,7 +35,7 @@ returns-clause-same_watcher g c =
     let jobs = c.args.jobs.items in
     let answers = g.B.Job.answers in
     same_watcher g.W.Write.contents g.V.Watcher.saw asked settings p (IsPrintedJobs answers None asked settings p jobs) (IsProgramOutput answers None asked.details asked settings p jobs) (is_run None asked.details) (program_output_of answers None asked settings p jobs)
-    (jobs_text_of answers None asked settings p jobs) (jobs_feed_runs asked) c.args.live.now c.program_report.new.watcher c.requires.head c.requires.form c.requires.outlet c.requires.none c.program_report.result c.program_report.ensures.watched
+    (jobs_text_of answers None asked settings p jobs) (jobs_feed_runs asked) c.args.live.now c.program_report.new.watcher c.requires.head c.requires.form c.requires.outlet c.requires.timed c.requires.none c.program_report.result c.program_report.ensures.watched
 
 pub returns-clause-output : goal.returns-clause-output
 returns-clause-output g c =
@@ -35,7 +45,7 @@ returns-clause-output g c =
     let jobs = c.args.jobs.items in
     let answers = g.B.Job.answers in
     shown_output g.W.Write.contents g.V.Watcher.saw asked settings p (IsPrintedJobs answers None asked settings p jobs) (IsProgramOutput answers None asked.details asked settings p jobs) (is_run None asked.details) (program_output_of answers None asked settings p jobs)
-    (jobs_text_of answers None asked settings p jobs) (jobs_feed_runs asked) c.args.live.now c.program_report.new.watcher c.requires.head c.requires.form c.requires.outlet c.requires.none c.program_report.result c.program_report.ensures.watched c.program_report.ensures.output
+    (jobs_text_of answers None asked settings p jobs) (jobs_feed_runs asked) c.args.live.now c.program_report.new.watcher c.requires.head c.requires.form c.requires.outlet c.requires.timed c.requires.none c.program_report.result c.program_report.ensures.watched c.program_report.ensures.output
 
 pub returns-clause-front : goal.returns-clause-front
 returns-clause-front g c =
@@ -45,7 +55,7 @@ returns-clause-front g c =
     let jobs = c.args.jobs.items in
     let answers = g.B.Job.answers in
     shown_front g.W.Write.contents g.V.Watcher.saw asked settings p (IsPrintedJobs answers None asked settings p jobs) (IsProgramOutput answers None asked.details asked settings p jobs) (is_run None asked.details) (program_output_of answers None asked settings p jobs)
-    (jobs_text_of answers None asked settings p jobs) (jobs_feed_runs asked) c.args.live.now c.program_report.new.watcher c.requires.head c.requires.form c.requires.outlet c.requires.none c.program_report.result c.program_report.ensures.watched
+    (jobs_text_of answers None asked settings p jobs) (jobs_feed_runs asked) c.args.live.now c.program_report.new.watcher c.requires.head c.requires.form c.requires.outlet c.requires.timed c.requires.none c.program_report.result c.program_report.ensures.watched
 
 pub returns-clause-seen : goal.returns-clause-seen
 returns-clause-seen g c =
@@ -55,7 +65,7 @@ returns-clause-seen g c =
     let jobs = c.args.jobs.items in
     let answers = g.B.Job.answers in
     shown_refusal g.W.Write.contents g.V.Watcher.saw asked settings p (IsPrintedJobs answers None asked settings p jobs) (IsProgramOutput answers None asked.details asked settings p jobs) (is_run None asked.details) (program_output_of answers None asked settings p jobs)
-    (jobs_text_of answers None asked settings p jobs) (jobs_feed_runs asked) c.args.live.now c.program_report.new.watcher c.requires.head c.requires.form c.requires.outlet c.requires.none c.program_report.result c.program_report.ensures.watched
+    (jobs_text_of answers None asked settings p jobs) (jobs_feed_runs asked) c.args.live.now c.program_report.new.watcher c.requires.head c.requires.form c.requires.outlet c.requires.timed c.requires.none c.program_report.result c.program_report.ensures.watched
 
 pub returns-clause-broken_off : goal.returns-clause-broken_off
 returns-clause-broken_off g c =
@@ -65,4 +75,4 @@ returns-clause-broken_off g c =
     let jobs = c.args.jobs.items in
     let answers = g.B.Job.answers in
     shown_broken g.W.Write.contents g.V.Watcher.saw asked settings p (IsPrintedJobs answers None asked settings p jobs) (IsProgramOutput answers None asked.details asked settings p jobs) (is_run None asked.details) (program_output_of answers None asked settings p jobs)
-    (jobs_text_of answers None asked settings p jobs) (jobs_feed_runs asked) c.args.live.now c.program_report.new.watcher c.requires.head c.requires.form c.requires.outlet c.requires.none c.program_report.result c.program_report.ensures.watched
+    (jobs_text_of answers None asked settings p jobs) (jobs_feed_runs asked) c.args.live.now c.program_report.new.watcher c.requires.head c.requires.form c.requires.outlet c.requires.timed c.requires.none c.program_report.result c.program_report.ensures.watched

@@ -2,6 +2,7 @@
 use Rattle.std.proofs.Common.{◌≡◌, ◌++◌, subst}
 use Rattle.std.specs.Prelude.{string_bytes}
 use Rattle.resource_locks.specs.Plans.{PlanParts}
+use Rattle.job_times.specs.Timings.{times_asked}
 use Rattle.listeners.specs.Results.{tests_found, has_failed}
 use Rattle.launch_options.specs.Asked.{asked_by}
 use Rattle.launcher.specs.ExitStatuses.{status_of_run}
@@ -21,12 +22,14 @@ returns-in-Ok-run_timed-clause-output g c =
     let made = c.in_ok-output_of-in-Ok-run_timed.ensures in
     let q = c.in-Ok-run_timed.ensures in
     let events = over.events.items in
+    let times = g.V.NotesTimes.noted c.run_timed.new.watcher in
     record {
       history = events;
       texts = over.texts;
-      prints = printed_jobs g.B.Job.answers asked settings c.args.plan c.requires.tree c.requires.guarded c.args.jobs.items events over.texts q.report q.texts _ over.unused_jobs.items q.balanced made.text.0 made.text.1 made.text.2
-          (string_bytes report.text) report.status (moved_behind _ asked.details asked.schedule settings.workers events over.texts made.text.2 q.plan made.text.3)
-          (subst (λ (p : PlanParts). string_bytes report.text ≡ head_of asked.details settings.warnings ++ (details_of asked.details asked.theme p over.texts made.text.0 events ++ made.text.2)) q.plan made.text.4)
+      times = times;
+      prints = printed_jobs g.B.Job.answers asked settings c.args.plan c.requires.tree c.requires.guarded c.args.jobs.items events over.texts q.report q.texts _ over.unused_jobs.items q.balanced times made.text.0
+          (string_bytes report.text) report.status (moved_behind _ asked.details asked.schedule settings.workers events over.texts made.text.0 q.plan made.text.1)
+          (subst (λ (p : PlanParts). string_bytes report.text ≡ head_of asked.details settings.warnings ++ (details_of asked.details asked.theme p over.texts (times_asked asked.times times) events ++ made.text.0)) q.plan made.text.2)
           (subst (λ (p : PlanParts). report.status ≡ status_of_run asked.fail_if_no_tests (tests_found p events) (has_failed p events)) q.plan made.status);
     }
 
@@ -39,12 +42,13 @@ returns-in-Ok-run_timed-clause-watched g c =
     let made = c.in_ok-output_of-in-Ok-run_timed.ensures in
     let q = c.in-Ok-run_timed.ensures in
     let events = over.events.items in
+    let times = g.V.NotesTimes.noted c.run_timed.new.watcher in
     record {
       history = events;
       texts = over.texts;
-      prints = printed_jobs g.B.Job.answers asked settings c.args.plan c.requires.tree c.requires.guarded c.args.jobs.items events over.texts q.report q.texts _ over.unused_jobs.items q.balanced made.text.0 made.text.1 made.text.2
-          (string_bytes report.text) report.status (moved_behind _ asked.details asked.schedule settings.workers events over.texts made.text.2 q.plan made.text.3)
-          (subst (λ (p : PlanParts). string_bytes report.text ≡ head_of asked.details settings.warnings ++ (details_of asked.details asked.theme p over.texts made.text.0 events ++ made.text.2)) q.plan made.text.4)
+      prints = printed_jobs g.B.Job.answers asked settings c.args.plan c.requires.tree c.requires.guarded c.args.jobs.items events over.texts q.report q.texts _ over.unused_jobs.items q.balanced times made.text.0
+          (string_bytes report.text) report.status (moved_behind _ asked.details asked.schedule settings.workers events over.texts made.text.0 q.plan made.text.1)
+          (subst (λ (p : PlanParts). string_bytes report.text ≡ head_of asked.details settings.warnings ++ (details_of asked.details asked.theme p over.texts (times_asked asked.times times) events ++ made.text.0)) q.plan made.text.2)
           (subst (λ (p : PlanParts). report.status ≡ status_of_run asked.fail_if_no_tests (tests_found p events) (has_failed p events)) q.plan made.status);
       seen = q.seen;
     }
@@ -55,9 +59,10 @@ returns-in_err-output_of-in-Ok-run_timed-clause-watched g c =
     let settings = c.args.settings.now in
     let over = c.in-Ok-run_timed.ran in
     let events = over.events.items in
+    let times = g.V.NotesTimes.noted c.run_timed.new.watcher in
     let q = c.in-Ok-run_timed.ensures in
-    watches_in_vain g.V.Watcher.saw (IsPrintedJobs g.B.Job.answers _ asked settings c.args.plan c.args.jobs.items) c.args.plan c.args.watcher.now c.run_timed.new.watcher _ c.from_residual.ensures.1
-    (jobs_in_vain g.B.Job.answers asked settings c.args.plan c.requires.tree c.requires.guarded c.args.jobs.items events over.texts q.report q.texts g.V.Watcher.saw c.args.watcher.now c.run_timed.new.watcher q.seen over.unused_jobs.items q.balanced _)
+    watches_in_vain g.V.Watcher.saw c.args.watcher.now c.run_timed.new.watcher times (IsPrintedJobs g.B.Job.answers _ asked settings c.args.plan c.args.jobs.items) c.args.plan _ c.from_residual.ensures.1
+    (jobs_in_vain g.B.Job.answers asked settings c.args.plan c.requires.tree c.requires.guarded c.args.jobs.items events over.texts q.report q.texts g.V.Watcher.saw c.args.watcher.now c.run_timed.new.watcher times q.seen over.unused_jobs.items q.balanced _)
 
 pub unrun-requires : goal.unrun-requires
 unrun-requires g c =

@@ -1,26 +1,26 @@
 -- Where no report and no times are asked for the run is as without; else the files are opened first.
 use Rattle.std.proofs.Common.{inr, map}
+use Rattle.job_times.specs.Timings.{times_of}
 use Rattle.launch_options.specs.Asked.{asked_by}
 use Rattle.launch_options.specs.ReportTexts.{parts_of}
-use Rattle.suite_text.specs.Reading.Bytes.{suite_read}
 use Rattle.report_files.proofs.FiledAnswers.{some_watched, unopened_run, unreported_run}
 use Rattle.report_files.proofs.SlowestRuns.{unlisted_run}
 use Rattle.report_files.proofs.filed_run.run_filed.Goals as goal
 
 pub returns-then-asks_no_more-clause-filed : goal.returns-then-asks_no_more-clause-filed
 returns-then-asks_no_more-clause-filed g c =
-    let run = c.run_options_watched.ensures in
-    unreported_run g.V.Watcher.saw c.args.watcher.now c.run_options_watched.new.watcher (asked_by c.args.options.now) c.args.wanted.now (g.R.Read.remaining c.args.reader.now) (g.R.Read.remaining c.run_options_watched.new.reader) (g.W.Write.contents c.args.writer.now) (g.W.Write.contents c.run_options_watched.new.writer)
-    (g.K.ReportFiles.deeds c.args.files.now) c.run_options_watched.result (c.asks_no_more.ensures c.if-asks_no_more.true) (record { exact = run.exact; reads = run.reads; quiet = run.quiet }) run.watched
+    let run = c.run_options_watched in
+    unreported_run g.V.Watcher.saw c.args.watcher.now run.new.watcher (times_of run.new.times.timings) (asked_by c.args.options.now) c.args.wanted.now (g.R.Read.remaining c.args.reader.now) (g.R.Read.remaining run.new.reader) (g.W.Write.contents c.args.writer.now) (g.W.Write.contents run.new.writer)
+    (g.K.ReportFiles.deeds c.args.files.now) run.result (c.asks_no_more.ensures c.if-asks_no_more.true) (record { exact = run.ensures.exact; reads = run.ensures.reads; quiet = run.ensures.quiet }) run.ensures.watched
 
 pub returns-then-asks_no_more-clause-watched : goal.returns-then-asks_no_more-clause-watched
 returns-then-asks_no_more-clause-watched g c =
-    let watched = c.run_options_watched.ensures.watched in
-    some_watched g.V.Watcher.saw c.args.watcher.now c.run_options_watched.new.watcher (asked_by c.args.options.now) (suite_read watched.bytes) (g.W.Write.contents c.args.writer.now) (g.W.Write.contents c.run_options_watched.new.writer) c.run_options_watched.result watched.judged
+    let run = c.run_options_watched in
+    some_watched g.V.Watcher.saw c.args.watcher.now run.new.watcher (times_of run.new.times.timings) (asked_by c.args.options.now) (g.R.Read.remaining c.args.reader.now) (g.R.Read.remaining run.new.reader) (g.W.Write.contents c.args.writer.now) (g.W.Write.contents run.new.writer) run.result run.ensures.watched
 
 pub returns-in_err-reports-clause-filed : goal.returns-in_err-reports-clause-filed
 returns-in_err-reports-clause-filed g c =
-    unopened_run (asked_by c.args.options.now) (map parts_of c.args.wanted.now) (g.R.Read.remaining c.args.reader.now) (g.W.Write.contents c.args.writer.now) (g.K.ReportFiles.deeds c.args.files.now) (g.K.ReportFiles.deeds c.open_all.new.files) c.in_err-reports.field-0.0 c.from_residual.result c.from_residual.ensures.1 c.in_err-reports.ensures.refused
+    unopened_run (asked_by c.args.options.now) (map parts_of c.args.wanted.now) (times_of c.args.times.now.timings) (g.R.Read.remaining c.args.reader.now) (g.W.Write.contents c.args.writer.now) (g.K.ReportFiles.deeds c.args.files.now) (g.K.ReportFiles.deeds c.open_all.new.files) c.in_err-reports.field-0.0 c.from_residual.result c.from_residual.ensures.1 c.in_err-reports.ensures.refused
 
 pub returns-clause-filed : goal.returns-clause-filed
 returns-clause-filed g c = inr (c.run_opened.ensures.filed (g.K.ReportFiles.deeds c.args.files.now) c.in_ok-reports.ensures.did)
@@ -28,4 +28,4 @@ returns-clause-filed g c = inr (c.run_opened.ensures.filed (g.K.ReportFiles.deed
 pub returns-then-asks_no_more-clause-slowest : goal.returns-then-asks_no_more-clause-slowest
 returns-then-asks_no_more-clause-slowest g c =
     let run = c.run_options_watched in
-    unlisted_run (asked_by c.args.options.now) g.V.Watcher.saw c.args.watcher.now run.new.watcher (g.R.Read.remaining c.args.reader.now) (g.R.Read.remaining run.new.reader) (g.W.Write.contents c.args.writer.now) (g.W.Write.contents run.new.writer) run.result run.ensures.watched
+    unlisted_run (asked_by c.args.options.now) (times_of run.new.times.timings) g.V.Watcher.saw c.args.watcher.now run.new.watcher (g.R.Read.remaining c.args.reader.now) (g.R.Read.remaining run.new.reader) (g.W.Write.contents c.args.writer.now) (g.W.Write.contents run.new.writer) run.result run.ensures.watched
