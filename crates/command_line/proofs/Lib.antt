@@ -1,11 +1,5 @@
-pub mod ByClap
 pub mod Ended
 pub mod GoneOut
-pub mod Growing
-pub mod Listing
 pub mod Running
-pub mod TestsTold
-pub mod TimedJobs
 pub mod Told
-pub mod Wanting
 pub mod Watched

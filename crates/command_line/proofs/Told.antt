@@ -1,6 +1,6 @@
 -- From the words that the system gave to what is done.
 use Rattle.std.proofs.Common.{◌≡◌, ◌∙◌, ℕ, Bool, List, map, Option, IfErr, IfOk, Result, Ok, Err, refl, subst, sym}
-use Rattle.clap.specs.Words.{Text}
+use Rattle.launch_options.specs.Given.{Text}
 use Rattle.launch_options.specs.declared.fault.LaunchFault.{LaunchFault}
 use Rattle.launch_options.specs.declared.fault.LaunchFault.TheVariants.{NoMemory}
 use Rattle.command_line.specs.GivenRuns.{IsGivenRun}

@@ -1,10 +1,9 @@
 -- What follows of one who watched a run, whatever was run.
-use Rattle.std.proofs.Common.{◌≡◌, ℕ, true, false, List, [], Option, None, Result, inl, inr, refl, sym, subst}
-use Rattle.plan_events.specs.declared.outcome.Reply.{Reply}
+use Rattle.std.proofs.Common.{◌≡◌, ℕ, Bool, true, false, List, [], Option, inl, inr, refl, sym, subst}
 use Rattle.resource_locks.specs.Plans.{PlanParts}
 use Rattle.listeners.specs.Listeners.{Telling}
 use Rattle.worker_pool.specs.Watching.{HasSeenMore}
-use Rattle.live.proofs.Drawing.{begun, drawn_still, left}
+use Rattle.live.proofs.Drawing.{begun, drawn_still, left, none_drawn}
 use Rattle.live.specs.Terminals.{HasFollowed, IsDrawnBehind, IsDrawnOn, is_done}
 use Rattle.live.proofs.SlowWriting.{untouched}
 use Rattle.live.proofs.SlowWriting.{begun as lines_begun}
@@ -13,30 +12,17 @@ use Rattle.live.specs.SlowNames.{AreNamedBehind, HasNamed, IsWrittenOn}
 use Rattle.live.specs.SlowNaming.{Slow, slow_line}
 use Rattle.live.specs.declared.progress.Progress.{Progress}
 use Rattle.live.specs.declared.slow_lines.SlowLines.{SlowLines}
-use Rattle.report_files.proofs.Watched.{of_answer, of_fault, of_text}
 use Rattle.report_files.specs.ReportedRuns.{HasSeenSome}
-use Rattle.suite_text.specs.Reading.Parts.{SuiteParts}
-use Rattle.selectors.specs.Selections.{answer}
-use Rattle.launch_options.specs.Asked.{Asked}
-use Rattle.launch_options.specs.declared.fault.LaunchFault.{LaunchFault}
-use Rattle.launcher.specs.declared.exit_status.ExitStatus.{ExitStatus}
-use Rattle.launcher.specs.Programs.{FailsProgram, IsPrintedJobs, IsSeenProgramRun, IsSeenSelectedOutput}
-use Rattle.launcher.specs.Runs.{plan_of}
-use Rattle.launcher.specs.Watched.{SeesRefusal, is_run}
-
-module _ {L : Type 0} (saw : PlanParts → L → L → List Telling → Type 0) (first now : L) (Holds : Type 0) (same : now ≡ first → Holds) (seen : (p : PlanParts) (ts : List Telling) → HasSeenMore saw p ts first now → Holds) where
-  -- of a program's jobs that were run
-  pub of_program : {B : Type 0} (answers : B → List Reply) (asked : Asked) (parts : SuiteParts) (jobs : List (ℕ × B)) (old new : Option (List ℕ)) (result : Result ExitStatus LaunchFault) → IsSeenProgramRun answers asked parts jobs saw first now old new result → Holds
-  of_program answers asked parts jobs old new result is =
-      let Output = IsSeenSelectedOutput answers asked parts jobs saw first now in
-      let output : (text : List ℕ) (status : ExitStatus) → Output text status → Holds =
-      λ text status out. let p = plan_of asked.fail_fast out.output.settings (answer parts.tree asked.request) in
-      of_text saw first now Holds same seen (IsPrintedJobs answers None asked out.output.settings p jobs) p (is_run None asked.details) text out.told out.output.output.1 in
-      of_answer saw first now Holds same seen Output output asked (λ fault. FailsProgram asked parts fault × SeesRefusal first now Output fault) old new result (λ fault fails. of_fault saw first now Holds same seen Output output fault fails.1) is
+use Rattle.command_line.specs.Runs.{IsToldMeanwhile}
 
 -- nothing was named
 pub none_named : (a : Option (List ℕ)) → AreNamedBehind a a
 none_named a = ([], none_written slow_line a true)
+
+-- nothing was told meanwhile
+pub none_told : (is_terminal : Bool) (a : Option (List ℕ)) → IsToldMeanwhile is_terminal a a
+none_told true a = none_drawn a true
+none_told false a = none_named a
 
 module _ {E C V : Type 0} (contents : E → Option (List ℕ)) (first now : SlowLines E C V) where
   abbrev Named : Type 0

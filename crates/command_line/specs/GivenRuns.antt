@@ -1,6 +1,6 @@
 -- What the program does with the words that those stand for which it is given.
 use Rattle.std.specs.Prelude.{◌≡◌, ℕ, Bool, List, Option, Result, Ok, Err}
-use Rattle.clap.specs.Words.{Text}
+use Rattle.launch_options.specs.Given.{Text}
 use Rattle.launch_options.specs.declared.fault.LaunchFault.{LaunchFault}
 use Rattle.messages.specs.Sentences.{sentence_of}
 use Rattle.report_files.specs.Deeds.{Deed}

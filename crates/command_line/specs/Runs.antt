@@ -2,7 +2,7 @@
 use Rattle.std.specs.Prelude.{◌≡◌, ◌<◌, ◌⊎◌, ◌++◌, ℕ, Bool, true, false, List, codes, length, take, string_bytes, Option, Some, None, IfErr, IfOk, IfSome, IsSomeAnd, Result, Ok, Err}
 use Rattle.std.specs.Fmt.{decimal}
 use Rattle.std.specs.Io.KnownBytes.{Appends, Keeps}
-use Rattle.clap.specs.Words.{Text}
+use Rattle.launch_options.specs.Given.{Text}
 use Rattle.launch_options.specs.Asked.{Asked, asked_by}
 use Rattle.launcher.specs.Closings.{line_after}
 use Rattle.launcher.specs.ExitStatuses.{number_of, status_after}
@@ -15,6 +15,7 @@ use Rattle.messages.specs.Messages.{message_text}
 use Rattle.messages.specs.Sentences.{Sentences, sentence_of}
 use Rattle.messages.specs.declared.hint.Hints.{Hints}
 use Rattle.messages.specs.declared.message.Message.{Message}
+use Rattle.job_times.specs.Timings.{Times}
 use Rattle.live.specs.FailedTexts.{failed_of}
 use Rattle.live.specs.SlowNames.{AreNamedBehind}
 use Rattle.live.specs.Terminals.{IsDrawnBehind}
@@ -23,7 +24,7 @@ use Rattle.report_files.specs.Deeds.{Deed}
 use Rattle.report_files.specs.FiledReports.{Wanted}
 use Rattle.report_files.specs.FiledRuns.{RunsAsked, RunsFiled}
 use Rattle.report_files.specs.SlowestTests.{IsSlowestRun}
-use Rattle.command_line.specs.Words.{ReadsWords, reports_wanted}
+use Rattle.command_words.specs.Words.{ReadsWords, reports_wanted}
 use Rattle.command_line.specs.declared.closing.Ending.{Ending}
 
 module _ {R W : Type 0} (remaining : R → Option (List ℕ)) (contents : W → Option (List ℕ)) where
@@ -39,13 +40,17 @@ module _ {R W : Type 0} (remaining : R → Option (List ℕ)) (contents : W → 
     pub reads : ReadsWords words options
     pub runs : RunsOptions options before after left old new result
 
+-- What is asked for is run with these reports, which are kept in files, and of a run that was not refused this list of the slowest tests is
+-- made: what is printed, each report and the list tell the same times.
+pub record IsTimedRun (asked : Asked) (wanted : List Wanted) (before left old new : Option (List ℕ)) (was now : Option (List Deed)) (result : Result ExitStatus LaunchFault) (slowest : Option (List ℕ)) : Type 0 where
+  pub times : Times
+  pub filed : RunsFiled asked wanted times before left old new was now result
+  pub listed : IfOk result (λ status. IsSlowestRun asked times before left old new status slowest)
+
 module _ {R W K : Type 0} (remaining : R → Option (List ℕ)) (contents : W → Option (List ℕ)) (deeds : K → Option (List Deed)) where
-  -- the same, with these reports, which are kept in files, and this list of the slowest tests, which is made of a run if times are asked
-  -- for: of what is refused no file is touched, and no list is made
+  -- the same with what the words gave: of what is refused no file is touched, and no list is made
   abbrev pub FilesOptions : Result Options LaunchFault → List Wanted → (before after : R) → (left : Option (List ℕ)) → (old new : W) → (was now : K) → Result ExitStatus LaunchFault → (slowest : Option (List ℕ)) → Type 0
-  FilesOptions (Ok options) wanted before after left old new was now result slowest =
-      RunsFiled (asked_by options) wanted (remaining before) left (contents old) (contents new) (deeds was) (deeds now) result
-      × IfOk result (λ status. IsSlowestRun (asked_by options) (remaining before) left (contents old) (contents new) status slowest)
+  FilesOptions (Ok options) wanted before after left old new was now result slowest = IsTimedRun (asked_by options) wanted (remaining before) left (contents old) (contents new) (deeds was) (deeds now) result slowest
   FilesOptions (Err fault) wanted before after left old new was now result slowest = (result ≡ Err fault) × (after ≡ before) × (new ≡ old) × (now ≡ was) × (slowest ≡ None)
 
   -- the words are read, and what that gave is run, with the reports that they ask for
@@ -89,30 +94,34 @@ module _ {W : Type 0} (contents : W → Option (List ℕ)) where
   PrintsMessage None old new all = new ≡ old
   PrintsMessage (Some said) old new all = WentOut all (contents old) (contents new) (message_text said.sentence.now (string_bytes said.details))
 
-  -- nothing is said, or what failed and words that select it, as far as the writer takes that
-  abbrev pub SaysFailures : (old new : W) → Type 0
-  SaysFailures old new = (new ≡ old) ⊎ ((failures : Failures) × (sent : ℕ) × Appends (contents old) (contents new) (take sent (failed_of (codes "select-unique-id") failures)))
+  -- this text is said, as far as the writer takes it; and nothing, where there is none
+  abbrev pub SaysText : Option (List ℕ) → (old new : W) → Type 0
+  SaysText None old new = new ≡ old
+  SaysText (Some text) old new = (sent : ℕ) × Appends (contents old) (contents new) (take sent text)
 
-  -- nothing is said, or the lines of hints, as far as the writer takes them
-  abbrev pub SaysHints : (old new : W) → Type 0
-  SaysHints old new = (new ≡ old) ⊎ ((hints : Hints) × (sent : ℕ) × Appends (contents old) (contents new) (take sent (hints_text hints)))
+  -- nothing is said, or one of these texts, as far as the writer takes it
+  abbrev pub SaysSome : {X : Type 0} → (X → List ℕ) → (old new : W) → Type 0
+  SaysSome {X = X} text old new = (new ≡ old) ⊎ ((x : X) × (sent : ℕ) × Appends (contents old) (contents new) (take sent (text x)))
 
-  -- nothing is said, or the line of a seed, as far as the writer takes it
+  -- the line of a seed
   abbrev pub SaysSeed : (old new : W) → Type 0
-  SaysSeed old new = (new ≡ old) ⊎ ((seed : ℕ) × (sent : ℕ) × Appends (contents old) (contents new) (take sent (seed_line seed)))
+  SaysSeed old new = SaysSome seed_line old new
 
-  -- the seed, and hints behind it
-  abbrev pub SaysAhead : (old new : W) → Type 0
-  SaysAhead old new = (between : W) × SaysSeed old between × SaysHints between new
+  -- the lines of hints
+  abbrev pub SaysHints : (old new : W) → Type 0
+  SaysHints old new = SaysSome hints_text old new
 
-  -- these, and what failed behind them
+  -- what failed, and words that select it
+  abbrev pub SaysFailures : (old new : W) → Type 0
+  SaysFailures old new = SaysSome (failed_of (codes "select-unique-id")) old new
+
+  -- the seed, and hints behind it, and what failed behind them
   abbrev pub SaysOfRun : (old new : W) → Type 0
-  SaysOfRun old new = (between : W) × SaysAhead old between × SaysFailures between new
+  SaysOfRun old new = (seeded : W) × (hinted : W) × SaysSeed old seeded × SaysHints seeded hinted × SaysFailures hinted new
 
-  -- this list of the slowest tests is said, as far as the writer takes it; and nothing, where there is none
-  abbrev pub SaysSlowest : Option (List ℕ) → (old new : W) → Type 0
-  SaysSlowest None old new = new ≡ old
-  SaysSlowest (Some text) old new = (sent : ℕ) × Appends (contents old) (contents new) (take sent text)
+  -- these, and this list of the slowest tests behind them
+  abbrev pub SaysAll : (slowest : Option (List ℕ)) → (old new : W) → Type 0
+  SaysAll slowest old new = (between : W) × SaysOfRun old between × SaysText slowest between new
 
   -- what is said of this answer: of a run its seed, hints, and what failed; and where something was refused, the refusal's sentence among these,
   -- and details below it
@@ -132,30 +141,24 @@ module _ {W E : Type 0} (sentence : Sentences) (contents : W → Option (List �
   pub record ClosesRun (answer : Result ExitStatus LaunchFault) (slowest : Option (List ℕ)) (old new : W) (quiet told : E) (ending : Ending) : Type 0 where
     pub before : E
     pub closes : Closes answer old new quiet before ending
-    pub listed : SaysIfRun (SaysSlowest said slowest) answer before told
+    pub listed : SaysIfRun (SaysText said slowest) answer before told
+
+-- what stands behind what the other writer held once a run is over: on a terminal what was drawn of how far the run has come, else lines
+-- of tests that ran longer than their limit
+abbrev pub IsToldMeanwhile : (is_terminal : Bool) → (old new : Option (List ℕ)) → Type 0
+IsToldMeanwhile true old new = IsDrawnBehind old new
+IsToldMeanwhile false old new = AreNamedBehind old new
 
 module _ {R W E K : Type 0} (remaining : R → Option (List ℕ)) (contents : W → Option (List ℕ)) (said : E → Option (List ℕ)) (deeds : K → Option (List Deed)) where
-  -- the program: what `run_console` does, with the reports that are asked for, which leaves this to read and the writer like this, and then
-  -- what is done after its answer, and the list of the slowest tests, if times are asked for; before all that, lines of slow tests stand on the
-  -- other writer
-  pub record IsProgramRun (words : List Text) (before after : R) (old new : W) (quiet told : E) (was now : K) (ending : Ending) : Type 0 where
+  -- the program, where standard error is a terminal that can be drawn on, or is none: what `run_console` does, with the reports that are
+  -- asked for, which leaves this to read and the writer like this; what is told on the other writer meanwhile; and behind that what is said of
+  -- the answer, and the list of the slowest tests, if times are asked for
+  pub record IsMainRun (is_terminal : Bool) (words : List Text) (before after : R) (old new : W) (first last : E) (was now : K) (ending : Ending) : Type 0 where
     pub answer : Result ExitStatus LaunchFault
     pub left : Option (List ℕ)
     pub between : W
     pub slowest : Option (List ℕ)
-    pub named : E
+    pub during : E
     pub run : IsFiledConsoleRun remaining contents deeds words before after left old between was now answer slowest
-    pub names : AreNamedBehind (said quiet) (said named)
-    pub closed : ClosesRun sentence_of contents said answer slowest between new named told ending
-
-  -- the same on a terminal: behind what it held stands what was drawn of how far the run has come, and behind that what is said of
-  -- the answer
-  pub record IsTerminalRun (words : List Text) (before after : R) (old new : W) (first last : E) (was now : K) (ending : Ending) : Type 0 where
-    pub drawn : E
-    pub draws : IsDrawnBehind (said first) (said drawn)
-    pub run : IsProgramRun words before after old new drawn last was now ending
-
-  -- the program, where standard error is a terminal that can be drawn on, or is none
-  abbrev pub IsMainRun : Bool → List Text → (before after : R) → (old new : W) → (first last : E) → (was now : K) → Ending → Type 0
-  IsMainRun true words before after old new first last was now ending = IsTerminalRun words before after old new first last was now ending
-  IsMainRun false words before after old new first last was now ending = IsProgramRun words before after old new first last was now ending
+    pub tells : IsToldMeanwhile is_terminal (said first) (said during)
+    pub closed : ClosesRun sentence_of contents said answer slowest between new during last ending

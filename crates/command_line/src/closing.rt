@@ -1,15 +1,15 @@
 //! What is said once a run is over.
 
-ghost use Rattle.std.specs.Prelude.{◌≡◌, ◌++◌, None, Err, IfOk, IfSome, IsTrue, is_ok, option_map, string_bytes, true};
+ghost use Rattle.std.specs.Prelude.{◌≡◌, ◌++◌, Err, IfOk, IfSome, option_map, string_bytes};
 ghost use Rattle.launcher.specs.Closings.{line_after};
 ghost use Rattle.launcher.specs.ExitStatuses.{number_of, status_after};
 ghost use Rattle.messages.specs.Sentences.{sentence_by};
-ghost use Rattle.command_line.specs.Runs.{Closes, PrintsLine, PrintsMessage, SaysAhead, SaysFailures, SaysHints};
-ghost use Rattle.command_line.specs.Runs.{ClosesRun, SaysIfRun, SaysSeed, SaysSlowest, WentOut, refusal_line, seed_line};
+ghost use Rattle.command_line.specs.Runs.{Closes, ClosesRun, HasMessage, PrintsLine, PrintsMessage, WentOut};
+ghost use Rattle.command_line.specs.Runs.{SaysAll, SaysFailures, SaysHints, SaysIfRun, SaysSeed, SaysText};
+ghost use Rattle.command_line.specs.Runs.{refusal_line, seed_line};
 
-use crate::said::message_after;
-use crate::words::given_by;
 use arrayvec::ArrayString;
+use command_words::{given_by, message_of};
 use launcher::option_names::SELECT_UNIQUE_ID;
 use launcher::{Closing, Details, ExitStatus, LaunchFault, Options};
 use listeners::print_to;
@@ -115,8 +115,23 @@ fn close<W: Write, E: Write>(
     }
 }
 
+/// The message of an answer, if it is a refusal.
+fn message_after(
+    alloc: Global,
+    answer: Result<ExitStatus, LaunchFault>,
+    words: &[String],
+    subject: Subject<'_>,
+) -> Option<Message>
+    ensures { HasMessage (sentence_by subject.entry) answer result }
+{
+    match answer {
+        Ok(_) => None,
+        Err(fault) => Some(message_of(alloc, fault, words, subject)),
+    }
+}
+
 /// Says what there is to say after this answer of a run that these words asked for.
-pub(crate) fn close_run<W: Write, E: Write>(
+pub fn close_run<W: Write, E: Write>(
     alloc: Global,
     answer: Result<ExitStatus, LaunchFault>,
     words: &[String],
@@ -132,74 +147,39 @@ pub(crate) fn close_run<W: Write, E: Write>(
     close(answer, message, writer, errors)
 }
 
+/// Says this text, if there is one, as far as the writer takes it.
+fn say<E: Write>(text: Option<String>, errors: &mut E)
+    ensures { SaysText E.contents (option_map string_bytes text) errors.old errors.new }
+{
+    if let Some(text) = text {
+        let _ = print_to(errors, text.as_bytes());
+    }
+}
+
+/// The line of a seed.
+fn seed_text(alloc: Global, seed: u64) -> Result<String, AllocError>
+    ensures { IfOk result (λ text. string_bytes text ≡ seed_line seed) }
+{
+    format!(in alloc; "Seed: {seed}\n")
+}
+
+/// Says the seed of a run, if it has one.
+fn say_seed<E: Write>(alloc: Global, options: &Options, errors: &mut E)
+    ensures { SaysSeed E.contents errors.old errors.new }
+{
+    if let Some(seed) = options.request.seed {
+        say(seed_text(alloc, seed).ok(), errors);
+    }
+}
+
 /// Whether more is said of a run, as what failed: it is behind a tree and behind a summary.
-fn says_more(answer: Result<ExitStatus, LaunchFault>, options: &Options) -> bool
-    ensures { IsTrue result → is_ok answer ≡ true }
-{
-    answer.is_ok()
-        && options.replay.is_none()
-        && matches!(options.details, Details::Tree | Details::Summary)
-}
-
-/// Says these failures, if there is memory for that, as far as the writer takes it.
-fn print_failures<E: Write>(alloc: Global, failures: &Failures, errors: &mut E)
-    ensures { SaysFailures E.contents errors.old errors.new }
-{
-    if let Ok(text) = failed_text(alloc, SELECT_UNIQUE_ID, failures) {
-        let _ = print_to(errors, text.as_bytes());
-    }
-}
-
-/// Says what failed, where that is said, if something did.
-fn say_failures<E: Write>(
-    alloc: Global,
-    answer: Result<ExitStatus, LaunchFault>,
-    options: &Options,
-    failures: &Failures,
-    errors: &mut E,
-)
-    ensures { SaysIfRun (SaysFailures E.contents) answer errors.old errors.new }
-{
-    if says_more(answer, options) && !failures.are_none() {
-        print_failures(alloc, failures, errors);
-    }
-}
-
-/// Says which tests were the slowest, if there is a list of them, as far as the writer takes it.
-fn print_slowest<E: Write>(slowest: &Option<String>, errors: &mut E)
-    ensures { SaysSlowest E.contents (option_map string_bytes slowest.now) errors.old errors.new }
-{
-    if let Some(text) = slowest {
-        let _ = print_to(errors, text.as_bytes());
-    }
-}
-
-/// Says the same of a run that was not refused, whatever was printed of it: it is asked for.
-fn say_slowest<E: Write>(
-    answer: Result<ExitStatus, LaunchFault>,
-    slowest: &Option<String>,
-    errors: &mut E,
-)
-    ensures { SaysIfRun (SaysSlowest E.contents (option_map string_bytes slowest.now)) answer errors.old errors.new }
-{
-    match answer {
-        Ok(_) => print_slowest(slowest, errors),
-        Err(_) => {}
-    }
-}
-
-/// Says these hints, if there is memory for that, as far as the writer takes it.
-fn print_hints<E: Write>(alloc: Global, hints: &Hints<'_>, errors: &mut E)
-    ensures { SaysHints E.contents errors.old errors.new }
-{
-    if let Ok(text) = hints_text(alloc, hints) {
-        let _ = print_to(errors, text.as_bytes());
-    }
+fn says_more(options: &Options) -> bool {
+    options.replay.is_none() && matches!(options.details, Details::Tree | Details::Summary)
 }
 
 /// Says what of these words, which asked for these options, and of this suite has another effect than
 /// it seems to have, if something does.
-fn print_hints_of<E: Write>(
+fn say_hints_of<E: Write>(
     alloc: Global,
     options: &Options,
     words: &[String],
@@ -213,7 +193,7 @@ fn print_hints_of<E: Write>(
     };
     if let Ok(hints) = hints_of(alloc, &given, options, suite) {
         if !hints.are_none() {
-            print_hints(alloc, &hints, errors);
+            say(hints_text(alloc, &hints).ok(), errors);
         }
     }
 }
@@ -221,92 +201,92 @@ fn print_hints_of<E: Write>(
 /// Says the same of a suite's run, where that is said.
 fn say_hints<E: Write>(
     alloc: Global,
-    answer: Result<ExitStatus, LaunchFault>,
     options: &Options,
     words: &[String],
     subject: Subject<'_>,
     errors: &mut E,
 )
-    ensures { SaysIfRun (SaysHints E.contents) answer errors.old errors.new }
+    ensures { SaysHints E.contents errors.old errors.new }
 {
     if let Subject::Suite(suite) = subject {
-        if says_more(answer, options) {
-            print_hints_of(alloc, options, words, suite, errors);
+        if says_more(options) {
+            say_hints_of(alloc, options, words, suite, errors);
         }
     }
 }
 
-/// The line of a seed.
-fn seed_text(alloc: Global, seed: u64) -> Result<String, AllocError>
-    ensures { IfOk result (λ text. string_bytes text ≡ seed_line seed) }
+/// Says what failed, where that is said, if something did.
+fn say_failures<E: Write>(alloc: Global, options: &Options, failures: &Failures, errors: &mut E)
+    ensures { SaysFailures E.contents errors.old errors.new }
 {
-    format!(in alloc; "Seed: {seed}\n")
-}
-
-/// Says this seed, if there is memory for that, as far as the writer takes it.
-fn print_seed<E: Write>(alloc: Global, seed: u64, errors: &mut E)
-    ensures { SaysSeed E.contents errors.old errors.new }
-{
-    if let Ok(text) = seed_text(alloc, seed) {
-        let _ = print_to(errors, text.as_bytes());
+    if says_more(options) && !failures.are_none() {
+        say(failed_text(alloc, SELECT_UNIQUE_ID, failures).ok(), errors);
     }
 }
 
-/// Says the seed of a run that has one.
-fn say_seed<E: Write>(
+/// Says of a run its seed, what of these words, which asked for these options, and of this suite has another effect than
+/// it seems to have, what failed, and the slowest tests, if there is a list of them.
+fn say_of_run<E: Write>(
     alloc: Global,
-    answer: Result<ExitStatus, LaunchFault>,
-    options: &Options,
-    errors: &mut E,
-)
-    ensures { SaysIfRun (SaysSeed E.contents) answer errors.old errors.new }
-{
-    if let (Ok(_), Some(seed)) = (answer, options.request.seed) {
-        print_seed(alloc, seed, errors);
-    }
-}
-
-/// Says of a run its seed, and what of these words, which asked for these options, and of this suite
-/// has another effect than it seems to have.
-fn say_ahead<E: Write>(
-    alloc: Global,
-    answer: Result<ExitStatus, LaunchFault>,
     options: &Options,
     words: &[String],
     subject: Subject<'_>,
+    failures: &Failures,
+    slowest: Option<String>,
     errors: &mut E,
 )
-    ensures { SaysIfRun (SaysAhead E.contents) answer errors.old errors.new }
+    ensures { SaysAll E.contents (option_map string_bytes slowest) errors.old errors.new }
 {
-    say_seed(alloc, answer, options, &mut *errors);
-    say_hints(alloc, answer, options, words, subject, errors);
+    say_seed(alloc, options, &mut *errors);
+    say_hints(alloc, options, words, subject, &mut *errors);
+    say_failures(alloc, options, failures, &mut *errors);
+    say(slowest, errors);
 }
 
-/// Says what there is to say after this answer of a run that these words asked for, of its seed, of
-/// what has another effect than it seems to have, of what failed, and of the slowest tests, if there is a list of them.
-pub(crate) fn close_with_failures<W: Write, E: Write>(
+/// Says the same of a run that was not refused.
+fn say_if_run<E: Write>(
     alloc: Global,
     answer: Result<ExitStatus, LaunchFault>,
     options: &Options,
     words: &[String],
     subject: Subject<'_>,
     failures: &Failures,
-    slowest: &Option<String>,
+    slowest: Option<String>,
+    errors: &mut E,
+)
+    ensures { SaysIfRun (SaysAll E.contents (option_map string_bytes slowest)) answer errors.old errors.new }
+{
+    match answer {
+        Ok(_) => say_of_run(alloc, options, words, subject, failures, slowest, errors),
+        Err(_) => drop(slowest),
+    }
+}
+
+/// Says what there is to say after this answer of a run that these words asked for, of its seed, of
+/// what has another effect than it seems to have, of what failed, and of the slowest tests, if there is a list of them.
+pub fn close_with_failures<W: Write, E: Write>(
+    alloc: Global,
+    answer: Result<ExitStatus, LaunchFault>,
+    options: &Options,
+    words: &[String],
+    subject: Subject<'_>,
+    failures: &Failures,
+    slowest: Option<String>,
     writer: &mut W,
     errors: &mut E,
 ) -> Ending
-    ensures { ClosesRun (sentence_by subject.entry) W.contents E.contents answer
-        (option_map string_bytes slowest.now) writer.old writer.new errors.old errors.new result }
+    ensures { ClosesRun (sentence_by subject.entry) W.contents E.contents answer (option_map string_bytes slowest)
+        writer.old writer.new errors.old errors.new result }
 {
     let ending = close_run(alloc, answer, words, subject, writer, &mut *errors);
-    say_ahead(alloc, answer, options, words, subject, &mut *errors);
-    say_failures(alloc, answer, options, failures, &mut *errors);
-    say_slowest(answer, slowest, errors);
+    say_if_run(
+        alloc, answer, options, words, subject, failures, slowest, errors,
+    );
     ending
 }
 
 /// Says what there is to say where the system gave no words, for this reason.
-pub(crate) fn refuse<W: Write, E: Write>(
+pub fn refuse<W: Write, E: Write>(
     alloc: Global,
     fault: LaunchFault,
     subject: Subject<'_>,

@@ -1,30 +1,25 @@
-//! The program over any reader and writers.
+//! The program over any reader and writers: all of it but the handles that `main` gets of the system.
 
-ghost use Rattle.std.specs.Prelude.{◌≡◌, IfOk, IfErr, Ok, Err, false, map, option_map, string_bytes};
+ghost use Rattle.std.specs.Prelude.{◌≡◌, IfOk, IfErr, Ok, Err, map, option_map, string_bytes};
 ghost use Rattle.std.specs.IoError.{error_kind};
 ghost use Rattle.std.specs.Vec.Iter.{into_iter_items};
-ghost use Rattle.command_line.specs.GivenWords.{IsGivenFault};
-ghost use Rattle.messages.specs.Sentences.{sentence_of};
-ghost use Rattle.command_line.specs.Runs.{Closes, IsConsoleRun, IsProgramRun};
-ghost use Rattle.command_line.specs.GivenRuns.{IsGivenRun};
-ghost use Rattle.command_line.specs.Words.{ReadsWords, reports_wanted};
+ghost use Rattle.command_words.specs.GivenWords.{IsGivenFault};
+ghost use Rattle.command_words.specs.Words.{ReadsWords, reports_wanted};
 ghost use Rattle.launch_options.specs.Asked.{asked_by};
 ghost use Rattle.launch_options.specs.ReportTexts.{parts_of};
-ghost use Rattle.live.specs.SlowNames.{AreNamedBehind};
-ghost use Rattle.report_files.specs.FiledRuns.{RunsFiled};
-ghost use Rattle.report_files.specs.SlowestTests.{IsSlowestRun};
+ghost use Rattle.messages.specs.Sentences.{sentence_of};
+ghost use Rattle.command_line.specs.Runs.{Closes, IsConsoleRun, IsMainRun, IsTimedRun, IsToldMeanwhile};
+ghost use Rattle.command_line.specs.GivenRuns.{IsGivenRun};
 
 use crate::closing::{Ending, close_run, close_with_failures, refuse};
 use crate::kept::{Kept, nothing_kept};
-use crate::launch::Launch;
-use crate::stopwatch::times_by;
-use crate::system_words::given_words;
-use crate::words::{read_launch, read_options};
-use job_times::Stopwatch;
+use crate::slow_tests::run_quiet;
+use crate::terminal::run_shown;
+use command_words::{Launch, given_words, read_launch, read_options};
 use launcher::{ExitStatus, LaunchFault, run_options};
-use live::{Failures, SlowLines, SlowTests};
+use live::Failures;
 use messages::Subject;
-use report_files::{ReportFiles, run_filed};
+use report_files::ReportFiles;
 use rerun_words::all_words;
 use std::alloc::Global;
 use std::env::Args;
@@ -54,53 +49,10 @@ pub fn run_console<T: Threads + Wait + Sync, R: Read, W: Write>(
     answer
 }
 
-/// Runs what the words ask for; this one names the tests that run longer than their limit.
-fn run_named<
-    T: Threads + Wait + Sync,
-    C: Clock + Sync + Drop,
-    R: Read,
-    W: Write,
-    E: Write,
-    K: ReportFiles,
-    S: Stopwatch + Sync,
->(
-    rt: &T,
-    alloc: Global,
-    launch: &Launch<'_>,
-    reader: &mut R,
-    writer: &mut W,
-    files: &mut K,
-    lines: &mut SlowLines<'_, '_, '_, '_, E, C, Failures>,
-    slowest: &mut Option<String>,
-    stopwatch: &S,
-) -> Result<ExitStatus, LaunchFault>
-    ensures same { lines.new.errors.ghost_name ≡ lines.old.errors.ghost_name }
-    ensures names { AreNamedBehind (E.contents lines.old.errors.now) (E.contents lines.new.errors.now) }
-    ensures runs { RunsFiled (asked_by launch.now.options) (map parts_of launch.now.reports.items) (R.remaining reader.old)
-        (R.remaining reader.new) (W.contents writer.old) (W.contents writer.new) (K.deeds files.old) (K.deeds files.new)
-        result }
-    ensures slowest { IfOk result (λ status. IsSlowestRun (asked_by launch.now.options) (R.remaining reader.old)
-        (R.remaining reader.new) (W.contents writer.old) (W.contents writer.new) status
-        (option_map string_bytes slowest.new)) }
-{
-    let wanted = launch.reports.as_slice();
-    run_filed(
-        rt,
-        alloc,
-        &launch.options,
-        wanted,
-        files,
-        reader,
-        writer,
-        lines,
-        slowest,
-        stopwatch,
-    )
-}
-
-/// Runs what the words ask for, and names the tests that run longer than their limit. The nodes that failed are
-/// kept in this list.
-fn run_quiet<
+/// Runs what the words ask for on the machine of this name. Meanwhile it is told on the other writer, if that is a
+/// terminal, how far the run has come, and else which tests run longer than their limit. The nodes that failed are kept
+/// in this list.
+fn run_told<
     T: Threads + Wait + Sync,
     C: Clock + Sync + Drop,
     R: Read,
@@ -112,6 +64,8 @@ fn run_quiet<
     clock: &C,
     alloc: Global,
     launch: &Launch<'_>,
+    host: Option<&str>,
+    is_terminal: bool,
     reader: &mut R,
     writer: &mut W,
     errors: &mut E,
@@ -119,20 +73,20 @@ fn run_quiet<
     failures: &mut Failures,
     slowest: &mut Option<String>,
 ) -> Result<ExitStatus, LaunchFault>
-    ensures names { AreNamedBehind (E.contents errors.old) (E.contents errors.new) }
-    ensures runs { RunsFiled (asked_by launch.now.options) (map parts_of launch.now.reports.items) (R.remaining reader.old)
+    ensures tells { IsToldMeanwhile is_terminal (E.contents errors.old) (E.contents errors.new) }
+    ensures runs { IsTimedRun (asked_by launch.now.options) (map parts_of launch.now.reports.items) (R.remaining reader.old)
         (R.remaining reader.new) (W.contents writer.old) (W.contents writer.new) (K.deeds files.old) (K.deeds files.new)
-        result }
-    ensures slowest { IfOk result (λ status. IsSlowestRun (asked_by launch.now.options) (R.remaining reader.old)
-        (R.remaining reader.new) (W.contents writer.old) (W.contents writer.new) status
-        (option_map string_bytes slowest.new)) }
+        result (option_map string_bytes slowest.new) }
 {
-    let times = times_by(alloc, clock);
-    let mut tests = SlowTests::new(alloc);
-    let mut lines = SlowLines::new(errors, &times, &mut tests, failures);
-    run_named(
-        rt, alloc, launch, reader, writer, files, &mut lines, slowest, &times,
-    )
+    if is_terminal {
+        run_shown(
+            rt, clock, alloc, launch, host, reader, writer, errors, files, failures, slowest,
+        )
+    } else {
+        run_quiet(
+            rt, clock, alloc, launch, host, reader, writer, errors, files, failures, slowest,
+        )
+    }
 }
 
 /// Runs what these words asked for, and says what there is to say of the answer and of what failed.
@@ -149,15 +103,17 @@ fn run_read<
     alloc: Global,
     launch: Launch<'_>,
     words: &[String],
+    host: Option<&str>,
+    is_terminal: bool,
     reader: &mut R,
     writer: &mut W,
     errors: &mut E,
     files: &mut K,
 ) -> Ending
     requires reports { map parts_of launch.reports.items ≡ reports_wanted (map string_bytes words.now) }
-    ensures { ReadsWords (map string_bytes words.now) (Ok launch.entry.options) → IsProgramRun R.remaining W.contents
-        E.contents K.deeds (map string_bytes words.now) reader.old reader.new writer.old writer.new errors.old errors.new
-        files.old files.new result }
+    ensures { ReadsWords (map string_bytes words.now) (Ok launch.entry.options) → IsMainRun R.remaining W.contents
+        E.contents K.deeds is_terminal (map string_bytes words.now) reader.old reader.new writer.old writer.new
+        errors.old errors.new files.old files.new result }
 {
     let mut kept = Kept {
         reader,
@@ -165,11 +121,13 @@ fn run_read<
     };
     let mut failures = Failures::new(alloc);
     let mut slowest = None;
-    let answer = run_quiet(
+    let answer = run_told(
         rt,
         &clock,
         alloc,
         &launch,
+        host,
+        is_terminal,
         &mut kept,
         &mut *writer,
         &mut *errors,
@@ -180,16 +138,17 @@ fn run_read<
     let suite = Subject::Suite(kept.bytes.as_slice());
     let options = &launch.options;
     let ending = close_with_failures(
-        alloc, answer, options, words, suite, &failures, &slowest, writer, errors,
+        alloc, answer, options, words, suite, &failures, slowest, writer, errors,
     );
     drop(launch);
     ending
 }
 
-/// Runs what `run_console` runs, and keeps the reports that the words ask for; then it prints the line of a refusal,
-/// unless the writer failed, and its message on the other writer. Behind a tree or a summary it is said there what of
-/// the words and the suite has no effect, and what failed, with words that select it; and behind any run, if times are
-/// asked for, which tests were the slowest by this clock.
+/// Runs what `run_console` runs, on the machine of this name, and keeps the reports that the words ask for. Meanwhile it
+/// is told on the other writer, if that is a terminal, how far the run has come, and else which tests run longer than
+/// their limit. Then it prints the line of a refusal, unless the writer failed, and its message on the other writer.
+/// Behind a tree or a summary it is said there what of the words and the suite has no effect, and what failed, with
+/// words that select it; and behind any run, if times are asked for, which tests were the slowest by this clock.
 pub fn run_words<
     T: Threads + Wait + Sync,
     C: Clock + Sync + Drop,
@@ -202,17 +161,29 @@ pub fn run_words<
     clock: C,
     alloc: Global,
     words: &[String],
+    host: Option<&str>,
+    is_terminal: bool,
     reader: &mut R,
     writer: &mut W,
     errors: &mut E,
     files: &mut K,
 ) -> Ending
-    ensures { IsProgramRun R.remaining W.contents E.contents K.deeds (map string_bytes words.now) reader.old reader.new
-        writer.old writer.new errors.old errors.new files.old files.new result }
+    ensures { IsMainRun R.remaining W.contents E.contents K.deeds is_terminal (map string_bytes words.now) reader.old
+        reader.new writer.old writer.new errors.old errors.new files.old files.new result }
 {
     match read_launch(alloc, words) {
         Ok(launch) => run_read(
-            rt, clock, alloc, launch, words, reader, writer, errors, files,
+            rt,
+            clock,
+            alloc,
+            launch,
+            words,
+            host,
+            is_terminal,
+            reader,
+            writer,
+            errors,
+            files,
         ),
         Err(fault) => close_run(
             alloc,
@@ -242,12 +213,13 @@ fn run_given<
     words: &[String],
     texts: &mut F,
     facts: &Facts<'_>,
+    is_terminal: bool,
     reader: &mut R,
     writer: &mut W,
     errors: &mut E,
     files: &mut K,
 ) -> Ending
-    ensures { IsGivenRun R.remaining W.contents E.contents K.deeds false facts.now (map string_bytes words.now)
+    ensures { IsGivenRun R.remaining W.contents E.contents K.deeds is_terminal facts.now (map string_bytes words.now)
         reader.old reader.new writer.old writer.new errors.old errors.new files.old files.new result }
 {
     match all_words(alloc, words, texts, facts) {
@@ -256,6 +228,8 @@ fn run_given<
             clock,
             alloc,
             expanded.as_slice(),
+            facts.host,
+            is_terminal,
             reader,
             writer,
             errors,
@@ -272,9 +246,9 @@ fn run_given<
     }
 }
 
-/// The program: what `run_words` does with the words that those stand for which the system gave. Where
-/// it gave none, that is what is refused. All that is left to do is to end with the status.
-pub fn run_program<
+/// What `main` does with what the system gives and tells it: what `run_words` does with the words that those stand for
+/// which the system gave. Where it gave none, that is what is refused. All that is left to do is to end with the status.
+pub fn run_main<
     T: Threads + Wait + Sync,
     C: Clock + Sync + Drop,
     F: TextFiles,
@@ -289,12 +263,13 @@ pub fn run_program<
     words: io::Result<Args>,
     texts: &mut F,
     facts: &Facts<'_>,
+    is_terminal: bool,
     reader: &mut R,
     writer: &mut W,
     errors: &mut E,
     files: &mut K,
 ) -> Ending
-    ensures run { IfOk words (λ given. IsGivenRun R.remaining W.contents E.contents K.deeds false facts.now
+    ensures run { IfOk words (λ given. IsGivenRun R.remaining W.contents E.contents K.deeds is_terminal facts.now
         (map string_bytes (into_iter_items given)) reader.old reader.new writer.old writer.new errors.old errors.new
         files.old files.new result) }
     ensures refused { IfErr words (λ error. (fault : LaunchFault) × IsGivenFault (error_kind error) fault
@@ -309,6 +284,7 @@ pub fn run_program<
             words.as_slice(),
             texts,
             facts,
+            is_terminal,
             reader,
             writer,
             errors,

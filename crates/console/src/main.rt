@@ -1,28 +1,17 @@
 //! The program: a suite from standard input, what became of it on standard output, and what is wrong on standard error.
 #![tactic(auto)]
 
-mod system;
-
-use crate::system::{SystemTexts, any_seed, processors, text_of, touch_shard_file, variable};
 use command_line::{is_drawn_on, run_main};
 use report_files::SystemFiles;
 use std::io;
 use std::process::ExitCode;
-use word_files::Facts;
+use system_facts::{SystemFacts, SystemTexts};
 
 fn main(rt: HostRuntime) -> ExitCode {
-    touch_shard_file(&rt);
     let words = std::env::args(&rt);
-    let total_shards = variable(&rt, "TEST_TOTAL_SHARDS");
-    let shard_index = variable(&rt, "TEST_SHARD_INDEX");
-    let facts = Facts {
-        processors: processors(&rt),
-        total_shards: text_of(&total_shards),
-        shard_index: text_of(&shard_index),
-        seed: any_seed(&rt),
-    };
+    let told = SystemFacts::of(&rt);
     let is_terminal = is_drawn_on(&rt, &rt.stderr());
-    let texts = &mut SystemTexts { rt: &rt };
+    let texts = &mut SystemTexts::new(&rt);
     let reader = &mut rt.reader();
     let writer = &mut io::writer(&rt);
     let errors = &mut rt.stderr();
@@ -33,7 +22,7 @@ fn main(rt: HostRuntime) -> ExitCode {
         rt.alloc(),
         words,
         texts,
-        &facts,
+        &told.facts(),
         is_terminal,
         reader,
         writer,

@@ -49,6 +49,8 @@ pub struct Facts<'a> {
     pub shard_index: Option<&'a str>,
     /// A seed for words that ask for any.
     pub seed: Option<u64>,
+    /// The name of the machine. No word stands for it.
+    pub host: Option<&'a str>,
 }
 
 /// What stands before the first equals sign of a word, or all of it.

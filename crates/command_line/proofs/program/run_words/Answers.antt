@@ -3,7 +3,7 @@ use Rattle.std.proofs.Common.{Err, None, map, string_bytes}
 use Rattle.messages.specs.Sentences.{sentence_of}
 use Rattle.command_line.proofs.Ended.{closes_refused}
 use Rattle.command_line.proofs.Running.{filed_refused}
-use Rattle.command_line.proofs.Watched.{none_named}
+use Rattle.command_line.proofs.Watched.{none_told}
 use Rattle.command_line.proofs.program.run_words.Goals as goal
 
 pub returns-in-Ok : goal.returns-in-Ok
@@ -15,8 +15,8 @@ returns-in-Err g c = record {
   left = g.R.Read.remaining c.args.reader.now;
   between = _;
   slowest = None;
-  named = c.args.errors.now;
-  names = none_named (g.E.Write.contents c.args.errors.now);
+  during = c.args.errors.now;
+  tells = none_told c.args.is_terminal (g.E.Write.contents c.args.errors.now);
   run = filed_refused (g.R.Read.remaining) (g.W.Write.contents) (g.K.ReportFiles.deeds) (map string_bytes c.args.words.now) c.in-Err.fault _ _ _ _ c.in-Err.ensures.read;
   closed = closes_refused sentence_of (g.W.Write.contents) (g.E.Write.contents) c.in-Err.fault _ _ _ _ c.close_run.result c.close_run.ensures.closed;
 }

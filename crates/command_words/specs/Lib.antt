@@ -1,0 +1,5 @@
+pub mod Commands
+pub mod Found
+pub mod GivenWords
+pub mod Launches
+pub mod Words

@@ -1,0 +1,15 @@
+//! The words of the command line: the options as clap is told of them, what the words ask for, and what is said of words
+//! that are refused.
+#![tactic(auto)]
+
+mod found;
+mod launch;
+mod message;
+mod option_names;
+mod system_words;
+mod words;
+
+pub use launch::Launch;
+pub use message::message_of;
+pub use system_words::given_words;
+pub use words::{given_by, read_launch, read_options};
