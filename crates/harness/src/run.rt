@@ -1,6 +1,6 @@
 //! The program of one who has tests of its own.
 
-ghost use Rattle.std.specs.Prelude.{◌≡◌, ◌⊎◌, IfOk, IfErr, Err, map, string_bytes};
+ghost use Rattle.std.specs.Prelude.{◌≡◌, ◌⊎◌, IfOk, IfErr, Err, false, map, string_bytes, true};
 ghost use Rattle.std.specs.IoError.{error_kind};
 ghost use Rattle.std.specs.Vec.Iter.{into_iter_items};
 ghost use Rattle.harness.specs.Jobs.{jobs_by, replies_left};
@@ -8,23 +8,26 @@ ghost use Rattle.resource_locks.specs.Spares.{HasBareSpares};
 ghost use Rattle.launch_options.specs.declared.fault.LaunchFault.{LaunchFault};
 ghost use Rattle.launcher.specs.Programs.{program_parts};
 ghost use Rattle.messages.specs.Sentences.{tests_sentence_of};
-ghost use Rattle.command_line.specs.GivenWords.{IsGivenFault};
 ghost use Rattle.command_line.specs.Runs.{Closes};
-ghost use Rattle.command_line.specs.TestRuns.{IsTestMainRun, IsTestRun, IsTestRunOnTerminal};
+ghost use Rattle.command_words.specs.GivenWords.{IsGivenFault};
+ghost use Rattle.test_programs.specs.TestRuns.{IsTestMainRun, IsTestRun};
 ghost use Rattle.test_tree.specs.Building.{held, properties_of};
 ghost use Rattle.test_tree.specs.Growing.{IsPending};
 ghost use Rattle.test_tree.specs.declared.cause.BuildCause.TheVariants.{NoMemory};
 
 use crate::job::jobs_of;
-use command_line::{Ending, run_test_program, run_test_program_on_terminal, run_test_words};
+use command_line::Ending;
 use launcher::Program;
+use report_files::ReportFiles;
 use std::alloc::Global;
 use std::env::Args;
 use std::io::{self, Write};
 use std::sync::Wait;
 use std::thread::Threads;
 use std::time::Clock;
+use test_programs::{run_test_main, run_test_program, run_test_words};
 use test_tree::{BuildFault, Tests};
+use word_files::{Facts, TextFiles};
 use worker_pool::{Nobody, Watcher};
 
 /// Runs of these tests what the words ask for; the first word is the program's name. By this clock is told how long
@@ -39,8 +42,8 @@ pub fn run_tests_by_words<T: Threads + Wait + Sync, C: Clock + Sync + Drop, W: W
     errors: &mut E,
 ) -> Result<Ending, BuildFault>
     ensures run { IfOk result (λ ending. IsTestRun replies_left W.contents E.contents
-        (program_parts (held tests.value).tree (properties_of tests.value)) (jobs_by (held tests.value).jobs) (map string_bytes words.now) writer.old
-        writer.new errors.old errors.new ending) }
+        (program_parts (held tests.value).tree (properties_of tests.value)) (jobs_by (held tests.value).jobs) false
+        (map string_bytes words.now) writer.old writer.new errors.old errors.new ending) }
     // No dynamic test holds a key, so a run never gets stuck.
     ensures bare { IfOk result (λ _. HasBareSpares (held tests.value).tree) }
     ensures unbuilt { IfErr result (λ fault. (IsPending (held tests.value) fault.cause ⊎ (fault.cause ≡ NoMemory)) × (writer.new ≡ writer.old)
@@ -60,6 +63,7 @@ pub fn run_tests_by_words<T: Threads + Wait + Sync, C: Clock + Sync + Drop, W: W
         clock,
         alloc,
         words,
+        false,
         program,
         writer,
         errors,
@@ -81,7 +85,7 @@ pub fn run_tests_watched<T: Threads + Wait + Sync + Clock, W: Write, E: Write, V
 ) -> Result<Ending, BuildFault>
     ensures run { IfOk result (λ ending. IfOk words (λ given. IsTestRun
         replies_left W.contents E.contents
-        (program_parts (held tests.value).tree (properties_of tests.value)) (jobs_by (held tests.value).jobs)
+        (program_parts (held tests.value).tree (properties_of tests.value)) (jobs_by (held tests.value).jobs) false
         (map string_bytes (into_iter_items given)) writer.old writer.new errors.old errors.new ending)) }
     ensures refused { IfOk result (λ ending. IfErr words (λ error. (fault : LaunchFault)
         × IsGivenFault (error_kind error) fault × Closes tests_sentence_of W.contents E.contents (Err fault) writer.old
@@ -99,13 +103,15 @@ pub fn run_tests_watched<T: Threads + Wait + Sync + Clock, W: Write, E: Write, V
         jobs,
         slow,
     };
-    Ok(run_test_program(rt, rt, alloc, words, program, writer, errors, watcher))
+    Ok(run_test_program(
+        rt, rt, alloc, words, false, program, writer, errors, watcher,
+    ))
 }
 
 /// Runs of these tests what the words that the system gave ask for, and says how the program ends:
 /// all that is left to do is to end with the status. The words are those of `console`, but for
-/// `--replay` and `--drive`, which are refused with 105. What they ask for goes to the writer;
-/// what a refusal is for goes to the other. A refusal, also that of words which are no text, is
+/// `--report`, `--replay` and `--drive`, which are refused with 105, and for files of words, of which
+/// it knows none: `run_tests_main` has files. What they ask for goes to the writer; what a refusal is for goes to the other. A refusal, also that of words which are no text, is
 /// status 255. Tests of which something was declared that never came are handed back as a fault, and
 /// nothing is run or written. How long the tests took is told by the clock of `rt`, if that is asked for.
 pub fn run_tests<T: Threads + Wait + Sync + Clock, W: Write, E: Write>(
@@ -118,7 +124,7 @@ pub fn run_tests<T: Threads + Wait + Sync + Clock, W: Write, E: Write>(
 ) -> Result<Ending, BuildFault>
     ensures run { IfOk result (λ ending. IfOk words (λ given. IsTestRun
         replies_left W.contents E.contents
-        (program_parts (held tests.value).tree (properties_of tests.value)) (jobs_by (held tests.value).jobs)
+        (program_parts (held tests.value).tree (properties_of tests.value)) (jobs_by (held tests.value).jobs) false
         (map string_bytes (into_iter_items given)) writer.old writer.new errors.old errors.new ending)) }
     ensures refused { IfOk result (λ ending. IfErr words (λ error. (fault : LaunchFault)
         × IsGivenFault (error_kind error) fault × Closes tests_sentence_of W.contents E.contents (Err fault) writer.old
@@ -144,9 +150,9 @@ pub fn run_tests_on_terminal<T: Threads + Wait + Sync, C: Clock + Sync + Drop, W
     writer: &mut W,
     errors: &mut E,
 ) -> Result<Ending, BuildFault>
-    ensures run { IfOk result (λ ending. IfOk words (λ given. IsTestRunOnTerminal
+    ensures run { IfOk result (λ ending. IfOk words (λ given. IsTestRun
         replies_left W.contents E.contents
-        (program_parts (held tests.value).tree (properties_of tests.value)) (jobs_by (held tests.value).jobs)
+        (program_parts (held tests.value).tree (properties_of tests.value)) (jobs_by (held tests.value).jobs) true
         (map string_bytes (into_iter_items given)) writer.old writer.new errors.old errors.new ending)) }
     ensures refused { IfOk result (λ ending. IfErr words (λ error. (fault : LaunchFault)
         × IsGivenFault (error_kind error) fault × Closes tests_sentence_of W.contents E.contents (Err fault) writer.old
@@ -163,35 +169,130 @@ pub fn run_tests_on_terminal<T: Threads + Wait + Sync, C: Clock + Sync + Drop, W
         jobs,
         slow,
     };
-    Ok(run_test_program_on_terminal(rt, clock, alloc, words, program, writer, errors))
+    let mut nobody = Nobody;
+    Ok(run_test_program(
+        rt,
+        clock,
+        alloc,
+        words,
+        true,
+        program,
+        writer,
+        errors,
+        &mut nobody,
+    ))
 }
 
-/// All of a program of one's own tests but the handles that `main` gets of the system: what
-/// `run_tests_on_terminal` does by the clock of `rt` if the other writer is a terminal that can be drawn on
-/// (`is_drawn_on`), and else what `run_tests` does.
-pub fn run_tests_main<T: Threads + Wait + Sync + Clock, W: Write, E: Write>(
+/// All that `console` has but `--replay` and `--drive`, by this clock: what the words ask for that those stand for which
+/// the system gave, by the texts of files and by what the system tells; and the reports that they ask for are kept in
+/// these files. If the other writer is a terminal that can be drawn on, how far the run has come is drawn there meanwhile,
+/// as `run_tests_on_terminal` says; and one who watches is shown the run, as `run_tests_watched` says. All else is as
+/// `run_tests` says.
+pub fn run_tests_by_clock<
+    T: Threads + Wait + Sync,
+    C: Clock + Sync + Drop,
+    F: TextFiles,
+    W: Write,
+    E: Write,
+    K: ReportFiles,
+    V: Watcher,
+>(
     rt: &T,
+    clock: C,
     alloc: Global,
     words: io::Result<Args>,
+    texts: &mut F,
+    facts: &Facts<'_>,
     is_terminal: bool,
     tests: Box<Tests>,
     writer: &mut W,
     errors: &mut E,
+    files: &mut K,
+    watcher: &mut V,
 ) -> Result<Ending, BuildFault>
     ensures run { IfOk result (λ ending. IfOk words (λ given. IsTestMainRun
         replies_left W.contents E.contents
         (program_parts (held tests.value).tree (properties_of tests.value)) (jobs_by (held tests.value).jobs)
-        is_terminal (map string_bytes (into_iter_items given)) writer.old writer.new errors.old errors.new ending)) }
+        K.deeds is_terminal facts.now (map string_bytes (into_iter_items given)) writer.old writer.new errors.old
+        errors.new files.old files.new ending)) }
     ensures refused { IfOk result (λ ending. IfErr words (λ error. (fault : LaunchFault)
-        × IsGivenFault (error_kind error) fault × Closes tests_sentence_of W.contents E.contents (Err fault) writer.old
-        writer.new errors.old errors.new ending)) }
+        × IsGivenFault (error_kind error) fault × (files.new ≡ files.old) × Closes tests_sentence_of W.contents
+        E.contents (Err fault) writer.old writer.new errors.old errors.new ending)) }
+    // No dynamic test holds a key, so a run never gets stuck.
     ensures bare { IfOk result (λ _. HasBareSpares (held tests.value).tree) }
     ensures unbuilt { IfErr result (λ fault. (IsPending (held tests.value) fault.cause ⊎ (fault.cause ≡ NoMemory)) × (writer.new ≡ writer.old)
-        × (errors.new ≡ errors.old)) }
+        × (errors.new ≡ errors.old) × (files.new ≡ files.old) × (watcher.new ≡ watcher.old)) }
 {
-    if is_terminal {
-        run_tests_on_terminal(rt, rt, alloc, words, tests, writer, errors)
-    } else {
-        run_tests(rt, alloc, words, tests, writer, errors)
-    }
+    let (tree, properties, bodies, slow) = Box::into_inner(tests).into_parts()?;
+    let jobs = jobs_of(alloc, bodies)?;
+    let program = Program {
+        tree,
+        properties,
+        jobs,
+        slow,
+    };
+    Ok(run_test_main(
+        rt,
+        clock,
+        alloc,
+        words,
+        texts,
+        facts,
+        is_terminal,
+        program,
+        writer,
+        errors,
+        files,
+        watcher,
+    ))
+}
+
+/// All of a program of one's own tests but the handles that `main` gets of the system: what `run_tests_by_clock` does by
+/// the clock of `rt`. `run_tests_here` asks a system for all that this is handed.
+pub fn run_tests_main<
+    T: Threads + Wait + Sync + Clock,
+    F: TextFiles,
+    W: Write,
+    E: Write,
+    K: ReportFiles,
+    V: Watcher,
+>(
+    rt: &T,
+    alloc: Global,
+    words: io::Result<Args>,
+    texts: &mut F,
+    facts: &Facts<'_>,
+    is_terminal: bool,
+    tests: Box<Tests>,
+    writer: &mut W,
+    errors: &mut E,
+    files: &mut K,
+    watcher: &mut V,
+) -> Result<Ending, BuildFault>
+    ensures run { IfOk result (λ ending. IfOk words (λ given. IsTestMainRun
+        replies_left W.contents E.contents
+        (program_parts (held tests.value).tree (properties_of tests.value)) (jobs_by (held tests.value).jobs)
+        K.deeds is_terminal facts.now (map string_bytes (into_iter_items given)) writer.old writer.new errors.old
+        errors.new files.old files.new ending)) }
+    ensures refused { IfOk result (λ ending. IfErr words (λ error. (fault : LaunchFault)
+        × IsGivenFault (error_kind error) fault × (files.new ≡ files.old) × Closes tests_sentence_of W.contents
+        E.contents (Err fault) writer.old writer.new errors.old errors.new ending)) }
+    ensures bare { IfOk result (λ _. HasBareSpares (held tests.value).tree) }
+    ensures unbuilt { IfErr result (λ fault. (IsPending (held tests.value) fault.cause ⊎ (fault.cause ≡ NoMemory)) × (writer.new ≡ writer.old)
+        × (errors.new ≡ errors.old) × (files.new ≡ files.old) × (watcher.new ≡ watcher.old)) }
+{
+    run_tests_by_clock(
+        rt,
+        rt,
+        alloc,
+        words,
+        texts,
+        facts,
+        is_terminal,
+        tests,
+        writer,
+        errors,
+        files,
+        watcher,
+    )
 }

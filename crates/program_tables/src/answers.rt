@@ -139,13 +139,16 @@ fn push_own_tests<T: Threads + Wait + Sync>(
     alloc: Global,
     answers: &mut Output,
     errors: &mut Vec<u8>,
-    words: &[String],
+    words: Vec<String>,
+    texts: &Texts,
 ) -> Result<(), AllocError> {
     answers.room = usize::MAX;
-    match run_own_tests(rt, alloc, words, answers, errors) {
-        Ok(ending) => push_end(alloc, answers, ending),
-        Err(_) => answers.push(b"not built\n"),
+    let mut files = MemoryFiles::new(alloc);
+    match run_own_tests(rt, alloc, words, texts, answers, errors, &mut files) {
+        Ok(ending) => push_end(alloc, answers, ending)?,
+        Err(_) => answers.push(b"not built\n")?,
     }
+    answers.push(files.kept.as_slice())
 }
 
 /// Whether a line of the feed is of the second worker.
@@ -172,6 +175,8 @@ fn has_second<T: Threads + Wait + Sync>(
             TableClock::still(),
             alloc,
             words,
+            None,
+            false,
             &mut &*suite,
             &mut feed,
             &mut errors,
@@ -213,7 +218,7 @@ fn push_asked<T: Threads + Wait + Sync>(
     let mut errors = Vec::new(alloc);
     match asks {
         Asks::SecondWorker => push_second(rt, alloc, answers, words.as_slice(), suite)?,
-        Asks::OwnTests => push_own_tests(rt, alloc, answers, &mut errors, words.as_slice())?,
+        Asks::OwnTests => push_own_tests(rt, alloc, answers, &mut errors, words, texts)?,
         _ => push_run(rt, alloc, answers, &mut errors, words, texts, suite, asks)?,
     }
     if asks.shows_errors() {

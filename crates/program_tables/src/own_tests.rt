@@ -1,10 +1,12 @@
 //! Tests of the table's own.
 
+use crate::memory_files::MemoryFiles;
 use crate::output::Output;
 use crate::table_clock::TableClock;
+use crate::texts::{RowFiles, Texts};
 use harness::{
-    BuildFault, Checked, Ending, LockMode, Mode, TestBox, Tests, assume, check_same,
-    run_tests_by_words,
+    BuildFault, Checked, Ending, LockMode, Mode, Nobody, TestBox, Tests, assume, check_same,
+    run_tests_by_clock,
 };
 use std::alloc::Global;
 use std::sync::Wait;
@@ -22,13 +24,15 @@ fn aborts(_alloc: Global) -> Checked {
     assume(false, "closed today")
 }
 
-/// Runs these tests with the words of a row.
+/// Runs these tests with the words of a row, and the files that these may name.
 pub(crate) fn run_own_tests<T: Threads + Wait + Sync>(
     rt: &T,
     alloc: Global,
-    words: &[String],
+    words: Vec<String>,
+    texts: &Texts,
     answers: &mut Output,
     errors: &mut Vec<u8>,
+    files: &mut MemoryFiles,
 ) -> Result<Ending, BuildFault> {
     let mut tests = Tests::new(alloc)?;
     tests.property("junit.jupiter.execution.parallel.config.strategy", "fixed")?;
@@ -53,6 +57,19 @@ pub(crate) fn run_own_tests<T: Threads + Wait + Sync>(
     tests.dynamic(factory, "first", first)?;
     let second: TestBox = Box::new(alloc, move |alloc: Global| passes(alloc))?;
     tests.dynamic(factory, "second", second)?;
-    let clock = TableClock::of(words);
-    run_tests_by_words(rt, clock, alloc, words, tests, answers, errors)
+    let clock = TableClock::of(words.as_slice());
+    run_tests_by_clock(
+        rt,
+        clock,
+        alloc,
+        Ok(words.into_iter()),
+        &mut RowFiles { texts },
+        &texts.facts(),
+        false,
+        tests,
+        answers,
+        errors,
+        files,
+        &mut Nobody,
+    )
 }

@@ -90,6 +90,7 @@ impl Texts {
             total_shards: self.get("TEST_TOTAL_SHARDS"),
             shard_index: self.get("TEST_SHARD_INDEX"),
             seed: self.seed(),
+            host: self.get("HOST"),
         }
     }
 }

@@ -5,17 +5,13 @@ mod failures;
 
 use failures::FailuresByClass;
 use harness::{
-    BuildFault, Checked, Ending, LockMode, TestBox, Tests, assume, check, check_same, exit_code,
-    run_tests_watched,
+    BuildFault, Checked, Ending, LockMode, System, TestBox, Tests, assume, check, check_same,
+    exit_code, run_tests_here,
 };
 use semver::{Version, VersionReq};
 use std::alloc::Global;
-use std::env::Args;
-use std::io::{self, Write};
+use std::io::{self, IsTerminal, Write};
 use std::process::ExitCode;
-use std::sync::Wait;
-use std::thread::Threads;
-use std::time::Clock;
 
 fn reads(alloc: Global) -> Checked {
     let version = Version::parse(alloc, "1.2.3")?;
@@ -59,14 +55,13 @@ fn matches(alloc: Global, minor: u64, wanted: bool) -> Checked {
 }
 
 /// Builds the tests, and runs them as the words ask for. What is built here is not handed out, so nothing is hidden.
-fn run<T: Threads + Wait + Sync + Clock, W: Write, E: Write>(
-    rt: &T,
-    alloc: Global,
-    words: io::Result<Args>,
+fn run<S: System, W: Write, E: Write + IsTerminal>(
+    system: &S,
     writer: &mut W,
     errors: &mut E,
     failures: &mut FailuresByClass,
 ) -> Result<Ending, BuildFault> {
+    let alloc = system.alloc();
     let mut tests = Tests::new(alloc)?;
     tests.property("junit.jupiter.execution.parallel.enabled", "true")?;
     tests.property(
@@ -93,13 +88,13 @@ fn run<T: Threads + Wait + Sync + Clock, W: Write, E: Write>(
     tests.dynamic(caret, "1.2.0", two)?;
     let one: TestBox = Box::new(alloc, move |alloc: Global| matches(alloc, 1, false))?;
     tests.dynamic(caret, "1.1.0", one)?;
-    run_tests_watched(rt, alloc, words, tests, writer, errors, failures)
+    run_tests_here(system, tests, writer, errors, failures)
 }
 
 fn main(rt: HostRuntime) -> ExitCode {
-    let (words, writer, errors) = (std::env::args(&rt), &mut io::writer(&rt), &mut rt.stderr());
+    let (writer, errors) = (&mut io::writer(&rt), &mut rt.stderr());
     let mut failures = FailuresByClass::new(rt.alloc());
-    let run = run(&rt, rt.alloc(), words, writer, errors, &mut failures);
+    let run = run(&rt, writer, errors, &mut failures);
     failures.print(writer);
     exit_code(run, errors)
 }

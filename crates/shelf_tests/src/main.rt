@@ -5,16 +5,12 @@ mod shelf;
 
 use crate::shelf::Shelf;
 use harness::{
-    BuildFault, Checked, Ending, LockMode, TestBox, Tests, check, check_same, exit_code,
-    is_drawn_on, run_tests_main,
+    BuildFault, Checked, Ending, LockMode, Nobody, System, TestBox, Tests, check, check_same,
+    exit_code, run_tests_here,
 };
 use std::alloc::Global;
-use std::env::Args;
-use std::io::{self, Write};
+use std::io::{self, IsTerminal, Write};
 use std::process::ExitCode;
-use std::sync::Wait;
-use std::thread::Threads;
-use std::time::Clock;
 
 fn holds(_alloc: Global) -> Checked {
     let mut shelf = Shelf::with_places(3);
@@ -26,14 +22,12 @@ fn fits(_alloc: Global) -> Checked {
     check(Shelf::with_places(3).put(3), "three books have room")
 }
 
-fn run<T: Threads + Wait + Sync + Clock, W: Write, E: Write>(
-    rt: &T,
-    alloc: Global,
-    words: io::Result<Args>,
-    is_drawn: bool,
+fn run<S: System, W: Write, E: Write + IsTerminal>(
+    system: &S,
     writer: &mut W,
     errors: &mut E,
 ) -> Result<Ending, BuildFault> {
+    let alloc = system.alloc();
     let mut tests = Tests::new(alloc)?;
     let engine = tests.engine("shelf")?;
     tests.lock("shelf", LockMode::ReadWrite)?; // of the class below
@@ -42,12 +36,11 @@ fn run<T: Threads + Wait + Sync + Clock, W: Write, E: Write>(
     let factory = tests.factory(class, "fits()", fits)?;
     let three: TestBox = Box::new(alloc, move |alloc: Global| fits(alloc))?;
     tests.dynamic(factory, "three", three)?;
-    run_tests_main(rt, alloc, words, is_drawn, tests, writer, errors)
+    run_tests_here(system, tests, writer, errors, &mut Nobody)
 }
 
 fn main(rt: HostRuntime) -> ExitCode {
-    let (words, writer, errors) = (std::env::args(&rt), &mut io::writer(&rt), &mut rt.stderr());
-    let is_drawn = is_drawn_on(&rt, errors);
-    let run = run(&rt, rt.alloc(), words, is_drawn, writer, errors);
+    let (writer, errors) = (&mut io::writer(&rt), &mut rt.stderr());
+    let run = run(&rt, writer, errors);
     exit_code(run, errors)
 }

@@ -1,0 +1,67 @@
+//! The program of one who has tests of its own, on a system that is asked for all that it tells.
+
+ghost use Rattle.std.specs.Prelude.{◌≡◌, ◌⊎◌, IfOk, IfErr};
+ghost use Rattle.harness.specs.Jobs.{jobs_by, replies_left};
+ghost use Rattle.harness.specs.SystemRuns.{IsRunHere};
+ghost use Rattle.launcher.specs.Programs.{program_parts};
+ghost use Rattle.resource_locks.specs.Spares.{HasBareSpares};
+ghost use Rattle.test_tree.specs.Building.{held, properties_of};
+ghost use Rattle.test_tree.specs.Growing.{IsPending};
+ghost use Rattle.test_tree.specs.declared.cause.BuildCause.TheVariants.{NoMemory};
+
+use crate::run::run_tests_main;
+use command_line::{Ending, is_drawn_on};
+use report_files::SystemFiles;
+use std::env::{Env, args};
+use std::fs::Files;
+use std::io::{IsTerminal, Write};
+use std::sync::Wait;
+use std::thread::Threads;
+use std::time::Clock;
+use system_facts::{SystemFacts, SystemTexts};
+use test_tree::{BuildFault, Tests};
+use worker_pool::Watcher;
+
+/// What a program of tests asks of the system: `main` has it.
+pub trait System: Threads + Wait + Sync + Clock + Env + Files + AllocGlobal {}
+
+impl<S: Threads + Wait + Sync + Clock + Env + Files + AllocGlobal> System for S {}
+
+/// What `run_tests_main` does with what this system gives and tells: the words of the command line, the files that they
+/// name, how many processors there are, a build server's shard, and whether the other writer is a terminal that can be
+/// drawn on.
+pub fn run_tests_here<S: System, W: Write, E: Write + IsTerminal, V: Watcher>(
+    system: &S,
+    tests: Box<Tests>,
+    writer: &mut W,
+    errors: &mut E,
+    watcher: &mut V,
+) -> Result<Ending, BuildFault>
+    // By some words, or for some reason by none: no clause can say what a system gives.
+    ensures run { IfOk result (λ ending. IsRunHere replies_left W.contents E.contents
+        (program_parts (held tests.value).tree (properties_of tests.value)) (jobs_by (held tests.value).jobs)
+        writer.old writer.new errors.old errors.new ending) }
+    ensures bare { IfOk result (λ _. HasBareSpares (held tests.value).tree) }
+    ensures unbuilt { IfErr result (λ fault. (IsPending (held tests.value) fault.cause ⊎ (fault.cause ≡ NoMemory)) × (writer.new ≡ writer.old)
+        × (errors.new ≡ errors.old) × (watcher.new ≡ watcher.old)) }
+{
+    let words = args(system);
+    let told = SystemFacts::of(system);
+    let facts = told.facts();
+    let is_terminal = is_drawn_on(system, &*errors);
+    let mut texts = SystemTexts::new(system);
+    let mut files = SystemFiles::new(system.alloc(), system);
+    run_tests_main(
+        system,
+        system.alloc(),
+        words,
+        &mut texts,
+        &facts,
+        is_terminal,
+        tests,
+        writer,
+        errors,
+        &mut files,
+        watcher,
+    )
+}

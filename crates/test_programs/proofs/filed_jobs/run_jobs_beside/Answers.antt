@@ -1,0 +1,10 @@
+-- Who watches has seen what was seen beside the recording.
+use Rattle.std.proofs.Common.{rules}
+use Rattle.launcher.proofs.Showing.{carried}
+use Rattle.report_files.specs.ReportedRuns.{HasSeenSome}
+use Rattle.test_programs.proofs.filed_jobs.run_jobs_beside.Goals as goal
+
+pub returns-clause-watched : goal.returns-clause-watched
+returns-clause-watched g c =
+    let saw = g.V.Watcher.saw in
+    carried {a = c.run_jobs_listed.new.beside.watcher.now} (search rules) (λ v. HasSeenSome saw c.args.watcher.now v) c.run_jobs_listed.ensures.watched

@@ -1,0 +1,102 @@
+//! A run of a program's own tests that two watch.
+
+ghost use Rattle.std.specs.Prelude.{◌≡◌, ℕ, map, option_map, string_bytes};
+ghost use Rattle.resource_locks.specs.Plans.{PlanParts};
+ghost use Rattle.worker_pool.specs.Premises.{JobsMayAnswer};
+ghost use Rattle.worker_pool.specs.Reports.{run_of};
+ghost use Rattle.launch_options.specs.Asked.{asked_by};
+ghost use Rattle.launch_options.specs.ReportTexts.{parts_of};
+ghost use Rattle.launcher.specs.Programs.{HasJobs, program_parts};
+ghost use Rattle.report_files.specs.ReportedRuns.{HasSeenSome};
+ghost use Rattle.test_programs.specs.FiledJobs.{IsTimedJobs};
+
+use crate::filed_jobs::run_jobs_filed;
+use command_words::Launch;
+use job_times::{RunTimes, Stopwatch};
+use launcher::{ExitStatus, LaunchFault, Program};
+use plan_events::Job;
+use report_files::{Beside, ReportFiles};
+use std::alloc::Global;
+use std::io::Write;
+use std::sync::Wait;
+use std::thread::Threads;
+use worker_pool::Watcher;
+
+/// Runs what is asked for with these jobs, and keeps its reports; both who watch are shown the run.
+fn run_jobs_paired<
+    B: Job + Send,
+    T: Threads + Wait + Sync,
+    W: Write,
+    D: Watcher,
+    V: Watcher,
+    K: ReportFiles,
+    S: Stopwatch + Sync,
+>(
+    rt: &T,
+    alloc: Global,
+    launch: &Launch<'_>,
+    program: Program<B>,
+    writer: &mut W,
+    files: &mut K,
+    pair: &mut Beside<'_, '_, D, V>,
+    slowest: &mut Option<String>,
+    times: &mut RunTimes<'_, S>,
+) -> Result<ExitStatus, LaunchFault>
+    requires jobs { (plan : PlanParts) (workers ring : ℕ) → JobsMayAnswer B.answers
+        (run_of plan workers ring program.jobs.items) }
+    requires all { HasJobs program.tree program.jobs.items }
+    ensures same { pair.new.watcher.ghost_name ≡ pair.old.watcher.ghost_name }
+    ensures watched { HasSeenSome D.saw pair.old.watcher.now pair.new.watcher.now }
+    ensures runs { IsTimedJobs B.answers (asked_by launch.now.options) (program_parts program.tree program.properties)
+        program.jobs.items (map parts_of launch.now.reports.items) (W.contents writer.old) (W.contents writer.new)
+        (K.deeds files.old) (K.deeds files.new) result (option_map string_bytes slowest.new) }
+{
+    let wanted = launch.reports.as_slice();
+    run_jobs_filed(
+        rt,
+        alloc,
+        &launch.options,
+        wanted,
+        files,
+        program,
+        writer,
+        pair,
+        slowest,
+        times,
+    )
+}
+
+/// Does the same: the first who watches has seen the run, and the other is shown it too.
+pub(crate) fn run_jobs_shown<
+    B: Job + Send,
+    T: Threads + Wait + Sync,
+    W: Write,
+    D: Watcher,
+    V: Watcher,
+    K: ReportFiles,
+    S: Stopwatch + Sync,
+>(
+    rt: &T,
+    alloc: Global,
+    launch: &Launch<'_>,
+    program: Program<B>,
+    writer: &mut W,
+    files: &mut K,
+    watcher: &mut D,
+    other: &mut V,
+    slowest: &mut Option<String>,
+    times: &mut RunTimes<'_, S>,
+) -> Result<ExitStatus, LaunchFault>
+    requires jobs { (plan : PlanParts) (workers ring : ℕ) → JobsMayAnswer B.answers
+        (run_of plan workers ring program.jobs.items) }
+    requires all { HasJobs program.tree program.jobs.items }
+    ensures watched { HasSeenSome D.saw watcher.old watcher.new }
+    ensures runs { IsTimedJobs B.answers (asked_by launch.now.options) (program_parts program.tree program.properties)
+        program.jobs.items (map parts_of launch.now.reports.items) (W.contents writer.old) (W.contents writer.new)
+        (K.deeds files.old) (K.deeds files.new) result (option_map string_bytes slowest.new) }
+{
+    let mut pair = Beside { watcher, other };
+    run_jobs_paired(
+        rt, alloc, launch, program, writer, files, &mut pair, slowest, times,
+    )
+}
