@@ -3,10 +3,11 @@
 
 checks/times.py [SUITES] [SEED]   20 suites and the seed 1 where they are not given
   --program PATH                  another program than crates/console/out/console
-Of suites made at random, run by 1, 2, 4 and 8 workers, the JSON and the XML of one run have the same time of each
-node, a suite has the sum of its cases, and standard error has the ten slowest of those. Where no clock is read, and
-without --times, no time is told, and all else is the same. A test that counts longer takes longer, and no worker's
-tests take longer together than the run.
+Of suites made at random, run by 1, 2, 4 and 8 workers, standard output and the files of --report have the same text,
+be it JSON or XML, and the same time of each node; a suite has the sum of its cases, the name of this machine and the
+moment at which the run began; and standard error has the ten slowest. Where no clock is read, and without --times, no
+time is told, and all else is the same. A test that counts longer takes longer, and no worker's tests take longer
+together than the run. The JSON of a run that goes on comes through a pipe line by line, each finish with its time.
 The last line is 'N passed, M failed': the runs.
 """
 
@@ -14,16 +15,19 @@ import argparse
 import json
 import os
 import re
+import socket
 import sys
 import tempfile
 import time
 import xml.etree.ElementTree as ElementTree
+from datetime import datetime, timezone
 from random import Random
 
 sys.dont_write_bytecode = True
 
 from programs import Hangs, built_console, ran
 from suites import Maker, text_of
+from watched import PARTS, TESTS, slow_suite, through_pipe
 
 SECONDS_A_RUN = 120
 REFUSED = 255
@@ -59,6 +63,18 @@ def milliseconds(text):
         return 0
     need(re.fullmatch(r"\d+\.\d{3}", text), f"the time {text!r}")
     return int(text.replace(".", ""))
+
+
+def judge_stamps(text, begun, ended):
+    """Each suite has the name of this machine, and all have one moment of the run, in whole seconds of UTC."""
+    suites = list(ElementTree.fromstring(text).iter("testsuite"))
+    need({suite.get("hostname") for suite in suites} <= {socket.gethostname()}, "another machine's name")
+    stamps = {suite.get("timestamp", "none") for suite in suites}
+    need(len(stamps) <= 1, f"the time stamps {stamps}")
+    for stamp in stamps:
+        need(re.fullmatch(r"\d{4}-\d\d-\d\dT\d\d:\d\d:\d\d", stamp), f"the time stamp {stamp!r}")
+        moment = datetime.fromisoformat(stamp).replace(tzinfo=timezone.utc).timestamp()
+        need(int(begun) <= moment <= ended, f"{stamp} is no moment of the run, from {begun} to {ended}")
 
 
 def judge_xml(text, took):
@@ -102,27 +118,58 @@ def without_times(text):
     return re.sub(r',"ms":\d+}', "}", text)
 
 
-def tells_alike(program, suite, workers, folder):
-    """One run in all forms that have times, and the same run without them."""
-    path = os.path.join(folder, "run.xml")
-    words = ["--workers", str(workers), "--details", "json"]
-    status, output, errors = ran_in(program, [*words, "--times", "--report", "xml=run.xml"], suite, folder)
+def has_no_time(text):
+    return '"ms"' not in text and not re.search(r' (hostname|timestamp)=| time="(?!0")', text)
+
+
+def reported(program, suite, workers, folder, form):
+    """A run that prints one form, and writes both into files; what it said besides, and the times that it told."""
+    begun = time.time()
+    words = ["--workers", str(workers), "--details", form, "--times", "--report", "json=run.json", "--report", "xml=run.xml"]
+    status, output, errors = ran_in(program, words, suite, folder)
     if status == REFUSED:
-        return
-    took, tests = times_in_json(output)
-    with open(path) as report:
-        judge_xml(report.read(), took)
+        return None
+    files = {}
+    for name in ("json", "xml"):
+        with open(os.path.join(folder, f"run.{name}"), newline="") as file:
+            files[name] = file.read()
+    need(files[form] == output, f"the file has another text than standard output, as {form}")
+    took, tests = times_in_json(files["json"])
+    judge_xml(files["xml"], took)
+    judge_stamps(files["xml"], begun, time.time())
     judge_slowest(errors, took, tests)
-    plain, printed, said = ran_in(program, words, suite, folder)
-    need(plain == status, f"status {plain} without times, {status} with them")
-    need('"ms"' not in printed, "a time that nobody asked for")
-    need(not any(TITLE.fullmatch(line) for line in said), "a list that nobody asked for")
-    if workers == 1:
-        need(without_times(output) == printed, "another history with times")
-    for unread in (["--drive", "2"], ["--replay", ""]):
-        _, printed, said = ran_in(program, [*words, "--times", *unread], suite, folder)
-        need('"ms"' not in printed, f"a time with {unread[0]}")
-        need(not any(TITLE.fullmatch(line) for line in said), f"slow tests with {unread[0]}")
+    return status, output
+
+
+def tells_alike(program, suite, workers, folder):
+    """Runs that tell their times in all forms, and the same runs without them."""
+    for form in ("json", "xml"):
+        timed = reported(program, suite, workers, folder, form)
+        if timed is None:
+            return
+        words = ["--workers", str(workers), "--details", form]
+        status, printed, said = ran_in(program, words, suite, folder)
+        need(status == timed[0], f"status {status} without times, {timed[0]} with them")
+        need(has_no_time(printed), "a time that nobody asked for")
+        need(not any(TITLE.fullmatch(line) for line in said), "a list that nobody asked for")
+        if workers == 1 and form == "json":
+            need(without_times(timed[1]) == printed, "another history with times")
+        for unread in (["--drive", "2"], ["--replay", ""]):
+            _, printed, said = ran_in(program, [*words, "--times", *unread], suite, folder)
+            need(has_no_time(printed), f"a time with {unread[0]}")
+            need(not any(TITLE.fullmatch(line) for line in said), f"slow tests with {unread[0]}")
+
+
+def lines_come_while_the_run_goes_on(program, folder):
+    """What has come through a pipe is at any moment a beginning of the whole, in which each test has its time."""
+    status, found = through_pipe(program, slow_suite(), ["--times"], "json")
+    whole = found[-1][1]
+    need(status == 0 and all(whole.startswith(got) for _, got in found), f"status {status}, or no beginning of the whole")
+    need(len(times_in_json(whole.decode())[1]) == TESTS, "a test without a time")
+    begun = next(at for at, got in found if b'"ms":' in got)
+    parts = len({got.count(b'"ms":') for _, got in found})
+    over = found[-1][0]
+    need(parts >= PARTS and begun < 0.5 * over, f"{parts} parts, the first time after {begun:.2f} s of {over:.2f} s")
 
 
 def who_counts_longer_takes_longer(program, folder):
@@ -153,6 +200,7 @@ def main():
     given = words.parse_args()
     program = os.path.abspath(given.program or built_console())
     runs = [("counting", lambda folder: who_counts_longer_takes_longer(program, folder))]
+    runs.append(("a run that goes on", lambda folder: lines_come_while_the_run_goes_on(program, folder)))
     for number in range(1, given.suites + 1):
         suite = text_of(Maker(Random(f"{given.seed}/{number}")).plan()).encode()
         for workers in (1, 2, 4, 8):

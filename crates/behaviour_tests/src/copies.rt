@@ -28,11 +28,6 @@ fn copies_ids(alloc: Global) -> Option<bool> {
     copies_id(alloc, &id)
 }
 
-#[test]
-fn copies_of_ids_are_the_same(rt: HostRuntime) {
-    assert!(rt; copies_ids(rt.alloc()) == Some(true));
-}
-
 /// Adds the copy of a tag.
 fn add_copy(alloc: Global, set: &mut TagSet, name: &str) -> Option<()> {
     let tag = tag_of(alloc, name).ok()?;
@@ -54,11 +49,6 @@ fn copies_sets(alloc: Global) -> Option<bool> {
     add_copy(alloc, &mut set, "a")?;
     let is_copied = copies_set(alloc, &set)?;
     Some(was_empty && is_copied)
-}
-
-#[test]
-fn copies_of_sets_have_the_same_tags(rt: HostRuntime) {
-    assert!(rt; copies_sets(rt.alloc()) == Some(true));
 }
 
 /// Disables a node for no reason, and gives it the tag slow.
@@ -84,11 +74,6 @@ fn copies_nodes(alloc: Global) -> Option<bool> {
     copies_declared(alloc, &node)
 }
 
-#[test]
-fn copies_of_nodes_say_the_same(rt: HostRuntime) {
-    assert!(rt; copies_nodes(rt.alloc()) == Some(true));
-}
-
 /// Whether the copy of an outcome has its status and its text.
 fn copies_outcome(outcome: &Outcome) -> Option<bool> {
     let copy = outcome.copy().ok()?;
@@ -103,6 +88,9 @@ fn copies_outcomes(alloc: Global) -> Option<bool> {
 }
 
 #[test]
-fn copies_of_outcomes_say_the_same(rt: HostRuntime) {
+fn copies_say_the_same(rt: HostRuntime) {
+    assert!(rt; copies_ids(rt.alloc()) == Some(true));
+    assert!(rt; copies_sets(rt.alloc()) == Some(true));
+    assert!(rt; copies_nodes(rt.alloc()) == Some(true));
     assert!(rt; copies_outcomes(rt.alloc()) == Some(true));
 }

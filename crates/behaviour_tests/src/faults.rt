@@ -24,13 +24,6 @@ fn is_said(alloc: Global, all: &str) -> bool {
     push_said(&mut list).is_ok() && list.as_str() == all
 }
 
-#[test]
-fn each_fault_says_that_there_is_no_memory(rt: HostRuntime) {
-    let all =
-        "no memory, no memory, no memory, no memory, no memory, no memory, no memory, no memory";
-    assert!(rt; is_said(rt.alloc(), all));
-}
-
 /// Whether want of memory has number 0 in each type of fault that has numbers.
 fn are_numbered() -> bool {
     UidFault::NoMemory.number() == 0
@@ -50,6 +43,9 @@ fn are_nowhere() -> bool {
 }
 
 #[test]
-fn want_of_memory_has_number_0_and_no_place(rt: HostRuntime) {
+fn want_of_memory_has_its_text_number_0_and_no_place(rt: HostRuntime) {
+    let all =
+        "no memory, no memory, no memory, no memory, no memory, no memory, no memory, no memory";
+    assert!(rt; is_said(rt.alloc(), all));
     assert!(rt; are_numbered() && are_nowhere());
 }

@@ -44,18 +44,11 @@ fn says(alloc: Global, events: &[Event], text: &str) -> bool {
 }
 
 #[test]
-fn a_test_that_runs_longer_is_named_once(rt: HostRuntime) {
+fn a_test_is_named_once_while_it_runs_over_its_limit(rt: HostRuntime) {
     let line = "slow: t() in a.B has been running for 1.000 s (limit 900 ms)\n";
     assert!(rt; says(rt.alloc(), &[started(3)], line));
-}
-
-#[test]
-fn a_test_that_has_finished_is_not_named(rt: HostRuntime) {
-    let events = [started(3), finished(3, Status::Successful)];
-    assert!(rt; says(rt.alloc(), &events, ""));
-}
-
-#[test]
-fn a_test_without_a_limit_is_not_named(rt: HostRuntime) {
+    let ended = [started(3), finished(3, Status::Successful)];
+    assert!(rt; says(rt.alloc(), &ended, ""));
+    // node 4 has no limit
     assert!(rt; says(rt.alloc(), &[started(4)], ""));
 }
