@@ -64,6 +64,7 @@ two_tests body after disabled fast = record {
   keys = [];
   modes = Concurrent ∷ SameThread ∷ SameThread ∷ SameThread ∷ SameThread ∷ [];
   fail_fast = fast;
+  tolerated = 0;
 }
 
 -- one job fails
@@ -122,6 +123,7 @@ factory = record {
   keys = [];
   modes = Concurrent ∷ SameThread ∷ SameThread ∷ SameThread ∷ SameThread ∷ SameThread ∷ [];
   fail_fast = false;
+  tolerated = 0;
 }
 
 abbrev pulls : ℕ → ℕ → List Reply

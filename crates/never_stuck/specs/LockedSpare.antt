@@ -71,6 +71,7 @@ locked_plan = record {
   held = [] ∷ [] ∷ (read_global ∷ db ∷ []) ∷ [] ∷ (read_global ∷ []) ∷ (db ∷ []) ∷ [];
   keys = global ∷ codes "db" ∷ [];
   fail_fast = false;
+  tolerated = 0;
 }
 
 -- the factory's body asks for one spare, and all bodies are successful

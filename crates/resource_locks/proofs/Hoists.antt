@@ -24,8 +24,8 @@ use Rattle.resource_locks.proofs.Numbered.{to_hold_numbered}
 
 -- the fields that hoisting fills
 pub plan_is : (t u : Nodes) (given modes : List Mode) (sets : List (List Lock)) (keys : List (List ℕ)) → u ≡ t → modes ≡ table (hoisted_mode (declared_of t) given) (size t) → sets ≡ table (held (declared_of t)) (size t) → keys ≡ keys_of (declared_of t)
-    → record { tree = u; modes = modes; held = sets; keys = keys; fail_fast = false } ≡ plan_of t given
-plan_is t u given modes sets keys a b c d = λ i. record { tree = a i; modes = b i; held = c i; keys = d i; fail_fast = false }
+    → record { tree = u; modes = modes; held = sets; keys = keys; fail_fast = false; tolerated = 0 } ≡ plan_of t given
+plan_is t u given modes sets keys a b c d = λ i. record { tree = a i; modes = b i; held = c i; keys = d i; fail_fast = false; tolerated = 0 }
 
 module _ (t : Nodes) (tree : IsTree t) (given : List Mode) (len : length given ≡ size t) where
   abbrev told : Declared
@@ -61,13 +61,13 @@ module _ (t : Nodes) (tree : IsTree t) (given : List Mode) (len : length given �
     numbers = is;
   }
 
--- whether a plan fails fast changes no set and no mode
-module _ (told : Declared) (p : PlanParts) (fail_fast : Bool) where
-  pub hoisted_still : (given : ℕ → Mode) → IsHoisted told given p → IsHoisted told given (record p { fail_fast = fail_fast })
+-- whether a plan fails fast, and after how many failures, changes no set and no mode
+module _ (told : Declared) (p : PlanParts) (fail_fast : Bool) (tolerated : ℕ) where
+  pub hoisted_still : (given : ℕ → Mode) → IsHoisted told given p → IsHoisted told given (record p { fail_fast = fail_fast; tolerated = tolerated })
   hoisted_still given h = record { writes = h.writes; reads = h.reads; only = h.only; one_mode = h.one_mode; forced = h.forced; free = h.free }
 
-  held_still : (n : ℕ) (key : List ℕ) (mode : LockMode) → IsHeldFor told p n key mode → IsHeldFor told (record p { fail_fast = fail_fast }) n key mode
+  held_still : (n : ℕ) (key : List ℕ) (mode : LockMode) → IsHeldFor told p n key mode → IsHeldFor told (record p { fail_fast = fail_fast; tolerated = tolerated }) n key mode
   held_still n key mode h = record { node = h.node; above = h.above; held_mode = h.held_mode; holds = h.holds; writes = h.writes }
 
-  pub guarded_still : IsGuarded told p → IsGuarded told (record p { fail_fast = fail_fast })
+  pub guarded_still : IsGuarded told p → IsGuarded told (record p { fail_fast = fail_fast; tolerated = tolerated })
   guarded_still h = record { holder = λ n key mode declared. held_still n key mode (h.holder n key mode declared); forced = h.forced }

@@ -108,6 +108,7 @@ plan_by d given = record {
   held = table (held d) (size d.tree);
   keys = keys_of d;
   fail_fast = false;
+  tolerated = 0;
 }
 
 abbrev pub plan_of : Nodes → List Mode → PlanParts

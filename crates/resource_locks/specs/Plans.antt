@@ -21,8 +21,9 @@ pub record PlanParts : Type 0 where
   pub held : List (List Lock)
   -- the keys that are held, at least; the number of a key is its place here
   pub keys : List (List ℕ)
-  -- whether nothing more is to start once a node has failed
+  -- whether nothing more is to start once more nodes have failed than are tolerated
   pub fail_fast : Bool
+  pub tolerated : ℕ
 
 -- the execution mode of node n
 abbrev pub mode_of : PlanParts → ℕ → Mode

@@ -33,6 +33,7 @@ pub struct Plan {
     // for each node the numbers of the keys that it holds, in the order of its set
     numbers: Vec<Vec<u8>>,
     fail_fast: bool,
+    tolerated: u16,
 }
 
 impl Model for Plan {
@@ -48,6 +49,7 @@ impl Model for Plan {
       held = p.held.items;
       keys = p.keys.items;
       fail_fast = p.fail_fast;
+      tolerated = p.tolerated;
     } };
 
     ghost invariant = { λ p. IsSound
@@ -58,6 +60,8 @@ impl Model for Plan {
           keys = p.keys.items;
           fail_fast =
               p.fail_fast;
+          tolerated =
+              p.tolerated;
         }) (map (λ v. v.items) p.numbers.items) };
 }
 
@@ -112,6 +116,7 @@ impl Plan {
                 keys: parts.keys,
                 numbers: parts.numbers,
                 fail_fast: false,
+                tolerated: 0,
             }),
             Err(fault) => {
                 drop(tree);
@@ -162,14 +167,21 @@ impl Plan {
         usize::from(self.numbers[node.index()][place])
     }
 
-    /// Whether nothing more is to start once a node has failed.
+    /// Whether nothing more is to start once more nodes have failed than are tolerated.
     pub fn fail_fast(&self) -> bool
         ensures { result ≡ self.now.fail_fast }
     {
         self.fail_fast
     }
 
-    /// The same plan, but for whether nothing more is to start once a node has failed.
+    /// How many failures a plan that fails fast tolerates: 0 if nothing more is to start once a node has failed.
+    pub fn tolerated(&self) -> u16
+        ensures { result ≡ self.now.tolerated }
+    {
+        self.tolerated
+    }
+
+    /// The same plan, but for whether nothing more is to start once more nodes have failed than are tolerated.
     pub fn with_fail_fast(self, fail_fast: bool) -> Plan
         ensures same { result ≡ record self { fail_fast = fail_fast } }
         ensures hoisted { (given : ℕ → ModeValue) → IsHoisted (declared_of self.tree) given self →
@@ -178,6 +190,18 @@ impl Plan {
     {
         let mut plan = self;
         plan.fail_fast = fail_fast;
+        plan
+    }
+
+    /// The same plan, but for how many failures it tolerates if it fails fast.
+    pub fn with_tolerated(self, tolerated: u16) -> Plan
+        ensures same { result ≡ record self { tolerated = tolerated } }
+        ensures hoisted { (given : ℕ → ModeValue) → IsHoisted (declared_of self.tree) given self →
+            IsHoisted (declared_of self.tree) given result }
+        ensures guarded { IsGuarded (declared_of self.tree) self → IsGuarded (declared_of self.tree) result }
+    {
+        let mut plan = self;
+        plan.tolerated = tolerated;
         plan
     }
 
@@ -244,6 +268,7 @@ impl Plan {
             keys,
             numbers,
             fail_fast: self.fail_fast,
+            tolerated: self.tolerated,
         })
     }
 }

@@ -60,6 +60,7 @@ class fail_fast = record {
   keys = (7 ∷ []) ∷ [];
   modes = Concurrent ∷ Concurrent ∷ SameThread ∷ SameThread ∷ [];
   fail_fast = fail_fast;
+  tolerated = 0;
 }
 
 -- 0 plan; 1 factory; 2, 3 its spares
@@ -70,6 +71,7 @@ factory = record {
   keys = [];
   modes = Concurrent ∷ Concurrent ∷ SameThread ∷ SameThread ∷ [];
   fail_fast = false;
+  tolerated = 0;
 }
 
 reply_of : Status → Reply

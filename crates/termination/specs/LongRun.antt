@@ -52,6 +52,7 @@ long_plan = record {
   held = [] ∷ [] ∷ (read_global ∷ db ∷ []) ∷ (read_global ∷ db ∷ []) ∷ (read_global ∷ db ∷ []) ∷ [];
   keys = global ∷ codes "db" ∷ [];
   fail_fast = false;
+  tolerated = 0;
 }
 
 -- a class takes its keys, starts, gives its guard up, finishes, gives the keys back, and is settled

@@ -74,6 +74,7 @@ disputed_plan = record {
   held = [] ∷ [] ∷ (read_global ∷ db ∷ []) ∷ (read_global ∷ db ∷ []) ∷ [];
   keys = global ∷ codes "db" ∷ [];
   fail_fast = false;
+  tolerated = 0;
 }
 
 abbrev pub all_successful : ℕ → Reply

@@ -6,7 +6,7 @@ use Rattle.resource_locks.proofs.Hoists.{hoisted_still, guarded_still}
 use Rattle.resource_locks.proofs.plan.Plan.with_fail_fast.Goals as goal
 
 pub returns-clause-hoisted : goal.returns-clause-hoisted
-returns-clause-hoisted c = λ given h. hoisted_still (declared_of c.args.self.tree) _ c.args.fail_fast given (subst (IsHoisted (declared_of c.args.self.tree) given) (sym c.plan.view_is) h)
+returns-clause-hoisted c = λ given h. hoisted_still (declared_of c.args.self.tree) _ c.args.fail_fast _ given (subst (IsHoisted (declared_of c.args.self.tree) given) (sym c.plan.view_is) h)
 
 pub returns-clause-guarded : goal.returns-clause-guarded
-returns-clause-guarded c = λ h. guarded_still (declared_of c.args.self.tree) _ c.args.fail_fast (subst (IsGuarded (declared_of c.args.self.tree)) (sym c.plan.view_is) h)
+returns-clause-guarded c = λ h. guarded_still (declared_of c.args.self.tree) _ c.args.fail_fast _ (subst (IsGuarded (declared_of c.args.self.tree)) (sym c.plan.view_is) h)
