@@ -106,7 +106,8 @@ class Case:
     def __init__(self, words):
         workers, *marks = words.split(", ")
         root = Node(0, None, concurrent="concurrent" in marks)
-        self.plan = Plan([root], int(workers.split()[0]), "fail fast" in marks)
+        tolerated = [int(mark.split()[1]) for mark in marks if mark.startswith("tolerates ")]
+        self.plan = Plan([root], int(workers.split()[0]), "fail fast" in marks, sum(tolerated))
         self.has_results = "results" in marks
         self.rows = []
 
@@ -169,7 +170,7 @@ def plan_text(plan, jobs):
     modes = ["Concurrent" if node.concurrent else "SameThread" for node in plan.nodes]
     return (
         f"record {{ tree = record {{ parents = {listed(parents)}; nodes = {listed(nodes)} }}; held = []; keys = [];"
-        f" modes = {listed(modes)}; fail_fast = {str(plan.fail_fast).lower()} }}"
+        f" modes = {listed(modes)}; fail_fast = {str(plan.fail_fast).lower()}; tolerated = {plan.tolerated} }}"
     )
 
 

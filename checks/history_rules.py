@@ -79,6 +79,7 @@ class Plan:
     nodes: "list[Node]"
     workers: int
     fail_fast: bool
+    tolerated: int = 0
 
 
 @dataclass(frozen=True)
@@ -98,7 +99,7 @@ class History:
         self.plan = plan
         self.seen = {}
         self.told_below = set()
-        self.failures = []
+        self.events = []
 
     def stands(self, kind, node):
         return (kind, node.number) in self.seen
@@ -108,6 +109,20 @@ class History:
 
     def registered_spares(self, factory):
         return sum(spare.is_spare and self.stands("registered", spare) for spare in factory.children)
+
+    def failures(self):
+        """How many nodes have failed."""
+        return sum(event.status == FAILED for event in self.events)
+
+    def known_to(self, worker):
+        """How many failures a worker knew of at its last event: its own, and those after which their worker told more."""
+        last = max((place for place, event in enumerate(self.events) if event.worker == worker), default=-1)
+        told = self.events[: last + 1]
+        return sum(
+            event.status == FAILED
+            and (event.worker == worker or any(later.worker == event.worker for later in told[place + 1 :]))
+            for place, event in enumerate(told)
+        )
 
     def is_lawful(self, event):
         """Workers are those of the run; the plan itself starts, and finishes successfully."""
@@ -131,11 +146,14 @@ class History:
         return node.is_spare and node.parent.pulls_spares and all(self.stands("registered", e) for e in node.elders())
 
     def may_skip_or_start(self, event, node):
-        """A disabled node is skipped. Failing fast, so may others be after a failure, and who failed starts no more."""
+        """A disabled node is skipped. Failing fast, so may others be after more failures than are tolerated, and who knew
+        of these at its last event starts no more."""
         if event.kind == "skipped":
-            return node.disabled is not None or (self.plan.fail_fast and bool(self.failures))
+            return node.disabled is not None or (self.plan.fail_fast and self.failures() > self.plan.tolerated)
         if event.kind == "started":
-            return node.disabled is None and not (self.plan.fail_fast and event.worker in self.failures)
+            return node.disabled is None and not (
+                self.plan.fail_fast and self.known_to(event.worker) > self.plan.tolerated
+            )
         return True
 
     def may_finish(self, event, node):
@@ -189,8 +207,7 @@ class History:
     def take(self, event):
         self.seen[event.kind, event.node] = event
         self.told_below.update(above.number for above in self.plan.nodes[event.node].above())
-        if event.status == FAILED:
-            self.failures.append(event.worker)
+        self.events.append(event)
 
 
 def judged(plan, events):

@@ -1,5 +1,5 @@
 -- A legal history stays legal with an event that may follow.
-use Rattle.std.proofs.Common.{◌≡◌, ℕ, ◌<◌, ◌≤◌, Bool, true, false, ◌&&◌, ◌==◌, List, [], ◌∷◌, ◌++◌, length, Option, Some, slice_get, ◌⊎◌, inl, inr, refl, sym, ap, ◌∙◌, subst, arith}
+use Rattle.std.proofs.Common.{◌≡◌, ℕ, ◌<◌, ◌≤◌, Bool, true, false, ◌&&◌, ◌==◌, List, [], ◌∷◌, ◌++◌, length, take, Option, Some, slice_get, ◌⊎◌, inl, inr, refl, sym, ap, ◌∙◌, subst, arith}
 use Rattle.std.proofs.lemmas.Option.{slice_get_within, same_Some, none-some}
 use Rattle.std.proofs.lemmas.Bool.{both_ways, or_cases, and_from, eq-eqb}
 use Rattle.std.proofs.lemmas.List.{take-append-le, take_all}
@@ -11,13 +11,14 @@ use Rattle.plan_events.specs.declared.event.Event.{Event}
 use Rattle.plan_events.specs.declared.outcome.Reply.{Reply}
 use Rattle.plan_events.specs.Words.{is_lawful}
 use Rattle.plan_events.specs.Statuses.{is_successful}
-use Rattle.event_history.specs.Places.{is_failure, StandsAt, StandsBefore, FailsBefore, IsSettledAt, has}
+use Rattle.event_history.specs.Places.{StandsAt, StandsBefore, IsSettledAt, has}
 use Rattle.resource_locks.specs.Plans.{PlanParts}
 use Rattle.event_history.specs.Plans.{IsElder, is_spare_of, pulls_job, Holder, Maker, sort_of, IsPlanTree}
 use Rattle.event_history.specs.Results.{jobs_of, Ends}
 use Rattle.event_history.specs.History.{IsStopped, StoppedIs, IsUnregistered, registered_before, HasResult, IsLegal}
-use Rattle.event_history.specs.Inside.Following.{has_failed, has_failed_by, registered_in, MayStart, MaySkip, MayRegister, MayFinish, ChildrenOk, ByKind, MayFollow}
-use Rattle.event_history.proofs.Places.{get_added, get_front, get_next, has_stands, has_at, has_before, stands_within, before_later, settled_later, fails_later, before_front, stands_added, finds, found}
+use Rattle.event_history.specs.Failures.{failures, known, up_to}
+use Rattle.event_history.specs.Inside.Following.{registered_in, MayStart, MaySkip, MayRegister, MayFinish, ChildrenOk, ByKind, MayFollow}
+use Rattle.event_history.proofs.Places.{get_added, get_front, get_next, has_stands, has_at, has_before, stands_within, before_later, settled_later, before_front, stands_added, finds, found}
 use Rattle.event_history.proofs.Trees.{some_child}
 use Rattle.event_history.proofs.Ends.{early, last_has_child}
 use Rattle.event_history.proofs.Histories.{started_registered, started_above, unfinished_above, before_start, open_start, unseen_below}
@@ -163,17 +164,21 @@ module _ (p : PlanParts) (tree : IsPlanTree p.tree) (replies : ℕ → List Repl
               (subst (λ (y : ℕ). StandsBefore h y Finished a) x.0 (before_front h (e ∷ []) i Finished a (omega (arith, x.0)) s))
         ]
 
-    fails : has_failed h ≡ true → FailsBefore h (length h)
-    fails q = (let r = finds is_failure h q in record { place = r.0; before = slice_get_within h r.0 r.1.0 r.1.1; event = r.1.0; here = r.1.1; failure = r.1.2 })
+    -- what stood before a place of the list, or before the new event
+    before_here : (i : ℕ) → i ≤ length h → take i (h ++ e ∷ []) ≡ take i h
+    before_here i le = take-append-le i h (e ∷ []) le
 
-    added_skipped : (i n : ℕ) → StandsAt (h ++ e ∷ []) i Skipped n → (is_disabled p.tree n ≡ true) ⊎ ((p.fail_fast ≡ true) × FailsBefore (h ++ e ∷ []) i)
+    before_new : (i : ℕ) → i ≡ length h → take i (h ++ e ∷ []) ≡ h
+    before_new i same = before_here i (omega (arith, same)) ∙ take_all i h (omega (arith, same))
+
+    added_skipped : (i n : ℕ) → StandsAt (h ++ e ∷ []) i Skipped n → (is_disabled p.tree n ≡ true) ⊎ ((p.fail_fast ≡ true) × (p.tolerated < failures (take i (h ++ e ∷ []))))
     added_skipped i n s =
         elim (stands_added h e i Skipped n s) [
-          | inl a ↦ elim (legal.skipped i n a) [ inl r ↦ inl r | inr r ↦ inr (r.0, fails_later (e ∷ []) r.1) ]
+          | inl a ↦ elim (legal.skipped i n a) [ inl r ↦ inl r | inr r ↦ (let lt = stands_within a in inr (r.0, subst (λ (l : List Event). p.tolerated < failures l) (sym (before_here i (omega (arith, lt)))) r.1)) ]
           | inr b ↦ (let m : MaySkip p h e.node = by Skipped b.1 in
               elim m.reason [
                 | inl r ↦ inl (subst (λ (x : ℕ). is_disabled p.tree x ≡ true) b.2 r)
-                | inr r ↦ inr (r.0, fails_later (e ∷ []) (subst (λ (x : ℕ). FailsBefore h x) (sym b.0) (fails r.1)))
+                | inr r ↦ inr (r.0, subst (λ (l : List Event). p.tolerated < failures l) (sym (before_new i b.0)) r.1)
               ])
         ]
 
@@ -184,19 +189,14 @@ module _ (p : PlanParts) (tree : IsPlanTree p.tree) (replies : ℕ → List Repl
           | inr b ↦ (let m : MayStart p h e.node e.worker = by Started b.1 in subst (λ (x : ℕ). is_disabled p.tree x ≡ false) b.2 m.enabled)
         ]
 
-    added_quits : p.fail_fast ≡ true → (i j : ℕ) (f g : Event) → i < j → slice_get (h ++ e ∷ []) i ≡ Some f → slice_get (h ++ e ∷ []) j ≡ Some g → is_failure f ≡ true → g.kind ≡ Started → f.worker ≡ g.worker → ⊥
-    added_quits fast i j f g lt q r failure start same =
-        elim (get_added h e f i q) [
-          | inl x ↦ elim (get_added h e g j r) [
-            | inl y ↦ legal.quits fast i j f g lt x y failure start same
-            | inr y ↦ (let m : MayStart p h e.node e.worker = by Started (subst (λ (z : Event). z.kind ≡ Started) y.1 start) in
-                both_ways (has_failed_by e.worker h) (m.unfailed fast)
-                (found (λ z. is_failure z && (z.worker == e.worker)) h i f x (and_from (is_failure f) (f.worker == e.worker) failure (eq-eqb f.worker e.worker (subst (λ (z : Event). f.worker ≡ z.worker) y.1 same)))))
-          ]
-          | inr x ↦ elim (get_added h e g j r) [
-            | inl y ↦ (let within : j < length h = slice_get_within h j g y in omega (arith, within, lt, x.0))
-            | inr y ↦ omega (arith, lt, x.0, y.0)
-          ]
+    added_quits : p.fail_fast ≡ true → (j : ℕ) (f : Event) → slice_get (h ++ e ∷ []) j ≡ Some f → f.kind ≡ Started → known f.worker (up_to f.worker (take j (h ++ e ∷ []))) ≤ p.tolerated
+    added_quits fast j f q start =
+        elim (get_added h e f j q) [
+          | inl x ↦ (let lt = slice_get_within h j f x in
+              subst (λ (l : List Event). known f.worker (up_to f.worker l) ≤ p.tolerated) (sym (before_here j (omega (arith, lt)))) (legal.quits fast j f x start))
+          | inr x ↦ (let m : MayStart p h e.node e.worker = by Started (subst (λ (z : Event). z.kind ≡ Started) x.1 start) in
+              subst (λ (z : Event). known z.worker (up_to z.worker (take j (h ++ e ∷ []))) ≤ p.tolerated) (sym x.1)
+              (subst (λ (l : List Event). known e.worker (up_to e.worker l) ≤ p.tolerated) (sym (before_new j x.0)) (m.unknown fast)))
         ]
 
     unregistered_later : (a c : ℕ) → IsChild p.tree a c → has Finished a h ≡ true → IsUnregistered p h c → IsUnregistered p (h ++ e ∷ []) c
@@ -369,7 +369,7 @@ legal_nil p replies workers = record {
   skipped = λ i n s. absurd (none-some s.event s.here);
   unstarted = λ i n s. absurd (none-some s.event s.here);
   below_skipped = λ i j a e s q b. none-some e q;
-  quits = λ fast i j e f lt q r a b c. none-some e q;
+  quits = λ fast j f q start. absurd (none-some f q);
   settled = λ i a c f go ch. absurd (none-some f.event f.here);
   result = λ i e q k. absurd (none-some e q);
 }

@@ -16,7 +16,8 @@ use Rattle.event_history.specs.Plans.{IsElder, pulls_job, IsPlanTree}
 use Rattle.event_history.specs.Places.{has}
 use Rattle.event_history.specs.Results.{Jobs, NoJob, Alone, Pulled, Around, jobs_of, HasReply, HasAnswer, EndsEarly, EndsLast, Ends, too_many}
 use Rattle.event_history.specs.History.{IsLegal}
-use Rattle.event_history.specs.Inside.Following.{has_failed, has_failed_by, registered_in, IsParentOpen, IsUnopened, MayFinish, ChildrenOk, ByKind, MayFollow}
+use Rattle.event_history.specs.Failures.{failures, known, up_to}
+use Rattle.event_history.specs.Inside.Following.{registered_in, IsParentOpen, IsUnopened, MayFinish, ChildrenOk, ByKind, MayFollow}
 use Rattle.event_history.proofs.Trees.{is_child_test, test_is_child}
 use Rattle.event_history.proofs.AddedEvent.{legal_added, legal_nil}
 use Rattle.event_history.proofs.Front.{legal_front}
@@ -200,10 +201,10 @@ abbrev pub is_unopened : PlanParts → List Event → ℕ → Bool
 is_unopened p h n = not (has Started n h) && (not (has Skipped n h) && (implies (is_spare_at p.tree n) (has Registered n h) && is_parent_open p h n))
 
 abbrev pub may_start : PlanParts → List Event → ℕ → ℕ → Bool
-may_start p h n w = is_unopened p h n && (not (is_disabled p.tree n) && implies p.fail_fast (not (has_failed_by w h)))
+may_start p h n w = is_unopened p h n && (not (is_disabled p.tree n) && implies p.fail_fast (leb (known w (up_to w h)) p.tolerated))
 
 abbrev pub may_skip : PlanParts → List Event → ℕ → Bool
-may_skip p h n = is_unopened p h n && (is_disabled p.tree n || (p.fail_fast && has_failed h))
+may_skip p h n = is_unopened p h n && (is_disabled p.tree n || (p.fail_fast && ltb p.tolerated (failures h)))
 
 abbrev pub may_register : PlanParts → List Event → ℕ → Bool
 may_register p h n =
@@ -343,13 +344,13 @@ module _ (p : PlanParts) (replies : ℕ → List Reply) (workers : ℕ) (h : Lis
 
     kind_use : (k : EventKind) → by_kind p replies h e k ≡ true → ByKind p replies h e k
     kind_use Started q =
-        let a = and_parts (is_unopened p h e.node) (not (is_disabled p.tree e.node) && implies p.fail_fast (not (has_failed_by e.worker h))) q in
-        let b = and_parts (not (is_disabled p.tree e.node)) (implies p.fail_fast (not (has_failed_by e.worker h))) a.1 in
-        record { unopened = unopened_use e.node a.0; enabled = not-true (is_disabled p.tree e.node) b.0; unfailed = λ fast. not-true (has_failed_by e.worker h) (implies_use p.fail_fast _ b.1 fast) }
+        let a = and_parts (is_unopened p h e.node) (not (is_disabled p.tree e.node) && implies p.fail_fast (leb (known e.worker (up_to e.worker h)) p.tolerated)) q in
+        let b = and_parts (not (is_disabled p.tree e.node)) (implies p.fail_fast (leb (known e.worker (up_to e.worker h)) p.tolerated)) a.1 in
+        record { unopened = unopened_use e.node a.0; enabled = not-true (is_disabled p.tree e.node) b.0; unknown = λ fast. leb-true (known e.worker (up_to e.worker h)) p.tolerated (implies_use p.fail_fast _ b.1 fast) }
     kind_use Finished q = finish_use q
     kind_use Skipped q =
-        let a = and_parts (is_unopened p h e.node) (is_disabled p.tree e.node || (p.fail_fast && has_failed h)) q in
-        record { unopened = unopened_use e.node a.0; reason = elim (or_cases (is_disabled p.tree e.node) (p.fail_fast && has_failed h) a.1) [ inl t ↦ inl t | inr t ↦ (let r = and_parts p.fail_fast (has_failed h) t in inr (r.0, r.1)) ] }
+        let a = and_parts (is_unopened p h e.node) (is_disabled p.tree e.node || (p.fail_fast && ltb p.tolerated (failures h))) q in
+        record { unopened = unopened_use e.node a.0; reason = elim (or_cases (is_disabled p.tree e.node) (p.fail_fast && ltb p.tolerated (failures h)) a.1) [ inl t ↦ inl t | inr t ↦ (let r = and_parts p.fail_fast (ltb p.tolerated (failures h)) t in inr (r.0, ltb-true p.tolerated (failures h) r.1)) ] }
     kind_use Registered q =
         let a = and_parts (is_spare_at p.tree e.node && pulls_job p (parent_of p.tree e.node)) (not (has Registered e.node h) && (all_below (λ c. implies (is_elder p c e.node) (has Registered c h)) (size p.tree) && is_parent_open p h e.node)) q in
         let b = and_parts (not (has Registered e.node h)) (all_below (λ c. implies (is_elder p c e.node) (has Registered c h)) (size p.tree) && is_parent_open p h e.node) a.1 in
@@ -364,11 +365,11 @@ module _ (p : PlanParts) (replies : ℕ → List Reply) (workers : ℕ) (h : Lis
     kind_from : (k : EventKind) → ByKind p replies h e k → by_kind p replies h e k ≡ true
     kind_from Started m =
         and_from (is_unopened p h e.node) _ (unopened_from e.node m.unopened)
-        (and_from (not (is_disabled p.tree e.node)) _ (not_from_false (is_disabled p.tree e.node) m.enabled) (implies_from p.fail_fast _ (λ fast. not_from_false (has_failed_by e.worker h) (m.unfailed fast))))
+        (and_from (not (is_disabled p.tree e.node)) _ (not_from_false (is_disabled p.tree e.node) m.enabled) (implies_from p.fail_fast _ (λ fast. le-leb (known e.worker (up_to e.worker h)) p.tolerated (m.unknown fast))))
     kind_from Finished m = finish_from m
     kind_from Skipped m =
         and_from (is_unopened p h e.node) _ (unopened_from e.node m.unopened)
-        (elim m.reason [ inl t ↦ or_left (is_disabled p.tree e.node) _ t | inr t ↦ or_right (is_disabled p.tree e.node) _ (and_from p.fail_fast _ t.0 t.1) ])
+        (elim m.reason [ inl t ↦ or_left (is_disabled p.tree e.node) _ t | inr t ↦ or_right (is_disabled p.tree e.node) _ (and_from p.fail_fast _ t.0 (lt-ltb p.tolerated (failures h) t.1)) ])
     kind_from Registered m =
         and_from (is_spare_at p.tree e.node && pulls_job p (parent_of p.tree e.node)) _ m.spare
         (and_from (not (has Registered e.node h)) _ (not_from_false (has Registered e.node h) m.fresh)

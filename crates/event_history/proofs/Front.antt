@@ -1,6 +1,7 @@
 -- A beginning of a legal history is legal.
-use Rattle.std.proofs.Common.{◌≡◌, ℕ, ◌<◌, Bool, true, false, List, ◌++◌, length, Option, Some, slice_get, inl, inr, refl, sym, subst, arith}
+use Rattle.std.proofs.Common.{◌≡◌, ℕ, ◌<◌, ◌≤◌, Bool, true, false, List, ◌++◌, length, Option, Some, slice_get, inl, inr, refl, sym, subst, arith}
 use Rattle.std.proofs.lemmas.Option.{slice_get_within}
+use Rattle.std.proofs.lemmas.List.{take-append-le}
 use Rattle.std.proofs.lemmas.Bool.{cases_lt}
 use Rattle.unique_id.specs.Prefixes.{IsPrefix}
 use Rattle.plan_events.specs.declared.event.EventKind.{EventKind}
@@ -8,7 +9,8 @@ use Rattle.plan_events.specs.declared.event.EventKind.TheVariants.{Started, Fini
 use Rattle.plan_events.specs.declared.event.Event.{Event}
 use Rattle.plan_events.specs.declared.outcome.Reply.{Reply}
 use Rattle.resource_locks.specs.Plans.{PlanParts}
-use Rattle.event_history.specs.Places.{StandsAt, StandsBefore, FailsBefore, IsSettledAt}
+use Rattle.event_history.specs.Places.{StandsAt, StandsBefore, IsSettledAt}
+use Rattle.event_history.specs.Failures.{failures, known, up_to}
 use Rattle.event_history.specs.Results.{jobs_of, Ends}
 use Rattle.event_history.specs.History.{IsStopped, StoppedIs, IsUnregistered, HasResult, IsLegal}
 use Rattle.event_history.specs.Order.{IsInOrder}
@@ -21,11 +23,6 @@ module _ (p : PlanParts) (replies : ℕ → List Reply) (workers : ℕ) (g r : L
 
   front_settled : (i n : ℕ) → i < length g → IsSettledAt (g ++ r) i n → IsSettledAt g i n
   front_settled i n lt s = elim s [ inl a ↦ inl (front i Finished n lt a) | inr a ↦ inr (front i Skipped n lt a) ]
-
-  front_fails : (i : ℕ) → i < length g → FailsBefore (g ++ r) i → FailsBefore g i
-  front_fails i lt f =
-      let before : f.place < i = f.before in
-      record { place = f.place; before = before; event = f.event; here = get_back g r f.event f.place (omega (arith, before, lt)) f.here; failure = f.failure }
 
   -- where the finish stands in the beginning, the node is stopped in it exactly if it is in the whole
   pub stopped_front : (i a : ℕ) → StandsAt g i Finished a → IsStopped p (g ++ r) a → IsStopped p g a
@@ -89,10 +86,11 @@ module _ (p : PlanParts) (replies : ℕ → List Reply) (workers : ℕ) (g r : L
     elder_registered = λ i c d s elder. front i Registered c (stands_within s) (legal.elder_registered i c d (stands_later r s) elder);
     start_above = λ i a e q b. front i Started a (slice_get_within g i e q) (legal.start_above i a e (get_front g r e i q) b);
     open_above = λ i a e q b s. legal.open_above i a e (get_front g r e i q) b (before_later r s);
-    skipped = λ i n s. elim (legal.skipped i n (stands_later r s)) [ inl x ↦ inl x | inr x ↦ inr (x.0, front_fails i (stands_within s) x.1) ];
+    skipped = λ i n s. elim (legal.skipped i n (stands_later r s)) [ inl x ↦ inl x | inr x ↦ (let lt = stands_within s in inr (x.0, subst (λ (l : List Event). p.tolerated < failures l) (take-append-le i g r (omega (arith, lt))) x.1)) ];
     unstarted = λ i n s. legal.unstarted i n (stands_later r s);
     below_skipped = λ i j a e s q b. legal.below_skipped i j a e (stands_later r s) (get_front g r e j q) b;
-    quits = λ fast i j e f lt q t. legal.quits fast i j e f lt (get_front g r e i q) (get_front g r f j t);
+    quits = λ fast j f q start. (let lt = slice_get_within g j f q in
+        subst (λ (l : List Event). known f.worker (up_to f.worker l) ≤ p.tolerated) (take-append-le j g r (omega (arith, lt))) (legal.quits fast j f (get_front g r f j q) start));
     settled = λ i a c f go ch. (let lt = stands_within f in
         elim (legal.settled i a c (stands_later r f) (λ s. go (stopped_front i a f s)) ch) [ inl x ↦ inl (front_settled i c lt x) | inr x ↦ inr (front_unregistered c x) ]);
     result = λ i e q k. (let s = legal.result i e (get_front g r e i q) k in (s.0, front_result i e s.0 q k s.1));

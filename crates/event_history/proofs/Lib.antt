@@ -1,5 +1,6 @@
 -- The lemmas.
 pub mod Places
+pub mod Failures
 pub mod Trees
 pub mod Spares
 pub mod PlanTrees

@@ -1,20 +1,21 @@
 -- What may follow is no less than what a legal history has: the last event of one may follow the others.
-use Rattle.std.proofs.Common.{◌≡◌, ℕ, ◌<◌, Bool, true, false, ◌&&◌, ◌==◌, List, [], ◌∷◌, ◌++◌, length, Some, slice_get, inl, inr, refl, sym, ap, ◌∙◌, subst, arith}
+use Rattle.std.proofs.Common.{◌≡◌, ℕ, ◌<◌, ◌≤◌, Bool, true, false, ◌&&◌, ◌==◌, List, [], ◌∷◌, ◌++◌, length, take, Some, slice_get, inl, inr, refl, sym, ap, ◌∙◌, subst, arith}
 use Rattle.std.proofs.lemmas.Bool.{and_parts, eqb-true, false_from_ne_true, or_left, or_right}
-use Rattle.std.proofs.lemmas.List.{take_all}
+use Rattle.std.proofs.lemmas.List.{take_all, take-append-le}
 use Rattle.std.proofs.lemmas.Option.{slice_get_within}
 use Rattle.descriptor.specs.Nodes.{size, parent_of, IsChild, Below, child, is_spare_at, count_below}
 use Rattle.plan_events.specs.declared.event.EventKind.{EventKind}
 use Rattle.plan_events.specs.declared.event.EventKind.TheVariants.{Started, Finished, Skipped, Registered}
 use Rattle.plan_events.specs.declared.event.Event.{Event}
 use Rattle.plan_events.specs.declared.outcome.Reply.{Reply}
-use Rattle.event_history.specs.Places.{is_failure, StandsAt, StandsBefore, has}
+use Rattle.event_history.specs.Places.{StandsAt, StandsBefore, has}
 use Rattle.resource_locks.specs.Plans.{PlanParts}
 use Rattle.event_history.specs.Plans.{is_spare_of}
 use Rattle.event_history.specs.Results.{jobs_of, Ends}
 use Rattle.event_history.specs.History.{StoppedIs, registered_before, IsLegal}
-use Rattle.event_history.specs.Inside.Following.{has_failed_by, registered_in, IsParentOpen, MayFinish, ChildrenOk, ByKind, MayFollow}
-use Rattle.event_history.proofs.Places.{get_front, get_next, get_back, has_stands, has_at, stands_within, stands_later, before_front, finds, found}
+use Rattle.event_history.specs.Failures.{failures, known, up_to}
+use Rattle.event_history.specs.Inside.Following.{registered_in, IsParentOpen, MayFinish, ChildrenOk, ByKind, MayFollow}
+use Rattle.event_history.proofs.Places.{get_front, get_next, has_stands, has_at, stands_within, stands_later, before_front}
 use Rattle.event_history.proofs.AddedEvent.{registered_front}
 
 module _ (p : PlanParts) (replies : ℕ → List Reply) (workers : ℕ) (h : List Event) (e : Event) (legal : IsLegal p replies workers (h ++ e ∷ [])) where
@@ -60,6 +61,9 @@ module _ (p : PlanParts) (replies : ℕ → List Reply) (workers : ℕ) (h : Lis
       registered_front p h (e ∷ []) (length h) e.node (omega arith)
       ∙ ap (λ (l : List Event). count_below (λ c. is_spare_of p e.node c && has Registered c l) (size p.tree)) (take_all (length h) h (omega arith))
 
+  before_last : take (length h) (h ++ e ∷ []) ≡ h
+  before_last = take-append-le (length h) h (e ∷ []) (omega arith) ∙ take_all (length h) h (omega arith)
+
   module _ (k : e.kind ≡ Finished) where
     children : (b : Bool) → StoppedIs p (h ++ e ∷ []) e.node b → ChildrenOk p h e.node b
     children true s = λ c ch l. none l c (λ t. s.silent t.place t.stands.event t.stands.here (subst (λ (n : ℕ). Below p.tree e.node n) (sym t.stands.node) (child ch)))
@@ -91,11 +95,7 @@ module _ (p : PlanParts) (replies : ℕ → List Reply) (workers : ℕ) (h : Lis
       parent = parent_open;
     };
     enabled = legal.unstarted (length h) e.node (at Started k);
-    unfailed = λ fast. false_from_ne_true (has_failed_by e.worker h) (λ t.
-        let r = finds (λ f. is_failure f && (f.worker == e.worker)) h t in
-        let s = and_parts (is_failure r.1.0) (r.1.0.worker == e.worker) r.1.2 in
-        let within = slice_get_within h r.0 r.1.0 r.1.1 in
-        legal.quits fast r.0 (length h) r.1.0 e within (get_front h (e ∷ []) r.1.0 r.0 r.1.1) last s.0 k (eqb-true r.1.0.worker e.worker s.1));
+    unknown = λ fast. subst (λ (l : List Event). known e.worker (up_to e.worker l) ≤ p.tolerated) before_last (legal.quits fast (length h) e last k);
   }
   by Skipped k = record {
     unopened = record {
@@ -106,7 +106,7 @@ module _ (p : PlanParts) (replies : ℕ → List Reply) (workers : ℕ) (h : Lis
     };
     reason = elim (legal.skipped (length h) e.node (at Skipped k)) [
       | inl d ↦ inl d
-      | inr f ↦ inr (f.0, found is_failure h f.1.place f.1.event (get_back h (e ∷ []) f.1.event f.1.place f.1.before f.1.here) f.1.failure)
+      | inr f ↦ inr (f.0, subst (λ (l : List Event). p.tolerated < failures l) before_last f.1)
     ];
   }
   by Registered k = record {

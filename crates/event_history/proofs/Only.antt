@@ -1,5 +1,5 @@
 -- Where all nodes run on one thread and each job has one reply, one worker has one complete legal history.
-use Rattle.std.proofs.Common.{◌≡◌, ℕ, zero, suc, ◌<◌, Bool, true, false, List, [], ◌∷◌, length, Option, Some, None, slice_get, inl, inr, ◌⊎◌, refl, sym, ap, ◌∙◌, subst, arith}
+use Rattle.std.proofs.Common.{◌≡◌, ℕ, zero, suc, ◌<◌, ◌≤◌, Bool, true, false, List, [], ◌∷◌, length, take, Option, Some, None, slice_get, inl, inr, ◌⊎◌, refl, sym, ap, ◌∙◌, subst, arith}
 use Rattle.std.proofs.lemmas.Option.{same_Some, none-some}
 use Rattle.std.proofs.lemmas.Bool.{and_parts, cases_lt, cases_eq, both_ways, false≢true}
 use Rattle.descriptor.specs.Nodes.{size, parent_of, IsChild, child, is_disabled, is_spare_at}
@@ -13,12 +13,14 @@ use Rattle.resource_locks.proofs.Lines.{last_step}
 use Rattle.resource_locks.specs.Plans.{PlanParts}
 use Rattle.event_history.specs.Plans.{rank, pulls_job, is_same, IsPlanTree}
 use Rattle.event_history.specs.Places.{StandsAt, StandsBefore, IsSettledAt, has}
+use Rattle.event_history.specs.Failures.{failures, known, up_to}
 use Rattle.event_history.specs.Results.{jobs_of}
 use Rattle.event_history.specs.History.{IsStopped, StoppedIs, IsUnregistered, IsLegal, IsBarred, IsComplete}
 use Rattle.event_history.specs.Order.{IsInOrder}
 use Rattle.event_history.specs.Expected.{HasOneReply, is_stopped_by, result_by, leaves}
 use Rattle.event_history.proofs.Lawful.{lawful_fits, lawful_worker}
 use Rattle.event_history.proofs.Places.{event_at, has_at, stands_within}
+use Rattle.event_history.proofs.Failures.{alone_knows}
 use Rattle.event_history.proofs.Histories.{started_unskipped, unbarred, started_known}
 use Rattle.event_history.proofs.Roots.{plan_finished, plan_unskipped, plan_unregistered, none_after}
 use Rattle.event_history.proofs.Expectation.{status_in, result_is, not_left, left_out}
@@ -36,6 +38,24 @@ same_lists [] [] each = refl
 same_lists [] (y ∷ ys) each = absurd (none-some y (each 0))
 same_lists (x ∷ xs) [] each = absurd (none-some x (sym (each 0)))
 same_lists (x ∷ xs) (y ∷ ys) each = (let a : x ≡ y = same_Some x y (each 0) in let b = same_lists xs ys (λ i. each (suc i)) in subst (λ z. x ∷ xs ≡ z ∷ ys) a (ap (λ (l : List _). x ∷ l) b))
+
+-- beginnings of as many elements are the same where these are
+take_agree : {X : Type 0} (n : ℕ) (xs ys : List X) → ((j : ℕ) → j < n → slice_get xs j ≡ slice_get ys j) → take n xs ≡ take n ys
+take_agree zero xs ys each = refl
+take_agree (suc n) [] [] each = refl
+take_agree (suc n) [] (y ∷ ys) each = absurd (none-some y (each 0 (omega arith)))
+take_agree (suc n) (x ∷ xs) [] each = absurd (none-some x (sym (each 0 (omega arith))))
+take_agree (suc n) (x ∷ xs) (y ∷ ys) each =
+    let a : x ≡ y = same_Some x y (each 0 (omega arith)) in
+    let b = take_agree n xs ys (λ j lt. each (suc j) (omega (arith, lt))) in
+    subst (λ z. x ∷ take n xs ≡ z ∷ take n ys) a (ap (λ (l : List _). x ∷ l) b)
+
+-- and what stands in a beginning stands there in the whole
+within_take : {X : Type 0} (n : ℕ) (xs : List X) (j : ℕ) (x : X) → slice_get (take n xs) j ≡ Some x → slice_get xs j ≡ Some x
+within_take zero xs j x q = absurd (none-some x q)
+within_take (suc n) [] j x q = q
+within_take (suc n) (y ∷ ys) zero x q = q
+within_take (suc n) (y ∷ ys) (suc j) x q = within_take n ys j x q
 
 some_or_none : {X : Type 0} (o : Option X) → (o ≡ None) ⊎ ((x : X) × (o ≡ Some x))
 some_or_none None = inl refl
@@ -241,9 +261,11 @@ module _ (p : PlanParts) (tree : IsPlanTree p.tree) (reply : ℕ → Reply) (rep
     not_skipped e f q r k l n w each =
         elim (b.legal.skipped i e.node (record { event = f; here = r; kind = l; node = sym n })) [
           | inl d ↦ both_ways (is_disabled p.tree e.node) (a.legal.unstarted i e.node (record { event = e; here = q; kind = k; node = refl })) d
-          | inr x ↦ (let lt = x.1.before in
-              let old : slice_get g x.1.place ≡ Some x.1.event = agree x.1.place lt ∙ x.1.here in
-              a.legal.quits x.0 x.1.place i x.1.event e lt old q x.1.failure k (each x.1.place x.1.event old ∙ sym w))
+          | inr x ↦ (let more : p.tolerated < failures (take i h) = x.1 in
+              let few : known e.worker (up_to e.worker (take i g)) ≤ p.tolerated = a.legal.quits x.0 i e q k in
+              let all : known e.worker (up_to e.worker (take i g)) ≡ failures (take i g) = alone_knows e.worker (take i g) (λ j y at. each j y (within_take i g j y at) ∙ sym w) in
+              let same : failures (take i g) ≡ failures (take i h) = ap failures (take_agree i g h agree) in
+              omega (arith, more, few, all, same))
         ]
 
   -- each event is by the one worker, and its status fits its kind

@@ -5,7 +5,7 @@ use Rattle.std.proofs.lemmas.Bool.{and_parts, or_cases, or_left, or_right, and_f
 use Rattle.plan_events.specs.declared.event.EventKind.{EventKind}
 use Rattle.plan_events.specs.declared.event.EventKind.TheVariants.{Started, Finished, Skipped, Registered}
 use Rattle.plan_events.specs.declared.event.Event.{Event}
-use Rattle.event_history.specs.Places.{same_kind, StandsAt, StandsBefore, FailsBefore, IsSettledAt, is_of, has_event, has}
+use Rattle.event_history.specs.Places.{same_kind, StandsAt, StandsBefore, IsSettledAt, is_of, has_event, has}
 
 -- an element of a list that has one more
 pub get_added : {X : Type 0} (h : List X) (e f : X) (i : ℕ) → slice_get (h ++ e ∷ []) i ≡ Some f → (slice_get h i ≡ Some f) ⊎ ((i ≡ length h) × (f ≡ e))
@@ -87,9 +87,6 @@ before_later g s = record { place = s.place; before = s.before; stands = stands_
 
 pub settled_later : {h : List Event} {i n : ℕ} (g : List Event) → IsSettledAt h i n → IsSettledAt (h ++ g) i n
 settled_later {h} {i} {n} g s = elim s [ inl a ↦ inl (before_later g a) | inr b ↦ inr (before_later g b) ]
-
-pub fails_later : {h : List Event} {i : ℕ} (g : List Event) → FailsBefore h i → FailsBefore (h ++ g) i
-fails_later {h} {i} g s = record { place = s.place; before = s.before; event = s.event; here = get_front h g s.event s.place s.here; failure = s.failure }
 
 -- what stands in a longer list, at a place of the list, stands in the list
 pub stands_front : (h g : List Event) (i : ℕ) (k : EventKind) (n : ℕ) → i < length h → StandsAt (h ++ g) i k n → StandsAt h i k n

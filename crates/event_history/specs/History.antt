@@ -8,7 +8,8 @@ use Rattle.plan_events.specs.declared.event.Event.{Event}
 use Rattle.plan_events.specs.declared.outcome.Reply.{Reply}
 use Rattle.plan_events.specs.Words.{is_lawful}
 use Rattle.plan_events.specs.Statuses.{is_successful}
-use Rattle.event_history.specs.Places.{is_failure, StandsAt, StandsBefore, FailsBefore, IsSettledAt, has}
+use Rattle.event_history.specs.Places.{StandsAt, StandsBefore, IsSettledAt, has}
+use Rattle.event_history.specs.Failures.{failures, known, up_to}
 use Rattle.resource_locks.specs.Plans.{PlanParts}
 use Rattle.event_history.specs.Plans.{IsElder, is_spare_of, pulls_job}
 use Rattle.event_history.specs.Results.{jobs_of, is_stoppable, Ends}
@@ -68,14 +69,14 @@ pub record IsLegal (p : PlanParts) (replies : ℕ → List Reply) (workers : ℕ
   pub start_above : (i a : ℕ) (e : Event) → slice_get h i ≡ Some e → Below p.tree a e.node → StandsBefore h i Started a
   -- and not after its finish
   pub open_above : (i a : ℕ) (e : Event) → slice_get h i ≡ Some e → Below p.tree a e.node → StandsBefore h i Finished a → ⊥
-  -- a disabled node alone is skipped, or, in a plan that fails fast, one before whose skip a node failed
-  pub skipped : (i n : ℕ) → StandsAt h i Skipped n → (is_disabled p.tree n ≡ true) ⊎ ((p.fail_fast ≡ true) × FailsBefore h i)
+  -- a disabled node alone is skipped, or, in a plan that fails fast, one before whose skip more nodes failed than are tolerated
+  pub skipped : (i n : ℕ) → StandsAt h i Skipped n → (is_disabled p.tree n ≡ true) ⊎ ((p.fail_fast ≡ true) × (p.tolerated < failures (take i h)))
   -- a disabled node is never started
   pub unstarted : (i n : ℕ) → StandsAt h i Started n → is_disabled p.tree n ≡ false
   -- nothing stands for a node below one that is skipped
   pub below_skipped : (i j a : ℕ) (e : Event) → StandsAt h i Skipped a → slice_get h j ≡ Some e → Below p.tree a e.node → ⊥
-  -- in a plan that fails fast no worker starts a node after a failure of its own
-  pub quits : p.fail_fast ≡ true → (i j : ℕ) (e f : Event) → i < j → slice_get h i ≡ Some e → slice_get h j ≡ Some f → is_failure e ≡ true → f.kind ≡ Started → e.worker ≡ f.worker → ⊥
+  -- in a plan that fails fast no worker starts a node that knew, at its last event before, of more failures than are tolerated
+  pub quits : p.fail_fast ≡ true → (j : ℕ) (f : Event) → slice_get h j ≡ Some f → f.kind ≡ Started → known f.worker (up_to f.worker (take j h)) ≤ p.tolerated
   -- a node that is not stopped finishes after its children are settled, but for spares that are never registered
   pub settled : (i a c : ℕ) → StandsAt h i Finished a → (IsStopped p h a → ⊥) → IsChild p.tree a c → IsSettledAt h i c ⊎ IsUnregistered p h c
   -- each finish has a lawful result

@@ -1,6 +1,7 @@
 -- What the events of a run must be like. Following serves proofs alone.
 pub mod Plans
 pub mod Places
+pub mod Failures
 pub mod Results
 pub mod History
 pub mod Order

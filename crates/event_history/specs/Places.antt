@@ -36,14 +36,6 @@ is_failed_or _ = false
 abbrev pub is_failure : Event → Bool
 is_failure e = same_kind e.kind Finished && is_failed_or e.status
 
--- a node finishes with a failure before place i
-pub record FailsBefore (h : List Event) (i : ℕ) : Type 0 where
-  pub place : ℕ
-  pub before : place < i
-  pub event : Event
-  pub here : slice_get h place ≡ Some event
-  pub failure : is_failure event ≡ true
-
 -- the node is settled at place i: its finish, or that it was skipped, stands before it
 abbrev pub IsSettledAt : List Event → ℕ → ℕ → Type 0
 IsSettledAt h i n = StandsBefore h i Finished n ⊎ StandsBefore h i Skipped n

@@ -7,20 +7,13 @@ use Rattle.plan_events.specs.declared.status.Status.{Status}
 use Rattle.plan_events.specs.declared.event.Event.{Event}
 use Rattle.plan_events.specs.declared.outcome.Reply.{Reply}
 use Rattle.plan_events.specs.Words.{is_lawful}
-use Rattle.event_history.specs.Places.{is_failure, is_of, has_event, has}
+use Rattle.event_history.specs.Places.{is_of, has_event, has}
+use Rattle.event_history.specs.Failures.{failures, known, up_to}
 use Rattle.resource_locks.specs.Plans.{PlanParts}
 use Rattle.event_history.specs.Plans.{IsElder, is_spare_of, pulls_job, is_same}
 use Rattle.event_history.specs.Results.{jobs_of, Ends}
 use Rattle.event_history.specs.Exclusion.{HeldConflict}
 use Rattle.event_history.specs.Order.{goes_first, is_opening}
-
--- whether a failure stands in the list
-abbrev pub has_failed : List Event → Bool
-has_failed h = has_event is_failure h
-
--- whether a failure of this worker stands in the list
-abbrev pub has_failed_by : ℕ → List Event → Bool
-has_failed_by w h = has_event (λ e. is_failure e && (e.worker == w)) h
 
 -- whether the start of node n by this worker stands in the list
 abbrev pub started_by : ℕ → ℕ → List Event → Bool
@@ -45,11 +38,11 @@ pub record IsUnopened (p : PlanParts) (h : List Event) (n : ℕ) : Type 0 where
 pub record MayStart (p : PlanParts) (h : List Event) (n w : ℕ) : Type 0 where
   pub unopened : IsUnopened p h n
   pub enabled : is_disabled p.tree n ≡ false
-  pub unfailed : p.fail_fast ≡ true → has_failed_by w h ≡ false
+  pub unknown : p.fail_fast ≡ true → known w (up_to w h) ≤ p.tolerated
 
 pub record MaySkip (p : PlanParts) (h : List Event) (n : ℕ) : Type 0 where
   pub unopened : IsUnopened p h n
-  pub reason : (is_disabled p.tree n ≡ true) ⊎ ((p.fail_fast ≡ true) × (has_failed h ≡ true))
+  pub reason : (is_disabled p.tree n ≡ true) ⊎ ((p.fail_fast ≡ true) × (p.tolerated < failures h))
 
 -- spare n may be registered: it was not, its elders were, and its parent, a factory with a job, is open
 pub record MayRegister (p : PlanParts) (h : List Event) (n : ℕ) : Type 0 where
