@@ -133,7 +133,7 @@ module _ (p : PlanParts) (s : State) (w : ℕ) (seat : Seat) (reply : Reply) (l 
   settle_d _ = refl
 
   raise_d : (t : Task) → raise_row p (seated s l) w seat t ≡ raise_row p s w seat t
-  raise_d (Closes n Raising) = writes (record s { cancel = true }) _
+  raise_d (Closes n Raising) = writes (record s { cancel = s.cancel + 1 }) _
   raise_d _ = refl
 
   looks_d : (n m : ℕ) → look_row p (seated s l) w seat (Closes n (Looking m)) ≡ look_row p s w seat (Closes n (Looking m))

@@ -19,7 +19,7 @@ use Rattle.event_history.specs.Places.{has}
 use Rattle.event_history.specs.Results.{jobs_of, Ends, EndsAfter}
 use Rattle.event_history.specs.Order.{goes_first}
 use Rattle.event_history.specs.Exclusion.{HeldConflict}
-use Rattle.event_history.specs.Inside.Following.{has_failed_by, started_by, registered_in, IsParentOpen, IsUnopened, ChildrenOk, MayHold, MayBeDrawn}
+use Rattle.event_history.specs.Inside.Following.{started_by, registered_in, IsParentOpen, IsUnopened, ChildrenOk, MayHold, MayBeDrawn}
 use Rattle.event_history.proofs.Spares.{pulls_sort}
 use Rattle.event_history.proofs.Places.{has_stands}
 use Rattle.scheduling.specs.declared.lock_word.LockWord.{LockWord}
@@ -145,7 +145,7 @@ skipped_not : Skipped ≡ Registered → ⊥
 skipped_not q = cc
 
 module _ (p : PlanParts) (core : IsCorePlan p) (replies : ℕ → List Reply) (s : State) (g : ℕ → Stage) (h : Holds p replies s g) (w : ℕ) (seat : Seat) (is : slice_get s.seats w ≡ Some seat) (x : ℕ) (inside : x < size p.tree) where
-  seat_of : SeatOk p g s.published s.cancel w seat
+  seat_of : SeatOk p g s.published w seat
   seat_of = h.seats w seat is
 
   flag_is : (k : EventKind) (st : Stage) → g x ≡ st → has k x s.published ≡ has_mark (is_spare_at p.tree x) k (picture p x st).mark
@@ -276,15 +276,11 @@ module _ (p : PlanParts) (core : IsCorePlan p) (replies : ℕ → List Reply) (s
       lawful = lawful Started None refl (λ _. refl);
       inside = inside;
       by_worker = within;
-      by_kind = record { unopened = unopened (Beginning false) at refl; enabled = subst (ShapeOk p replies s.published x) at (h.shapes x inside); unfailed = λ ff. unfailed ff (cases_Bool (has_failed_by (w + 1) s.published)) };
+      by_kind = record { unopened = unopened (Beginning false) at refl; enabled = subst (ShapeOk p replies s.published x) at (h.shapes x inside); unknown = λ ff. seat_of.quits ff (ap is_bold e) };
     };
     next = record { elders = λ _. elders_settled (OpenedBy w (Beginning false)) at refl; by_parent = λ _ pos same. by_starter (Beginning false) at pos same };
     holds = λ _. may_hold at;
   }
-    where
-      unfailed : p.fail_fast ≡ true → (has_failed_by (w + 1) s.published ≡ true) ⊎ (has_failed_by (w + 1) s.published ≡ false) → has_failed_by (w + 1) s.published ≡ false
-      unfailed ff (inr f) = f
-      unfailed ff (inl t) = absurd (elim (seat_of.quits ff t) [ inl r ↦ false≢true (ap raises (sym e) ∙ r) | inr r ↦ false≢true (sym (ap is_bold (sym e) ∙ r.1)) ])
 
   pub draws_skip : g x ≡ OpenedBy w (Beginning true) → MayBeDrawn p replies (length s.seats) s.published (event_of Skipped x None w)
   draws_skip at =

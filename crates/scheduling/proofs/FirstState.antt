@@ -1,11 +1,11 @@
 -- The opening state keeps the invariant.
-use Rattle.std.proofs.Common.{◌≤◌, ◌≡◌, ℕ, zero, suc, ◌<◌, false, ◌&&◌, not, List, [], ◌∷◌, ◌++◌, length, get_or, replicate, Some, None, slice_get, ◌⊎◌, inl, inr, refl, sym, ap, ◌∙◌, subst, arith, length-append}
+use Rattle.std.proofs.Common.{◌≤◌, ◌≡◌, ℕ, zero, suc, ◌<◌, false, ◌&&◌, not, List, [], ◌∷◌, ◌++◌, length, get_or, replicate, Some, None, slice_get, ◌⊎◌, inl, inr, refl, sym, ap, ◌∙◌, subst, arith, length-append, Option}
 use Rattle.std.proofs.lemmas.Option.{same_Some, none-some}
 use Rattle.std.proofs.lemmas.Bool.{cases_eq, cases_lt, false≢true}
 use Rattle.std.proofs.lemmas.List.{length-replicate}
 use Rattle.descriptor.specs.declared.lock_mode.LockMode.{LockMode}
 use Rattle.descriptor.specs.declared.lock_mode.LockMode.TheVariants.{Read, ReadWrite}
-use Rattle.descriptor.specs.Nodes.{size, is_child, is_spare_at, count_below}
+use Rattle.descriptor.specs.Nodes.{size, is_child, is_spare_at, count_below, bit}
 use Rattle.plan_events.specs.declared.event.EventKind.{EventKind}
 use Rattle.plan_events.specs.declared.event.EventKind.TheVariants.{Started, Finished, Skipped, Registered}
 use Rattle.plan_events.specs.declared.outcome.Reply.{Reply}
@@ -21,8 +21,8 @@ use Rattle.scheduling.specs.declared.task.Task.TheVariants.{Free}
 use Rattle.scheduling.specs.declared.seat.Seat.{Seat}
 use Rattle.scheduling.specs.Runs.{first_status, first_counter, opening}
 use Rattle.scheduling.specs.Inside.Going.{word_of}
-use Rattle.scheduling.specs.Inside.Stages.{Stage, Unseen, Offered, Waiting, Mark, Blank, Known, has_mark, picture, is_unseen, is_pending}
-use Rattle.scheduling.specs.Inside.Invariant.{IsCorePlan, pends_at, pending, keys_in, sum_below, holders, holders_by, SeatOk, Holds, IsKept}
+use Rattle.scheduling.specs.Inside.Stages.{Stage, Unseen, Offered, Waiting, Mark, Blank, Known, has_mark, picture, is_unseen, is_pending, raises}
+use Rattle.scheduling.specs.Inside.Invariant.{IsCorePlan, pends_at, pending, keys_in, sum_below, holders, holders_by, SeatOk, Holds, IsKept, still_raising, raising_at, raising_in}
 use Rattle.scheduling.proofs.Basics.{count_same}
 use Rattle.scheduling.proofs.Drawn.{blank_none}
 
@@ -106,6 +106,14 @@ first_flags p Skipped zero = refl
 first_flags p Registered zero = refl
 first_flags p k (suc n) = sym (blank_none (is_spare_at p.tree (suc n)) k)
 
+first_raising : (workers : ℕ) → still_raising (replicate workers (record { task = Free; hand = None })) ≡ 0
+unfolding still_raising
+first_raising workers = sum_zero (raising_at (replicate workers (record { task = Free; hand = None }))) (length (replicate workers (record { task = Free; hand = None }))) (λ w. one w (slice_get (replicate workers (record { task = Free; hand = None })) w) refl)
+  where
+    one : (w : ℕ) (o : Option Seat) → slice_get (replicate workers (record { task = Free; hand = None })) w ≡ o → raising_in o ≡ 0
+    one w None q = refl
+    one w (Some seat) q = ap (λ (o : Seat). bit (raises o.task)) (sym (get_replicate workers (record { task = Free; hand = None }) seat w q))
+
 pub opening_is : (p : PlanParts) → IsCorePlan p → (replies : ℕ → List Reply) (workers : ℕ) → workers ≤ 64 → IsKept p replies (opening p workers)
 unfolding first_stage
 opening_is p core replies workers few = (
@@ -125,9 +133,9 @@ opening_is p core replies workers few = (
     shapes = λ n lt. shape n;
     edges = λ a c ch. edge a c ch.above_zero;
     elders = λ a b elder goes seen. absurd (unseen_above b elder.younger.above_zero seen);
-    seats = λ w seat q. subst (λ y. SeatOk p first_stage [] false w y) (get_replicate workers (record { task = Free; hand = None }) seat w q) (record { task = tt; hand = tt; brought = tt; failed = λ r. absurd (false≢true r); quits = λ ff f. absurd (false≢true f) });
+    seats = λ w seat q. subst (λ y. SeatOk p first_stage [] w y) (get_replicate workers (record { task = Free; hand = None }) seat w q) (record { task = tt; hand = tt; brought = tt; failed = λ r. absurd (false≢true r); quits = λ ff b. absurd (false≢true b) });
     held = λ n lt. held n;
-    cancelled = λ q. absurd (false≢true q);
+    raised = λ ff. (let none = first_raising workers in omega (arith, none));
     published = published_nil p replies (length (replicate workers (record { task = Free; hand = None })));
     given = record { rest = []; front = refl; shown = λ i lt. absurd (omega (arith, lt)) };
   },

@@ -64,7 +64,7 @@ module _ (p : PlanParts) (replies : ℕ → List Reply) (s : State) (g : ℕ →
   pub seat_is : slice_get s.seats 0 ≡ Some seat
   seat_is = ap (λ l. slice_get l 0) one
 
-  pub seat_ok : SeatOk p g s.published s.cancel 0 seat
+  pub seat_ok : SeatOk p g s.published 0 seat
   seat_ok = h.seats 0 seat seat_is
 
   -- whoever is at a node has it as the only task

@@ -49,7 +49,7 @@ passes_own : (p : PlanParts) (below : Below) (a x o n from m c : ℕ) (how : How
 passes_own p below a x o n from m c how e same fits = (let so : RunsSo p a x n from (ClosedBy 0 c (Passing m o) how) = subst (λ y. Fits p y a x (ClosedBy 0 c (Passing m o) how)) e fits in so.owned same)
 
 module _ (p : PlanParts) (core : IsCorePlan p) (replies : ℕ → List Reply) (s : State) (g : ℕ → Stage) (h : Holds p replies s g) (seat : Seat) (one : s.seats ≡ seat ∷ []) (kept : Goes p replies s.statuses s.counters s.locks seat.task seat.hand) (r : Reply) where
-  pub ours : SeatOk p g s.published s.cancel 0 seat
+  pub ours : SeatOk p g s.published 0 seat
   ours = seat_ok p replies s g h seat one
 
   pub opened : (x : ℕ) (d : Opening) → seat.task ≡ Opens x d → (x < size p.tree) × (g x ≡ OpenedBy 0 d)

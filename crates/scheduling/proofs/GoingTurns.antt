@@ -23,7 +23,7 @@ use Rattle.scheduling.specs.State.{State, status_at, lock_at}
 use Rattle.scheduling.specs.Choices.{in_batch, key_at, mode_at, keys_count, admits, taken, given_back, same_word, lock_from, begins, notices, claims, giving, after_finish, event_of}
 use Rattle.scheduling.specs.declared.step.Action.{Action}
 use Rattle.scheduling.specs.declared.step.Action.TheVariants.{Notice, Weigh, Take, Give, Draw, Show, Look, Raise}
-use Rattle.scheduling.specs.Rows.{row, with_task, goes, goes_to, notice_row, weighed, weigh_row, take_found, take_row, puts_word, gives_key, give_row, raised, raise_row, drawn, one_more, draw_row, shows, show_row, look_found, look_row}
+use Rattle.scheduling.specs.Rows.{row, with_task, goes, goes_to, notice_row, weighed, weigh_row, take_found, take_row, puts_word, gives_key, give_row, raised, raise_row, drawn, one_more, draw_row, shows, show_row, look_found, look_row, is_cancelled}
 use Rattle.scheduling.specs.Inside.Going.{is_in_hand, OpeningTo, ClosingPasses, KeysGo, is_registering, HandGo, Goes}
 use Rattle.scheduling.proofs.RowsOne.{by_cond}
 use Rattle.scheduling.proofs.GoingMoves.{turn_goes, turn_same}
@@ -83,13 +83,13 @@ module _ (p : PlanParts) (replies : ℕ → List Reply) (s : State) (seat : Seat
 
   pub notice_goes : (x : ℕ) → seat.task ≡ Opens x Noticing → IsStep p replies s seat reply Notice
   notice_goes x e =
-      let calm = begins_calm p x s.cancel in
+      let calm = begins_calm p x (is_cancelled p s) in
       record {
-        next = goes s 0 seat (Opens x (begins p x s.cancel));
+        next = goes s 0 seat (Opens x (begins p x (is_cancelled p s)));
         is = ap (notice_row p s 0 seat) e;
-        seat2 = with_task seat (Opens x (begins p x s.cancel));
-        one2 = seats_go (with_task seat (Opens x (begins p x s.cancel)));
-        goes2 = opening_turn x Noticing (begins p x s.cancel) s.locks e calm.quiet (λ c lt b z. calm.to c) (calm.keys s.locks) refl;
+        seat2 = with_task seat (Opens x (begins p x (is_cancelled p s)));
+        one2 = seats_go (with_task seat (Opens x (begins p x (is_cancelled p s))));
+        goes2 = opening_turn x Noticing (begins p x (is_cancelled p s)) s.locks e calm.quiet (λ c lt b z. calm.to c) (calm.keys s.locks) refl;
       }
 
   pub weigh_goes : (x i : ℕ) → seat.task ≡ Opens x (Locking i) → admits (mode_at p x i) (lock_at s (key_at p x i)) ≡ true → IsStep p replies s seat reply Weigh

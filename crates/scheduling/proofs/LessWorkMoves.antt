@@ -57,7 +57,7 @@ module _ (p : PlanParts) (s : State) (w : ℕ) (seat : Seat) (is : slice_get s.s
       omega (arith, change, was)
 
   -- the worker goes on to a task of a lower rank
-  pub goes_lower : (locks : List LockWord) (cancel : Bool) (shown : List Bool) (next : Seat) → seat_rank p next < seat_rank p seat → work_left p (record s { locks = locks; cancel = cancel; shown = shown; seats = set s.seats w next }) < work_left p s
+  pub goes_lower : (locks : List LockWord) (cancel : ℕ) (shown : List Bool) (next : Seat) → seat_rank p next < seat_rank p seat → work_left p (record s { locks = locks; cancel = cancel; shown = shown; seats = set s.seats w next }) < work_left p s
   goes_lower locks cancel shown next less =
       rank_lower (changes_left p s * weight p) (sum_by (seat_rank p) s.seats) (sum_by (seat_rank p) (set s.seats w next)) (length s.published - length s.given) (ranks_lower _ _ (seat_rank p seat) (seat_rank p next) (ranks next) less)
 

@@ -10,7 +10,7 @@ use Rattle.plan_events.specs.declared.event.Event.{Event}
 use Rattle.plan_events.specs.declared.status.Status.{Status}
 use Rattle.resource_locks.specs.Plans.{PlanParts}
 use Rattle.event_history.specs.Plans.{IsPlanTree, is_same}
-use Rattle.event_history.specs.Inside.Following.{has_failed_by}
+use Rattle.event_history.specs.Failures.{known, up_to}
 use Rattle.scheduling.specs.declared.status.NodeStatus.{NodeStatus}
 use Rattle.scheduling.specs.declared.status.NodeStatus.TheVariants.{Hidden}
 use Rattle.scheduling.specs.declared.lock_word.LockWord.{LockWord}
@@ -307,12 +307,12 @@ own_hand p g h w x a b (Some hand) at not quiet old = record {
   ];
 }
 
--- fail-fast: what a worker that has failed may go on with
-abbrev pub QuitStep : PlanParts → List Event → ℕ → (cancel cancel2 : Bool) → (t t2 : Task) → Type 0
-QuitStep p h w cancel cancel2 t t2 = p.fail_fast ≡ true → has_failed_by (w + 1) h ≡ true → (raises t ≡ true) ⊎ ((cancel ≡ true) × (is_bold t ≡ false)) → (raises t2 ≡ true) ⊎ ((cancel2 ≡ true) × (is_bold t2 ≡ false))
+-- fail-fast: who starts a node without a look at the cancel word knew of few failures at its last event
+abbrev pub QuitStep : PlanParts → List Event → ℕ → (t t2 : Task) → Type 0
+QuitStep p h w t t2 = p.fail_fast ≡ true → (is_bold t ≡ true → known (w + 1) (up_to (w + 1) h) ≤ p.tolerated) → is_bold t2 ≡ true → known (w + 1) (up_to (w + 1) h) ≤ p.tolerated
 
-pub quit_calm : (p : PlanParts) (h : List Event) (w : ℕ) (cancel : Bool) (t t2 : Task) → raises t ≡ false → is_bold t2 ≡ false → QuitStep p h w cancel cancel t t2
-quit_calm p h w cancel t t2 r b ff f old = elim old [ inl y ↦ absurd (both_ways (raises t) r y) | inr y ↦ inr (y.0, b) ]
+pub quit_calm : (p : PlanParts) (h : List Event) (w : ℕ) (t t2 : Task) → is_bold t2 ≡ false → QuitStep p h w t t2
+quit_calm p h w t t2 b ff old bold = absurd (both_ways (is_bold t2) b bold)
 
-pub quit_same : (p : PlanParts) (h : List Event) (w : ℕ) (cancel : Bool) (t t2 : Task) → raises t ≡ false → is_bold t2 ≡ is_bold t → QuitStep p h w cancel cancel t t2
-quit_same p h w cancel t t2 r b ff f old = elim old [ inl y ↦ absurd (both_ways (raises t) r y) | inr y ↦ inr (y.0, b ∙ y.1) ]
+pub quit_same : (p : PlanParts) (h : List Event) (w : ℕ) (t t2 : Task) → is_bold t2 ≡ is_bold t → QuitStep p h w t t2
+quit_same p h w t t2 b ff old bold = old (sym b ∙ bold)

@@ -27,7 +27,7 @@ use Rattle.scheduling.specs.State.{State, status_at, counter_at, result_at, lock
 use Rattle.scheduling.specs.Choices.{answered, keys_count, in_batch, is_same_sibling, first_from, notices, is_leaf, status_by, admits, event_of, next_spare, is_pulled, pulled_result, same_word, key_at, mode_at, taken, lock_from, begins, claims, giving, after_finish, after_settle, pass_to, admit_next, admit_from, ending, decided}
 use Rattle.scheduling.specs.declared.step.Action.{Action}
 use Rattle.scheduling.specs.declared.step.Action.TheVariants.{Claim, Own, Notice, Weigh, Take, Give, GiveUp, Draw, Show, Admit, AddChild, Done, Settle, Look, Raise}
-use Rattle.scheduling.specs.Rows.{one_more, waits_for, waits_no_more, with_task, goes, puts_word, weighed, claimed, guard_given, ends_or_free, after_start, row, is_free, is_empty, is_of_hand, is_ready_for, notice_row, weigh_row, take_found, take_row, gives_key, give_row, give_up_row, draw_row, show_row, admit_row, child_added, add_by_hand, add_child_hand, add_child_row, done_by_hand, done_hand, done_row, settle_row, look_found, look_row, raise_row, goes_to, decided_seat, after_seat, after, Step, Works, Dispatches, read_event}
+use Rattle.scheduling.specs.Rows.{one_more, waits_for, waits_no_more, with_task, goes, puts_word, weighed, claimed, guard_given, ends_or_free, after_start, row, is_free, is_empty, is_of_hand, is_ready_for, notice_row, weigh_row, take_found, take_row, gives_key, give_row, give_up_row, draw_row, show_row, admit_row, child_added, add_by_hand, add_child_hand, add_child_row, done_by_hand, done_hand, done_row, settle_row, look_found, look_row, raise_row, goes_to, decided_seat, after_seat, after, Step, Works, Dispatches, read_event, is_cancelled}
 use Rattle.scheduling.specs.Runs.{or_stays, next, run, opening}
 use Rattle.scheduling.specs.Shown.{named, IsPlaced}
 use Rattle.scheduling.proofs.Basics.{get_set_same, set_get}
@@ -114,7 +114,7 @@ module _ (p : PlanParts) (s : State) (w : ℕ) (seat : Seat) (is : slice_get s.s
       (λ q. quiet s (claimed p s w seat n) w seat.task (with_task seat (Opens n (claims p n))) refl refl refl (free_unnamed w seat.task (and_parts (is_free seat.task) b q).0) (claims_unnamed p w n)) (λ _. tt)
 
   notice_moves : (t : Task) → Moves s w t (notice_row p s w seat t)
-  notice_moves (Opens n Noticing) = quiet s _ w _ (with_task seat (Opens n (begins p n s.cancel))) refl refl refl refl (begins_unnamed p w n s.cancel)
+  notice_moves (Opens n Noticing) = quiet s _ w _ (with_task seat (Opens n (begins p n (is_cancelled p s)))) refl refl refl refl (begins_unnamed p w n (is_cancelled p s))
   notice_moves _ = tt
 
   raise_moves : (t : Task) → Moves s w t (raise_row p s w seat t)

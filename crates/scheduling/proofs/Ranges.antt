@@ -54,7 +54,7 @@ task_inside p g w (Opens m d) n ok q = subst (λ (k : ℕ). k < size p.tree) (sa
 task_inside p g w (Closes m d) n ok q = subst (λ (k : ℕ). k < size p.tree) (same_Some m n q) ok.0
 
 module _ (p : PlanParts) (replies : ℕ → List Reply) (s : State) (g : ℕ → Stage) (h : Holds p replies s g) (w : ℕ) (seat : Seat) (is : slice_get s.seats w ≡ Some seat) where
-  mine : SeatOk p g s.published s.cancel w seat
+  mine : SeatOk p g s.published w seat
   mine = h.seats w seat is
 
   opening_shape : (n : ℕ) (d : Opening) → seat.task ≡ Opens n d → OpeningOk p replies s.published n d

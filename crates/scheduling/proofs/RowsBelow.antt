@@ -3,7 +3,7 @@ use Rattle.std.specs.Option.{is_some}
 use Rattle.std.proofs.Common.{◌≡◌, ◌≢◌, ℕ, ◌+◌, ◌<◌, ◌≤◌, Bool, true, false, ◌&&◌, ◌||◌, not, List, set, Option, Some, None, slice_get, slice_index_or, ◌⊎◌, inl, refl, sym, ap, ◌∙◌, subst, arith}
 use Rattle.std.proofs.lemmas.Option.{same_Some}
 use Rattle.std.proofs.lemmas.Bool.{false≢true, both_ways}
-use Rattle.descriptor.specs.Nodes.{size, IsChild, is_spare_at, body_of}
+use Rattle.descriptor.specs.Nodes.{size, IsChild, is_spare_at, body_of, bit}
 use Rattle.plan_events.specs.declared.event.Event.{Event}
 use Rattle.plan_events.specs.declared.outcome.Reply.{Reply}
 use Rattle.plan_events.specs.declared.status.Status.{Status}
@@ -12,7 +12,7 @@ use Rattle.plan_events.specs.Statuses.{is_successful}
 use Rattle.resource_locks.specs.Plans.{PlanParts}
 use Rattle.event_history.specs.Plans.{IsPlanTree, Sort, Leaf, Holder, Maker, sort_of, pulls_job, spare_count}
 use Rattle.event_history.specs.Results.{Jobs, NoJob, Alone, Pulled, Around, jobs_of, jobs_by, after_run, HasReply, Ends, EndsLast}
-use Rattle.event_history.specs.Inside.Following.{has_failed_by, registered_in}
+use Rattle.event_history.specs.Inside.Following.{registered_in}
 use Rattle.event_history.proofs.Spares.{is_maker, pulls_sort}
 use Rattle.scheduling.specs.declared.status.NodeStatus.TheVariants.{Claimed}
 use Rattle.scheduling.specs.declared.task.Opening.{Opening}
@@ -39,7 +39,8 @@ pub record Wide (p : PlanParts) (replies : ℕ → List Reply) (s : State) (g : 
   pub alone : (v : ℕ) → who a ≡ Some v → v ≡ w
   pub still : (n : ℕ) → n ≢ x → subject seat.task ≡ Some n → seat2.task ≡ seat.task
   pub held : HeldBy (set s.seats w seat2) x b
-  pub seat_ok : SeatOk p (upd g x b) s.published s.cancel w seat2
+  pub seat_ok : SeatOk p (upd g x b) s.published w seat2
+  pub raises_so : raises seat2.task ≡ raises seat.task
   pub word : (picture p x a).word ≡ (picture p x b).word
   pub mark : (picture p x a).mark ≡ (picture p x b).mark
   pub keys : (picture p x a).keys ≡ (picture p x b).keys
@@ -70,8 +71,7 @@ wide p plan replies s g h w seat is x a b seat2 counters results shown m =
       locks_ok = locks_keep p s.locks g x a b m.inside m.at m.keys h.locks;
       mark = λ k. ap (has_mark (is_spare_at p.tree x) k) m.mark;
       starter = λ c q. h.starters x c m.inside (ap (λ st. starter_of (picture p x st)) m.at ∙ ap (λ k. starter_by k (picture p x a).word) m.mark ∙ ap (starter_by (picture p x b).mark) m.word ∙ q);
-      cancel_on = λ q. q;
-      cancelled = h.cancelled;
+      raising = λ ff. ap (λ (b : Bool). s.cancel + bit b) m.raises_so;
       shown_ok = m.shown_ok;
       shape = m.shape;
       above = λ c ch. fits_live p (picture p c (g c)).below c x a b m.live (λ same o from r q. m.owned o q) (subst (λ (st : Stage). Fits p (picture p c (g c)).below c x st) m.at (h.edges c x ch));
@@ -137,14 +137,11 @@ ending_is P a b (Around body None) r = b r
 ending_is P a b (Around body (Some after)) r = a
 
 module _ (p : PlanParts) (core : IsCorePlan p) (replies : ℕ → List Reply) (s : State) (g : ℕ → Stage) (h : Holds p replies s g) (w : ℕ) (seat : Seat) (is : slice_get s.seats w ≡ Some seat) where
-  pub our : SeatOk p g s.published s.cancel w seat
+  pub our : SeatOk p g s.published w seat
   our = h.seats w seat is
 
   pub results_keep : (x : ℕ) (b : Stage) → ((c : ℕ) (r : Status) → b ≡ Waiting c r → ⊥) → ResultList p s.results (upd g x b)
   results_keep x b not' = (h.results_len, λ n c r lt. upd_all (λ k st. st ≡ Waiting c r → slice_index_or s.results k Successful ≡ r) g x b n (λ e q. absurd (not' c r q)) (λ _. h.results n c r lt))
-
-  pub quits_to : (t t2 : Task) → seat.task ≡ t → raises t ≡ false → is_bold t2 ≡ false → p.fail_fast ≡ true → has_failed_by (w + 1) s.published ≡ true → (raises t2 ≡ true) ⊎ ((s.cancel ≡ true) × (is_bold t2 ≡ false))
-  quits_to t t2 e r bold ff f = quit_calm p s.published w s.cancel t t2 r bold ff f (subst (λ u. (raises u ≡ true) ⊎ ((s.cancel ≡ true) × (is_bold u ≡ false))) e (our.quits ff f))
 
   opened_hand : (w : ℕ) (d : Opening) (v : ℕ) → OpenedBy w d ≡ InHand v → ⊥
   opened_hand w d v q = cc
@@ -176,8 +173,9 @@ module _ (p : PlanParts) (core : IsCorePlan p) (replies : ℕ → List Reply) (s
             alone = λ v q. sym (same_Some w v q);
             still = still_about p core replies s g h w seat is x (ap subject e) (Opens x d2);
             held = (with_task seat (Opens x d2), get_set_same s.seats w (with_task seat (Opens x d2)) seat is, refl);
-            seat_ok = seat_goes p g s.published s.cancel s.cancel w seat x (OpenedBy w d) (OpenedBy w d2) (Opens x d2) our at.1 (λ q. opened_hand w d w q) (λ q. offered) (at.0, upd_same g x (OpenedBy w d2) x refl) (λ b. absurd (both_ways (brings d2) brought b)) (λ q. absurd (false≢true q))
-                (subst (λ t. QuitStep p s.published w s.cancel s.cancel t (Opens x d2)) (sym e) (quit_calm p s.published w s.cancel (Opens x d) (Opens x d2) refl bold));
+            seat_ok = seat_goes p g s.published w seat x (OpenedBy w d) (OpenedBy w d2) (Opens x d2) our at.1 (λ q. opened_hand w d w q) (λ q. offered) (at.0, upd_same g x (OpenedBy w d2) x refl) (λ b. absurd (both_ways (brings d2) brought b)) (λ q. absurd (false≢true q))
+                (subst (λ t. QuitStep p s.published w t (Opens x d2)) (sym e) (quit_calm p s.published w (Opens x d) (Opens x d2) bold));
+            raises_so = ap raises (sym e);
             word = word ∙ sym word2;
             mark = mark ∙ sym mark2;
             keys = keys ∙ sym keys2;
@@ -235,8 +233,9 @@ module _ (p : PlanParts) (core : IsCorePlan p) (replies : ℕ → List Reply) (s
               alone = λ v q. sym (same_Some w v q);
               still = still_about p core replies s g h w seat is x (ap subject e) (Closes x (Ending st));
               held = (with_task seat (Closes x (Ending st)), get_set_same s.seats w (with_task seat (Closes x (Ending st))) seat is, refl);
-              seat_ok = seat_goes p g s.published s.cancel s.cancel w seat x (OpenedBy w Awaiting) (ClosedBy w w (Ending st) Kept) (Closes x (Ending st)) our at (λ q. opened_hand w Awaiting w q) (λ q. refl) (inside, (w, Kept, upd_same g x (ClosedBy w w (Ending st) Kept) x refl)) tt (λ q. absurd (false≢true q))
-                  (subst (λ t. QuitStep p s.published w s.cancel s.cancel t (Closes x (Ending st))) (sym e) (quit_calm p s.published w s.cancel (Opens x Awaiting) (Closes x (Ending st)) refl refl));
+              seat_ok = seat_goes p g s.published w seat x (OpenedBy w Awaiting) (ClosedBy w w (Ending st) Kept) (Closes x (Ending st)) our at (λ q. opened_hand w Awaiting w q) (λ q. refl) (inside, (w, Kept, upd_same g x (ClosedBy w w (Ending st) Kept) x refl)) tt (λ q. absurd (false≢true q))
+                  (subst (λ t. QuitStep p s.published w t (Closes x (Ending st))) (sym e) (quit_calm p s.published w (Opens x Awaiting) (Closes x (Ending st)) refl));
+              raises_so = ap raises (sym e);
               word = refl;
               mark = refl;
               keys = refl;
@@ -257,7 +256,7 @@ module _ (p : PlanParts) (core : IsCorePlan p) (replies : ℕ → List Reply) (s
           let task : TaskOk p g w (Closes x AwaitingAfter) = subst (TaskOk p g w) e our.task in
           let job : ReplyIs replies (after_job (jobs_of p x)) reply = subst (λ t. ReplyIs replies (awaited p seat t) reply) e given in
           turn_closing p core replies s g h w seat is x AwaitingAfter (Ending reply.outcome.status) s.locks s.cancel s.shown e (λ c how. refl) (λ c how at. locks_keep p s.locks g x (ClosedBy w c AwaitingAfter how) (ClosedBy w c (Ending reply.outcome.status) how) task.0 at refl h.locks) (same_shown p core replies s g h w seat is)
-          (λ c how. refl) (λ c how. refl) (λ c how. refl) refl (λ q. absurd (false≢true q)) (λ c ch o from r q. refl) (λ c how ok. ended how ok job) (λ q. q) h.cancelled (λ q. absurd (false≢true q)) (quit_calm p s.published w s.cancel (Closes x AwaitingAfter) (Closes x (Ending reply.outcome.status)) refl refl)
+          (λ c how. refl) (λ c how. refl) (λ c how. refl) refl (λ q. absurd (false≢true q)) (λ c ch o from r q. refl) (λ c how ok. ended how ok job) (λ ff. refl) (λ q. absurd (false≢true q)) (quit_calm p s.published w (Closes x AwaitingAfter) (Closes x (Ending reply.outcome.status)) refl)
         where
           ended : (how : How) → IsAfter p replies x how → ReplyIs replies (after_job (jobs_of p x)) reply → IsEnding p replies s.published x how reply.outcome.status
           ended how ok job =

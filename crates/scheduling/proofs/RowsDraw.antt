@@ -11,7 +11,9 @@ use Rattle.plan_events.specs.declared.status.Status.{Status}
 use Rattle.event_history.specs.Places.{is_failure, is_failed_or, same_kind, has, is_of, has_event}
 use Rattle.resource_locks.specs.Plans.{PlanParts}
 use Rattle.event_history.specs.Plans.{is_spare_of, pulls_job}
-use Rattle.event_history.specs.Inside.Following.{has_failed_by, started_by, registered_in, MayBeDrawn}
+use Rattle.event_history.specs.Failures.{failures}
+use Rattle.event_history.proofs.Failures.{failures_added, last_own, last_other, up_to_other}
+use Rattle.event_history.specs.Inside.Following.{started_by, registered_in, MayBeDrawn}
 use Rattle.event_history.specs.Results.{Ends, jobs_of}
 use Rattle.event_history.proofs.Places.{get_front}
 use Rattle.event_history.proofs.Published.{published_added}
@@ -57,7 +59,7 @@ closing_added p replies h e n (Giving i) how same old = old
 closing_added p replies h e n Settling how same old = tt
 
 opening_added : (p : PlanParts) (replies : ℕ → List Reply) (h : List Event) (e : Event) (n : ℕ) (d : Opening) → OpeningOk p replies h n d → OpeningOk p replies (h ++ e ∷ []) n d
-opening_added p replies h e n (Beginning true) old = (old.0, elim old.1 [ inl a ↦ inl a | inr b ↦ inr (b.0, more_events is_failure h e b.1) ])
+opening_added p replies h e n (Beginning true) old = (old.0, elim old.1 [ inl a ↦ inl a | inr b ↦ (let more = failures_added h e in let was : p.tolerated < failures h = b.1 in inr (b.0, omega (arith, more, was))) ])
 opening_added p replies h e n (Beginning false) old = old
 opening_added p replies h e n Registering old = old
 opening_added p replies h e n Noticing old = old
@@ -93,17 +95,18 @@ count_others p h e f none =
     ])
 
 module _ (p : PlanParts) (core : IsCorePlan p) (replies : ℕ → List Reply) (s : State) (g : ℕ → Stage) (h : Holds p replies s g) (w : ℕ) (seat : Seat) (is : slice_get s.seats w ≡ Some seat) where
-  held_seat : SeatOk p g s.published s.cancel w seat
+  held_seat : SeatOk p g s.published w seat
   held_seat = h.seats w seat is
 
   draws : (x : ℕ) (kind : EventKind) (status : Option Status) (a b : Stage) (seat2 : Seat) → x < size p.tree → g x ≡ a → who a ≡ Some w → ((n : ℕ) → n ≢ x → subject seat.task ≡ Some n → seat2.task ≡ seat.task) → HeldBy (set s.seats w seat2) x b
-      → SeatOk p (upd g x b) (s.published ++ event_of kind x status w ∷ []) s.cancel w seat2 → (picture p x a).word ≡ (picture p x b).word → (picture p x a).guard ≡ (picture p x b).guard → (picture p x a).keys ≡ (picture p x b).keys → (picture p x a).below ≡ (picture p x b).below
+      → SeatOk p (upd g x b) (s.published ++ event_of kind x status w ∷ []) w seat2 → (picture p x a).word ≡ (picture p x b).word → (picture p x a).guard ≡ (picture p x b).guard → (picture p x a).keys ≡ (picture p x b).keys → (picture p x a).below ≡ (picture p x b).below
       → is_pending (is_spare_at p.tree x) a ≡ is_pending (is_spare_at p.tree x) b → ((k : EventKind) → (has_mark (is_spare_at p.tree x) k (picture p x a).mark || same_kind kind k) ≡ has_mark (is_spare_at p.tree x) k (picture p x b).mark)
       → ((c : ℕ) → starter_of (picture p x b) ≡ Some c → started_by x (c + 1) (s.published ++ event_of kind x status w ∷ []) ≡ true) → ShapeOk p replies (s.published ++ event_of kind x status w ∷ []) x b
       → ((c : ℕ) (r : Status) → b ≡ Waiting c r → ⊥) → is_live a ≡ true → is_past a ≡ false → ((o : ℕ) → is_owned o a ≡ true → is_owned o b ≡ true) → (is_unsettled b ≡ true → is_unsettled a ≡ true)
       → ((f : ℕ) → (registered_in p (s.published ++ event_of kind x status w ∷ []) f ≡ registered_in p s.published f) ⊎ (g f ≡ InHand w)) → MayBeDrawn p replies (length s.seats) s.published (event_of kind x status w)
+      → raises seat.task ≡ false → raises seat2.task ≡ is_failure (event_of kind x status w)
       → IsKept p replies (drawn s w (event_of kind x status w) seat2)
-  draws x kind status a b seat2 inside at mine still held seat_ok word guard keys below pend marks starter shape not_waiting live past owned quiet counts may = (
+  draws x kind status a b seat2 inside at mine still held seat_ok word guard keys below pend marks starter shape not_waiting live past owned quiet counts may calm fails = (
     upd g x b,
     moved p core.plan replies s (drawn s w (event_of kind x status w) seat2) g w x b seat seat2 h (record {
       inside = inside;
@@ -128,10 +131,13 @@ module _ (p : PlanParts) (core : IsCorePlan p) (replies : ℕ → List Reply) (s
       starters = λ n c lt. upd_all (λ j st. starter_of (picture p j st) ≡ Some c → started_by j (c + 1) (s.published ++ event_of kind x status w ∷ []) ≡ true) g x b n
           (λ e. subst (λ j. starter_of (picture p j b) ≡ Some c → started_by j (c + 1) (s.published ++ event_of kind x status w ∷ []) ≡ true) (sym e) (starter c))
           (λ ne q. more_events (λ e. is_of Started n e && (e.worker == c + 1)) s.published (event_of kind x status w) (h.starters n c lt q));
-      fails = λ v ne. event_same (λ e. is_failure e && (e.worker == v + 1)) s.published (event_of kind x status w) (and_right (is_failure (event_of kind x status w)) (w + 1 == v + 1) (ne_eqb (w + 1) (v + 1) (λ q. ne (omega (arith, q)))));
+      others = λ v ne. (let apart = ne_eqb (w + 1) (v + 1) (λ q. ne (omega (arith, q))) in
+          (up_to_other (v + 1) s.published (event_of kind x status w) apart, last_other (v + 1) s.published (event_of kind x status w) apart));
       counts = counts;
-      cancel_on = λ q. q;
-      cancelled = λ q. more_events is_failure s.published (event_of kind x status w) (h.cancelled q);
+      raising = λ ff. (let more = failures_added s.published (event_of kind x status w) in
+          let was : bit (raises seat.task) ≡ 0 = ap bit calm in
+          let now : bit (raises seat2.task) ≡ bit (is_failure (event_of kind x status w)) = ap bit fails in
+          omega (arith, more, was, now));
       published = published_added p core.plan replies (length s.seats) s.published (event_of kind x status w) h.published may;
       given = record {
         rest = h.given.rest ++ event_of kind x status w ∷ [];
@@ -178,14 +184,6 @@ module _ (p : PlanParts) (core : IsCorePlan p) (replies : ℕ → List Reply) (s
     ];
   }
 
-  -- fail-fast: an event that is no failure
-  same_fails : (x : ℕ) (kind : EventKind) (status : Option Status) → is_failure (event_of kind x status w) ≡ false → has_failed_by (w + 1) (s.published ++ event_of kind x status w ∷ []) ≡ has_failed_by (w + 1) s.published
-  same_fails x kind status no' = event_same (λ e. is_failure e && (e.worker == w + 1)) s.published (event_of kind x status w) (and_left (is_failure (event_of kind x status w)) (w + 1 == w + 1) no')
-
-  calm_quits : (x : ℕ) (kind : EventKind) (status : Option Status) (t t2 : Task) → is_failure (event_of kind x status w) ≡ false → seat.task ≡ t → raises t ≡ false → is_bold t2 ≡ false → p.fail_fast ≡ true → has_failed_by (w + 1) (s.published ++ event_of kind x status w ∷ []) ≡ true → (raises t2 ≡ true) ⊎ ((s.cancel ≡ true) × (is_bold t2 ≡ false))
-  calm_quits x kind status t t2 no' e calm bold ff f =
-      elim (held_seat.quits ff (sym (same_fails x kind status no') ∙ f)) [ inl y ↦ absurd (both_ways (raises t) calm (ap raises (sym e) ∙ y)) | inr y ↦ inr (y.0, bold) ]
-
   task_at : (x : ℕ) (d : Opening) → seat.task ≡ Opens x d → (x < size p.tree) × (g x ≡ OpenedBy w d)
   task_at x d e = subst (TaskOk p g w) e held_seat.task
 
@@ -200,9 +198,9 @@ module _ (p : PlanParts) (core : IsCorePlan p) (replies : ℕ → List Reply) (s
         hand = hand_draws x (OpenedBy w (Beginning false)) (OpenedBy w (StartedAt (length s.published))) Started None seat.hand at.1 (λ q. opened_hand w (Beginning false) w q) (λ q. refl) refl held_seat.hand;
         brought = λ b. absurd (false≢true b);
         failed = λ q. absurd (false≢true q);
-        quits = calm_quits x Started None (Opens x (Beginning false)) (Opens x (StartedAt (length s.published))) refl e refl refl;
+        quits = λ ff bold. absurd (false≢true bold);
       })
-      refl refl refl refl refl (λ k. marks (is_spare_at p.tree x) k) (λ c q. own c q) tt (λ c r q. opened_waits w (StartedAt (length s.published)) c r q) refl refl (λ o q. q) (λ q. refl) (no_counts x Started None refl) (draws_start p core replies s g h w seat is x at.0 at.1 e)
+      refl refl refl refl refl (λ k. marks (is_spare_at p.tree x) k) (λ c q. own c q) tt (λ c r q. opened_waits w (StartedAt (length s.published)) c r q) refl refl (λ o q. q) (λ q. refl) (no_counts x Started None refl) (draws_start p core replies s g h w seat is x at.0 at.1 e) (ap raises e) refl
     where
       marks : (spare : Bool) (k : EventKind) → (has_mark spare k Mark.Known || same_kind Started k) ≡ has_mark spare k Mark.Begun
       marks spare Started = refl
@@ -226,9 +224,9 @@ module _ (p : PlanParts) (core : IsCorePlan p) (replies : ℕ → List Reply) (s
         hand = hand_draws x (OpenedBy w (Beginning true)) (ClosedBy w w (SkippedAt (length s.published)) Skips) Skipped None seat.hand at.1 (λ q. opened_hand w (Beginning true) w q) (λ q. refl) refl held_seat.hand;
         brought = tt;
         failed = λ q. absurd (false≢true q);
-        quits = calm_quits x Skipped None (Opens x (Beginning true)) (Closes x (SkippedAt (length s.published))) refl e refl refl;
+        quits = λ ff bold. absurd (false≢true bold);
       })
-      refl refl refl refl refl (λ k. marks (is_spare_at p.tree x) k) (λ c q. absurd (none-some c q)) tt (λ c r q. closed_waits w w (SkippedAt (length s.published)) Skips c r q) refl refl (λ o q. refl) (λ q. refl) (no_counts x Skipped None refl) (draws_skip p core replies s g h w seat is x at.0 at.1)
+      refl refl refl refl refl (λ k. marks (is_spare_at p.tree x) k) (λ c q. absurd (none-some c q)) tt (λ c r q. closed_waits w w (SkippedAt (length s.published)) Skips c r q) refl refl (λ o q. refl) (λ q. refl) (no_counts x Skipped None refl) (draws_skip p core replies s g h w seat is x at.0 at.1) (ap raises e) refl
     where
       marks : (spare : Bool) (k : EventKind) → (has_mark spare k Mark.Known || same_kind Skipped k) ≡ has_mark spare k Mark.Passed
       marks spare Started = refl
@@ -267,11 +265,11 @@ module _ (p : PlanParts) (core : IsCorePlan p) (replies : ℕ → List Reply) (s
             task = (inside, (c, how, upd_same g x (ClosedBy w c (FinishedAt (length s.published) status) how) x refl));
             hand = hand_draws x (ClosedBy w c (Ending status) how) (ClosedBy w c (FinishedAt (length s.published) status) how) Finished (Some status) seat.hand at (λ q. closed_hand w c (Ending status) how w q) (λ q. refl) refl held_seat.hand;
             brought = tt;
-            failed = λ q. event_added (λ f. is_failure f && (f.worker == w + 1)) s.published (event_of Finished x (Some status) w) ∙ or_right (has_failed_by (w + 1) s.published) (is_failure (event_of Finished x (Some status) w) && (w + 1 == w + 1)) (and_from (is_failure (event_of Finished x (Some status) w)) (w + 1 == w + 1) q (eq-eqb (w + 1) (w + 1) refl));
-            quits = λ ff f. elim (cases_Bool (is_failed_or (Some status))) [ inl y ↦ inl y | inr no' ↦ calm_quits x Finished (Some status) (Closes x (Ending status)) (Closes x (FinishedAt (length s.published) status)) no' e refl refl ff f ];
+            failed = λ q. last_own (w + 1) s.published (event_of Finished x (Some status) w) (eq-eqb (w + 1) (w + 1) refl) ∙ q;
+            quits = λ ff bold. absurd (false≢true bold);
           })
           refl refl refl refl refl (λ k. marks (is_spare_at p.tree x) how k (unskipped how (subst (ShapeOk p replies s.published x) at (h.shapes x inside)))) (λ v q. absurd (none-some v (sym (ended_starter how (NodeStatus.Claimed c)) ∙ q))) tt (λ v r q. closed_waits w c (FinishedAt (length s.published) status) how v r q) refl refl (λ o q. refl) (λ q. refl)
-          (no_counts x Finished (Some status) refl) (draws_finish p core replies s g h w seat is x inside c how status at)
+          (no_counts x Finished (Some status) refl) (draws_finish p core replies s g h w seat is x inside c how status at) (ap raises e) refl
 
   -- a spare is registered: the factory in hand has one more
   draw_register : (x : ℕ) → seat.task ≡ Opens x Registering → IsKept p replies (drawn s w (event_of Registered x None w) (record { task = Opens x (RegisteredAt (length s.published)); hand = one_more seat.hand }))
@@ -289,14 +287,14 @@ module _ (p : PlanParts) (core : IsCorePlan p) (replies : ℕ → List Reply) (s
         hand = subst (λ k. HandOk p (upd g x (OpenedBy w (RegisteredAt (length s.published)))) (s.published ++ event_of Registered x None w ∷ []) w (one_more k)) (sym brought.is) (hand_more brought.held at.1 at.0 brought.parent brought.child spare hand);
         brought = λ _. record { held = record brought.held { registered = brought.held.registered + 1 }; is = ap one_more brought.is; parent = brought.parent; child = brought.child; waits = brought.waits; next = λ q. absurd (not_next q) };
         failed = λ q. absurd (false≢true q);
-        quits = calm_quits x Registered None (Opens x Registering) (Opens x (RegisteredAt (length s.published))) refl e refl refl;
+        quits = λ ff bold. absurd (false≢true bold);
       })
       refl refl refl refl refl (λ k. marks (is_spare_at p.tree x) spare k) (λ c q. absurd (none-some c q)) tt (λ c r q. opened_waits w (RegisteredAt (length s.published)) c r q) refl refl (λ o q. q) (λ q. q)
       (λ f. elim (cases_eq f (parent_of p.tree x)) [
         | inl q ↦ inr (ap g (q ∙ brought.parent) ∙ hand.at)
         | inr ne ↦ inl (count_others p s.published (event_of Registered x None w) f (λ c lt q. ne_eqb x c (λ z. ne (sym (child_parent f c q) ∙ ap (parent_of p.tree) (sym z)))))
       ])
-      (draws_register p core replies s g h w seat is x at.0 at.1 brought)
+      (draws_register p core replies s g h w seat is x at.0 at.1 brought) (ap raises e) refl
     where
       child_parent : (f c : ℕ) → is_spare_of p f c ≡ true → parent_of p.tree c ≡ f
       child_parent f c q = eqb-true (parent_of p.tree c) f (and_parts (nat_lt 0 c) (parent_of p.tree c == f) (and_parts (is_child p.tree f c) (is_spare_at p.tree c) q).0).1

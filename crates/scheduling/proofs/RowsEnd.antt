@@ -27,13 +27,13 @@ use Rattle.scheduling.specs.declared.seat.Seat.{Seat}
 use Rattle.scheduling.specs.State.{State, counter_at, subject}
 use Rattle.scheduling.specs.Choices.{in_batch, first_from, admit_next, admit_from, offered_to, ending_by, ending, is_pulled, pulled_result}
 use Rattle.scheduling.specs.Rows.{with_task, goes_to, offers, admit_row, waits_for, guard_given}
-use Rattle.scheduling.specs.Inside.Stages.{How, Gave, Kept, Skips, Stage, Unseen, Offered, OpenedBy, InHand, Waiting, ClosedBy, Over, picture, closing_picture, below_of, runner_of, is_unseen, is_offer_to, is_past}
+use Rattle.scheduling.specs.Inside.Stages.{How, Gave, Kept, Skips, Stage, Unseen, Offered, OpenedBy, InHand, Waiting, ClosedBy, Over, picture, closing_picture, below_of, runner_of, is_unseen, is_offer_to, is_past, raises}
 use Rattle.scheduling.specs.Inside.Invariant.{IsCorePlan, GoesOn, IsNextSame, OpeningOk, ClosingOk, ShapeOk, RunsSo, Fits, TaskOk, SeatOk, Holds, IsKept}
 use Rattle.scheduling.proofs.Basics.{upd, upd_same, upd_other, upd_all, get_set_same, set_twice, first_some}
 use Rattle.scheduling.proofs.Parts.{locks_keep, fits_runs, own_hand, quit_calm}
 use Rattle.scheduling.proofs.RowsOne.{by_cond, kept_some, same_shown, turn_closing_at}
 use Rattle.scheduling.proofs.RowsWord.{offering_keeps}
-use Rattle.scheduling.proofs.RowsBelow.{admits_on, waits_so, quits_to}
+use Rattle.scheduling.proofs.RowsBelow.{admits_on, waits_so}
 use Rattle.scheduling.proofs.RowsTwo.{unseen_is, offer_unseen, ends_last, guard_goes, batch_first, opened_hand}
 
 le_self : (n : ℕ) → n ≤ n
@@ -78,7 +78,7 @@ waiting_is p n (Over Skips) o q z = absurd (none-some o q)
 waiting_is p n _ o q z = absurd (none-some o q)
 
 module _ (p : PlanParts) (core : IsCorePlan p) (replies : ℕ → List Reply) (s : State) (g : ℕ → Stage) (h : Holds p replies s g) (w : ℕ) (seat : Seat) (is : slice_get s.seats w ≡ Some seat) where
-  mine' : SeatOk p g s.published s.cancel w seat
+  mine' : SeatOk p g s.published w seat
   mine' = h.seats w seat is
 
   -- admit: a child of the batch
@@ -119,7 +119,7 @@ module _ (p : PlanParts) (core : IsCorePlan p) (replies : ℕ → List Reply) (s
   admit_sibling x m o e =
       let task : TaskOk p g w (Closes x (Passing m o)) = subst (TaskOk p g w) e mine'.task in
       let first = turn_closing_at p core replies s g h w seat is x (Passing m o) CountingOff s.locks s.cancel s.shown e (λ c how. refl) (λ c how at. locks_keep p s.locks g x (ClosedBy w c (Passing m o) how) (ClosedBy w c CountingOff how) task.0 at refl h.locks) (same_shown p core replies s g h w seat is)
-      (λ c how. refl) (λ c how. refl) (λ c how. refl) refl (λ q. refl) (λ c ch v from r q. refl) (λ c how ok. next_above ok) (λ q. q) h.cancelled (λ q. absurd (false≢true q)) (quit_calm p s.published w s.cancel (Closes x (Passing m o)) (Closes x CountingOff) refl refl) in
+      (λ c how. refl) (λ c how. refl) (λ c how. refl) refl (λ q. refl) (λ c ch v from r q. refl) (λ c how ok. next_above ok) (λ ff. refl) (λ q. absurd (false≢true q)) (quit_calm p s.published w (Closes x (Passing m o)) (Closes x CountingOff) refl) in
       go first.0 first.1 task.0 first.2 first.3
     where
       next_above : IsNextSame p x m → 0 < x
@@ -200,27 +200,27 @@ module _ (p : PlanParts) (core : IsCorePlan p) (replies : ℕ → List Reply) (s
   done_guard x e =
       let task : TaskOk p g w (Opens x Guarding) = subst (TaskOk p g w) e mine'.task in
       let on : GoesOn replies (jobs_of p x) = subst (ShapeOk p replies s.published x) task.1 (h.shapes x task.0) in
-      guard_ends x Successful seat.hand task.0 (guard_goes p core replies s g h w seat is x (OpenedBy w Guarding) Successful seat.hand task.0 task.1 refl (λ n ne q. ne (same_Some n x (sym q ∙ ap subject e))) refl refl refl refl refl refl refl refl refl
+      guard_ends x Successful seat.hand task.0 (guard_goes p core replies s g h w seat is x (OpenedBy w Guarding) Successful seat.hand task.0 task.1 refl (λ n ne q. ne (same_Some n x (sym q ∙ ap subject e))) (ap raises e) refl refl refl refl refl refl refl refl refl
       (waits_so p replies s.published x (jobs_of p x) refl on)
       (record {
         task = tt;
         hand = own_hand p g s.published w x (OpenedBy w Guarding) (Waiting w Successful) seat.hand task.1 (λ q. opened_hand w Guarding w q) (λ q. refl) mine'.hand;
         brought = tt;
         failed = λ q. absurd (false≢true q);
-        quits = quits_to p core replies s g h w seat is (Opens x Guarding) Free e refl refl;
+        quits = λ ff bold. absurd (false≢true bold);
       }))
 
   pub done_of_hand : (f k : ℕ) (reply : Reply) → seat.task ≡ Free → f < size p.tree → g f ≡ InHand w → registered_in p s.published f ≡ k → ((job : ℕ) → body_of p.tree f ≡ Some job → (i : ℕ) × (slice_get (replies job) i ≡ Some reply)) → is_pulled p f k reply ≡ true → IsKept p replies (guard_given p s w None f (pulled_result k reply))
   done_of_hand f k reply e inside at count is_reply pulled =
       let pulls : pulls_job p f ≡ true = subst (ShapeOk p replies s.published f) at (h.shapes f inside) in
-      guard_ends f (pulled_result k reply) None inside (guard_goes p core replies s g h w seat is f (InHand w) (pulled_result k reply) None inside at refl (λ n ne q. none-some n (sym (ap subject e) ∙ q)) refl refl refl refl refl refl refl refl refl
+      guard_ends f (pulled_result k reply) None inside (guard_goes p core replies s g h w seat is f (InHand w) (pulled_result k reply) None inside at refl (λ n ne q. none-some n (sym (ap subject e) ∙ q)) (ap raises e) refl refl refl refl refl refl refl refl refl
       (by_jobs (sort_of p.tree f) (body_of p.tree f) refl refl (sym (pulls_sort p core.plan f) ∙ pulls))
       (record {
         task = tt;
         hand = tt;
         brought = tt;
         failed = λ q. absurd (false≢true q);
-        quits = quits_to p core replies s g h w seat is Free Free e refl refl;
+        quits = λ ff bold. absurd (false≢true bold);
       }))
     where
       lawful : (job : ℕ) → body_of p.tree f ≡ Some job → (text : Option (List ℕ)) × EndsLast replies (Pulled job (spare_count p f)) (registered_in p s.published f) (pulled_result k reply) text

@@ -3,15 +3,14 @@
 use Rattle.std.proofs.Common.{◌≡◌, ◌≢◌, ℕ, zero, suc, ◌+◌, ◌<◌, ◌≤◌, Bool, true, false, cond, ◌&&◌, ◌==◌, not, nat_lt, List, [], ◌∷◌, set, Option, Some, None, slice_get, inl, inr, refl, sym, ap, ◌∙◌, subst, arith, length-set}
 use Rattle.std.proofs.Math.Nat.{le_refl}
 use Rattle.std.proofs.lemmas.Option.{same_Some, none-some}
-use Rattle.std.proofs.lemmas.Bool.{false≢true, both_ways, and_parts, and_from, eqb-true, ltb-true, ltb-false, or_cases, or_left, or_right, eq-eqb}
-use Rattle.descriptor.specs.Nodes.{size, parent_of, IsChild, is_disabled}
+use Rattle.std.proofs.lemmas.Bool.{false≢true, both_ways, and_parts, and_from, eqb-true, ltb-true, ltb-false, or_cases, or_left, or_right, eq-eqb, false_from_ne_true}
+use Rattle.descriptor.specs.Nodes.{size, parent_of, IsChild, is_disabled, bit}
 use Rattle.plan_events.specs.declared.event.Event.{Event}
 use Rattle.plan_events.specs.declared.outcome.Reply.{Reply}
 use Rattle.plan_events.specs.declared.status.Status.{Status}
 use Rattle.event_history.specs.Places.{is_failed_or, is_failure}
 use Rattle.resource_locks.specs.Plans.{PlanParts}
 use Rattle.event_history.specs.Plans.{IsPlanTree, pulls_job}
-use Rattle.event_history.specs.Inside.Following.{has_failed, has_failed_by}
 use Rattle.scheduling.specs.declared.status.NodeStatus.{NodeStatus}
 use Rattle.scheduling.specs.declared.status.NodeStatus.TheVariants.{Hidden, Ready, Claimed, Settled}
 use Rattle.scheduling.specs.declared.lock_word.LockWord.{LockWord}
@@ -25,12 +24,14 @@ use Rattle.scheduling.specs.declared.task.Task.TheVariants.{Free, Opens, Closes}
 use Rattle.scheduling.specs.declared.seat.Seat.{Seat}
 use Rattle.scheduling.specs.State.{State, status_at, lock_at, subject}
 use Rattle.scheduling.specs.Choices.{key_at, mode_at, keys_count, admits, taken, given_back, same_word, lock_from, begins, giving, after_finish}
-use Rattle.scheduling.specs.Rows.{with_task, goes, goes_to, notice_row, weighed, weigh_row, take_found, take_row, puts_word, gives_key, give_row, raised, raise_row, shows, look_found, look_row}
+use Rattle.scheduling.specs.Rows.{with_task, goes, goes_to, notice_row, weighed, weigh_row, take_found, take_row, puts_word, gives_key, give_row, raised, raise_row, shows, look_found, look_row, is_cancelled}
 use Rattle.scheduling.specs.Inside.Stages.{How, Gave, Kept, Skips, Stage, OpenedBy, InHand, Waiting, ClosedBy, Over, Shut, Runs, picture, closing_picture, runner_of, starter_by, below_of, Begun, passes_to, closing_past, closing_passed, opening_offered, raises, is_bold, brings}
 use Rattle.scheduling.specs.Inside.Invariant.{IsCorePlan, OpeningOk, ClosingOk, ShapeOk, TaskOk, BringsOk, SeatOk, Holds, IsKept}
 use Rattle.scheduling.proofs.Basics.{upd, upd_same, get_set_same}
 use Rattle.scheduling.proofs.Parts.{LockList, words_keep, locks_keep, locks_take, locks_give, QuitStep, quit_calm, quit_same}
 use Rattle.scheduling.proofs.Silent.{ShownOk, alike, seat_goes}
+use Rattle.event_history.specs.Failures.{known, up_to, failures}
+use Rattle.scheduling.proofs.Raising.{raised_few, knows_few}
 
 -- a choice by a test
 pub by_cond : {X : Type 0} (P : X → Type 0) (c : Bool) (x y : X) → (c ≡ true → P x) → (c ≡ false → P y) → P (cond c x y)
@@ -39,15 +40,6 @@ by_cond P false x y yes' no' = no' refl
 
 pub kept_some : (p : PlanParts) (replies : ℕ → List Reply) (s t : State) → IsKept p replies s → Some s ≡ Some t → IsKept p replies t
 kept_some p replies s t k q = subst (λ u. IsKept p replies u) (same_Some s t q) k
-
--- whoever has failed, one has
-failed_any : (w : ℕ) (l : List Event) → has_failed_by (w + 1) l ≡ true → has_failed l ≡ true
-failed_any w [] r = r
-failed_any w (e ∷ l) r =
-    elim (or_cases (is_failure e && (e.worker == w + 1)) (has_failed_by (w + 1) l) r) [
-      | inl a ↦ or_left (is_failure e) (has_failed l) (and_parts (is_failure e) (e.worker == w + 1) a).0
-      | inr b ↦ or_right (is_failure e) (has_failed l) (failed_any w l b)
-    ]
 
 pub claim_number : (a b : ℕ) → Claimed a ≡ Claimed b → a ≡ b
 claim_number a b q = cc
@@ -95,7 +87,7 @@ past_passed CountingOff q = q
 past_passed _ q = refl
 
 module _ (p : PlanParts) (core : IsCorePlan p) (replies : ℕ → List Reply) (s : State) (g : ℕ → Stage) (h : Holds p replies s g) (w : ℕ) (seat : Seat) (is : slice_get s.seats w ≡ Some seat) where
-  pub mine : SeatOk p g s.published s.cancel w seat
+  pub mine : SeatOk p g s.published w seat
   mine = h.seats w seat is
 
   pub still_about : (x : ℕ) → subject seat.task ≡ Some x → (t : Task) (n : ℕ) → n ≢ x → subject seat.task ≡ Some n → t ≡ seat.task
@@ -117,7 +109,7 @@ module _ (p : PlanParts) (core : IsCorePlan p) (replies : ℕ → List Reply) (s
   -- the worker goes on about a node that it opens
   pub turn : (x : ℕ) (d d2 : Opening) (locks : List LockWord) (shown : List Bool) → seat.task ≡ Opens x d → (picture p x (OpenedBy w d)).word ≡ (picture p x (OpenedBy w d2)).word → LockList p locks (upd g x (OpenedBy w d2)) → ShownOk s shown
       → (picture p x (OpenedBy w d)).mark ≡ (picture p x (OpenedBy w d2)).mark → (picture p x (OpenedBy w d)).below ≡ (picture p x (OpenedBy w d2)).below → (picture p x (OpenedBy w d)).guard ≡ (picture p x (OpenedBy w d2)).guard
-      → (opening_offered d2 ≡ true → opening_offered d ≡ true) → (brings d2 ≡ true → (brings d ≡ true) × (d2 ≡ Registering → ⊥)) → OpeningOk p replies s.published x d2 → QuitStep p s.published w s.cancel s.cancel (Opens x d) (Opens x d2)
+      → (opening_offered d2 ≡ true → opening_offered d ≡ true) → (brings d2 ≡ true → (brings d ≡ true) × (d2 ≡ Registering → ⊥)) → OpeningOk p replies s.published x d2 → QuitStep p s.published w (Opens x d) (Opens x d2)
       → IsKept p replies (record s { locks = locks; seats = set s.seats w (with_task seat (Opens x d2)); shown = shown })
   turn x d d2 locks shown e word locks_ok shown_ok mark below guard offered brought ok quit =
       let task : TaskOk p g w (Opens x d) = subst (TaskOk p g w) e mine.task in
@@ -129,10 +121,10 @@ module _ (p : PlanParts) (core : IsCorePlan p) (replies : ℕ → List Reply) (s
           alone = λ v q. sym (same_Some w v q);
           still = still_about x (ap subject e) (Opens x d2);
           held = (with_task seat (Opens x d2), get_set_same s.seats w (with_task seat (Opens x d2)) seat is, refl);
-          seat_ok = seat_goes p g s.published s.cancel s.cancel w seat x (OpenedBy w d) (OpenedBy w d2) (Opens x d2) mine at (λ q. opened_hand w d w q) offered (task.0, upd_same g x (OpenedBy w d2) x refl)
+          seat_ok = seat_goes p g s.published w seat x (OpenedBy w d) (OpenedBy w d2) (Opens x d2) mine at (λ q. opened_hand w d w q) offered (task.0, upd_same g x (OpenedBy w d2) x refl)
               (λ b. (let b2 = brought b in let old : BringsOk p (Opens x d) seat.hand = subst (λ t. BringsOk p t seat.hand) e mine.brought in let o = old b2.0 in
               record { held = o.held; is = o.is; parent = o.parent; child = o.child; waits = o.waits; next = λ q. absurd (b2.1 q) }))
-              (λ q. absurd (false≢true q)) (subst (λ t. QuitStep p s.published w s.cancel s.cancel t (Opens x d2)) (sym e) quit);
+              (λ q. absurd (false≢true q)) (subst (λ t. QuitStep p s.published w t (Opens x d2)) (sym e) quit);
           statuses_ok = words_keep p s.statuses g x (OpenedBy w d) (OpenedBy w d2) at word (h.statuses_len, h.words);
           locks_ok = locks_ok;
           not_waiting = λ c r q. opened_waits w d2 c r q;
@@ -143,8 +135,7 @@ module _ (p : PlanParts) (core : IsCorePlan p) (replies : ℕ → List Reply) (s
           pends = refl;
           live = refl;
           owned = λ c ch same o from r q. q;
-          cancel_on = λ q. q;
-          cancelled = h.cancelled;
+          raising = λ ff. ap (λ t. s.cancel + bit (raises t)) (sym e);
           shown_ok = shown_ok;
           shape = ok;
           past = λ q. q;
@@ -159,15 +150,15 @@ module _ (p : PlanParts) (core : IsCorePlan p) (replies : ℕ → List Reply) (s
       opened_waits w d c r q = cc
 
   -- and about one that it closes
-  pub turn_closing_at : (x : ℕ) (d d2 : Closing) (locks : List LockWord) (cancel : Bool) (shown : List Bool) → seat.task ≡ Closes x d
+  pub turn_closing_at : (x : ℕ) (d d2 : Closing) (locks : List LockWord) (cancel : ℕ) (shown : List Bool) → seat.task ≡ Closes x d
       → ((c : ℕ) (how : How) → (picture p x (ClosedBy w c d how)).word ≡ (picture p x (ClosedBy w c d2 how)).word) → ((c : ℕ) (how : How) → g x ≡ ClosedBy w c d how → LockList p locks (upd g x (ClosedBy w c d2 how))) → ShownOk s shown
       → ((c : ℕ) (how : How) → (picture p x (ClosedBy w c d how)).mark ≡ (picture p x (ClosedBy w c d2 how)).mark) → ((c : ℕ) (how : How) → (picture p x (ClosedBy w c d how)).below ≡ (picture p x (ClosedBy w c d2 how)).below)
       → ((c : ℕ) (how : How) → (picture p x (ClosedBy w c d how)).guard ≡ (picture p x (ClosedBy w c d2 how)).guard)
       → closing_past d2 ≡ closing_past d → (closing_passed d ≡ true → closing_passed d2 ≡ true) → ((c : ℕ) → IsChild p.tree c x → (o from : ℕ) → (picture p c (g c)).below ≡ Runs o from → passes_to o d ≡ true → passes_to o d2 ≡ true)
       → ((c : ℕ) (how : How) → ClosingOk p replies s.published x d how → ClosingOk p replies s.published x d2 how)
-      → (s.cancel ≡ true → cancel ≡ true) → (cancel ≡ true → has_failed s.published ≡ true) → (raises (Closes x d2) ≡ true → raises (Closes x d) ≡ true) → QuitStep p s.published w s.cancel cancel (Closes x d) (Closes x d2)
+      → (p.fail_fast ≡ true → cancel + bit (raises (Closes x d2)) ≡ s.cancel + bit (raises (Closes x d))) → (raises (Closes x d2) ≡ true → raises (Closes x d) ≡ true) → QuitStep p s.published w (Closes x d) (Closes x d2)
       → (c : ℕ) × (how : How) × (g x ≡ ClosedBy w c d how) × Holds p replies (record s { locks = locks; cancel = cancel; seats = set s.seats w (with_task seat (Closes x d2)); shown = shown }) (upd g x (ClosedBy w c d2 how))
-  turn_closing_at x d d2 locks cancel shown e word locks_ok shown_ok mark below guard past passed owned ok cancel_on cancelled raise quit =
+  turn_closing_at x d d2 locks cancel shown e word locks_ok shown_ok mark below guard past passed owned ok even raise quit =
       let task : TaskOk p g w (Closes x d) = subst (TaskOk p g w) e mine.task in
       go task.1.0 task.1.1 task.0 task.1.2
     where
@@ -188,8 +179,8 @@ module _ (p : PlanParts) (core : IsCorePlan p) (replies : ℕ → List Reply) (s
           alone = λ v q. sym (same_Some w v q);
           still = still_about x (ap subject e) (Closes x d2);
           held = (with_task seat (Closes x d2), get_set_same s.seats w (with_task seat (Closes x d2)) seat is, refl);
-          seat_ok = seat_goes p g s.published s.cancel cancel w seat x (ClosedBy w c d how) (ClosedBy w c d2 how) (Closes x d2) mine at (λ q. closed_hand w c d how w q) (λ q. ap not (sym past) ∙ q) (inside, (c, how, upd_same g x (ClosedBy w c d2 how) x refl)) tt
-              (λ q. ap raises e ∙ raise q) (subst (λ t. QuitStep p s.published w s.cancel cancel t (Closes x d2)) (sym e) quit);
+          seat_ok = seat_goes p g s.published w seat x (ClosedBy w c d how) (ClosedBy w c d2 how) (Closes x d2) mine at (λ q. closed_hand w c d how w q) (λ q. ap not (sym past) ∙ q) (inside, (c, how, upd_same g x (ClosedBy w c d2 how) x refl)) tt
+              (λ q. ap raises e ∙ raise q) (subst (λ t. QuitStep p s.published w t (Closes x d2)) (sym e) quit);
           statuses_ok = words_keep p s.statuses g x (ClosedBy w c d how) (ClosedBy w c d2 how) at (word c how) (h.statuses_len, h.words);
           locks_ok = locks_ok c how at;
           not_waiting = λ v r q. closed_waits w c d2 how v r q;
@@ -200,8 +191,7 @@ module _ (p : PlanParts) (core : IsCorePlan p) (replies : ℕ → List Reply) (s
           pends = refl;
           live = refl;
           owned = λ v ch same o from r q. owned v ch o from r q;
-          cancel_on = cancel_on;
-          cancelled = cancelled;
+          raising = λ ff. even ff ∙ ap (λ t. s.cancel + bit (raises t)) (sym e);
           shown_ok = shown_ok;
           shape = ok c how (subst (ShapeOk p replies s.published x) at (h.shapes x inside));
           past = passed;
@@ -209,16 +199,16 @@ module _ (p : PlanParts) (core : IsCorePlan p) (replies : ℕ → List Reply) (s
         }),
       )
 
-  pub turn_closing : (x : ℕ) (d d2 : Closing) (locks : List LockWord) (cancel : Bool) (shown : List Bool) → seat.task ≡ Closes x d
+  pub turn_closing : (x : ℕ) (d d2 : Closing) (locks : List LockWord) (cancel : ℕ) (shown : List Bool) → seat.task ≡ Closes x d
       → ((c : ℕ) (how : How) → (picture p x (ClosedBy w c d how)).word ≡ (picture p x (ClosedBy w c d2 how)).word) → ((c : ℕ) (how : How) → g x ≡ ClosedBy w c d how → LockList p locks (upd g x (ClosedBy w c d2 how))) → ShownOk s shown
       → ((c : ℕ) (how : How) → (picture p x (ClosedBy w c d how)).mark ≡ (picture p x (ClosedBy w c d2 how)).mark) → ((c : ℕ) (how : How) → (picture p x (ClosedBy w c d how)).below ≡ (picture p x (ClosedBy w c d2 how)).below)
       → ((c : ℕ) (how : How) → (picture p x (ClosedBy w c d how)).guard ≡ (picture p x (ClosedBy w c d2 how)).guard)
       → closing_past d2 ≡ closing_past d → (closing_passed d ≡ true → closing_passed d2 ≡ true) → ((c : ℕ) → IsChild p.tree c x → (o from : ℕ) → (picture p c (g c)).below ≡ Runs o from → passes_to o d ≡ true → passes_to o d2 ≡ true)
       → ((c : ℕ) (how : How) → ClosingOk p replies s.published x d how → ClosingOk p replies s.published x d2 how)
-      → (s.cancel ≡ true → cancel ≡ true) → (cancel ≡ true → has_failed s.published ≡ true) → (raises (Closes x d2) ≡ true → raises (Closes x d) ≡ true) → QuitStep p s.published w s.cancel cancel (Closes x d) (Closes x d2)
+      → (p.fail_fast ≡ true → cancel + bit (raises (Closes x d2)) ≡ s.cancel + bit (raises (Closes x d))) → (raises (Closes x d2) ≡ true → raises (Closes x d) ≡ true) → QuitStep p s.published w (Closes x d) (Closes x d2)
       → IsKept p replies (record s { locks = locks; cancel = cancel; seats = set s.seats w (with_task seat (Closes x d2)); shown = shown })
-  turn_closing x d d2 locks cancel shown e word locks_ok shown_ok mark below guard past passed owned ok cancel_on cancelled raise quit =
-      let r = turn_closing_at x d d2 locks cancel shown e word locks_ok shown_ok mark below guard past passed owned ok cancel_on cancelled raise quit in (upd g x (ClosedBy w r.0 d2 r.1), r.3)
+  turn_closing x d d2 locks cancel shown e word locks_ok shown_ok mark below guard past passed owned ok even raise quit =
+      let r = turn_closing_at x d d2 locks cancel shown e word locks_ok shown_ok mark below guard past passed owned ok even raise quit in (upd g x (ClosedBy w r.0 d2 r.1), r.3)
 
   -- keys that stay as they are
   keys_stay : (x : ℕ) (a b : Stage) → x < size p.tree → g x ≡ a → (picture p x a).keys ≡ (picture p x b).keys → LockList p s.locks (upd g x b)
@@ -232,7 +222,7 @@ module _ (p : PlanParts) (core : IsCorePlan p) (replies : ℕ → List Reply) (s
 
   -- the worker goes on with the next key, or begins
   locks_on : (x i : ℕ) (d : Opening) (locks : List LockWord) → seat.task ≡ Opens x d → (picture p x (OpenedBy w d)).word ≡ Claimed w → (picture p x (OpenedBy w d)).mark ≡ (picture p x (OpenedBy w (Locking i))).mark → (picture p x (OpenedBy w d)).below ≡ Shut → (picture p x (OpenedBy w d)).guard ≡ 1
-      → opening_offered d ≡ true → is_disabled p.tree x ≡ false → i ≤ keys_count p x → QuitStep p s.published w s.cancel s.cancel (Opens x d) (Opens x (Beginning false))
+      → opening_offered d ≡ true → is_disabled p.tree x ≡ false → i ≤ keys_count p x → QuitStep p s.published w (Opens x d) (Opens x (Beginning false))
       → ((b : Opening) → (picture p x (OpenedBy w b)).keys ≡ i → LockList p locks (upd g x (OpenedBy w b)))
       → IsKept p replies (record s { locks = locks; seats = goes_to s w (with_task seat (Opens x (lock_from p x i))) })
   locks_on x i d locks e word mark below guard offered enabled le quit locks_ok =
@@ -244,12 +234,21 @@ module _ (p : PlanParts) (core : IsCorePlan p) (replies : ℕ → List Reply) (s
   notice_keeps (Opens x Noticing) e t q =
       let ok = opening_shape x Noticing e in
       let at = opening_at x Noticing e in
-      kept_some p replies (goes s w seat (Opens x (begins p x s.cancel))) t
-      (by_cond (λ d2. IsKept p replies (goes s w seat (Opens x d2))) s.cancel (Beginning true) (lock_from p x 0)
-      (λ c. turn x Noticing (Beginning true) s.locks s.shown e refl (keys_stay x (OpenedBy w Noticing) (OpenedBy w (Beginning true)) at.0 at.1 refl) same_shown refl refl refl (λ r. r) (λ b. absurd (false≢true b)) (ok.1, inr (ok.0, h.cancelled c))
-      (quit_calm p s.published w s.cancel (Opens x Noticing) (Opens x (Beginning true)) refl refl))
-      (λ c. locks_on x 0 Noticing s.locks e refl refl refl refl refl ok.2 (omega arith) (λ ff f old. elim old [ inl y ↦ absurd (false≢true y) | inr y ↦ absurd (both_ways s.cancel c y.0) ]) (λ b kb. keys_stay x (OpenedBy w Noticing) (OpenedBy w b) at.0 at.1 (sym kb))))
+      kept_some p replies (goes s w seat (Opens x (begins p x (is_cancelled p s)))) t
+      (by_cond (λ d2. IsKept p replies (goes s w seat (Opens x d2))) (is_cancelled p s) (Beginning true) (lock_from p x 0)
+      (λ c. turn x Noticing (Beginning true) s.locks s.shown e refl (keys_stay x (OpenedBy w Noticing) (OpenedBy w (Beginning true)) at.0 at.1 refl) same_shown refl refl refl (λ r. r) (λ b. absurd (false≢true b)) (ok.1, inr (ok.0, over ok.0 c))
+      (quit_calm p s.published w (Opens x Noticing) (Opens x (Beginning true)) refl))
+      (λ c. locks_on x 0 Noticing s.locks e refl refl refl refl refl ok.2 (omega arith) (λ ff old bold. under ff c) (λ b kb. keys_stay x (OpenedBy w Noticing) (OpenedBy w b) at.0 at.1 (sym kb))))
       q
+    where
+      over : p.fail_fast ≡ true → is_cancelled p s ≡ true → p.tolerated < failures s.published
+      over ff c = (let few : s.cancel ≤ failures s.published = raised_few p replies s g h ff in let more = ltb-true p.tolerated s.cancel c in omega (arith, few, more))
+
+      under : p.fail_fast ≡ true → is_cancelled p s ≡ false → known (w + 1) (up_to (w + 1) s.published) ≤ p.tolerated
+      under ff c =
+          let few : known (w + 1) (up_to (w + 1) s.published) ≤ s.cancel = knows_few p replies s g h ff w seat is (ap raises e) in
+          let more = ltb-false p.tolerated s.cancel c in
+          omega (arith, few, more)
   notice_keeps _ e t q = absurd (none-some t q)
 
   pub weigh_keeps : (t0 : Task) → seat.task ≡ t0 → (t : State) → weigh_row p s w seat t0 ≡ Some t → IsKept p replies t
@@ -260,9 +259,9 @@ module _ (p : PlanParts) (core : IsCorePlan p) (replies : ℕ → List Reply) (s
       kept_some p replies (goes s w seat (Opens x (weighed p x i (lock_at s (key_at p x i))))) t
       (by_cond (λ d2. IsKept p replies (goes s w seat (Opens x d2))) (admits (mode_at p x i) (lock_at s (key_at p x i))) (Weighed i (lock_at s (key_at p x i))) (Backing i)
       (λ c. turn x (Locking i) (Weighed i (lock_at s (key_at p x i))) s.locks s.shown e refl (keys_stay x (OpenedBy w (Locking i)) (OpenedBy w (Weighed i (lock_at s (key_at p x i)))) at.0 at.1 refl) same_shown refl refl refl (λ r. r) (λ b. absurd (false≢true b)) (ok.0, ok.1, c)
-      (quit_same p s.published w s.cancel (Opens x (Locking i)) (Opens x (Weighed i (lock_at s (key_at p x i)))) refl refl))
+      (quit_same p s.published w (Opens x (Locking i)) (Opens x (Weighed i (lock_at s (key_at p x i)))) refl))
       (λ c. turn x (Locking i) (Backing i) s.locks s.shown e refl (keys_stay x (OpenedBy w (Locking i)) (OpenedBy w (Backing i)) at.0 at.1 refl) same_shown refl refl refl (λ r. r) (λ b. absurd (false≢true b)) (let lt = ok.0 in omega (arith, lt))
-      (quit_same p s.published w s.cancel (Opens x (Locking i)) (Opens x (Backing i)) refl refl)))
+      (quit_same p s.published w (Opens x (Locking i)) (Opens x (Backing i)) refl)))
       q
   weigh_keeps _ e t q = absurd (none-some t q)
 
@@ -288,11 +287,11 @@ module _ (p : PlanParts) (core : IsCorePlan p) (replies : ℕ → List Reply) (s
           (λ c. (let admit : admits (mode_at p x i) word ≡ true = ap (admits (mode_at p x i)) (same word v c) ∙ ok.2 in
           let lt = ok.0 in
           kept_some p replies (puts_word s w seat (Opens x (lock_from p x (suc i))) (key_at p x i) (taken (mode_at p x i) word)) t
-          (locks_on x (suc i) (Weighed i v) (set s.locks (key_at p x i) (taken (mode_at p x i) word)) e refl refl refl refl refl ok.1 (omega (arith, lt)) (quit_same p s.published w s.cancel (Opens x (Weighed i v)) (Opens x (Beginning false)) refl refl)
+          (locks_on x (suc i) (Weighed i v) (set s.locks (key_at p x i) (taken (mode_at p x i) word)) e refl refl refl refl refl ok.1 (omega (arith, lt)) (quit_same p s.published w (Opens x (Weighed i v)) (Opens x (Beginning false)) refl)
           (λ b kb. locks_take p s.locks g x i (OpenedBy w (Weighed i v)) (OpenedBy w b) word at.0 at.1 refl kb f admit h.locks))))
           (λ c. kept_some p replies (goes s w seat (Opens x (Locking i))) t
           (turn x (Weighed i v) (Locking i) s.locks s.shown e refl (keys_stay x (OpenedBy w (Weighed i v)) (OpenedBy w (Locking i)) at.0 at.1 refl) same_shown refl refl refl (λ u. u) (λ b. absurd (false≢true b)) (ok.0, ok.1)
-          (quit_same p s.published w s.cancel (Opens x (Weighed i v)) (Opens x (Locking i)) refl refl)))
+          (quit_same p s.published w (Opens x (Weighed i v)) (Opens x (Locking i)) refl)))
           r
   take_keeps _ e t q = absurd (none-some t q)
 
@@ -303,16 +302,16 @@ module _ (p : PlanParts) (core : IsCorePlan p) (replies : ℕ → List Reply) (s
   closing_shape x d e = (let t = closing_at x d e in (t.1.0, t.1.1, subst (ShapeOk p replies s.published x) t.1.2 (h.shapes x t.0)))
 
   -- the worker goes on where k keys are left to give back
-  gives_on : (x k : ℕ) (d : Closing) (locks : List LockWord) (cancel : Bool) (shown : List Bool) → seat.task ≡ Closes x d → ((c : ℕ) (how : How) → (picture p x (ClosedBy w c d how)).word ≡ Claimed c)
+  gives_on : (x k : ℕ) (d : Closing) (locks : List LockWord) (cancel : ℕ) (shown : List Bool) → seat.task ≡ Closes x d → ((c : ℕ) (how : How) → (picture p x (ClosedBy w c d how)).word ≡ Claimed c)
       → ((c : ℕ) (how : How) → (picture p x (ClosedBy w c d how)).mark ≡ (picture p x (ClosedBy w c Settling how)).mark) → ((c : ℕ) (how : How) → (picture p x (ClosedBy w c d how)).below ≡ (picture p x (ClosedBy w c Settling how)).below)
       → ((c : ℕ) (how : How) → (picture p x (ClosedBy w c d how)).guard ≡ (picture p x (ClosedBy w c Settling how)).guard) → closing_past d ≡ false → ShownOk s shown
-      → (s.cancel ≡ true → cancel ≡ true) → (cancel ≡ true → has_failed s.published ≡ true) → ((d2 : Closing) → is_bold (Closes x d2) ≡ false → QuitStep p s.published w s.cancel cancel (Closes x d) (Closes x d2))
+      → (p.fail_fast ≡ true → cancel + 0 ≡ s.cancel + bit (raises (Closes x d))) → ((d2 : Closing) → is_bold (Closes x d2) ≡ false → QuitStep p s.published w (Closes x d) (Closes x d2))
       → ((c : ℕ) (how : How) (d2 : Closing) → g x ≡ ClosedBy w c d how → (picture p x (ClosedBy w c d2 how)).keys ≡ k → LockList p locks (upd g x (ClosedBy w c d2 how))) → k ≤ keys_count p x
       → IsKept p replies (record s { locks = locks; cancel = cancel; seats = set s.seats w (with_task seat (Closes x (giving k))); shown = shown })
-  gives_on x zero d locks cancel shown e word mark below guard past shown_ok on cancelled quit locks_ok le =
-      turn_closing x d Settling locks cancel shown e word (λ c how at. locks_ok c how Settling at refl) shown_ok mark below guard (sym past) (λ u. absurd (both_ways (closing_passed d) (past_passed d past) u)) (λ c ch o from r u. refl) (λ c how u. tt) on cancelled (λ u. absurd (false≢true u)) (quit Settling refl)
-  gives_on x (suc i) d locks cancel shown e word mark below guard past shown_ok on cancelled quit locks_ok le =
-      turn_closing x d (Giving (suc i)) locks cancel shown e word (λ c how at. locks_ok c how (Giving (suc i)) at refl) shown_ok mark below guard (sym past) (λ u. absurd (both_ways (closing_passed d) (past_passed d past) u)) (λ c ch o from r u. refl) (λ c how u. le) on cancelled (λ u. absurd (false≢true u)) (quit (Giving (suc i)) refl)
+  gives_on x zero d locks cancel shown e word mark below guard past shown_ok even quit locks_ok le =
+      turn_closing x d Settling locks cancel shown e word (λ c how at. locks_ok c how Settling at refl) shown_ok mark below guard (sym past) (λ u. absurd (both_ways (closing_passed d) (past_passed d past) u)) (λ c ch o from r u. refl) (λ c how u. tt) even (λ u. absurd (false≢true u)) (quit Settling refl)
+  gives_on x (suc i) d locks cancel shown e word mark below guard past shown_ok even quit locks_ok le =
+      turn_closing x d (Giving (suc i)) locks cancel shown e word (λ c how at. locks_ok c how (Giving (suc i)) at refl) shown_ok mark below guard (sym past) (λ u. absurd (both_ways (closing_passed d) (past_passed d past) u)) (λ c ch o from r u. refl) (λ c how u. le) even (λ u. absurd (false≢true u)) (quit (Giving (suc i)) refl)
 
   pub give_keeps : (t0 : Task) → seat.task ≡ t0 → (t : State) → give_row p s w seat t0 ≡ Some t → IsKept p replies t
   give_keeps (Opens x (Backing (suc i))) e t q = go (slice_get s.locks (key_at p x i)) refl q
@@ -327,7 +326,7 @@ module _ (p : PlanParts) (core : IsCorePlan p) (replies : ℕ → List Reply) (s
       go None f r = absurd (none-some t r)
       go (Some word) f r = kept_some p replies (puts_word s w seat (Opens x (Backing i)) (key_at p x i) (given_back (mode_at p x i) word)) t
           (turn x (Backing (suc i)) (Backing i) (set s.locks (key_at p x i) (given_back (mode_at p x i) word)) s.shown e refl (locks_give p s.locks g x i (OpenedBy w (Backing (suc i))) (OpenedBy w (Backing i)) word at.0 at.1 refl refl f h.locks) same_shown refl refl refl (λ u. u) (λ b. absurd (false≢true b)) (less i (opening_shape x (Backing (suc i)) e))
-          (quit_same p s.published w s.cancel (Opens x (Backing (suc i))) (Opens x (Backing i)) refl refl))
+          (quit_same p s.published w (Opens x (Backing (suc i))) (Opens x (Backing i)) refl))
           r
   give_keeps (Closes x (Giving (suc i))) e t q = go (slice_get s.locks (key_at p x i)) refl q
     where
@@ -337,41 +336,38 @@ module _ (p : PlanParts) (core : IsCorePlan p) (replies : ℕ → List Reply) (s
       go : (found : Option LockWord) → slice_get s.locks (key_at p x i) ≡ found → gives_key p s w seat (Closes x (giving i)) x i found ≡ Some t → IsKept p replies t
       go None f r = absurd (none-some t r)
       go (Some word) f r = kept_some p replies (puts_word s w seat (Closes x (giving i)) (key_at p x i) (given_back (mode_at p x i) word)) t
-          (gives_on x i (Giving (suc i)) (set s.locks (key_at p x i) (given_back (mode_at p x i) word)) s.cancel s.shown e (λ c how. refl) (λ c how. refl) (λ c how. refl) (λ c how. refl) refl same_shown (λ u. u) h.cancelled (λ d2 b. quit_calm p s.published w s.cancel (Closes x (Giving (suc i))) (Closes x d2) refl b)
+          (gives_on x i (Giving (suc i)) (set s.locks (key_at p x i) (given_back (mode_at p x i) word)) s.cancel s.shown e (λ c how. refl) (λ c how. refl) (λ c how. refl) (λ c how. refl) refl same_shown (λ ff. refl) (λ d2 b. quit_calm p s.published w (Closes x (Giving (suc i))) (Closes x d2) b)
           (λ c how d2 at kb. locks_give p s.locks g x i (ClosedBy w c (Giving (suc i)) how) (ClosedBy w c d2 how) word (closing_at x (Giving (suc i)) e).0 at refl kb f h.locks) (less (closing_shape x (Giving (suc i)) e).2))
           r
   give_keeps _ e t q = absurd (none-some t q)
 
   pub raise_keeps : (t0 : Task) → seat.task ≡ t0 → (t : State) → raise_row p s w seat t0 ≡ Some t → IsKept p replies t
   raise_keeps (Closes x Raising) e t q = kept_some p replies (raised p s w seat x) t
-      (gives_on x (keys_count p x) Raising s.locks true s.shown e (λ c how. refl) (λ c how. refl) (λ c how. refl) (λ c how. refl) refl same_shown (λ u. refl) (λ u. failed_one s.published (mine.failed (ap raises e)))
-      (λ d2 b ff f old. inr (refl, b))
+      (gives_on x (keys_count p x) Raising s.locks (s.cancel + 1) s.shown e (λ c how. refl) (λ c how. refl) (λ c how. refl) (λ c how. refl) refl same_shown (λ ff. omega arith)
+      (λ d2 b. quit_calm p s.published w (Closes x Raising) (Closes x d2) b)
       (λ c how d2 at kb. keys_stay x (ClosedBy w c Raising how) (ClosedBy w c d2 how) (closing_at x Raising e).0 at (sym kb)) (le_refl (keys_count p x)))
       q
-    where
-      failed_one : (l : List Event) → has_failed_by (w + 1) l ≡ true → has_failed l ≡ true
-      failed_one l r = failed_any w l r
   raise_keeps _ e t q = absurd (none-some t q)
 
   pub show_closing_keeps : (x i : ℕ) (status : Status) → seat.task ≡ Closes x (FinishedAt i status) → IsKept p replies (shows s w (with_task seat (Closes x (after_finish p x status))) i)
   show_closing_keeps x i status e =
       by_cond (λ d2. IsKept p replies (shows s w (with_task seat (Closes x d2)) i)) (p.fail_fast && is_failed_or (Some status)) Raising (giving (keys_count p x))
       (λ c. turn_closing x (FinishedAt i status) Raising s.locks s.cancel (set s.shown i true) e (λ v how. refl) (λ v how at. keys_stay x (ClosedBy w v (FinishedAt i status) how) (ClosedBy w v Raising how) (closing_at x (FinishedAt i status) e).0 at refl) (shown_set i)
-      (λ v how. refl) (λ v how. refl) (λ v how. refl) refl (λ u. absurd (false≢true u)) (λ v ch o from r u. refl) (λ v how u. tt) (λ u. u) h.cancelled (λ u. (and_parts p.fail_fast (is_failed_or (Some status)) c).1) (λ ff f old. inl refl))
-      (λ c. gives_on x (keys_count p x) (FinishedAt i status) s.locks s.cancel (set s.shown i true) e (λ v how. refl) (λ v how. refl) (λ v how. refl) (λ v how. refl) refl (shown_set i) (λ u. u) h.cancelled
-      (λ d2 b ff f old. elim old [ inl y ↦ absurd (both_ways (p.fail_fast && is_failed_or (Some status)) c (and_from p.fail_fast (is_failed_or (Some status)) ff y)) | inr y ↦ inr (y.0, b) ])
+      (λ v how. refl) (λ v how. refl) (λ v how. refl) refl (λ u. absurd (false≢true u)) (λ v ch o from r u. refl) (λ v how u. tt) (λ ff. ap (λ (b : Bool). s.cancel + bit b) (sym (and_parts p.fail_fast (is_failed_or (Some status)) c).1)) (λ u. (and_parts p.fail_fast (is_failed_or (Some status)) c).1) (quit_calm p s.published w (Closes x (FinishedAt i status)) (Closes x Raising) refl))
+      (λ c. gives_on x (keys_count p x) (FinishedAt i status) s.locks s.cancel (set s.shown i true) e (λ v how. refl) (λ v how. refl) (λ v how. refl) (λ v how. refl) refl (shown_set i) (λ ff. ap (λ (b : Bool). s.cancel + bit b) (sym (false_from_ne_true (is_failed_or (Some status)) (λ y. both_ways (p.fail_fast && is_failed_or (Some status)) c (and_from p.fail_fast (is_failed_or (Some status)) ff y)))))
+      (λ d2 b. quit_calm p s.published w (Closes x (FinishedAt i status)) (Closes x d2) b)
       (λ v how d2 at kb. keys_stay x (ClosedBy w v (FinishedAt i status) how) (ClosedBy w v d2 how) (closing_at x (FinishedAt i status) e).0 at (sym kb)) (le_refl (keys_count p x)))
 
   pub show_skipped_keeps : (x i : ℕ) → seat.task ≡ Closes x (SkippedAt i) → IsKept p replies (shows s w (with_task seat (Closes x Settling)) i)
   show_skipped_keeps x i e =
       turn_closing x (SkippedAt i) Settling s.locks s.cancel (set s.shown i true) e (λ v how. refl) (λ v how at. keys_stay x (ClosedBy w v (SkippedAt i) how) (ClosedBy w v Settling how) (closing_at x (SkippedAt i) e).0 at refl) (shown_set i)
-      (λ v how. refl) (λ v how. refl) (λ v how. refl) refl (λ u. absurd (false≢true u)) (λ v ch o from r u. refl) (λ v how u. tt) (λ u. u) h.cancelled (λ u. absurd (false≢true u)) (quit_calm p s.published w s.cancel (Closes x (SkippedAt i)) (Closes x Settling) refl refl)
+      (λ v how. refl) (λ v how. refl) (λ v how. refl) refl (λ u. absurd (false≢true u)) (λ v ch o from r u. refl) (λ v how u. tt) (λ ff. refl) (λ u. absurd (false≢true u)) (quit_calm p s.published w (Closes x (SkippedAt i)) (Closes x Settling) refl)
 
   pub show_registered_keeps : (x i : ℕ) → seat.task ≡ Opens x (RegisteredAt i) → IsKept p replies (shows s w (with_task seat (Opens x Offering)) i)
   show_registered_keeps x i e =
       let at = opening_at x (RegisteredAt i) e in
       turn x (RegisteredAt i) Offering s.locks (set s.shown i true) e refl (keys_stay x (OpenedBy w (RegisteredAt i)) (OpenedBy w Offering) at.0 at.1 refl) (shown_set i) refl refl refl (λ u. u) (λ b. (refl, λ r. not_registering r)) tt
-      (quit_calm p s.published w s.cancel (Opens x (RegisteredAt i)) (Opens x Offering) refl refl)
+      (quit_calm p s.published w (Opens x (RegisteredAt i)) (Opens x Offering) refl)
     where
       not_registering : Offering ≡ Registering → ⊥
       not_registering r = cc
@@ -380,7 +376,7 @@ module _ (p : PlanParts) (core : IsCorePlan p) (replies : ℕ → List Reply) (s
   show_started_keeps x i e no' =
       let at = opening_at x (StartedAt i) e in
       turn x (StartedAt i) Awaiting s.locks (set s.shown i true) e refl (keys_stay x (OpenedBy w (StartedAt i)) (OpenedBy w Awaiting) at.0 at.1 refl) (shown_set i) refl refl refl (λ u. u) (λ b. absurd (false≢true b)) no'
-      (quit_calm p s.published w s.cancel (Opens x (StartedAt i)) (Opens x Awaiting) refl refl)
+      (quit_calm p s.published w (Opens x (StartedAt i)) (Opens x Awaiting) refl)
 
   -- look: the claimer of the parent is the one that the sibling is passed to
   pub look_keeps : (t0 : Task) → seat.task ≡ t0 → (t : State) → look_row p s w seat t0 ≡ Some t → IsKept p replies t
@@ -392,7 +388,7 @@ module _ (p : PlanParts) (core : IsCorePlan p) (replies : ℕ → List Reply) (s
           (turn_closing x (Looking m) (Passing m o) s.locks s.cancel s.shown e (λ v how. refl) (λ v how at. keys_stay x (ClosedBy w v (Looking m) how) (ClosedBy w v (Passing m o) how) (closing_at x (Looking m) e).0 at refl) same_shown
           (λ v how. refl) (λ v how. refl) (λ v how. refl) refl (λ u. absurd (false≢true u))
           (λ c ch other from runs u. same_claim o other (sym is_it ∙ ap (status_at s) ch.parent ∙ h.words c (parent_inside p core.plan c x ch) ∙ (runs_is p c (g c) other (ap runner_of runs)).0))
-          (λ v how u. u) (λ u. u) h.cancelled (λ u. absurd (false≢true u)) (quit_calm p s.published w s.cancel (Closes x (Looking m)) (Closes x (Passing m o)) refl refl))
+          (λ v how u. u) (λ ff. refl) (λ u. absurd (false≢true u)) (quit_calm p s.published w (Closes x (Looking m)) (Closes x (Passing m o)) refl))
           r
         where
           same_claim : (a b : ℕ) → Claimed a ≡ Claimed b → (a == b) ≡ true

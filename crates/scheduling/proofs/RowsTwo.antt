@@ -32,7 +32,7 @@ use Rattle.scheduling.proofs.StageMove.{task_keeps}
 use Rattle.scheduling.proofs.Parts.{words_set, locks_keep, counters_keep, counters_give, pending_none, QuitStep, quit_calm}
 use Rattle.scheduling.proofs.Silent.{silent, seat_goes}
 use Rattle.scheduling.proofs.RowsOne.{still_about, same_shown, shown_set}
-use Rattle.scheduling.proofs.RowsBelow.{wide, ending_is, results_keep, quits_to}
+use Rattle.scheduling.proofs.RowsBelow.{wide, ending_is, results_keep}
 use Rattle.scheduling.proofs.Spares.{none_registered}
 
 -- stages by their tests
@@ -95,7 +95,7 @@ batch_first p n a c batch ch elder first =
     ]
 
 module _ (p : PlanParts) (core : IsCorePlan p) (replies : ℕ → List Reply) (s : State) (g : ℕ → Stage) (h : Holds p replies s g) (w : ℕ) (seat : Seat) (is : slice_get s.seats w ≡ Some seat) where
-  me : SeatOk p g s.published s.cancel w seat
+  me : SeatOk p g s.published w seat
   me = h.seats w seat is
 
   -- an unseen node, no spare, is offered
@@ -121,8 +121,7 @@ module _ (p : PlanParts) (core : IsCorePlan p) (replies : ℕ → List Reply) (s
         locks_ok = locks_keep p s.locks g c Unseen (Offered o) inside at refl h.locks;
         mark = plain_mark (is_spare_at p.tree c) plain;
         starter = λ v q. absurd (none-some v q);
-        cancel_on = λ q. q;
-        cancelled = h.cancelled;
+        raising = λ ff. refl;
         shown_ok = same_shown p core replies s g h w seat is;
         shape = tt;
         above = above;
@@ -167,8 +166,9 @@ module _ (p : PlanParts) (core : IsCorePlan p) (replies : ℕ → List Reply) (s
             };
             brought = tt;
             failed = λ q. absurd (false≢true q);
-            quits = quits_to p core replies s g h w seat is (Opens x (StartedAt i)) Free e refl refl;
+            quits = λ ff bold. absurd (false≢true bold);
           };
+          raises_so = ap raises (sym e);
           word = refl;
           mark = refl;
           keys = refl;
@@ -203,8 +203,9 @@ module _ (p : PlanParts) (core : IsCorePlan p) (replies : ℕ → List Reply) (s
             alone = λ v q. absurd (none-some v q);
             still = λ n ne q. absurd (none-some n (sym (ap subject e) ∙ q));
             held = (with_task seat (Closes x d), get_set_same s.seats w (with_task seat (Closes x d)) seat is, refl);
-            seat_ok = seat_goes p g s.published s.cancel s.cancel w seat x (Waiting c r) (ClosedBy w c d Gave) (Closes x d) me at (λ q. waiting_hand c r w q) (λ q. refl) (inside, (c, Gave, upd_same g x (ClosedBy w c d Gave) x refl)) tt (λ q. absurd (both_ways (raises (Closes x d)) r' q))
-                (subst (λ t. QuitStep p s.published w s.cancel s.cancel t (Closes x d)) (sym e) (quit_calm p s.published w s.cancel Free (Closes x d) refl bold));
+            seat_ok = seat_goes p g s.published w seat x (Waiting c r) (ClosedBy w c d Gave) (Closes x d) me at (λ q. waiting_hand c r w q) (λ q. refl) (inside, (c, Gave, upd_same g x (ClosedBy w c d Gave) x refl)) tt (λ q. absurd (both_ways (raises (Closes x d)) r' q))
+                (subst (λ t. QuitStep p s.published w t (Closes x d)) (sym e) (quit_calm p s.published w Free (Closes x d) bold));
+            raises_so = r' ∙ ap raises (sym e);
             word = sym word;
             mark = sym mark;
             keys = sym keys;
@@ -221,10 +222,10 @@ module _ (p : PlanParts) (core : IsCorePlan p) (replies : ℕ → List Reply) (s
           })
 
   -- the guard of a node is given up, and what is outstanding is waited for
-  pub guard_goes : (x : ℕ) (a : Stage) (r : Status) (hand2 : Option Hand) → x < size p.tree → g x ≡ a → who a ≡ Some w → ((n : ℕ) → n ≢ x → subject seat.task ≡ Some n → ⊥) → (picture p x a).word ≡ Claimed w → (picture p x a).mark ≡ Begun → (picture p x a).keys ≡ keys_count p x → (picture p x a).guard ≡ 1 → (picture p x a).below ≡ Runs w (size p.tree)
-      → is_live a ≡ true → is_past a ≡ false → is_pending (is_spare_at p.tree x) a ≡ true → is_unsettled a ≡ true → ClosingOk p replies s.published x (ending p x r) Gave → SeatOk p (upd g x (Waiting w r)) s.published s.cancel w (record { task = Free; hand = hand2 })
+  pub guard_goes : (x : ℕ) (a : Stage) (r : Status) (hand2 : Option Hand) → x < size p.tree → g x ≡ a → who a ≡ Some w → ((n : ℕ) → n ≢ x → subject seat.task ≡ Some n → ⊥) → raises seat.task ≡ false → (picture p x a).word ≡ Claimed w → (picture p x a).mark ≡ Begun → (picture p x a).keys ≡ keys_count p x → (picture p x a).guard ≡ 1 → (picture p x a).below ≡ Runs w (size p.tree)
+      → is_live a ≡ true → is_past a ≡ false → is_pending (is_spare_at p.tree x) a ≡ true → is_unsettled a ≡ true → ClosingOk p replies s.published x (ending p x r) Gave → SeatOk p (upd g x (Waiting w r)) s.published w (record { task = Free; hand = hand2 })
       → Holds p replies (record s { counters = slice_set s.counters x (counter_at s x - 1); results = slice_set s.results x r; seats = goes_to s w (record { task = Free; hand = hand2 }) }) (upd g x (Waiting w r))
-  guard_goes x a r hand2 inside at mine' about word mark keys guard below live past pend unsettled shape seat_ok =
+  guard_goes x a r hand2 inside at mine' about calm word mark keys guard below live past pend unsettled shape seat_ok =
       wide p core.plan replies s g h w seat is x a (Waiting w r) (record { task = Free; hand = hand2 }) (set s.counters x (counter_at s x - 1)) (set s.results x r) s.shown (record {
         inside = inside;
         at = at;
@@ -232,6 +233,7 @@ module _ (p : PlanParts) (core : IsCorePlan p) (replies : ℕ → List Reply) (s
         still = λ n ne q. absurd (about n ne q);
         held = tt;
         seat_ok = seat_ok;
+        raises_so = sym calm;
         word = word;
         mark = mark;
         keys = keys;

@@ -33,7 +33,7 @@ use Rattle.scheduling.specs.declared.seat.Seat.{Seat}
 use Rattle.scheduling.specs.State.{State, counter_at, result_at, subject}
 use Rattle.scheduling.specs.Choices.{ending, is_pulled, pulled_result, is_spare_ranked, next_spare}
 use Rattle.scheduling.specs.Rows.{with_task, goes_to, child_added, add_by_hand, add_child_hand, add_child_row, guard_given, counted_off, done_by_hand, done_hand, done_row}
-use Rattle.scheduling.specs.Inside.Stages.{How, Gave, Kept, Skips, Stage, Unseen, Offered, OpenedBy, InHand, Waiting, ClosedBy, Over, has_mark, picture, closing_picture, mark_of, runner_of, is_unseen, is_pending, is_past, is_unsettled, brings}
+use Rattle.scheduling.specs.Inside.Stages.{How, Gave, Kept, Skips, Stage, Unseen, Offered, OpenedBy, InHand, Waiting, ClosedBy, Over, has_mark, picture, closing_picture, mark_of, runner_of, is_unseen, is_pending, is_past, is_unsettled, brings, raises}
 use Rattle.scheduling.specs.Inside.Invariant.{IsCorePlan, IsNextSame, ShapeOk, Fits, TaskOk, HandOk, IsInHand, IsBrought, BringsOk, SeatOk, HeldBy, Holds, IsKept}
 use Rattle.scheduling.proofs.Basics.{upd, upd_same, upd_other, get_set_same, set_twice, IsFirst, first_some}
 use Rattle.scheduling.proofs.StageMove.{hand_apart}
@@ -98,7 +98,7 @@ maker_is Leaf body q = absurd (false≢true q)
 maker_is Holder body q = absurd (false≢true q)
 
 module _ (p : PlanParts) (core : IsCorePlan p) (replies : ℕ → List Reply) (s : State) (g : ℕ → Stage) (h : Holds p replies s g) (w : ℕ) (seat : Seat) (is : slice_get s.seats w ≡ Some seat) where
-  seated : SeatOk p g s.published s.cancel w seat
+  seated : SeatOk p g s.published w seat
   seated = h.seats w seat is
 
   done_up : (x : ℕ) → seat.task ≡ Closes x CountingOff → IsKept p replies (counted_off p s w seat (parent_of p.tree x))
@@ -135,16 +135,15 @@ module _ (p : PlanParts) (core : IsCorePlan p) (replies : ℕ → List Reply) (s
             alone = λ v q. sym (same_Some w v q);
             still = still_about p core replies s g h w seat is x (ap subject e) Free;
             held = tt;
-            seat_ok = seat_goes p g s.published s.cancel s.cancel w seat x (ClosedBy w c CountingOff how) (Over how) Free seated at (λ q. closed_hand w c CountingOff how w q) (λ q. absurd (false≢true q)) tt tt (λ q. absurd (false≢true q))
-                (subst (λ t. QuitStep p s.published w s.cancel s.cancel t Free) (sym e) (quit_calm p s.published w s.cancel (Closes x CountingOff) Free refl refl));
+            seat_ok = seat_goes p g s.published w seat x (ClosedBy w c CountingOff how) (Over how) Free seated at (λ q. closed_hand w c CountingOff how w q) (λ q. absurd (false≢true q)) tt tt (λ q. absurd (false≢true q))
+                (subst (λ t. QuitStep p s.published w t Free) (sym e) (quit_calm p s.published w (Closes x CountingOff) Free refl));
             statuses_ok = words_keep p s.statuses g x (ClosedBy w c CountingOff how) (Over how) at refl (h.statuses_len, h.words);
             counters_ok = counters_child p s.counters g a x (counter_at s a - 1) (ClosedBy w c CountingOff how) (Over how) core.plan a_inside ch at refl (omega (arith, some)) (h.counters_len, h.counters);
             results_ok = results_keep p core replies s g h w seat is x (Over how) (λ v r q. over_waits how v r q);
             locks_ok = locks_keep p s.locks g x (ClosedBy w c CountingOff how) (Over how) inside at refl h.locks;
             mark = λ k. refl;
             starter = λ v q. absurd (none-some v (sym (ended_starter how Settled) ∙ q));
-            cancel_on = λ q. q;
-            cancelled = h.cancelled;
+            raising = λ ff. ap (λ t. s.cancel + bit (raises t)) (sym e);
             shown_ok = same_shown p core replies s g h w seat is;
             shape = tt;
             above = λ k chk. fits_live p (picture p k (g k)).below k x (ClosedBy w c CountingOff how) (Over how) refl (λ same o from r q. refl) (subst (λ st. Fits p (picture p k (g k)).below k x st) at (h.edges k x chk));
@@ -265,17 +264,16 @@ module _ (p : PlanParts) (core : IsCorePlan p) (replies : ℕ → List Reply) (s
         alone = λ v q. absurd (none-some v q);
         still = λ n ne q. absurd (none-some n (sym (ap subject e) ∙ q));
         held = (with_task seat (Opens c Registering), get_set_same s.seats w (with_task seat (Opens c Registering)) seat is, refl);
-        seat_ok = seat_goes p g s.published s.cancel s.cancel w seat c Unseen (OpenedBy w Registering) (Opens c Registering) seated c_unseen (λ q. unseen_hand w q) (λ q. absurd (false≢true q)) (first.high, upd_same g c (OpenedBy w Registering) c refl)
+        seat_ok = seat_goes p g s.published w seat c Unseen (OpenedBy w Registering) (Opens c Registering) seated c_unseen (λ q. unseen_hand w q) (λ q. absurd (false≢true q)) (first.high, upd_same g c (OpenedBy w Registering) c refl)
             (λ b. record { held = hand; is = is_hand; parent = ch.parent; child = ch.above_zero; waits = inl idle; next = λ q. at_spare.1 }) (λ q. absurd (false≢true q))
-            (subst (λ t. QuitStep p s.published w s.cancel s.cancel t (Opens c Registering)) (sym e) (quit_calm p s.published w s.cancel Free (Opens c Registering) refl refl));
+            (subst (λ t. QuitStep p s.published w t (Opens c Registering)) (sym e) (quit_calm p s.published w Free (Opens c Registering) refl));
         statuses_ok = words_keep p s.statuses g c Unseen (OpenedBy w Registering) c_unseen refl (h.statuses_len, h.words);
         counters_ok = counters_child p s.counters g hand.factory c (counter_at s hand.factory + 1) Unseen (OpenedBy w Registering) core.plan ok.inside ch c_unseen refl (let z : bit (not (is_spare_at p.tree c)) ≡ 0 = ap (λ b. bit (not b)) spare in omega (arith, z)) (h.counters_len, h.counters);
         results_ok = results_keep p core replies s g h w seat is c (OpenedBy w Registering) (λ d r q. opened_waits w Registering d r q);
         locks_ok = locks_keep p s.locks g c Unseen (OpenedBy w Registering) first.high c_unseen refl h.locks;
         mark = λ k. refl;
         starter = λ v q. absurd (none-some v q);
-        cancel_on = λ q. q;
-        cancelled = h.cancelled;
+        raising = λ ff. ap (λ t. s.cancel + bit (raises t)) (sym e);
         shown_ok = same_shown p core replies s g h w seat is;
         shape = and_from (is_spare_at p.tree c) (pulls_job p (parent_of p.tree c)) spare (subst (λ k. pulls_job p k ≡ true) (sym ch.parent) pulls);
         above = λ a cha. above a (sym cha.parent ∙ ch.parent);

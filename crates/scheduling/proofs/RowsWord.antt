@@ -1,18 +1,17 @@
 -- Rows that change one node's status word: claim, own, give_up, settle, and the offer of a registered spare.
-use Rattle.std.proofs.Common.{◌≡◌, ℕ, zero, suc, ◌+◌, ◌<◌, Bool, true, false, cond, ◌&&◌, ◌==◌, not, nat_lt, List, [], ◌∷◌, length, set, Option, Some, None, slice_get, slice_set, slice_index_or, ◌⊎◌, inl, inr, refl, sym, ap, ◌∙◌, subst, arith}
+use Rattle.std.proofs.Common.{◌≡◌, ℕ, zero, suc, ◌+◌, ◌<◌, ◌≤◌, Bool, true, false, cond, ◌&&◌, ◌==◌, not, nat_lt, List, [], ◌∷◌, length, set, Option, Some, None, slice_get, slice_set, slice_index_or, ◌⊎◌, inl, inr, refl, sym, ap, ◌∙◌, subst, arith}
 use Rattle.std.proofs.lemmas.Option.{same_Some, none-some}
-use Rattle.std.proofs.lemmas.Bool.{cases_eq, cases_Bool, false≢true, both_ways, and_parts, and_from, eqb-true, ltb-true, ltb-false, cond-true, cond-false, eq-eqb, ne_eqb, lt-ltb}
-use Rattle.descriptor.specs.Nodes.{size, parent_of, IsChild, is_child, is_spare_at, is_disabled}
+use Rattle.std.proofs.lemmas.Bool.{cases_eq, cases_Bool, false≢true, both_ways, and_parts, and_from, eqb-true, ltb-true, ltb-false, cond-true, cond-false, eq-eqb, ne_eqb, lt-ltb, false_from_ne_true}
+use Rattle.descriptor.specs.Nodes.{size, parent_of, IsChild, is_child, is_spare_at, is_disabled, bit}
 use Rattle.plan_events.specs.declared.event.EventKind.TheVariants.{Started, Finished}
 use Rattle.plan_events.specs.declared.event.Event.{Event}
 use Rattle.plan_events.specs.declared.outcome.Reply.{Reply}
 use Rattle.plan_events.specs.declared.status.Status.{Status}
 use Rattle.plan_events.specs.declared.status.Status.TheVariants.{Successful}
-use Rattle.event_history.specs.Places.{is_failure, same_kind, is_failed_or, has}
+use Rattle.event_history.specs.Places.{is_failure, same_kind, is_failed_or, has, has_event}
 use Rattle.resource_locks.specs.Plans.{PlanParts}
 use Rattle.event_history.specs.Plans.{IsPlanTree, IsElder, is_same, sort_of}
 use Rattle.event_history.specs.History.{IsLegal}
-use Rattle.event_history.specs.Inside.Following.{has_failed_by}
 use Rattle.event_history.proofs.Places.{finds, same_kind-true, has_at}
 use Rattle.event_history.proofs.Branches.{below_root}
 use Rattle.event_history.proofs.Trees.{is_child_test}
@@ -35,6 +34,8 @@ use Rattle.scheduling.proofs.Basics.{upd, upd_same, upd_other, upd_all, get_set_
 use Rattle.scheduling.proofs.Parts.{StatusList, words_set, locks_keep, pending_elsewhere, QuitStep, quit_calm}
 use Rattle.scheduling.proofs.Silent.{silent, alike, seat_goes}
 use Rattle.scheduling.proofs.RowsOne.{by_cond, kept_some, still_about, same_shown}
+use Rattle.event_history.specs.Failures.{known, up_to}
+use Rattle.event_history.proofs.Failures.{known_none, known_up_to}
 
 -- a node whose status says that it is ready is offered
 same_offer-true : (a b : Option ℕ) → same_offer a b ≡ true → a ≡ b
@@ -77,25 +78,27 @@ ended_starter Gave word = refl
 ended_starter Kept word = refl
 ended_starter Skips word = refl
 
--- nobody has failed where node 0 has not started
-unstarted_quiet : (p : PlanParts) → IsPlanTree p.tree → (replies : ℕ → List Reply) (workers w : ℕ) (l : List Event) → IsLegal p replies workers l → has Started 0 l ≡ false → has_failed_by w l ≡ true → ⊥
-unstarted_quiet p plan replies workers w l legal unstarted r =
-    let f = finds (λ e. is_failure e && (e.worker == w)) l r in
-    let e : Event = f.1.0 in
-    let fail = and_parts (is_failure f.1.0) (f.1.0.worker == w) f.1.2 in
-    let kind = same_kind-true f.1.0.kind Finished (and_parts (same_kind f.1.0.kind Finished) (is_failed_or f.1.0.status) fail.0).0 in
+-- nobody knows of a failure where node 0 has not started
+unstarted_quiet : (p : PlanParts) → IsPlanTree p.tree → (replies : ℕ → List Reply) (workers w : ℕ) (l : List Event) → IsLegal p replies workers l → has Started 0 l ≡ false → known w (up_to w l) ≡ 0
+unstarted_quiet p plan replies workers w l legal unstarted =
+    let none : has_event is_failure l ≡ false = false_from_ne_true (has_event is_failure l) (λ r.
+    let f = finds is_failure l r in
+    let kind = same_kind-true f.1.0.kind Finished (and_parts (same_kind f.1.0.kind Finished) (is_failed_or f.1.0.status) f.1.2).0 in
     elim (cases_eq f.1.0.node 0) [
       | inl z ↦ both_ways (has Started 0 l) unstarted (has_at (legal.after_start f.0 0 (record { event = f.1.0; here = f.1.1; kind = kind; node = z })).stands)
       | inr ne ↦ both_ways (has Started 0 l) unstarted (has_at (legal.start_above f.0 0 f.1.0 f.1.1 (below_root p plan f.1.0.node (omega (arith, ne)) (legal.nodes f.0 f.1.0 f.1.1))).stands)
-    ]
+    ]) in
+    let part : known w (up_to w l) ≤ known w l = known_up_to w l in
+    let zero' : known w l ≡ 0 = known_none w l none in
+    omega (arith, part, zero')
 
 module _ (p : PlanParts) (core : IsCorePlan p) (replies : ℕ → List Reply) (s : State) (g : ℕ → Stage) (h : Holds p replies s g) (w : ℕ) (seat : Seat) (is : slice_get s.seats w ≡ Some seat) where
-  ours : SeatOk p g s.published s.cancel w seat
+  ours : SeatOk p g s.published w seat
   ours = h.seats w seat is
 
   -- the worker takes up a node that is offered
   take_up : (x : ℕ) (to : Option ℕ) (d : Opening) → seat.task ≡ Free → x < size p.tree → g x ≡ Offered to → (to ≡ None) ⊎ (to ≡ Some w) → (picture p x (OpenedBy w d)).word ≡ Claimed w → (picture p x (OpenedBy w d)).mark ≡ Known → (picture p x (OpenedBy w d)).keys ≡ 0 → (picture p x (OpenedBy w d)).below ≡ Shut → (picture p x (OpenedBy w d)).guard ≡ 1
-      → brings d ≡ false → OpeningOk p replies s.published x d → QuitStep p s.published w s.cancel s.cancel Free (Opens x d) → IsKept p replies (record s { statuses = slice_set s.statuses x (Claimed w); seats = goes_to s w (with_task seat (Opens x d)) })
+      → brings d ≡ false → OpeningOk p replies s.published x d → QuitStep p s.published w Free (Opens x d) → IsKept p replies (record s { statuses = slice_set s.statuses x (Claimed w); seats = goes_to s w (with_task seat (Opens x d)) })
   take_up x to d e inside at who_for word mark keys below guard brought ok quit = (
     upd g x (OpenedBy w d),
     alike p core.plan replies s g h w seat is x (Offered to) (OpenedBy w d) (with_task seat (Opens x d)) (set s.statuses x (Claimed w)) s.locks s.cancel s.shown (record {
@@ -104,8 +107,8 @@ module _ (p : PlanParts) (core : IsCorePlan p) (replies : ℕ → List Reply) (s
       alone = λ v q. absurd (none-some v q);
       still = λ n ne q. absurd (none-some n (sym (ap subject e) ∙ q));
       held = (with_task seat (Opens x d), get_set_same s.seats w (with_task seat (Opens x d)) seat is, refl);
-      seat_ok = seat_goes p g s.published s.cancel s.cancel w seat x (Offered to) (OpenedBy w d) (Opens x d) ours at (λ q. offered_hand to w q) (λ q. refl) (inside, upd_same g x (OpenedBy w d) x refl) (λ b. absurd (both_ways (brings d) brought b)) (λ q. absurd (false≢true q))
-          (subst (λ t. QuitStep p s.published w s.cancel s.cancel t (Opens x d)) (sym e) quit);
+      seat_ok = seat_goes p g s.published w seat x (Offered to) (OpenedBy w d) (Opens x d) ours at (λ q. offered_hand to w q) (λ q. refl) (inside, upd_same g x (OpenedBy w d) x refl) (λ b. absurd (both_ways (brings d) brought b)) (λ q. absurd (false≢true q))
+          (subst (λ t. QuitStep p s.published w t (Opens x d)) (sym e) quit);
       statuses_ok = subst (λ v. StatusList p (set s.statuses x v) (upd g x (OpenedBy w d))) word (words_set p s.statuses g x (OpenedBy w d) (h.statuses_len, h.words));
       locks_ok = locks_keep p s.locks g x (Offered to) (OpenedBy w d) inside at (sym keys) h.locks;
       not_waiting = λ c r q. opened_waits w d c r q;
@@ -116,8 +119,7 @@ module _ (p : PlanParts) (core : IsCorePlan p) (replies : ℕ → List Reply) (s
       pends = refl;
       live = refl;
       owned = λ c ch same o from r q. owned_so o to who_for q;
-      cancel_on = λ q. q;
-      cancelled = h.cancelled;
+      raising = λ ff. ap (λ t. s.cancel + bit (raises t)) (sym e);
       shown_ok = same_shown p core replies s g h w seat is;
       shape = ok;
       past = λ q. absurd (false≢true q);
@@ -147,14 +149,14 @@ module _ (p : PlanParts) (core : IsCorePlan p) (replies : ℕ → List Reply) (s
           let at : g x ≡ Offered to = ready_is p x to (g x) (subst (λ v. is_ready_for to v ≡ true) (h.words x inside) ready) in
           let unstarted : has Started x s.published ≡ false = h.flags Started x inside ∙ ap (λ st. has_mark (is_spare_at p.tree x) Started (picture p x st).mark) at in
           let start : (d : Opening) → (picture p x (OpenedBy w d)).word ≡ Claimed w → (picture p x (OpenedBy w d)).mark ≡ Known → (picture p x (OpenedBy w d)).keys ≡ 0 → (picture p x (OpenedBy w d)).below ≡ Shut → (picture p x (OpenedBy w d)).guard ≡ 1
-          → brings d ≡ false → OpeningOk p replies s.published x d → QuitStep p s.published w s.cancel s.cancel Free (Opens x d) → IsKept p replies (record s { statuses = slice_set s.statuses x (Claimed w); seats = goes_to s w (with_task seat (Opens x d)) })
+          → brings d ≡ false → OpeningOk p replies s.published x d → QuitStep p s.published w Free (Opens x d) → IsKept p replies (record s { statuses = slice_set s.statuses x (Claimed w); seats = goes_to s w (with_task seat (Opens x d)) })
           = λ d. take_up x to d e inside at who_for in
           by_cond (λ d. IsKept p replies (record s { statuses = slice_set s.statuses x (Claimed w); seats = goes_to s w (with_task seat (Opens x d)) })) (notices p x) Noticing (begins p x (is_disabled p.tree x))
           (λ n. (let a = and_parts p.fail_fast (nat_lt 0 x && not (is_disabled p.tree x)) n in let b = and_parts (nat_lt 0 x) (not (is_disabled p.tree x)) a.1 in
-          start Noticing refl refl refl refl refl refl (a.0, ltb-true 0 x b.0, not_true (is_disabled p.tree x) b.1) (quit_calm p s.published w s.cancel Free (Opens x Noticing) refl refl)))
+          start Noticing refl refl refl refl refl refl (a.0, ltb-true 0 x b.0, not_true (is_disabled p.tree x) b.1) (quit_calm p s.published w Free (Opens x Noticing) refl)))
           (λ n. by_cond (λ d. IsKept p replies (record s { statuses = slice_set s.statuses x (Claimed w); seats = goes_to s w (with_task seat (Opens x d)) })) (is_disabled p.tree x) (Beginning true) (lock_from p x 0)
-          (λ dis. start (Beginning true) refl refl refl refl refl refl (disabled_above x dis, inl dis) (quit_calm p s.published w s.cancel Free (Opens x (Beginning true)) refl refl))
-          (λ en. (let quit : (d : Opening) → QuitStep p s.published w s.cancel s.cancel Free (Opens x d) = λ d ff f old. absurd (root_quiet x ff n en unstarted f) in
+          (λ dis. start (Beginning true) refl refl refl refl refl refl (disabled_above x dis, inl dis) (quit_calm p s.published w Free (Opens x (Beginning true)) refl))
+          (λ en. (let quit : (d : Opening) → QuitStep p s.published w Free (Opens x d) = λ d ff old bold. (let none = root_quiet x ff n en unstarted in omega (arith, none)) in
           by_cond (λ d. IsKept p replies (record s { statuses = slice_set s.statuses x (Claimed w); seats = goes_to s w (with_task seat (Opens x d)) })) (nat_lt 0 (keys_count p x)) (Locking 0) (Beginning false)
           (λ k. start (Locking 0) refl refl refl refl refl refl (ltb-true 0 (keys_count p x) k, en) (quit (Locking 0)))
           (λ k. (let z = ltb-false 0 (keys_count p x) k in start (Beginning false) refl refl (omega (arith, z)) refl refl refl en (quit (Beginning false)))))))
@@ -167,9 +169,9 @@ module _ (p : PlanParts) (core : IsCorePlan p) (replies : ℕ → List Reply) (s
           disabled_above zero q = absurd (false≢true q)
           disabled_above (suc x) q = omega arith
 
-          root_quiet : (x : ℕ) → p.fail_fast ≡ true → notices p x ≡ false → is_disabled p.tree x ≡ false → has Started x s.published ≡ false → has_failed_by (w + 1) s.published ≡ true → ⊥
-          root_quiet zero ff n en un f = unstarted_quiet p core.plan replies (length s.seats) (w + 1) s.published h.published.legal un f
-          root_quiet (suc x) ff n en un f = both_ways (notices p (suc x)) n (and_from p.fail_fast _ ff (and_from (nat_lt 0 (suc x)) (not (is_disabled p.tree (suc x))) (lt-ltb 0 (suc x) (omega arith)) (ap not en)))
+          root_quiet : (x : ℕ) → p.fail_fast ≡ true → notices p x ≡ false → is_disabled p.tree x ≡ false → has Started x s.published ≡ false → known (w + 1) (up_to (w + 1) s.published) ≡ 0
+          root_quiet zero ff n en un = unstarted_quiet p core.plan replies (length s.seats) (w + 1) s.published h.published.legal un
+          root_quiet (suc x) ff n en un = absurd (both_ways (notices p (suc x)) n (and_from p.fail_fast _ ff (and_from (nat_lt 0 (suc x)) (not (is_disabled p.tree (suc x))) (lt-ltb 0 (suc x) (omega arith)) (ap not en))))
 
   pub claim_keeps : (x : ℕ) (t0 : Task) → seat.task ≡ t0 → (t : State) → cond (is_free t0 && (is_empty seat.hand && is_ready_for None (status_at s x))) (Some (claimed p s w seat x)) None ≡ Some t → IsKept p replies t
   claim_keeps x Free e t q =
@@ -196,8 +198,8 @@ module _ (p : PlanParts) (core : IsCorePlan p) (replies : ℕ → List Reply) (s
               alone = λ v q. sym (same_Some w v q);
               still = still_about p core replies s g h w seat is x (ap subject e) Free;
               held = tt;
-              seat_ok = seat_goes p g s.published s.cancel s.cancel w seat x (OpenedBy w (Backing zero)) (Offered o) Free ours task.1 (λ q. opened_hand w w q) (λ q. refl) tt tt (λ q. absurd (false≢true q))
-                  (subst (λ t. QuitStep p s.published w s.cancel s.cancel t Free) (sym e) (quit_calm p s.published w s.cancel (Opens x (Backing zero)) Free refl refl));
+              seat_ok = seat_goes p g s.published w seat x (OpenedBy w (Backing zero)) (Offered o) Free ours task.1 (λ q. opened_hand w w q) (λ q. refl) tt tt (λ q. absurd (false≢true q))
+                  (subst (λ t. QuitStep p s.published w t Free) (sym e) (quit_calm p s.published w (Opens x (Backing zero)) Free refl));
               statuses_ok = words_set p s.statuses g x (Offered o) (h.statuses_len, h.words);
               locks_ok = locks_keep p s.locks g x (OpenedBy w (Backing zero)) (Offered o) task.0 task.1 refl h.locks;
               not_waiting = λ c r q. offered_waits o c r q;
@@ -208,8 +210,7 @@ module _ (p : PlanParts) (core : IsCorePlan p) (replies : ℕ → List Reply) (s
               pends = refl;
               live = refl;
               owned = λ c ch same v from r q. subst (λ to. is_offer_to v to ≡ true) (sym (own ch.above_zero same)) q;
-              cancel_on = λ q. q;
-              cancelled = h.cancelled;
+              raising = λ ff. ap (λ t. s.cancel + bit (raises t)) (sym e);
               shown_ok = same_shown p core replies s g h w seat is;
               shape = tt;
               past = λ q. q;
@@ -247,7 +248,7 @@ module _ (p : PlanParts) (core : IsCorePlan p) (replies : ℕ → List Reply) (s
             hand = subst (λ k. HandOk p (upd g x (Offered (offered_to p w x))) s.published w (waits_for p x k)) (sym brought.is) (held_so brought.held task.1 hand brought.waits);
             brought = tt;
             failed = λ q. absurd (false≢true q);
-            quits = λ ff f. quit_calm p s.published w s.cancel (Opens x Offering) Free refl refl ff f (subst (λ t. (raises t ≡ true) ⊎ ((s.cancel ≡ true) × (is_bold t ≡ false))) e (ours.quits ff f));
+            quits = λ ff bold. absurd (false≢true bold);
           };
           statuses_ok = words_set p s.statuses g x (Offered (offered_to p w x)) (h.statuses_len, h.words);
           locks_ok = locks_keep p s.locks g x (OpenedBy w Offering) (Offered (offered_to p w x)) task.0 task.1 refl h.locks;
@@ -259,8 +260,7 @@ module _ (p : PlanParts) (core : IsCorePlan p) (replies : ℕ → List Reply) (s
           pends = refl;
           live = refl;
           owned = λ c ch same v from r q. subst (λ to. is_offer_to v to ≡ true) (sym (cond-true (is_same p x) (Some w) None same)) q;
-          cancel_on = λ q. q;
-          cancelled = h.cancelled;
+          raising = λ ff. ap (λ t. s.cancel + bit (raises t)) (sym e);
           shown_ok = same_shown p core replies s g h w seat is;
           shape = tt;
           past = λ q. q;
@@ -299,13 +299,13 @@ module _ (p : PlanParts) (core : IsCorePlan p) (replies : ℕ → List Reply) (s
     ];
   }
 
-  settle_seat : (x : ℕ) (b : Stage) (t2 : Task) → seat.task ≡ Closes x Settling → (g x ≡ InHand w → ⊥) → is_unsettled b ≡ false → TaskOk p (upd g x b) w t2 → BringsOk p t2 (waits_no_more x seat.hand) → raises t2 ≡ false → is_bold t2 ≡ false → SeatOk p (upd g x b) s.published s.cancel w (record { task = t2; hand = waits_no_more x seat.hand })
+  settle_seat : (x : ℕ) (b : Stage) (t2 : Task) → seat.task ≡ Closes x Settling → (g x ≡ InHand w → ⊥) → is_unsettled b ≡ false → TaskOk p (upd g x b) w t2 → BringsOk p t2 (waits_no_more x seat.hand) → raises t2 ≡ false → is_bold t2 ≡ false → SeatOk p (upd g x b) s.published w (record { task = t2; hand = waits_no_more x seat.hand })
   settle_seat x b t2 e not' calm task brought r bold = record {
     task = task;
     hand = hand_settles x b seat.hand not' calm ours.hand;
     brought = brought;
     failed = λ q. absurd (both_ways (raises t2) r q);
-    quits = λ ff f. quit_calm p s.published w s.cancel (Closes x Settling) t2 refl bold ff f (subst (λ t. (raises t ≡ true) ⊎ ((s.cancel ≡ true) × (is_bold t ≡ false))) e (ours.quits ff f));
+    quits = λ ff b. absurd (both_ways (is_bold t2) bold b);
   }
 
   settles : (x : ℕ) (d : Closing) → seat.task ≡ Closes x Settling → closing_past d ≡ true → ((c : ℕ) (how : How) → (picture p x (ClosedBy w c d how)).word ≡ Settled) → ((c : ℕ) (how : How) → (picture p x (ClosedBy w c Settling how)).mark ≡ (picture p x (ClosedBy w c d how)).mark)
@@ -341,8 +341,7 @@ module _ (p : PlanParts) (core : IsCorePlan p) (replies : ℕ → List Reply) (s
               pends = refl;
               live = refl;
               owned = λ v ch same o from r q. owned o c how;
-              cancel_on = λ q. q;
-              cancelled = h.cancelled;
+              raising = λ ff. ap (λ (b : Bool). s.cancel + bit b) (calm ∙ ap raises (sym e));
               shown_ok = same_shown p core replies s g h w seat is;
               shape = ok how;
               past = λ q. absurd (false≢true q);
@@ -384,8 +383,7 @@ module _ (p : PlanParts) (core : IsCorePlan p) (replies : ℕ → List Reply) (s
           locks_ok = locks_keep p s.locks g 0 (ClosedBy w c Settling how) (Over how) inside at refl h.locks;
           mark = λ k. refl;
           starter = λ v q. absurd (none-some v (sym (ended_starter how Settled) ∙ q));
-          cancel_on = λ q. q;
-          cancelled = h.cancelled;
+          raising = λ ff. ap (λ t. s.cancel + bit (raises t)) (sym e);
           shown_ok = same_shown p core replies s g h w seat is;
           shape = tt;
           above = λ v ch. absurd (no_parent v ch);

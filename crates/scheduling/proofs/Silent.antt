@@ -1,6 +1,6 @@
 -- Moves that publish nothing: node x goes from stage a to stage b, and worker w from its seat to the next.
-use Rattle.std.proofs.Common.{◌≡◌, ◌≢◌, ℕ, ◌+◌, ◌<◌, Bool, true, false, List, length, set, Some, slice_get, slice_index_or, ◌⊎◌, inl, inr, refl, sym, ap, ◌∙◌, subst}
-use Rattle.descriptor.specs.Nodes.{size, parent_of, IsChild, is_spare_at}
+use Rattle.std.proofs.Common.{◌≡◌, ◌≢◌, ℕ, ◌+◌, ◌<◌, Bool, true, false, List, length, set, Some, slice_get, slice_index_or, ◌⊎◌, arith, inl, inr, refl, sym, ap, ◌∙◌, subst}
+use Rattle.descriptor.specs.Nodes.{size, parent_of, IsChild, is_spare_at, bit}
 use Rattle.plan_events.specs.declared.event.EventKind.{EventKind}
 use Rattle.plan_events.specs.declared.event.Event.{Event}
 use Rattle.plan_events.specs.declared.outcome.Reply.{Reply}
@@ -10,7 +10,7 @@ use Rattle.resource_locks.specs.Plans.{PlanParts}
 use Rattle.event_history.specs.Plans.{IsPlanTree, IsElder, is_same}
 use Rattle.event_history.specs.Order.{goes_first}
 use Rattle.event_history.specs.Places.{has}
-use Rattle.event_history.specs.Inside.Following.{has_failed, started_by}
+use Rattle.event_history.specs.Inside.Following.{started_by}
 use Rattle.scheduling.specs.declared.status.NodeStatus.{NodeStatus}
 use Rattle.scheduling.specs.declared.lock_word.LockWord.{LockWord}
 use Rattle.scheduling.specs.declared.task.Task.{Task}
@@ -29,21 +29,20 @@ ResultList p l g = (length l ≡ size p.tree) × ((n c : ℕ) (r : Status) → n
 abbrev pub ShownOk : State → List Bool → Type 0
 ShownOk s shown = (length shown ≡ length s.published) × ((i : ℕ) → slice_get s.shown i ≡ Some true → slice_get shown i ≡ Some true)
 
-pub record Silent (p : PlanParts) (replies : ℕ → List Reply) (s : State) (g : ℕ → Stage) (w : ℕ) (seat : Seat) (x : ℕ) (a b : Stage) (seat2 : Seat) (statuses : List NodeStatus) (counters : List ℕ) (results : List Status) (locks : List LockWord) (cancel : Bool) (shown : List Bool) : Type 0 where
+pub record Silent (p : PlanParts) (replies : ℕ → List Reply) (s : State) (g : ℕ → Stage) (w : ℕ) (seat : Seat) (x : ℕ) (a b : Stage) (seat2 : Seat) (statuses : List NodeStatus) (counters : List ℕ) (results : List Status) (locks : List LockWord) (cancel : ℕ) (shown : List Bool) : Type 0 where
   pub inside : x < size p.tree
   pub at : g x ≡ a
   pub alone : (v : ℕ) → who a ≡ Some v → v ≡ w
   pub still : (n : ℕ) → n ≢ x → subject seat.task ≡ Some n → seat2.task ≡ seat.task
   pub held : HeldBy (set s.seats w seat2) x b
-  pub seat_ok : SeatOk p (upd g x b) s.published cancel w seat2
+  pub seat_ok : SeatOk p (upd g x b) s.published w seat2
   pub statuses_ok : StatusList p statuses (upd g x b)
   pub counters_ok : CounterList p counters (upd g x b)
   pub results_ok : ResultList p results (upd g x b)
   pub locks_ok : LockList p locks (upd g x b)
   pub mark : (k : EventKind) → has_mark (is_spare_at p.tree x) k (picture p x a).mark ≡ has_mark (is_spare_at p.tree x) k (picture p x b).mark
   pub starter : (c : ℕ) → starter_of (picture p x b) ≡ Some c → started_by x (c + 1) s.published ≡ true
-  pub cancel_on : s.cancel ≡ true → cancel ≡ true
-  pub cancelled : cancel ≡ true → has_failed s.published ≡ true
+  pub raising : p.fail_fast ≡ true → cancel + bit (raises seat2.task) ≡ s.cancel + bit (raises seat.task)
   pub shown_ok : ShownOk s shown
   pub shape : ShapeOk p replies s.published x b
   pub above : (c : ℕ) → IsChild p.tree c x → Fits p (picture p c (g c)).below c x b
@@ -52,7 +51,7 @@ pub record Silent (p : PlanParts) (replies : ℕ → List Reply) (s : State) (g 
   pub elders : (c : ℕ) → IsElder p.tree c x → goes_first p c x ≡ true → is_unseen b ≡ false → is_past (g c) ≡ true
   pub quiet : is_spare_at p.tree x ≡ true → is_unsettled b ≡ true → (is_unsettled a ≡ true) ⊎ (g (parent_of p.tree x) ≡ InHand w)
 
-pub silent : (p : PlanParts) → IsPlanTree p.tree → (replies : ℕ → List Reply) (s : State) (g : ℕ → Stage) → Holds p replies s g → (w : ℕ) (seat : Seat) → slice_get s.seats w ≡ Some seat → (x : ℕ) (a b : Stage) (seat2 : Seat) (statuses : List NodeStatus) (counters : List ℕ) (results : List Status) (locks : List LockWord) (cancel : Bool) (shown : List Bool)
+pub silent : (p : PlanParts) → IsPlanTree p.tree → (replies : ℕ → List Reply) (s : State) (g : ℕ → Stage) → Holds p replies s g → (w : ℕ) (seat : Seat) → slice_get s.seats w ≡ Some seat → (x : ℕ) (a b : Stage) (seat2 : Seat) (statuses : List NodeStatus) (counters : List ℕ) (results : List Status) (locks : List LockWord) (cancel : ℕ) (shown : List Bool)
     → Silent p replies s g w seat x a b seat2 statuses counters results locks cancel shown
     → Holds p replies (record s { statuses = statuses; counters = counters; results = results; locks = locks; cancel = cancel; seats = set s.seats w seat2; shown = shown }) (upd g x b)
 silent p plan replies s g h w seat is x a b seat2 statuses counters results locks cancel shown m =
@@ -76,10 +75,9 @@ silent p plan replies s g h w seat is x a b seat2 statuses counters results lock
           (λ e. subst (λ (j : ℕ). has k j s.published ≡ has_mark (is_spare_at p.tree j) k (picture p j b).mark) (sym e) (h.flags k x m.inside ∙ (ap (λ (st : Stage). has_mark (is_spare_at p.tree x) k (picture p x st).mark) m.at ∙ m.mark k))) (λ _. h.flags k n lt);
       starters = λ n c lt. upd_all (λ j st. starter_of (picture p j st) ≡ Some c → started_by j (c + 1) s.published ≡ true) g x b n
           (λ e. subst (λ (j : ℕ). starter_of (picture p j b) ≡ Some c → started_by j (c + 1) s.published ≡ true) (sym e) (m.starter c)) (λ _. h.starters n c lt);
-      fails = λ v ne. refl;
+      others = λ v ne. (refl, refl);
       counts = λ f. inl refl;
-      cancel_on = m.cancel_on;
-      cancelled = m.cancelled;
+      raising = λ ff. (let same : cancel + bit (raises seat2.task) ≡ s.cancel + bit (raises seat.task) = m.raising ff in omega (arith, same));
       published = h.published;
       given = record { rest = h.given.rest; front = h.given.front; shown = λ i lt. m.shown_ok.1 i (h.given.shown i lt) };
       shape = m.shape;
@@ -92,25 +90,25 @@ silent p plan replies s g h w seat is x a b seat2 statuses counters results lock
     })
 
 -- a seat whose worker goes on with task t2 and the same hand
-pub seat_goes : (p : PlanParts) (g : ℕ → Stage) (h : List Event) (cancel cancel2 : Bool) (w : ℕ) (seat : Seat) (x : ℕ) (a b : Stage) (t2 : Task) → SeatOk p g h cancel w seat → g x ≡ a → (a ≡ InHand w → ⊥) → (is_unsettled b ≡ true → is_unsettled a ≡ true)
-    → TaskOk p (upd g x b) w t2 → BringsOk p t2 seat.hand → (raises t2 ≡ true → raises seat.task ≡ true) → QuitStep p h w cancel cancel2 seat.task t2 → SeatOk p (upd g x b) h cancel2 w (with_task seat t2)
-seat_goes p g h cancel cancel2 w seat x a b t2 old at not quiet task brought raise quit = record {
+pub seat_goes : (p : PlanParts) (g : ℕ → Stage) (h : List Event) (w : ℕ) (seat : Seat) (x : ℕ) (a b : Stage) (t2 : Task) → SeatOk p g h w seat → g x ≡ a → (a ≡ InHand w → ⊥) → (is_unsettled b ≡ true → is_unsettled a ≡ true)
+    → TaskOk p (upd g x b) w t2 → BringsOk p t2 seat.hand → (raises t2 ≡ true → raises seat.task ≡ true) → QuitStep p h w seat.task t2 → SeatOk p (upd g x b) h w (with_task seat t2)
+seat_goes p g h w seat x a b t2 old at not quiet task brought raise quit = record {
   task = task;
   hand = own_hand p g h w x a b seat.hand at not quiet old.hand;
   brought = brought;
   failed = λ r. old.failed (raise r);
-  quits = λ ff r. quit ff r (old.quits ff r);
+  quits = λ ff bold. quit ff (old.quits ff) bold;
 }
 
 -- What a move says where the two stages look alike but for the word, the keys and the cancel word: the picture's mark, guard and
 -- what is below are the same, and the node stays live.
-pub record Alike (p : PlanParts) (replies : ℕ → List Reply) (s : State) (g : ℕ → Stage) (w : ℕ) (seat : Seat) (x : ℕ) (a b : Stage) (seat2 : Seat) (statuses : List NodeStatus) (locks : List LockWord) (cancel : Bool) (shown : List Bool) : Type 0 where
+pub record Alike (p : PlanParts) (replies : ℕ → List Reply) (s : State) (g : ℕ → Stage) (w : ℕ) (seat : Seat) (x : ℕ) (a b : Stage) (seat2 : Seat) (statuses : List NodeStatus) (locks : List LockWord) (cancel : ℕ) (shown : List Bool) : Type 0 where
   pub inside : x < size p.tree
   pub at : g x ≡ a
   pub alone : (v : ℕ) → who a ≡ Some v → v ≡ w
   pub still : (n : ℕ) → n ≢ x → subject seat.task ≡ Some n → seat2.task ≡ seat.task
   pub held : HeldBy (set s.seats w seat2) x b
-  pub seat_ok : SeatOk p (upd g x b) s.published cancel w seat2
+  pub seat_ok : SeatOk p (upd g x b) s.published w seat2
   pub statuses_ok : StatusList p statuses (upd g x b)
   pub locks_ok : LockList p locks (upd g x b)
   pub not_waiting : (c : ℕ) (r : Status) → b ≡ Waiting c r → ⊥
@@ -121,14 +119,13 @@ pub record Alike (p : PlanParts) (replies : ℕ → List Reply) (s : State) (g :
   pub pends : is_pending (is_spare_at p.tree x) a ≡ is_pending (is_spare_at p.tree x) b
   pub live : is_live a ≡ true
   pub owned : (c : ℕ) → IsChild p.tree c x → is_same p x ≡ true → (o from : ℕ) → (picture p c (g c)).below ≡ Runs o from → is_owned o a ≡ true → is_owned o b ≡ true
-  pub cancel_on : s.cancel ≡ true → cancel ≡ true
-  pub cancelled : cancel ≡ true → has_failed s.published ≡ true
+  pub raising : p.fail_fast ≡ true → cancel + bit (raises seat2.task) ≡ s.cancel + bit (raises seat.task)
   pub shown_ok : ShownOk s shown
   pub shape : ShapeOk p replies s.published x b
   pub past : is_past a ≡ true → is_past b ≡ true
   pub quiet : is_spare_at p.tree x ≡ true → is_unsettled b ≡ true → (is_unsettled a ≡ true) ⊎ (g (parent_of p.tree x) ≡ InHand w)
 
-pub alike : (p : PlanParts) → IsPlanTree p.tree → (replies : ℕ → List Reply) (s : State) (g : ℕ → Stage) → Holds p replies s g → (w : ℕ) (seat : Seat) → slice_get s.seats w ≡ Some seat → (x : ℕ) (a b : Stage) (seat2 : Seat) (statuses : List NodeStatus) (locks : List LockWord) (cancel : Bool) (shown : List Bool)
+pub alike : (p : PlanParts) → IsPlanTree p.tree → (replies : ℕ → List Reply) (s : State) (g : ℕ → Stage) → Holds p replies s g → (w : ℕ) (seat : Seat) → slice_get s.seats w ≡ Some seat → (x : ℕ) (a b : Stage) (seat2 : Seat) (statuses : List NodeStatus) (locks : List LockWord) (cancel : ℕ) (shown : List Bool)
     → Alike p replies s g w seat x a b seat2 statuses locks cancel shown
     → Holds p replies (record s { statuses = statuses; locks = locks; cancel = cancel; seats = set s.seats w seat2; shown = shown }) (upd g x b)
 alike p plan replies s g h w seat is x a b seat2 statuses locks cancel shown m =
@@ -145,8 +142,7 @@ alike p plan replies s g h w seat is x a b seat2 statuses locks cancel shown m =
       locks_ok = m.locks_ok;
       mark = λ k. ap (has_mark (is_spare_at p.tree x) k) m.mark;
       starter = λ c q. h.starters x c m.inside (ap (λ (st : Stage). starter_of (picture p x st)) m.at ∙ sym m.same_starter ∙ q);
-      cancel_on = m.cancel_on;
-      cancelled = m.cancelled;
+      raising = m.raising;
       shown_ok = m.shown_ok;
       shape = m.shape;
       above = λ c ch. fits_live p (picture p c (g c)).below c x a b m.live (m.owned c ch) (subst (λ (st : Stage). Fits p (picture p c (g c)).below c x st) m.at (h.edges c x ch));

@@ -1,6 +1,6 @@
 -- One lemma for all steps: worker w goes on, node x goes to stage b, and no other node's stage changes. Each field of
 -- `Move` is what a step has to say; the rest of the invariant carries over.
-use Rattle.std.proofs.Common.{◌≡◌, ◌≢◌, ℕ, ◌+◌, ◌<◌, true, false, List, length, set, Option, Some, None, slice_get, ◌⊎◌, inl, inr, refl, sym, ap, ◌∙◌, subst, arith, length-set}
+use Rattle.std.proofs.Common.{◌≡◌, ◌≢◌, ℕ, ◌+◌, ◌<◌, ◌≤◌, true, false, List, length, set, Option, Some, None, slice_get, ◌⊎◌, inl, inr, refl, sym, ap, ◌∙◌, subst, arith, length-set, ◌≤◌}
 use Rattle.std.proofs.lemmas.Option.{same_Some}
 use Rattle.std.proofs.lemmas.Bool.{cases_eq, and_parts}
 use Rattle.descriptor.specs.Nodes.{size, parent_of, IsChild, is_spare_at}
@@ -8,16 +8,21 @@ use Rattle.plan_events.specs.declared.outcome.Reply.{Reply}
 use Rattle.resource_locks.specs.Plans.{PlanParts}
 use Rattle.event_history.specs.Plans.{IsPlanTree, IsElder, is_same}
 use Rattle.event_history.specs.Order.{goes_first}
-use Rattle.event_history.specs.Inside.Following.{has_failed, has_failed_by, registered_in}
+use Rattle.descriptor.specs.Nodes.{bit}
+use Rattle.event_history.specs.Failures.{failures, known, up_to}
+use Rattle.event_history.specs.Inside.Failing.{fails_last}
+use Rattle.event_history.specs.Inside.Following.{registered_in}
+use Rattle.plan_events.specs.declared.event.Event.{Event}
 use Rattle.event_history.specs.Published.{IsPublished}
 use Rattle.scheduling.specs.declared.task.Task.{Task}
 use Rattle.scheduling.specs.declared.task.Task.TheVariants.{Free, Opens, Closes}
 use Rattle.scheduling.specs.declared.seat.Hand.{Hand}
 use Rattle.scheduling.specs.declared.seat.Seat.{Seat}
 use Rattle.scheduling.specs.State.{State, subject}
-use Rattle.scheduling.specs.Inside.Stages.{Stage, Unseen, Offered, OpenedBy, InHand, Waiting, ClosedBy, Over, picture, who, is_unseen, is_past, is_unsettled}
-use Rattle.scheduling.specs.Inside.Invariant.{WordsOk, CountersOk, ResultsOk, LocksOk, FlagsOk, StartersOk, ShapeOk, Fits, EdgesOk, EldersOk, TaskOk, HandOk, SeatOk, HeldBy, IsGiven, Holds}
+use Rattle.scheduling.specs.Inside.Stages.{Stage, Unseen, Offered, OpenedBy, InHand, Waiting, ClosedBy, Over, picture, who, is_unseen, is_past, is_unsettled, raises}
+use Rattle.scheduling.specs.Inside.Invariant.{WordsOk, CountersOk, ResultsOk, LocksOk, FlagsOk, StartersOk, ShapeOk, Fits, EdgesOk, EldersOk, TaskOk, HandOk, SeatOk, HeldBy, IsGiven, Holds, still_raising}
 use Rattle.scheduling.proofs.Basics.{upd, upd_same, upd_other, upd_all, get_set, get_set_same, get_set_other}
+use Rattle.scheduling.proofs.Raising.{raising_change}
 
 pub record Move (p : PlanParts) (replies : ℕ → List Reply) (s t : State) (g : ℕ → Stage) (w x : ℕ) (b : Stage) (seat seat2 : Seat) : Type 0 where
   -- the worker's seat
@@ -27,7 +32,7 @@ pub record Move (p : PlanParts) (replies : ℕ → List Reply) (s t : State) (g 
   pub alone : (v : ℕ) → who (g x) ≡ Some v → v ≡ w
   pub still : (n : ℕ) → n ≢ x → subject seat.task ≡ Some n → seat2.task ≡ seat.task
   pub held : HeldBy (set s.seats w seat2) x b
-  pub seat_ok : SeatOk p (upd g x b) t.published t.cancel w seat2
+  pub seat_ok : SeatOk p (upd g x b) t.published w seat2
   -- the words
   pub statuses_len : length t.statuses ≡ size p.tree
   pub counters_len : length t.counters ≡ size p.tree
@@ -40,10 +45,9 @@ pub record Move (p : PlanParts) (replies : ℕ → List Reply) (s t : State) (g 
   -- the history
   pub flags : FlagsOk p t.published (upd g x b)
   pub starters : StartersOk p t.published (upd g x b)
-  pub fails : (v : ℕ) → v ≢ w → has_failed_by (v + 1) t.published ≡ has_failed_by (v + 1) s.published
+  pub others : (v : ℕ) → v ≢ w → (up_to (v + 1) t.published ≡ up_to (v + 1) s.published) × (fails_last (v + 1) t.published ≡ fails_last (v + 1) s.published)
   pub counts : (f : ℕ) → (registered_in p t.published f ≡ registered_in p s.published f) ⊎ (g f ≡ InHand w)
-  pub cancel_on : s.cancel ≡ true → t.cancel ≡ true
-  pub cancelled : t.cancel ≡ true → has_failed t.published ≡ true
+  pub raising : p.fail_fast ≡ true → t.cancel + bit (raises seat2.task) + failures s.published ≡ s.cancel + bit (raises seat.task) + failures t.published
   pub published : IsPublished p replies (length s.seats) t.published
   pub given : IsGiven t
   -- the node
@@ -127,19 +131,27 @@ module _ (p : PlanParts) (plan : IsPlanTree p.tree) (replies : ℕ → List Repl
         ];
       }
 
-  seat_keeps : (v : ℕ) (other : Seat) → slice_get t.seats v ≡ Some other → SeatOk p (upd g x b) t.published t.cancel v other
+  seat_keeps : (v : ℕ) (other : Seat) → slice_get t.seats v ≡ Some other → SeatOk p (upd g x b) t.published v other
   seat_keeps v other q =
       elim (get_set s.seats w seat2 v other (ap (λ (l : List Seat). slice_get l v) (sym m.seats) ∙ q)) [
-        | inl a ↦ subst (λ (k : ℕ). SeatOk p (upd g x b) t.published t.cancel k other) (sym a.0) (subst (λ (o : Seat). SeatOk p (upd g x b) t.published t.cancel w o) (sym a.1) m.seat_ok)
+        | inl a ↦ subst (λ (k : ℕ). SeatOk p (upd g x b) t.published k other) (sym a.0) (subst (λ (o : Seat). SeatOk p (upd g x b) t.published w o) (sym a.1) m.seat_ok)
         | inr a ↦ (let old = h.seats v other a.1 in
             record {
               task = task_keeps p g x b v other.task (λ at. a.0 (m.alone v at)) old.task;
               hand = hand_keeps v other.hand a.0 old.hand;
               brought = old.brought;
-              failed = λ r. m.fails v a.0 ∙ old.failed r;
-              quits = λ ff r. elim (old.quits ff (sym (m.fails v a.0) ∙ r)) [ inl y ↦ inl y | inr y ↦ inr (m.cancel_on y.0, y.1) ];
+              failed = λ r. (m.others v a.0).1 ∙ old.failed r;
+              quits = λ ff bold. subst (λ (l : List Event). known (v + 1) l ≤ p.tolerated) (sym (m.others v a.0).0) (old.quits ff bold);
             })
       ]
+
+  raised_keeps : p.fail_fast ≡ true → t.cancel + still_raising t.seats ≡ failures t.published
+  raised_keeps ff =
+      let change = raising_change s.seats w seat seat2 m.seat_is in
+      let was : s.cancel + still_raising s.seats ≡ failures s.published = h.raised ff in
+      let moves : t.cancel + bit (raises seat2.task) + failures s.published ≡ s.cancel + bit (raises seat.task) + failures t.published = m.raising ff in
+      let same : still_raising t.seats ≡ still_raising (set s.seats w seat2) = ap still_raising m.seats in
+      omega (arith, change, was, moves, same)
 
   -- The invariant is kept.
   pub moved : Holds p replies t (upd g x b)
@@ -162,7 +174,7 @@ module _ (p : PlanParts) (plan : IsPlanTree p.tree) (replies : ℕ → List Repl
     held = λ n lt. subst (λ (l : List Seat). HeldBy l n (upd g x b n)) (sym m.seats)
         (upd_all (λ k st. HeldBy (set s.seats w seat2) k st) g x b n (λ e. subst (λ (k : ℕ). HeldBy (set s.seats w seat2) k b) (sym e) m.held)
         (λ ne. held_keeps s.seats w seat seat2 n (g n) m.seat_is (m.still n ne) (h.held n lt)));
-    cancelled = m.cancelled;
+    raised = raised_keeps;
     published = subst (λ (k : ℕ). IsPublished p replies k t.published) (sym (length-set s.seats w seat2) ∙ ap length (sym m.seats)) m.published;
     given = m.given;
   }

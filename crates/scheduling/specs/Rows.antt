@@ -62,16 +62,19 @@ claim_row p s w seat n = cond (is_free seat.task && (is_empty seat.hand && is_re
 abbrev pub own_row : PlanParts → State → ℕ → Seat → ℕ → Option State
 own_row p s w seat n = cond (is_free seat.task && (is_of_hand p seat.hand n && is_ready_for (Some w) (status_at s n))) (Some (claimed p s w seat n)) None
 
--- notice, raise
+-- notice, raise: whether more failures were raised than are tolerated
+abbrev pub is_cancelled : PlanParts → State → Bool
+is_cancelled p s = nat_lt p.tolerated s.cancel
+
 abbrev pub goes : State → ℕ → Seat → Task → State
 goes s w seat t = record s { seats = goes_to s w (with_task seat t) }
 
 abbrev pub notice_row : PlanParts → State → ℕ → Seat → Task → Option State
-notice_row p s w seat (Opens n Noticing) = Some (goes s w seat (Opens n (begins p n s.cancel)))
+notice_row p s w seat (Opens n Noticing) = Some (goes s w seat (Opens n (begins p n (is_cancelled p s))))
 notice_row p s w seat _ = None
 
 abbrev pub raised : PlanParts → State → ℕ → Seat → ℕ → State
-raised p s w seat n = record s { cancel = true; seats = goes_to s w (with_task seat (Closes n (giving (keys_count p n)))) }
+raised p s w seat n = record s { cancel = s.cancel + 1; seats = goes_to s w (with_task seat (Closes n (giving (keys_count p n)))) }
 
 abbrev pub raise_row : PlanParts → State → ℕ → Seat → Task → Option State
 raise_row p s w seat (Closes n Raising) = Some (raised p s w seat n)

@@ -35,7 +35,7 @@ opening p workers = record {
   counters = table (first_counter p) (size p.tree);
   results = table (λ n. Successful) (size p.tree);
   locks = replicate (length p.keys) (Readers 0);
-  cancel = false;
+  cancel = 0;
   seats = replicate workers (record { task = Free; hand = None });
   published = [];
   shown = [];

@@ -22,7 +22,8 @@ pub record State : Type 0 where
   -- the result of each node, once its guard is given up
   pub results : List Status
   pub locks : List LockWord
-  pub cancel : Bool
+  -- how many failures were raised
+  pub cancel : ℕ
   pub seats : List Seat
   -- the events that are drawn, and whether each is shown
   pub published : List Event

@@ -2,7 +2,7 @@
 use Rattle.std.specs.Prelude.{◌≡◌, ℕ, zero, suc, ◌+◌, ◌<◌, ◌≤◌, Bool, true, false, ◌&&◌, ◌==◌, List, ◌++◌, length, Option, Some, None, slice_get, ◌⊎◌}
 use Rattle.descriptor.specs.declared.lock_mode.LockMode.{LockMode}
 use Rattle.descriptor.specs.declared.lock_mode.LockMode.TheVariants.{Read, ReadWrite}
-use Rattle.descriptor.specs.Nodes.{size, parent_of, IsChild, is_child, count_below, is_spare_at, is_disabled}
+use Rattle.descriptor.specs.Nodes.{bit, size, parent_of, IsChild, is_child, count_below, is_spare_at, is_disabled}
 use Rattle.plan_events.specs.declared.event.EventKind.{EventKind}
 use Rattle.plan_events.specs.declared.status.Status.{Status}
 use Rattle.plan_events.specs.declared.status.Status.TheVariants.{Successful}
@@ -13,7 +13,9 @@ use Rattle.event_history.specs.Plans.{IsPlanTree, Leaf, Maker, IsElder, sort_of,
 use Rattle.event_history.specs.Places.{has}
 use Rattle.event_history.specs.Results.{Jobs, NoJob, Around, jobs_of, HasAnswer, Ends}
 use Rattle.event_history.specs.Order.{goes_first}
-use Rattle.event_history.specs.Inside.Following.{has_failed, has_failed_by, started_by, registered_in}
+use Rattle.event_history.specs.Failures.{failures, known, up_to}
+use Rattle.event_history.specs.Inside.Failing.{fails_last}
+use Rattle.event_history.specs.Inside.Following.{started_by, registered_in}
 use Rattle.event_history.specs.Published.{IsPublished}
 use Rattle.scheduling.specs.declared.lock_word.LockWord.{LockWord}
 use Rattle.scheduling.specs.declared.lock_word.LockWord.TheVariants.{Readers, Written}
@@ -98,7 +100,7 @@ GoesOn replies (Around body after) = (text : Option (List ℕ)) × HasAnswer rep
 GoesOn replies _ = ⊥
 
 abbrev pub SkipReason : PlanParts → List Event → ℕ → Type 0
-SkipReason p h n = (is_disabled p.tree n ≡ true) ⊎ ((p.fail_fast ≡ true) × (has_failed h ≡ true))
+SkipReason p h n = (is_disabled p.tree n ≡ true) ⊎ ((p.fail_fast ≡ true) × (p.tolerated < failures h))
 
 -- a node that kept its guard has no children, or is stopped; one that gave it up is not stopped
 abbrev pub EndsSo : PlanParts → ℕ → How → (stopped : Bool) → Type 0
@@ -212,17 +214,29 @@ abbrev pub BringsOk : PlanParts → Task → Option Hand → Type 0
 BringsOk p (Opens n d) hand = brings d ≡ true → IsBrought p n d hand
 BringsOk p _ hand = Unit {0}
 
-pub record SeatOk (p : PlanParts) (g : ℕ → Stage) (h : List Event) (cancel : Bool) (w : ℕ) (seat : Seat) : Type 0 where
+pub record SeatOk (p : PlanParts) (g : ℕ → Stage) (h : List Event) (w : ℕ) (seat : Seat) : Type 0 where
   pub task : TaskOk p g w seat.task
   pub hand : HandOk p g h w seat.hand
   pub brought : BringsOk p seat.task seat.hand
-  -- fail-fast: a failure that is to be raised was drawn by this worker; and after a failure of its own it is not about to
-  -- start a node without a look at the cancel word, which is set once the failure is raised
-  pub failed : raises seat.task ≡ true → has_failed_by (w + 1) h ≡ true
-  pub quits : p.fail_fast ≡ true → has_failed_by (w + 1) h ≡ true → (raises seat.task ≡ true) ⊎ ((cancel ≡ true) × (is_bold seat.task ≡ false))
+  -- a failure that is to be raised is the last event that was drawn by this worker
+  pub failed : raises seat.task ≡ true → fails_last (w + 1) h ≡ true
+  -- fail-fast: who is about to start a node without a look at the cancel word knew, at its last event, of no more failures than are
+  -- tolerated
+  pub quits : p.fail_fast ≡ true → is_bold seat.task ≡ true → known (w + 1) (up_to (w + 1) h) ≤ p.tolerated
 
-abbrev pub SeatsOk : PlanParts → (ℕ → Stage) → List Event → Bool → List Seat → Type 0
-SeatsOk p g h cancel seats = (w : ℕ) (seat : Seat) → slice_get seats w ≡ Some seat → SeatOk p g h cancel w seat
+abbrev pub SeatsOk : PlanParts → (ℕ → Stage) → List Event → List Seat → Type 0
+SeatsOk p g h seats = (w : ℕ) (seat : Seat) → slice_get seats w ≡ Some seat → SeatOk p g h w seat
+
+-- how many failures were drawn and are still to be raised
+abbrev pub raising_in : Option Seat → ℕ
+raising_in None = 0
+raising_in (Some seat) = bit (raises seat.task)
+
+abbrev pub raising_at : List Seat → ℕ → ℕ
+raising_at seats w = raising_in (slice_get seats w)
+
+unfoldable pub still_raising : List Seat → ℕ
+still_raising seats = sum_below (raising_at seats) (length seats)
 
 -- and the other way round: whoever is at a node has it as its task
 abbrev pub HeldBy : List Seat → ℕ → Stage → Type 0
@@ -252,9 +266,10 @@ pub record Holds (p : PlanParts) (replies : ℕ → List Reply) (s : State) (g :
   pub shapes : (n : ℕ) → n < size p.tree → ShapeOk p replies s.published n (g n)
   pub edges : EdgesOk p g
   pub elders : EldersOk p g
-  pub seats : SeatsOk p g s.published s.cancel s.seats
+  pub seats : SeatsOk p g s.published s.seats
   pub held : (n : ℕ) → n < size p.tree → HeldBy s.seats n (g n)
-  pub cancelled : s.cancel ≡ true → has_failed s.published ≡ true
+  -- fail-fast: each failure was raised, or is to be
+  pub raised : p.fail_fast ≡ true → s.cancel + still_raising s.seats ≡ failures s.published
   pub published : IsPublished p replies (length s.seats) s.published
   pub given : IsGiven s
 
