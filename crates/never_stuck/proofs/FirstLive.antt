@@ -1,10 +1,10 @@
 -- Where all workers but the first ones are idle, the state with the seats of the first ones alone has what reached states have.
 use Rattle.std.specs.Prelude.{take}
-use Rattle.std.proofs.Common.{◌≡◌, ℕ, zero, suc, ◌<◌, ◌≤◌, Bool, true, false, ◌&&◌, ◌||◌, List, [], ◌∷◌, length, Some, None, slice_get, ◌⊎◌, inl, inr, refl, sym, ap, ◌∙◌, subst, eqb-true, arith}
-use Rattle.std.proofs.lemmas.Bool.{cases_lt}
+use Rattle.std.proofs.Common.{◌≡◌, ℕ, zero, suc, ◌<◌, ◌≤◌, Bool, true, false, ◌&&◌, ◌||◌, List, [], ◌∷◌, length, Some, None, slice_get, ◌⊎◌, inl, inr, refl, sym, ap, ◌∙◌, subst, eqb-true, arith, ◌+◌, Option, ◌≢◌}
+use Rattle.std.proofs.lemmas.Bool.{cases_lt, cases_eq}
 use Rattle.std.proofs.lemmas.List.{get_or_past, length-take}
-use Rattle.std.proofs.lemmas.Option.{none-some}
-use Rattle.descriptor.specs.Nodes.{size, is_child, is_spare_at}
+use Rattle.std.proofs.lemmas.Option.{none-some, slice_get_within}
+use Rattle.descriptor.specs.Nodes.{size, is_child, is_spare_at, bit}
 use Rattle.plan_events.specs.declared.outcome.Reply.{Reply}
 use Rattle.resource_locks.specs.Plans.{PlanParts}
 use Rattle.event_history.specs.Plans.{is_same}
@@ -18,9 +18,9 @@ use Rattle.scheduling.specs.declared.seat.Seat.{Seat}
 use Rattle.scheduling.specs.State.{State}
 use Rattle.scheduling.specs.Shown.{named, IsPlaced}
 use Rattle.scheduling.specs.Inside.Going.{word_of, owed, StillTo, IsPassing}
-use Rattle.scheduling.specs.Inside.Stages.{Stage, Offered, OpenedBy, ClosedBy, is_live, is_owned}
-use Rattle.scheduling.specs.Inside.Invariant.{IsCorePlan, IsNextSame, ShapeOk, TaskOk, HeldBy, Holds}
-use Rattle.scheduling.proofs.Basics.{count_same}
+use Rattle.scheduling.specs.Inside.Stages.{Stage, Offered, OpenedBy, ClosedBy, is_live, is_owned, raises}
+use Rattle.scheduling.specs.Inside.Invariant.{IsCorePlan, IsNextSame, ShapeOk, TaskOk, HeldBy, Holds, sum_below, raising_in, raising_at, still_raising}
+use Rattle.scheduling.proofs.Basics.{count_same, sum_same}
 use Rattle.scheduling.proofs.GoingBasics.{hidden_ready}
 use Rattle.scheduling.proofs.LessWorkSteps.{opens_busy, closes_busy}
 use Rattle.never_stuck.specs.Inside.Live.{IsLive}
@@ -36,6 +36,17 @@ any_take : (f : Seat → Bool) (many : ℕ) (q : List Seat) → ((w : ℕ) (o : 
 any_take f zero q none = sym (none_of f q (λ w o at. none w o (omega arith) at))
 any_take f (suc many) [] none = refl
 any_take f (suc many) (x ∷ q) none = ap (λ (b : Bool). f x || b) (any_take f many q (λ w o far at. none (suc w) o (omega (arith, far)) at))
+
+-- a sum, of which the last terms are nothing
+sum_front : (f g : ℕ → ℕ) (m n : ℕ) → m ≤ n → ((k : ℕ) → k < m → g k ≡ f k) → ((k : ℕ) → m ≤ k → f k ≡ 0) → sum_below g m ≡ sum_below f n
+sum_front f g m zero le same none = (let is : m ≡ 0 = omega (arith, le) in ap (sum_below g) is)
+sum_front f g m (suc n) le same none =
+    elim (cases_eq m (suc n)) [
+      | inl e ↦ ap (sum_below g) e ∙ sum_same g f (suc n) (λ k lt. same k (omega (arith, lt, e)))
+      | inr ne ↦ (let ih : sum_below g m ≡ sum_below f n = sum_front f g m n (omega (arith, le, ne)) same none in
+          let last : f n ≡ 0 = none n (omega (arith, le, ne)) in
+          omega (arith, ih, last))
+    ]
 
 module _ (p : PlanParts) (core : IsCorePlan p) (replies : ℕ → List Reply) (reply : ℕ → Reply) (many : ℕ) (some : 0 < many) (s : State) (live : IsLive p replies reply s) (idle : AreIdleFrom many s) where
   abbrev q : List Seat
@@ -144,6 +155,20 @@ module _ (p : PlanParts) (core : IsCorePlan p) (replies : ℕ → List Reply) (r
   held_first n (ClosedBy w c d how) x = (x.0, stays w x.0 x.1 (λ e. closes_busy n d (sym x.2 ∙ ap (λ (o : Seat). o.task) e)), x.2)
   held_first n _ x = tt
 
+  -- who is idle has no failure to raise
+  raising_first : still_raising q2 ≡ still_raising q
+  unfolding still_raising
+  raising_first =
+      let long = length-take many q in
+      sum_front (raising_at q) (raising_at q2) (length q2) (length q) (omega (arith, long)) (λ k low. ap raising_in (take_get many q k (omega (arith, long, low)))) (λ k far. none k far (slice_get q k) refl)
+    where
+      none : (k : ℕ) → length q2 ≤ k → (o : Option Seat) → slice_get q k ≡ o → raising_in o ≡ 0
+      none k far None at = refl
+      none k far (Some o) at = elim (cases_lt k many) [
+        | inl low ↦ (let long = length-take many q in let within = slice_get_within q k o at in absurd (omega (arith, long, low, within, far)))
+        | inr past ↦ ap (λ (x : Seat). bit (raises x.task)) (idle.free k o past at)
+      ]
+
   holds_first : Holds p replies (first_seats many s) g
   holds_first = record {
     workers_few = (let few = h.workers_few in let long = length-take many q in omega (arith, few, long));
@@ -162,7 +187,7 @@ module _ (p : PlanParts) (core : IsCorePlan p) (replies : ℕ → List Reply) (r
     elders = h.elders;
     seats = λ w o at. h.seats w o (kept_seat w o at).1;
     held = λ n lt. held_first n (g n) (h.held n lt);
-    cancelled = h.cancelled;
+    raised = λ ff. ap (λ (k : ℕ). s.cancel + k) raising_first ∙ h.raised ff;
     published = published_first;
     given = record { rest = h.given.rest; front = h.given.front; shown = h.given.shown };
   }

@@ -54,7 +54,7 @@ closing_added p replies h e n (Passing m o) how same old = old
 closing_added p replies h e n CountingOff how same old = old
 closing_added p replies h e n (FinishedAt i s) how same old = tt
 closing_added p replies h e n (SkippedAt i) how same old = tt
-closing_added p replies h e n Raising how same old = tt
+closing_added p replies h e n Raising how same old = old
 closing_added p replies h e n (Giving i) how same old = old
 closing_added p replies h e n Settling how same old = tt
 

@@ -298,7 +298,7 @@ module _ (p : PlanParts) (core : IsCorePlan p) (replies : ℕ → List Reply) (s
   closing_at : (x : ℕ) (d : Closing) → seat.task ≡ Closes x d → TaskOk p g w (Closes x d)
   closing_at x d e = subst (TaskOk p g w) e mine.task
 
-  closing_shape : (x : ℕ) (d : Closing) → seat.task ≡ Closes x d → (c : ℕ) × (how : How) × ClosingOk p replies s.published x d how
+  pub closing_shape : (x : ℕ) (d : Closing) → seat.task ≡ Closes x d → (c : ℕ) × (how : How) × ClosingOk p replies s.published x d how
   closing_shape x d e = (let t = closing_at x d e in (t.1.0, t.1.1, subst (ShapeOk p replies s.published x) t.1.2 (h.shapes x t.0)))
 
   -- the worker goes on where k keys are left to give back
@@ -353,7 +353,7 @@ module _ (p : PlanParts) (core : IsCorePlan p) (replies : ℕ → List Reply) (s
   show_closing_keeps x i status e =
       by_cond (λ d2. IsKept p replies (shows s w (with_task seat (Closes x d2)) i)) (p.fail_fast && is_failed_or (Some status)) Raising (giving (keys_count p x))
       (λ c. turn_closing x (FinishedAt i status) Raising s.locks s.cancel (set s.shown i true) e (λ v how. refl) (λ v how at. keys_stay x (ClosedBy w v (FinishedAt i status) how) (ClosedBy w v Raising how) (closing_at x (FinishedAt i status) e).0 at refl) (shown_set i)
-      (λ v how. refl) (λ v how. refl) (λ v how. refl) refl (λ u. absurd (false≢true u)) (λ v ch o from r u. refl) (λ v how u. tt) (λ ff. ap (λ (b : Bool). s.cancel + bit b) (sym (and_parts p.fail_fast (is_failed_or (Some status)) c).1)) (λ u. (and_parts p.fail_fast (is_failed_or (Some status)) c).1) (quit_calm p s.published w (Closes x (FinishedAt i status)) (Closes x Raising) refl))
+      (λ v how. refl) (λ v how. refl) (λ v how. refl) refl (λ u. absurd (false≢true u)) (λ v ch o from r u. refl) (λ v how u. (and_parts p.fail_fast (is_failed_or (Some status)) c).0) (λ ff. ap (λ (b : Bool). s.cancel + bit b) (sym (and_parts p.fail_fast (is_failed_or (Some status)) c).1)) (λ u. (and_parts p.fail_fast (is_failed_or (Some status)) c).1) (quit_calm p s.published w (Closes x (FinishedAt i status)) (Closes x Raising) refl))
       (λ c. gives_on x (keys_count p x) (FinishedAt i status) s.locks s.cancel (set s.shown i true) e (λ v how. refl) (λ v how. refl) (λ v how. refl) (λ v how. refl) refl (shown_set i) (λ ff. ap (λ (b : Bool). s.cancel + bit b) (sym (false_from_ne_true (is_failed_or (Some status)) (λ y. both_ways (p.fail_fast && is_failed_or (Some status)) c (and_from p.fail_fast (is_failed_or (Some status)) ff y)))))
       (λ d2 b. quit_calm p s.published w (Closes x (FinishedAt i status)) (Closes x d2) b)
       (λ v how d2 at kb. keys_stay x (ClosedBy w v (FinishedAt i status) how) (ClosedBy w v d2 how) (closing_at x (FinishedAt i status) e).0 at (sym kb)) (le_refl (keys_count p x)))

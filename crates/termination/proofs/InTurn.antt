@@ -25,7 +25,7 @@ use Rattle.scheduling.specs.declared.step.Action.{Action}
 use Rattle.scheduling.specs.declared.step.Action.TheVariants.{Claim, Own, Notice, Weigh, Take, AddChild, Done, Look}
 use Rattle.scheduling.specs.State.{State, status_at, counter_at, lock_at}
 use Rattle.scheduling.specs.Choices.{keys_count, key_at, mode_at, admits, taken, same_word, lock_from, begins, notices, claims, next_spare, is_pulled, pulled_result, ending, awaited, hand_job}
-use Rattle.scheduling.specs.Rows.{with_task, goes_to, is_free, same_offer, is_empty, is_ready_for, is_of_hand, claimed, goes, notice_row, weighed, weigh_row, puts_word, take_found, take_row, child_added, add_by_hand, add_child_hand, add_child_row, ends_or_free, guard_given, done_by_hand, done_hand, done_row, decided_seat, row}
+use Rattle.scheduling.specs.Rows.{with_task, goes_to, is_free, same_offer, is_empty, is_ready_for, is_of_hand, claimed, goes, notice_row, weighed, weigh_row, puts_word, take_found, take_row, child_added, add_by_hand, add_child_hand, add_child_row, ends_or_free, guard_given, done_by_hand, done_hand, done_row, decided_seat, row, is_cancelled}
 use Rattle.scheduling.specs.Schedule.{may_add, action_waiting, taking, hand_action, opening_action, closing_action}
 use Rattle.scheduling.specs.Inside.Stages.{Stage}
 use Rattle.scheduling.specs.Inside.Invariant.{IsCorePlan, OpeningOk, ShapeOk, IsInHand, Holds}
@@ -170,8 +170,8 @@ module _ (p : PlanParts) (plan : IsPlan p) (core : IsCorePlan p) (replies : ℕ 
 
     notices_goes : (n : ℕ) → D.task ≡ Opens n Noticing → Goes Notice
     notices_goes n e =
-        let t : State = goes U w D (Opens n (begins p n s.cancel)) in
-        goes_so Notice t (with_task D (Opens n (begins p n s.cancel))) (ap (notice_row p U w D) e) refl (begins_ahead p t n (ahead_at (Opens n Noticing) e) s.cancel) (subst (IsClear p U) (sym e) tt) (λ z _. notice_look z)
+        let t : State = goes U w D (Opens n (begins p n (is_cancelled p s))) in
+        goes_so Notice t (with_task D (Opens n (begins p n (is_cancelled p s)))) (ap (notice_row p U w D) e) refl (begins_ahead p t n (ahead_at (Opens n Noticing) e) (is_cancelled p s)) (subst (IsClear p U) (sym e) tt) (λ z _. notice_look z)
 
     key_word : (n i : ℕ) → i < keys_count p n → slice_get s.locks (key_at p n i) ≡ Some (lock_at s (key_at p n i))
     key_word n i lt = (let inside = key_inside p plan n i lt in let len = live.locks in slice_get-get_or s.locks (key_at p n i) (Readers 0) (omega (arith, inside, len)))

@@ -33,7 +33,7 @@ use Rattle.scheduling.specs.State.{State, status_at, counter_at, result_at, lock
 use Rattle.scheduling.specs.Choices.{next_spare, admit_from, after_settle, offered_to, keys_count, key_at, mode_at, admits, taken, given_back, same_word, lock_from, begins, claims, giving, after_finish, is_pulled, pulled_result, event_of}
 use Rattle.scheduling.specs.declared.step.Action.{Action}
 use Rattle.scheduling.specs.declared.step.Action.TheVariants.{Claim, Own, Notice, Weigh, Take, Give, GiveUp, Draw, Show, Admit, AddChild, Done, Settle, Look, Raise}
-use Rattle.scheduling.specs.Rows.{with_task, goes, claimed, is_free, is_ready_for, is_empty, is_of_hand, notice_row, weighed, weigh_row, puts_word, take_found, take_row, gives_key, give_row, give_up_row, drawn, one_more, draw_row, after_start, show_row, offers, waits_for, admit_row, child_added, add_by_hand, add_child_hand, add_child_row, ends_or_free, guard_given, done_by_hand, done_hand, done_row, waits_no_more, settle_row, look_found, look_row, raise_row, row}
+use Rattle.scheduling.specs.Rows.{with_task, goes, claimed, is_free, is_ready_for, is_empty, is_of_hand, notice_row, weighed, weigh_row, puts_word, take_found, take_row, gives_key, give_row, give_up_row, drawn, one_more, draw_row, after_start, show_row, offers, waits_for, admit_row, child_added, add_by_hand, add_child_hand, add_child_row, ends_or_free, guard_given, done_by_hand, done_hand, done_row, waits_no_more, settle_row, look_found, look_row, raise_row, row, is_cancelled}
 use Rattle.scheduling.specs.Inside.Stages.{How, Gave, Kept, Skips, has_mark, Stage, Unseen, OpenedBy, InHand, ClosedBy, picture, is_unseen, is_past, is_over}
 use Rattle.scheduling.specs.Inside.Invariant.{IsCorePlan, IsNextSame, OpeningOk, ShapeOk, RunsSo, Fits, TaskOk, HandOk, IsInHand, SeatOk, Holds, pending}
 use Rattle.scheduling.specs.Inside.Work.{IsClear}
@@ -65,7 +65,7 @@ counter_steps_on : (p : PlanParts) (n c : ℕ) → is_disabled p.tree n ≡ fals
 counter_steps_on p n c enabled = cond-false (is_disabled p.tree n) 0 c enabled
 
 module _ (p : PlanParts) (core : IsCorePlan p) (replies : ℕ → List Reply) (s : State) (g : ℕ → Stage) (h : Holds p replies s g) (w : ℕ) (seat : Seat) (is : slice_get s.seats w ≡ Some seat) where
-  mine : SeatOk p g s.published s.cancel w seat
+  mine : SeatOk p g s.published w seat
   mine = h.seats w seat is
 
   opens : (n : ℕ) (d : Opening) → seat.task ≡ Opens n d → (n < size p.tree) × (g n ≡ OpenedBy w d)
@@ -80,7 +80,7 @@ module _ (p : PlanParts) (core : IsCorePlan p) (replies : ℕ → List Reply) (s
   plain : (after before was then old next : ℕ) → after + was + old ≡ before + then + next → then + next < was + old → after < before
   plain after before was then old next e less = omega (arith, e, less)
 
-  goes_lower : (locks : List LockWord) (cancel : Bool) (shown : List Bool) (next : Seat) → seat_steps p next < seat_steps p seat → steps_left p (record s { locks = locks; cancel = cancel; shown = shown; seats = set s.seats w next }) < steps_left p s
+  goes_lower : (locks : List LockWord) (cancel : ℕ) (shown : List Bool) (next : Seat) → seat_steps p next < seat_steps p seat → steps_left p (record s { locks = locks; cancel = cancel; shown = shown; seats = set s.seats w next }) < steps_left p s
   goes_lower locks cancel shown next less = (let moves = task_moves p s w seat is locks cancel shown next in one _ _ (seat_steps p seat) (seat_steps p next) moves less)
     where
       one : (after before old next : ℕ) → after + old ≡ before + next → next < old → after < before
@@ -90,7 +90,7 @@ module _ (p : PlanParts) (core : IsCorePlan p) (replies : ℕ → List Reply) (s
   made : (u t : State) → steps_left p u < steps_left p s → Some u ≡ Some t → steps_left p t < steps_left p s
   made u t less q = subst (λ (x : State). steps_left p x < steps_left p s) (same_Some u t q) less
 
-  lower : (t0 t1 : Task) (locks : List LockWord) (cancel : Bool) (shown : List Bool) → seat.task ≡ t0 → task_steps p t1 < task_steps p t0 → steps_left p (record s { locks = locks; cancel = cancel; shown = shown; seats = set s.seats w (with_task seat t1) }) < steps_left p s
+  lower : (t0 t1 : Task) (locks : List LockWord) (cancel : ℕ) (shown : List Bool) → seat.task ≡ t0 → task_steps p t1 < task_steps p t0 → steps_left p (record s { locks = locks; cancel = cancel; shown = shown; seats = set s.seats w (with_task seat t1) }) < steps_left p s
   lower t0 t1 locks cancel shown e less = goes_lower locks cancel shown (with_task seat t1) (let was = task_is t0 e in omega (arith, was, less))
 
   -- a node's status changes
@@ -114,12 +114,12 @@ module _ (p : PlanParts) (core : IsCorePlan p) (replies : ℕ → List Reply) (s
 
   notice_pays : (t0 : Task) → seat.task ≡ t0 → (t : State) → notice_row p s w seat t0 ≡ Some t → steps_left p t < steps_left p s
   notice_pays (Opens n Noticing) e t r =
-      made _ t (lower (Opens n Noticing) (Opens n (begins p n s.cancel)) s.locks s.cancel s.shown e (let a = begins_steps p n s.cancel in let fast = bit_few p.fail_fast in omega (arith, a, fast))) r
+      made _ t (lower (Opens n Noticing) (Opens n (begins p n (is_cancelled p s))) s.locks s.cancel s.shown e (let a = begins_steps p n (is_cancelled p s) in let fast = bit_few p.fail_fast in omega (arith, a, fast))) r
   notice_pays _ e t r = absurd (none-some t r)
 
   raise_pays : (t0 : Task) → seat.task ≡ t0 → (t : State) → raise_row p s w seat t0 ≡ Some t → steps_left p t < steps_left p s
   raise_pays (Closes n Raising) e t r =
-      made _ t (lower (Closes n Raising) (Closes n (giving (keys_count p n))) s.locks true s.shown e (let a = giving_steps p n (keys_count p n) in let few = keys_few p n in let fast = bit_few p.fail_fast in omega (arith, a, few, fast))) r
+      made _ t (lower (Closes n Raising) (Closes n (giving (keys_count p n))) s.locks (s.cancel + 1) s.shown e (let a = giving_steps p n (keys_count p n) in let few = keys_few p n in let fast = bit_few p.fail_fast in omega (arith, a, few, fast))) r
   raise_pays _ e t r = absurd (none-some t r)
 
   weigh_pays : (t0 : Task) → seat.task ≡ t0 → IsClear p s t0 → (t : State) → weigh_row p s w seat t0 ≡ Some t → steps_left p t < steps_left p s

@@ -33,7 +33,7 @@ module _ (p : PlanParts) (s : State) (w : ℕ) (seat : Seat) (is : slice_get s.s
   ranks next = sum_moves (seat_steps p) s.seats w seat next is
 
   -- the worker goes on to another task
-  pub task_moves : (locks : List LockWord) (cancel : Bool) (shown : List Bool) (next : Seat) → steps_left p (record s { locks = locks; cancel = cancel; shown = shown; seats = set s.seats w next }) + seat_steps p seat ≡ steps_left p s + seat_steps p next
+  pub task_moves : (locks : List LockWord) (cancel : ℕ) (shown : List Bool) (next : Seat) → steps_left p (record s { locks = locks; cancel = cancel; shown = shown; seats = set s.seats w next }) + seat_steps p seat ≡ steps_left p s + seat_steps p next
   task_moves locks cancel shown next = plain (statuses_left p s + counters_left p s + 4 * (most_events p - length s.published)) (length s.published - length s.given) _ _ (seat_steps p seat) (seat_steps p next) (ranks next)
     where
       plain : (m c sum new old next : ℕ) → new + old ≡ sum + next → (m + new + c) + old ≡ (m + sum + c) + next

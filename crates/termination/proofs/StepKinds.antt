@@ -21,7 +21,7 @@ use Rattle.scheduling.specs.State.{State, status_at, counter_at, result_at, lock
 use Rattle.scheduling.specs.Choices.{keys_count, in_batch, first_from, notices, next_spare, is_pulled, pulled_result, same_word, key_at, mode_at, taken, given_back, lock_from, begins, claims, giving, after_finish, after_settle, admit_next, ending, decided}
 use Rattle.scheduling.specs.declared.step.Action.{Action}
 use Rattle.scheduling.specs.declared.step.Action.TheVariants.{Claim, Own, Notice, Weigh, Take, Give, GiveUp, Draw, Show, Admit, AddChild, Done, Settle, Look, Raise}
-use Rattle.scheduling.specs.Rows.{one_more, waits_for, waits_no_more, with_task, goes, puts_word, weighed, claimed, given_up, guard_given, ends_or_free, after_start, row, is_free, is_empty, is_of_hand, is_ready_for, notice_row, weigh_row, take_found, take_row, gives_key, give_row, give_up_row, draw_row, show_row, admit_row, child_added, add_by_hand, add_child_hand, add_child_row, done_by_hand, done_hand, done_row, settle_row, look_found, look_row, raise_row}
+use Rattle.scheduling.specs.Rows.{one_more, waits_for, waits_no_more, with_task, goes, puts_word, weighed, claimed, given_up, guard_given, ends_or_free, after_start, row, is_free, is_empty, is_of_hand, is_ready_for, notice_row, weigh_row, take_found, take_row, gives_key, give_row, give_up_row, draw_row, show_row, admit_row, child_added, add_by_hand, add_child_hand, add_child_row, done_by_hand, done_hand, done_row, settle_row, look_found, look_row, raise_row, is_cancelled}
 use Rattle.scheduling.specs.Inside.Work.{IsClear}
 use Rattle.scheduling.proofs.RowsOne.{by_cond}
 use Rattle.never_stuck.proofs.Able.{is_trying, decided_calm}
@@ -152,7 +152,7 @@ module _ (p : PlanParts) (s : State) (w : ℕ) (seat : Seat) (reply : Reply) whe
       (λ q. plainly seat.task a (claimed p s w seat n) (with_task seat (Opens n (claims p n))) (ap (λ (x : Bool). x && is_free seat.task) acts) (free_clear p s seat.task (and_parts (is_free seat.task) b q).0) refl (claims_ahead p n)) (λ _. tt)
 
   notice_kind : (t : Task) → KindOf p s w seat t Notice (notice_row p s w seat t)
-  notice_kind (Opens n Noticing) = plainly _ Notice _ (with_task seat (Opens n (begins p n s.cancel))) refl tt refl (begins_ahead p n s.cancel)
+  notice_kind (Opens n Noticing) = plainly _ Notice _ (with_task seat (Opens n (begins p n (is_cancelled p s)))) refl tt refl (begins_ahead p n (is_cancelled p s))
   notice_kind _ = tt
 
   raise_kind : (t : Task) → KindOf p s w seat t Raise (raise_row p s w seat t)

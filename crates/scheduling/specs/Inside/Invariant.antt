@@ -22,7 +22,7 @@ use Rattle.scheduling.specs.declared.lock_word.LockWord.TheVariants.{Readers, Wr
 use Rattle.scheduling.specs.declared.task.Opening.{Opening}
 use Rattle.scheduling.specs.declared.task.Opening.TheVariants.{Registering, Noticing, Locking, Weighed, Backing, Beginning, Awaiting, Admitting, Guarding}
 use Rattle.scheduling.specs.declared.task.Closing.{Closing}
-use Rattle.scheduling.specs.declared.task.Closing.TheVariants.{AwaitingAfter, Ending, Giving, Looking, Passing, CountingOff}
+use Rattle.scheduling.specs.declared.task.Closing.TheVariants.{AwaitingAfter, Ending, Raising, Giving, Looking, Passing, CountingOff}
 use Rattle.scheduling.specs.declared.task.Task.{Task}
 use Rattle.scheduling.specs.declared.task.Task.TheVariants.{Free, Opens, Closes}
 use Rattle.scheduling.specs.declared.seat.Hand.{Hand}
@@ -151,6 +151,7 @@ OpeningOk p replies h n _ = Unit {0}
 abbrev pub ClosingOk : PlanParts → (ℕ → List Reply) → List Event → ℕ → Closing → How → Type 0
 ClosingOk p replies h n AwaitingAfter how = IsAfter p replies n how
 ClosingOk p replies h n (Ending status) how = IsEnding p replies h n how status
+ClosingOk p replies h n Raising how = p.fail_fast ≡ true
 ClosingOk p replies h n (Giving i) how = i ≤ keys_count p n
 ClosingOk p replies h n (Looking m) how = IsNextSame p n m
 ClosingOk p replies h n (Passing m o) how = IsNextSame p n m
