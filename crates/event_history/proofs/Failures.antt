@@ -1,5 +1,5 @@
 -- Failures counted: what a worker knows, and what one more event adds.
-use Rattle.std.proofs.Common.{◌≡◌, ℕ, zero, suc, ◌+◌, ◌<◌, ◌≤◌, Bool, true, false, ◌&&◌, ◌||◌, ◌==◌, cond, List, [], ◌∷◌, ◌++◌, Some, slice_get, ◌⊎◌, inl, inr, refl, sym, ap, ◌∙◌, subst, arith}
+use Rattle.std.proofs.Common.{◌≡◌, ℕ, zero, suc, ◌+◌, ◌<◌, ◌≤◌, Bool, true, false, ◌&&◌, ◌||◌, ◌==◌, cond, List, [], ◌∷◌, ◌++◌, length, Some, slice_get, ◌⊎◌, inl, inr, refl, sym, ap, ◌∙◌, subst, arith}
 use Rattle.std.proofs.lemmas.Bool.{both_ways, or_cases, or_left, or_right, and_parts, and_from, eqb-true, eq-eqb, false≢true, false_from_ne_true}
 use Rattle.descriptor.specs.Nodes.{bit}
 use Rattle.plan_events.specs.declared.event.Event.{Event}
@@ -45,6 +45,15 @@ own_added w h e own = worker_added w h e ∙ or_right (has_worker w h) (e.worker
 
 other_added : (w : ℕ) (h : List Event) (e : Event) → (e.worker == w) ≡ false → has_worker w (h ++ e ∷ []) ≡ has_worker w h
 other_added w h e other = worker_added w h e ∙ ap (λ (a : Bool). has_worker w h || a) other ∙ or_false (has_worker w h)
+
+-- there are no more failures than events
+pub failures_few : (h : List Event) → failures h ≤ length h
+failures_few [] = omega arith
+failures_few (e ∷ h) = (let ih : failures h ≤ length h = failures_few h in let one = bit_one (is_failure e) in omega (arith, ih, one))
+  where
+    bit_one : (b : Bool) → bit b ≤ 1
+    bit_one true = omega arith
+    bit_one false = omega arith
 
 pub failures_added : (h : List Event) (e : Event) → failures (h ++ e ∷ []) ≡ failures h + bit (is_failure e)
 failures_added [] e = omega arith

@@ -45,13 +45,13 @@ same_for_all n x = table_is (λ k. x) x n (replicate n x) (length-replicate n x)
 pub starts : (p : PlanParts) → IsTree p.tree → (workers : ℕ) (statuses : List NodeStatus) (counters : List ℕ) (results : List Status) (locks : List LockWord) (seats : List Seat) (published : List Event) (shown : List Bool)
     → statuses ≡ set (replicate (size p.tree) Hidden) 0 (Ready None) → counters ≡ table (guard_and_children p.tree) (size p.tree) → results ≡ replicate (size p.tree) Successful → locks ≡ replicate (length p.keys) (Readers 0)
     → seats ≡ replicate workers free_seat → published ≡ [] → shown ≡ []
-    → record { statuses = statuses; counters = counters; results = results; locks = locks; cancel = false; seats = seats; published = published; shown = shown; given = take 0 published } ≡ opening p workers
+    → record { statuses = statuses; counters = counters; results = results; locks = locks; cancel = 0; seats = seats; published = published; shown = shown; given = take 0 published } ≡ opening p workers
 starts p tree workers statuses counters results locks seats published shown a b c d f g h =
     alike (a ∙ statuses_are (size p.tree) tree.root) (b ∙ counters_are p tree) (c ∙ same_for_all (size p.tree) Successful) d f g h
   where
     alike : statuses ≡ (opening p workers).statuses → counters ≡ (opening p workers).counters → results ≡ (opening p workers).results → locks ≡ (opening p workers).locks → seats ≡ (opening p workers).seats → published ≡ [] → shown ≡ []
-        → record { statuses = statuses; counters = counters; results = results; locks = locks; cancel = false; seats = seats; published = published; shown = shown; given = take 0 published } ≡ opening p workers
-    alike q1 q2 q3 q4 q5 q6 q7 = λ j. record { statuses = q1 j; counters = q2 j; results = q3 j; locks = q4 j; cancel = false; seats = q5 j; published = q6 j; shown = q7 j; given = [] }
+        → record { statuses = statuses; counters = counters; results = results; locks = locks; cancel = 0; seats = seats; published = published; shown = shown; given = take 0 published } ≡ opening p workers
+    alike q1 q2 q3 q4 q5 q6 q7 = λ j. record { statuses = q1 j; counters = q2 j; results = q3 j; locks = q4 j; cancel = 0; seats = q5 j; published = q6 j; shown = q7 j; given = [] }
 
 pub sound_start : (p : PlanParts) (answers : List (ℕ × Reply)) (m : Machine) (workers : ℕ) → IsPlan p → 0 < workers → workers ≤ 64 → m.workers ≡ workers → m.given ≡ 0 → state_of m ≡ opening p workers → HasRoom p m → IsSound p answers m
 sound_start p answers m workers plan some few count none is room = record {

@@ -35,7 +35,8 @@ pub(crate) struct Machine {
     pub(crate) counters: Vec<usize>,
     pub(crate) results: Vec<Status>,
     pub(crate) locks: Vec<LockWord>,
-    pub(crate) cancel: bool,
+    // how many failures were raised
+    pub(crate) cancel: usize,
     pub(crate) seats: Vec<Seat>,
     pub(crate) published: Vec<Event>,
     pub(crate) shown: Vec<bool>,
@@ -91,7 +92,7 @@ impl Machine {
             counters,
             results,
             locks: vec![in alloc; LockWord::Readers(0); plan.key_count()]?,
-            cancel: false,
+            cancel: 0,
             seats: seats_at_start(alloc, workers)?,
             published,
             shown,

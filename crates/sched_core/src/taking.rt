@@ -101,10 +101,11 @@ impl Machine {
         let Some(node) = due_notice(task) else {
             return Err(NotEnabled);
         };
+        let is_cancelled = self.cancel > usize::from(plan.tolerated());
         self.go(
             place,
             hand,
-            Task::Opens(node, begins(plan, node, self.cancel)),
+            Task::Opens(node, begins(plan, node, is_cancelled)),
         );
         Ok(())
     }

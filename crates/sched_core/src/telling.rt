@@ -1,4 +1,4 @@
-//! The steps that publish and show events, and the one that cancels the plan.
+//! The steps that publish and show events, and the one that raises a failure.
 
 ghost use Rattle.std.specs.Prelude.{◌≡◌, ◌<◌, ℕ, Some, length};
 ghost use Rattle.descriptor.specs.Nodes.{size};
@@ -7,6 +7,7 @@ ghost use Rattle.scheduling.specs.Rows.{drawn, draw_row, show_row, shows, raise_
 ghost use Rattle.scheduling.specs.Shown.{named};
 ghost use Rattle.scheduling.specs.declared.task.Opening.{Opening as OpeningValue};
 ghost use Rattle.scheduling.specs.declared.task.Closing.{Closing as ClosingValue};
+ghost use Rattle.scheduling.specs.declared.task.Closing.TheVariants.{Raising};
 ghost use Rattle.scheduling.specs.declared.task.Task.TheVariants.{Opens, Closes};
 ghost use Rattle.scheduling.specs.declared.seat.Hand.{Hand as HandValue};
 ghost use Rattle.scheduling.specs.Due.{event_due};
@@ -103,13 +104,14 @@ impl Machine {
     ) -> Result<(), NotEnabled>
         requires place { place < length self.old.seats.items }
         requires closes { (n : ℕ) (d : ClosingValue) → task ≡ Closes n d → n < size plan.now.tree }
+        requires raises { (n : ℕ) → task ≡ Closes n Raising → self.old.cancel < 65535 }
         ensures { IsAnswered self.old (raise_row plan.now (state_of self.old) place (seated task hand) task) result
             self.new }
     {
         let Some(node) = due_raise(task) else {
             return Err(NotEnabled);
         };
-        self.cancel = true;
+        self.cancel += 1;
         let left = plan.held(node).locks().len();
         self.go(place, hand, Task::Closes(node, giving(left)));
         Ok(())

@@ -8,7 +8,7 @@ use Rattle.scheduling.specs.declared.lock_word.LockWord.TheVariants.{Readers}
 use Rattle.scheduling.specs.declared.task.Opening.{Opening}
 use Rattle.scheduling.specs.declared.task.Opening.TheVariants.{Locking, Weighed, Admitting}
 use Rattle.scheduling.specs.declared.task.Closing.{Closing}
-use Rattle.scheduling.specs.declared.task.Closing.TheVariants.{Looking, Passing, CountingOff}
+use Rattle.scheduling.specs.declared.task.Closing.TheVariants.{Looking, Passing, CountingOff, Raising}
 use Rattle.scheduling.specs.declared.task.Task.TheVariants.{Opens, Closes}
 use Rattle.scheduling.specs.declared.seat.Hand.{Hand}
 use Rattle.scheduling.specs.declared.seat.Seat.{Seat}
@@ -62,3 +62,4 @@ pub record InBounds (p : PlanParts) (m : Machine) (w : ℕ) (seat : Seat) : Type
   pub passes : (n k o : ℕ) → seat.task ≡ Closes n (Passing k o) → k < size p.tree
   pub counts : (c : ℕ) → seat.task ≡ Closes c CountingOff → HasParent p c
   pub looks : (n k : ℕ) → seat.task ≡ Closes n (Looking k) → HasParent p n
+  pub raises : (n : ℕ) → seat.task ≡ Closes n Raising → m.cancel < 65535
