@@ -82,6 +82,7 @@ abbrev pub ending : App
 ending = fold with_rule printing (
     flag (codes "fail-if-no-tests")
     ∷ flag (codes "fail-fast")
+    ∷ single (codes "max-fail")
     ∷ [])
 
 -- the program and its options: the others say which steps are told, and which are taken

@@ -76,6 +76,7 @@ values_in rows = record {
   drive = first_of (codes "drive") rows;
   fail_if_no_tests = is_found (codes "fail-if-no-tests") rows;
   fail_fast = is_found (codes "fail-fast") rows;
+  max_fail = first_of (codes "max-fail") rows;
   schedule = is_found (codes "schedule") rows;
   times = is_found (codes "times") rows;
 }
@@ -103,6 +104,7 @@ nothing_given = record {
   drive = None;
   fail_if_no_tests = false;
   fail_fast = false;
+  max_fail = None;
   schedule = false;
   times = false;
 }

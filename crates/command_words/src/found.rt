@@ -11,7 +11,7 @@ use launch_options::Given;
 use launch_options::option_names::{
     CONFIG, DETAILS, DETAILS_THEME, DRIVE, EXCLUDE_CLASS, EXCLUDE_METHOD, EXCLUDE_NAME,
     EXCLUDE_PACKAGE, EXCLUDE_TAG, EXCLUDE_UNIQUE_ID, FAIL_FAST, FAIL_IF_NO_TESTS, INCLUDE_NAME,
-    INCLUDE_TAG, PROCESSORS, REPLAY, REPORT, RERUN, RING, SCHEDULE, SEED, SELECT_CLASS,
+    INCLUDE_TAG, MAX_FAIL, PROCESSORS, REPLAY, REPORT, RERUN, RING, SCHEDULE, SEED, SELECT_CLASS,
     SELECT_METHOD, SELECT_PACKAGE, SELECT_UNIQUE_ID, SHARD, SYSTEM, TIMES, WORKERS,
 };
 use selectors::SelectorKind;
@@ -166,6 +166,7 @@ pub(crate) fn given_in<'a>(alloc: Global, matches: &ArgMatches<'a>) -> Result<Gi
         drive: found(matches, DRIVE),
         fail_if_no_tests: is_found(matches, FAIL_IF_NO_TESTS),
         fail_fast: is_found(matches, FAIL_FAST),
+        max_fail: found(matches, MAX_FAIL),
         schedule: is_found(matches, SCHEDULE),
         times: is_found(matches, TIMES),
     })
@@ -196,6 +197,7 @@ pub(crate) fn nothing_given<'a>(alloc: Global) -> Given<'a>
         drive: None,
         fail_if_no_tests: false,
         fail_fast: false,
+        max_fail: None,
         schedule: false,
         times: false,
     }

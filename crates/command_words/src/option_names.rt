@@ -9,7 +9,7 @@ use clap::{Arg, ArgAction, Command};
 use launch_options::option_names::{
     CONFIG, DETAILS, DETAILS_THEME, DRIVE, EXCLUDE_CLASS, EXCLUDE_METHOD, EXCLUDE_NAME,
     EXCLUDE_PACKAGE, EXCLUDE_TAG, EXCLUDE_UNIQUE_ID, FAIL_FAST, FAIL_IF_NO_TESTS, INCLUDE_NAME,
-    INCLUDE_TAG, PROCESSORS, REPLAY, REPORT, RERUN, RING, SCHEDULE, SEED, SELECT_CLASS,
+    INCLUDE_TAG, MAX_FAIL, PROCESSORS, REPLAY, REPORT, RERUN, RING, SCHEDULE, SEED, SELECT_CLASS,
     SELECT_METHOD, SELECT_PACKAGE, SELECT_UNIQUE_ID, SHARD, SYSTEM, TIMES, WORKERS,
 };
 use messages::Subject;
@@ -358,12 +358,21 @@ fn ending<'a>(alloc: Global, subject: Subject<'_>) -> Result<Command<'a>, AllocE
             "Ends with status 2 where there is no test",
         ),
     )?;
-    with(
+    let command = with(
         command,
         flag(
             alloc,
             FAIL_FAST,
             "Starts nothing more once a node has failed",
+        ),
+    )?;
+    with(
+        command,
+        single(
+            alloc,
+            MAX_FAIL,
+            "N",
+            "Starts nothing more once N nodes have failed, 1 to 4095",
         ),
     )
 }

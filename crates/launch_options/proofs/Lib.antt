@@ -1,6 +1,7 @@
 mod Named
 pub mod Crew
 pub mod LongWords
+pub mod OneFailure
 pub mod Pairing
 pub mod Requesting
 pub mod SeedNumbers

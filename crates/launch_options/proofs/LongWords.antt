@@ -21,6 +21,7 @@ in_other_words given asked are number is = record {
   tests = are.tests;
   selected = are.selected;
   fail_fast = are.fail_fast;
+  tolerated = are.tolerated;
   schedule = are.schedule;
   times = are.times;
   replay = are.replay;

@@ -21,6 +21,7 @@ use Rattle.launch_options.specs.declared.fault.LaunchFault.{LaunchFault}
 use Rattle.launch_options.specs.declared.fault.LaunchFault.TheVariants.{BadWords, BadStep, BadSelector, BadTags}
 use Rattle.step_text.specs.StepTexts.{steps_of}
 use Rattle.launch_options.specs.DetailsTexts.{details_named}
+use Rattle.launch_options.specs.Failures.{fails_fast, max_fail_named, tolerated_asked, unless_both}
 use Rattle.launch_options.specs.Given.{Text, Values}
 use Rattle.launch_options.specs.Parameters.{processors_named, ring_named, drive_named, params_refusal}
 use Rattle.launch_options.specs.ReportTexts.{reports_refusal}
@@ -30,8 +31,8 @@ use Rattle.launch_options.specs.Workers.{params_said, unless_twice, workers_aske
 
 -- what is asked for: what is to run, with which parameters and how many processors, how many workers `--workers` has said, if it
 -- is given, how many events may be shown that are not told yet, what is printed and how, whether there have to be tests, or, where a
--- shard is asked for, whether something has to be selected, whether nothing more is to start once a node has failed, whether the steps of a run are to be printed, whether it is to be told how
--- long tests took, the steps that are to be replayed, if any are, and how many workers are to take those of the fixed schedule, if any are
+-- shard is asked for, whether something has to be selected, whether nothing more is to start once nodes have failed, and after how many failures a run is to go on all the same, whether the steps of a run are to be printed,
+-- whether it is to be told how long tests took, the steps that are to be replayed, if any are, and how many workers are to take those of the fixed schedule, if any are
 pub record Asked : Type 0 where
   pub request : Request
   pub params : Parameters
@@ -43,6 +44,7 @@ pub record Asked : Type 0 where
   pub fail_if_no_tests : Bool
   pub fail_if_nothing_selected : Bool
   pub fail_fast : Bool
+  pub tolerated : ℕ
   pub schedule : Bool
   pub times : Bool
   pub replay : Option (List Step)
@@ -61,6 +63,7 @@ asked_by options = record {
   fail_if_no_tests = options.fail_if_no_tests;
   fail_if_nothing_selected = options.fail_if_nothing_selected;
   fail_fast = options.fail_fast;
+  tolerated = options.tolerated;
   schedule = options.schedule;
   times = options.times;
   replay = option_map (λ steps. steps.items) options.replay;
@@ -177,17 +180,22 @@ seed_refusal given = unless_named (seed_named given.seed)
 abbrev pub workers_refusal : Values → Option LaunchFault
 workers_refusal given = option_or (unless_named (workers_asked given)) (unless_twice given.workers given.config)
 
--- why the values are refused: what is asked for by a name or by a number, then a number of workers, then a shard, then a seed, then reports, then
+-- why `--max-fail` is refused: for what is no number of failures, and where `--fail-fast` is given too
+abbrev pub failures_refusal : Values → Option LaunchFault
+failures_refusal given = option_or (unless_named (max_fail_named given.max_fail)) (unless_both given.fail_fast given.max_fail)
+
+-- why the values are refused: what is asked for by a name or by a number, then a number of workers, then a number of failures, then a shard, then a seed, then reports, then
 -- the texts that are read, and what says no pair
 abbrev pub refusal_of : Values → Option LaunchFault
 refusal_of given =
     option_or (names_refusal given) (
     option_or (workers_refusal given) (
+    option_or (failures_refusal given) (
     option_or (shard_refusal given) (
     option_or (seed_refusal given) (
     option_or (reports_refusal given.reports given.replay (details_named given.details)) (
     option_or (texts_refusal given) (
-    params_refusal given))))))
+    params_refusal given)))))))
 
 -- the values ask for this
 pub record AreAsked (given : Values) (asked : Asked) : Type 0 where
@@ -199,7 +207,8 @@ pub record AreAsked (given : Values) (asked : Asked) : Type 0 where
   -- where a shard is asked for, `--fail-if-no-tests` is about all that is selected, and not about the shard
   pub tests : asked.fail_if_no_tests ≡ (given.fail_if_no_tests && not (is_some asked.request.shard))
   pub selected : asked.fail_if_nothing_selected ≡ (given.fail_if_no_tests && is_some asked.request.shard)
-  pub fail_fast : asked.fail_fast ≡ given.fail_fast
+  pub fail_fast : asked.fail_fast ≡ fails_fast given
+  pub tolerated : tolerated_asked given ≡ Some asked.tolerated
   pub schedule : asked.schedule ≡ given.schedule
   pub times : asked.times ≡ given.times
   pub replay : IsReplay given.replay asked.replay

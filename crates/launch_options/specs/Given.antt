@@ -30,6 +30,7 @@ pub record Values : Type 0 where
   pub drive : Option Text
   pub fail_if_no_tests : Bool
   pub fail_fast : Bool
+  pub max_fail : Option Text
   pub schedule : Bool
   pub times : Bool
 
@@ -68,6 +69,7 @@ values_of given = record {
   drive = maybe_behind given.drive;
   fail_if_no_tests = given.fail_if_no_tests;
   fail_fast = given.fail_fast;
+  max_fail = maybe_behind given.max_fail;
   schedule = given.schedule;
   times = given.times;
 }

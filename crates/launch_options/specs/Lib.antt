@@ -1,5 +1,6 @@
 pub mod Asked
 pub mod DetailsTexts
+pub mod Failures
 pub mod Faults
 pub mod Given
 pub mod Parameters

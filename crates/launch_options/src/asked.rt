@@ -34,8 +34,10 @@ pub struct Options {
     pub fail_if_no_tests: bool,
     /// Whether a shard has that status where nothing is selected at all.
     pub fail_if_nothing_selected: bool,
-    /// Whether nothing more starts once a node has failed.
+    /// Whether nothing more starts once more nodes than `tolerated` have failed.
     pub fail_fast: bool,
+    /// How many failures a run goes on after that fails fast; of another it says nothing.
+    pub tolerated: u16,
     /// Whether the steps that led to the history of a run are printed behind its details.
     pub schedule: bool,
     /// Whether it is told how long tests took.

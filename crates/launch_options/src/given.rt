@@ -48,6 +48,8 @@ pub struct Given<'a> {
     pub fail_if_no_tests: bool,
     /// `--fail-fast`.
     pub fail_fast: bool,
+    /// `--max-fail`.
+    pub max_fail: Option<&'a str>,
     /// `--schedule`.
     pub schedule: bool,
     /// `--times`.

@@ -3,6 +3,7 @@
 
 mod asked;
 mod details;
+mod failures;
 mod fault;
 mod given;
 mod judged;
@@ -18,6 +19,7 @@ mod workers;
 
 pub use asked::Options;
 pub use details::Details;
+pub use failures::max_fail_named;
 pub use fault::{CutCause, CutOutput, LaunchFault, RefusedSelector};
 pub use given::Given;
 pub use parameters::{drive_named, processors_named, ring_named};

@@ -50,6 +50,8 @@ pub const FAIL_IF_NO_TESTS: &str = "fail-if-no-tests";
 
 pub const FAIL_FAST: &str = "fail-fast";
 
+pub const MAX_FAIL: &str = "max-fail";
+
 pub const SCHEDULE: &str = "schedule";
 
 pub const TIMES: &str = "times";

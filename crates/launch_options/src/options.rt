@@ -1,6 +1,6 @@
 //! What each value means that words give the options of a run.
 
-ghost use Rattle.std.specs.Prelude.{◌≡◌, ◌≢◌, ◌&&◌, not, ℕ, Some, None, option_map, IfOk, IfErr, OnOk};
+ghost use Rattle.std.specs.Prelude.{◌≡◌, ◌≢◌, ◌&&◌, not, ℕ, true, List, Some, None, option_map, IfOk, IfErr, OnOk};
 ghost use Rattle.std.specs.List.{filter_map};
 ghost use Rattle.std.specs.Option.{is_some, option_or};
 ghost use Rattle.launch_options.specs.declared.fault.LaunchFault.TheVariants.{NoMemory};
@@ -9,6 +9,7 @@ ghost use Rattle.launch_options.specs.Asked.{asked_by, theme_named as theme_of_n
 ghost use Rattle.launch_options.specs.DetailsTexts.{details_named as details_of_name};
 ghost use Rattle.launch_options.specs.Asked.{unless_named, IsReplay, refusal_of, AreAsked, spelled, IsExpression};
 ghost use Rattle.launch_options.specs.Asked.{AreExpressions, names_refusal, texts_refusal};
+ghost use Rattle.launch_options.specs.Failures.{max_fail_named as max_fail_of_name, tolerated_asked, with_max_fail};
 ghost use Rattle.launch_options.specs.Parameters.{drive_named as drive_of_name, IsRightDrive, params_refusal};
 ghost use Rattle.launch_options.specs.SeedTexts.{seed_named as seed_of_name};
 ghost use Rattle.launch_options.specs.ShardTexts.{shard_named as shard_of_name};
@@ -18,6 +19,7 @@ ghost use Rattle.run_table.specs.Prepared.{IsRightRing};
 
 use crate::asked::Options;
 use crate::details::Details;
+use crate::failures::{fails_fast, tolerated_given};
 use crate::fault::LaunchFault;
 use crate::given::Given;
 use crate::judged::judge_texts;
@@ -217,13 +219,14 @@ fn is_dealt(so: bool, shard: &Option<Shard>) -> bool
     }
 }
 
-/// The options of values that were judged, with these choices, so many workers, this shard and this
-/// seed among them.
+/// The options of values that were judged, with these choices, so many workers and tolerated failures,
+/// this shard and this seed among them.
 fn options_of(
     alloc: Global,
     given: &Given<'_>,
     choices: Choices,
     workers: Option<u32>,
+    tolerated: u16,
     shard: Option<Shard>,
     seed: Option<u64>,
 ) -> Result<Options, AllocError>
@@ -235,6 +238,7 @@ fn options_of(
     requires drive { drive_of_name (maybe_behind given.now.drive) ≡ Some choices.drive }
     requires right_drive { IsRightDrive choices.drive }
     requires workers { workers_asked (values_of given.now) ≡ Some workers }
+    requires tolerated { tolerated_asked (values_of given.now) ≡ Some tolerated }
     requires shard { shard_of_name (maybe_behind given.now.shard) ≡ Some shard }
     requires seed { seed_of_name (maybe_behind given.now.seed) ≡ Some seed }
     ensures asked { IfOk result (λ options. AreAsked (values_of given.now) (asked_by options)) }
@@ -257,7 +261,8 @@ fn options_of(
         theme: choices.theme,
         fail_if_no_tests: needs_tests,
         fail_if_nothing_selected: needs_selection,
-        fail_fast: given.fail_fast,
+        fail_fast: fails_fast(given),
+        tolerated,
         schedule: given.schedule,
         times: given.times,
         replay,
@@ -270,7 +275,7 @@ impl Options {
     /// 105, and so is what is no number of processors from 1 to 1,024, what is no number of places of
     /// the ring from 1 to 16,384, what is no number of workers of the fixed schedule from 1 to 64,
     /// what is no number of workers from 1 to 64 and not `auto`, or stands beside one of its keys in
-    /// `--config`, what names no shard, what is no seed, and what asks for no report, for two in one file, or for one of
+    /// `--config`, what is no number of failures from 1 to 4,095, or stands beside `--fail-fast`, what names no shard, what is no seed, and what asks for no report, for two in one file, or for one of
     /// nothing that is run; then a word in the text of `--replay` that names no
     /// step is refusal 104, at its number; then a text that spells no selector is refusal 40, and an
     /// empty pattern of names refusal 43, at its number; then an expression of `--include-tag`, and then of `--exclude-tag`,
@@ -284,16 +289,20 @@ impl Options {
         // `--workers` asks for just what its long words ask for.
         ensures workers { IfOk result (λ options. (number : ℕ) → options.workers ≡ Some number →
             AreAsked (in_long_words number (values_of given.now)) (record (asked_by options) { workers = None })) }
+        // `--fail-fast` asks for just what `--max-fail 1` asks for.
+        ensures fail_fast { IfOk result (λ options. (one : List ℕ) → max_fail_of_name (Some one) ≡ Some (Some 1) →
+            given.now.fail_fast ≡ true → AreAsked (with_max_fail one (values_of given.now)) (asked_by options)) }
         ensures accepted { IfOk result (λ _. refusal_of (values_of given.now) ≡ None) }
         ensures refused { IfErr result (λ fault. fault ≢ NoMemory → refusal_of (values_of given.now) ≡ Some fault) }
         ensures no_memory { IfErr result (λ fault. fault ≡ NoMemory → refusal_of (values_of given.now) ≡ None) }
     {
         let choices = choices_of(given)?;
         let workers = workers_given(given, choices.processors)?;
+        let tolerated = tolerated_given(given)?;
         let shard = shard_named(given.shard)?;
         let seed = seed_named(given.seed)?;
         judge_reports(given, choices.details)?;
         judge_values(alloc, given)?;
-        Ok(options_of(alloc, given, choices, workers, shard, seed)?)
+        Ok(options_of(alloc, given, choices, workers, tolerated, shard, seed)?)
     }
 }

@@ -11,12 +11,12 @@ use crate::options::{exclusion_of, form_of, option_of, pair_option};
 use crate::subject::Subject;
 use config_params::ParamsFault;
 use launch_options::option_names::{
-    CONFIG, DETAILS, DETAILS_THEME, DRIVE, EXCLUDE_TAG, INCLUDE_TAG, PROCESSORS, REPLAY, REPORT,
-    RERUN, RING, SEED, SHARD, WORKERS,
+    CONFIG, DETAILS, DETAILS_THEME, DRIVE, EXCLUDE_TAG, INCLUDE_TAG, MAX_FAIL, PROCESSORS, REPLAY,
+    REPORT, RERUN, RING, SEED, SHARD, WORKERS,
 };
 use launch_options::{
-    Details, Given, drive_named, has_long_key, processors_named, report_in, ring_named, seed_named,
-    shard_named, theme_names, theme_of, workers_named,
+    Details, Given, drive_named, has_long_key, max_fail_named, processors_named, report_in,
+    ring_named, seed_named, shard_named, theme_names, theme_of, workers_named,
 };
 use selectors::SelectorKind;
 use std::alloc::{AllocError, Global};
@@ -131,8 +131,25 @@ fn push_shard(alloc: Global, text: &mut String, given: &Given<'_>) -> Result<(),
     }
 }
 
+/// Appends why `--max-fail` is refused, if it is: it is no such number, or `--fail-fast` is given too;
+/// and else why `--shard` is.
+fn push_max_fail(alloc: Global, text: &mut String, given: &Given<'_>) -> Result<(), AllocError> {
+    let Some(value) = given.max_fail else {
+        return push_shard(alloc, text, given);
+    };
+    if max_fail_named(given.max_fail).is_err() {
+        text.push_str("--max-fail is a number from 1 to 4,095, in digits alone\n")?;
+        return push_option(alloc, text, MAX_FAIL, value, 0);
+    }
+    if given.fail_fast {
+        text.push_str("--fail-fast says --max-fail 1: leave one of the two out\n")?;
+        return push_option(alloc, text, MAX_FAIL, value, 0);
+    }
+    push_shard(alloc, text, given)
+}
+
 /// Appends why `--workers` is refused with this value, if it is: it is no number of workers, or
-/// `--config` says one of its keys too; and else why `--shard` is.
+/// `--config` says one of its keys too; and else why `--max-fail` is.
 fn push_workers(
     alloc: Global,
     text: &mut String,
@@ -150,12 +167,12 @@ fn push_workers(
             return push_option(alloc, text, CONFIG, word, 0);
         }
     }
-    push_shard(alloc, text, given)
+    push_max_fail(alloc, text, given)
 }
 
 /// Appends which of the values that stand for something is none: what `--details`, then `--details-theme`, then
-/// `--processors`, then `--ring`, then `--drive`, then `--workers`, then `--shard`, then `--seed`, and then
-/// `--report` may be.
+/// `--processors`, then `--ring`, then `--drive`, then `--workers`, then `--max-fail`, then `--shard`, then `--seed`,
+/// and then `--report` may be.
 pub(crate) fn push_words(
     alloc: Global,
     text: &mut String,
@@ -188,7 +205,7 @@ pub(crate) fn push_words(
     }
     match given.workers {
         Some(value) => push_workers(alloc, text, value, given),
-        None => push_shard(alloc, text, given),
+        None => push_max_fail(alloc, text, given),
     }
 }
 

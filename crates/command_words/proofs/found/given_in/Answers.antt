@@ -23,6 +23,7 @@ returns c = λ i. record {
   drive = c.found-9.ensures i;
   fail_if_no_tests = c.is_found.ensures i;
   fail_fast = c.is_found-2.ensures i;
+  max_fail = c.found-10.ensures i;
   schedule = c.is_found-3.ensures i;
   times = c.is_found-4.ensures i;
 }
