@@ -54,17 +54,23 @@ module _ (tree : Nodes) (request : Request) where
         λ other. plan_is ∙ ap (λ b. if b then Some TooManyKeys else None) (lt-ltb 256 (length (keys_of (declared_of found))) (many refl)) ∙ ap Some (sym is)
 
 -- the plan that was made
-pub plan_made : (tree found : Nodes) (request : Request) (settings : Settings) (fail_fast : Bool) (modes : List Mode) (made plan : PlanParts) → found ≡ answer tree request → modes ≡ given_modes found settings → made ≡ hoisted.plan_of found modes
-    → plan ≡ record made { fail_fast = fail_fast } → plan ≡ plan_of fail_fast settings (answer tree request)
-plan_made tree found request settings fail_fast modes made plan is_found are_modes is_made is =
-    is ∙ ap (λ (p : PlanParts). record p { fail_fast = fail_fast }) (is_made ∙ ap (hoisted.plan_of found) are_modes) ∙ ap (plan_of fail_fast settings) is_found
+pub plan_made : (tree found : Nodes) (request : Request) (settings : Settings) (fail_fast : Bool) (tolerated : ℕ) (modes : List Mode) (made plan : PlanParts) → found ≡ answer tree request → modes ≡ given_modes found settings
+    → made ≡ hoisted.plan_of found modes → plan ≡ record made { fail_fast = fail_fast; tolerated = tolerated } → plan ≡ plan_of fail_fast tolerated settings (answer tree request)
+plan_made tree found request settings fail_fast tolerated modes made plan is_found are_modes is_made is =
+    is ∙ ap (λ (p : PlanParts). record p { fail_fast = fail_fast; tolerated = tolerated }) (is_made ∙ ap (hoisted.plan_of found) are_modes) ∙ ap (plan_of fail_fast tolerated settings) is_found
+
+-- it fails fast as it is told to, and then tolerates so many failures
+pub both_set : (fail_fast : Bool) (tolerated : ℕ) (made fast plan : PlanParts) → fast ≡ record made { fail_fast = fail_fast } → plan ≡ record fast { tolerated = tolerated } → plan ≡ record made { fail_fast = fail_fast; tolerated = tolerated }
+both_set fail_fast tolerated made fast plan is_fast is = is ∙ ap (λ (p : PlanParts). record p { tolerated = tolerated }) is_fast
 
 -- and it holds for its nodes what they declare
-pub still_guarded : (found : Nodes) (modes : List Mode) (fail_fast : Bool) (made plan : PlanParts) → made ≡ hoisted.plan_of found modes → plan ≡ record made { fail_fast = fail_fast } → IsGuarded (declared_of found) made
-    → (IsGuarded (declared_of made.tree) made → IsGuarded (declared_of made.tree) plan) → IsGuarded (declared_of plan.tree) plan
-still_guarded found modes fail_fast made plan is_made is safe still =
+pub still_guarded : (found : Nodes) (modes : List Mode) (fail_fast : Bool) (tolerated : ℕ) (made fast plan : PlanParts) → made ≡ hoisted.plan_of found modes → fast ≡ record made { fail_fast = fail_fast } → plan ≡ record fast { tolerated = tolerated }
+    → IsGuarded (declared_of found) made → (IsGuarded (declared_of made.tree) made → IsGuarded (declared_of made.tree) fast) → (IsGuarded (declared_of fast.tree) fast → IsGuarded (declared_of fast.tree) plan)
+    → IsGuarded (declared_of plan.tree) plan
+still_guarded found modes fail_fast tolerated made fast plan is_made is_fast is safe still_fast still =
     let safe_there : IsGuarded (declared_of made.tree) made = subst (λ (t : Nodes). IsGuarded (declared_of t) made) (sym (ap (λ (p : PlanParts). p.tree) is_made)) safe in
-    subst (λ (t : Nodes). IsGuarded (declared_of t) plan) (sym (ap (λ (p : PlanParts). p.tree) is)) (still safe_there)
+    let fast_there : IsGuarded (declared_of fast.tree) fast = subst (λ (t : Nodes). IsGuarded (declared_of t) fast) (sym (ap (λ (p : PlanParts). p.tree) is_fast)) (still_fast safe_there) in
+    subst (λ (t : Nodes). IsGuarded (declared_of t) plan) (sym (ap (λ (p : PlanParts). p.tree) is)) (still fast_there)
 
 -- what a run of a suite is refused for is one of these
 abbrev IsRunRefusal : LaunchFault → Type 0
@@ -138,7 +144,7 @@ module _ (asked : Asked) (suite : SuiteParts) where
       memory_fails (Err e) same = rw same (takes (or_none _ _ accepted))
 
       -- nothing refuses the suite
-      pub made_ready : (plan : PlanParts) → workers_refusal settings.workers ≡ None → plan ≡ plan_of asked.fail_fast settings (answer suite.tree asked.request) → 1 ≤ settings.workers → settings.workers ≤ 64 → IsGuarded (declared_of plan.tree) plan
+      pub made_ready : (plan : PlanParts) → workers_refusal settings.workers ≡ None → plan ≡ plan_of asked.fail_fast asked.tolerated settings (answer suite.tree asked.request) → 1 ≤ settings.workers → settings.workers ≤ 64 → IsGuarded (declared_of plan.tree) plan
           → (HasBareSpares suite.tree → NeverStuck plan) → IsReady asked suite settings plan (answers_of suite.scripts)
       made_ready plan count same some few safe never = record {
         accepted = run_left ∙ count;

@@ -170,9 +170,9 @@ pub record IsSelectedBy (Prints : Settings → PlanParts → List ℕ → ExitSt
   pub accepted : program_refusal asked parts ≡ None
   pub settings : Settings
   pub are : settings_in asked parts ≡ Ok settings
-  pub output : Prints settings (plan_of asked.fail_fast settings (answer parts.tree asked.request)) text status
+  pub output : Prints settings (plan_of asked.fail_fast asked.tolerated settings (answer parts.tree asked.request)) text status
   -- whatever the workers of this plan do first, it can still be brought to its end
-  pub never_stuck : HasBareSpares parts.tree → NeverStuck (plan_of asked.fail_fast settings (answer parts.tree asked.request))
+  pub never_stuck : HasBareSpares parts.tree → NeverStuck (plan_of asked.fail_fast asked.tolerated settings (answer parts.tree asked.request))
 
 module _ {B : Type 0} (answers : B → List Reply) (asked : Asked) (parts : SuiteParts) (jobs : List (ℕ × B)) where
   -- what is printed of a program's jobs, and the status, which of a shard says too that nothing is selected

@@ -51,9 +51,9 @@ abbrev pub settings_in : Asked → SuiteParts → Result Settings SettingsFault
 settings_in asked suite = driven_by asked.drive (settings_of (answer_with asked.workers asked.params suite.properties) asked.processors)
 
 -- the plan of a tree: each node has the mode that the settings give it, locks are held by the nodes that they are hoisted to,
--- and it fails fast or does not
-abbrev pub plan_of : Bool → Settings → Nodes → PlanParts
-plan_of fail_fast settings tree = record (hoisted.plan_of tree (given_modes tree settings)) { fail_fast = fail_fast }
+-- and it fails fast, after more failures than these, or does not
+abbrev pub plan_of : (fail_fast : Bool) (tolerated : ℕ) → Settings → Nodes → PlanParts
+plan_of fail_fast tolerated settings tree = record (hoisted.plan_of tree (given_modes tree settings)) { fail_fast = fail_fast; tolerated = tolerated }
 
 -- what its bodies answer
 abbrev pub answers_of : List Script → List (ℕ × Reply)
@@ -108,9 +108,9 @@ pub record IsSuiteOutputBy (Prints : Settings → PlanParts → List (ℕ × Rep
   pub accepted : run_refusal asked suite ≡ None
   pub settings : Settings
   pub are : settings_in asked suite ≡ Ok settings
-  pub output : Prints settings (plan_of asked.fail_fast settings (answer suite.tree asked.request)) (answers_of suite.scripts) text status
+  pub output : Prints settings (plan_of asked.fail_fast asked.tolerated settings (answer suite.tree asked.request)) (answers_of suite.scripts) text status
   -- whatever the workers of this plan do first, it can still be brought to its end
-  pub never_stuck : HasBareSpares suite.tree → NeverStuck (plan_of asked.fail_fast settings (answer suite.tree asked.request))
+  pub never_stuck : HasBareSpares suite.tree → NeverStuck (plan_of asked.fail_fast asked.tolerated settings (answer suite.tree asked.request))
 
 -- what is printed of a suite, and the status, which of a shard says too that nothing is selected
 abbrev pub IsSuiteOutput : Asked → SuiteParts → List ℕ → ExitStatus → Type 0
@@ -131,7 +131,7 @@ FailsSuite asked suite _ = ⊥
 pub record IsReady (asked : Asked) (suite : SuiteParts) (settings : Settings) (plan : PlanParts) (answers : List (ℕ × Reply)) : Type 0 where
   pub accepted : run_refusal asked suite ≡ None
   pub are : settings_in asked suite ≡ Ok settings
-  pub plan_is : plan ≡ plan_of asked.fail_fast settings (answer suite.tree asked.request)
+  pub plan_is : plan ≡ plan_of asked.fail_fast asked.tolerated settings (answer suite.tree asked.request)
   pub replies_are : answers ≡ answers_of suite.scripts
   pub some : 1 ≤ settings.workers
   pub few : settings.workers ≤ 64

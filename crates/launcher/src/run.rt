@@ -84,7 +84,7 @@ pub(crate) struct SelectedPlan {
 }
 
 /// The plan of what the request selects of a tree: modes by the settings, locks hoisted, failing fast
-/// where the options say so. Refused are a selector that covers nothing (41), which is judged before
+/// where the options say so, after as many failures as they say. Refused are a selector that covers nothing (41), which is judged before
 /// any memory is taken, and more than 256 keys (50).
 fn plan_of(
     alloc: Global,
@@ -92,8 +92,8 @@ fn plan_of(
     settings: &Settings,
     tree: Tree,
 ) -> Result<SelectedPlan, LaunchFault>
-    ensures plan { IfOk result (λ selected. selected.plan ≡ plan_in options.now.fail_fast settings.now
-        (answer tree options.now.request)) }
+    ensures plan { IfOk result (λ selected. selected.plan ≡ plan_in options.now.fail_fast options.now.tolerated
+        settings.now (answer tree options.now.request)) }
     ensures missing { IfOk result (λ selected. selected.is_missing ≡ is_missing_in (asked_by options.now) tree) }
     ensures guarded { IfOk result (λ selected. IsGuarded (declared_of selected.plan.tree) selected.plan) }
     ensures accepted { IfOk result (λ _. plan_refusal tree options.now.request ≡ None) }
@@ -111,6 +111,7 @@ fn plan_of(
     let modes = modes(alloc, &tree, settings)?;
     let plan = Plan::of(alloc, tree, modes)?;
     let plan = plan.with_fail_fast(options.fail_fast);
+    let plan = plan.with_tolerated(options.tolerated);
     // and that of `tree`, that this is a plan
     let _ = plan.tree();
     Ok(SelectedPlan { plan, is_missing })
@@ -177,8 +178,8 @@ pub(crate) fn crewed_plan(
     settings: &Settings,
     tree: Tree,
 ) -> Result<SelectedPlan, LaunchFault>
-    ensures plan { IfOk result (λ selected. selected.plan ≡ plan_in options.now.fail_fast settings.now
-        (answer tree options.now.request)) }
+    ensures plan { IfOk result (λ selected. selected.plan ≡ plan_in options.now.fail_fast options.now.tolerated
+        settings.now (answer tree options.now.request)) }
     ensures missing { IfOk result (λ selected. selected.is_missing ≡ is_missing_in (asked_by options.now) tree) }
     ensures guarded { IfOk result (λ selected. IsGuarded (declared_of selected.plan.tree) selected.plan) }
     ensures accepted { IfOk result (λ _. plan_refusal tree options.now.request ≡ None) }

@@ -42,7 +42,7 @@ module _ {L : Type 0} (saw : PlanParts → L → L → List Telling → Type 0) 
   of_suite asked suite old new result is =
       let Output = IsSeenSuiteOutput saw first now times asked suite in
       let output : (text : List ℕ) (status : ExitStatus) → Output text status → Holds =
-      λ text status out. let p = plan_of asked.fail_fast out.output.settings (answer suite.tree asked.request) in
+      λ text status out. let p = plan_of asked.fail_fast asked.tolerated out.output.settings (answer suite.tree asked.request) in
       of_text (IsPrintedRun asked out.output.settings p (answers_of suite.scripts)) p (is_run asked.replay asked.details) text out.told out.output.output.1 in
       of_answer Output output asked (λ fault. FailsSuite asked suite fault × SeesRefusal first now Output fault) old new result (λ fault fails. of_fault Output output fault fails.1) is
 

@@ -38,10 +38,10 @@ pub record IsRunWith (Holds : PlanParts → List Event → TextParts → Type 0)
   pub texts : TextParts
   pub text : List ℕ
   pub told : ExitStatus
-  pub printed : IsPrintedRun asked settings (plan_of asked.fail_fast settings (answer suite.tree asked.request)) (answers_of suite.scripts) history texts times text told
+  pub printed : IsPrintedRun asked settings (plan_of asked.fail_fast asked.tolerated settings (answer suite.tree asked.request)) (answers_of suite.scripts) history texts times text told
   pub exits : status ≡ status_unless (is_missing asked suite.tree) told
   pub written : Appends old new text
-  pub holds : Holds (plan_of asked.fail_fast settings (answer suite.tree asked.request)) history texts
+  pub holds : Holds (plan_of asked.fail_fast asked.tolerated settings (answer suite.tree asked.request)) history texts
 
 -- the history that is printed is recorded, each event with its text
 abbrev pub IsRecordedRun : Asked → Times → Result SuiteParts SuiteFault → Option (List ℕ) → Option (List ℕ) → ExitStatus → Recorded → Type 0

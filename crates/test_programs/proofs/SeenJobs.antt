@@ -44,7 +44,7 @@ module _ {L : Type 0} (saw : PlanParts → L → L → List Telling → Type 0) 
         let same : now ≡ first → Holds = λ is. inl is in
         let seen : (p : PlanParts) (ts : List Telling) → HasSeenMore saw p ts first now → Holds = λ p ts more. inr (p, ts, more) in
         let output : (text : List ℕ) (status : ExitStatus) → Output text status → Holds =
-        λ text status out. let p = plan_of asked.fail_fast out.output.settings (answer parts.tree asked.request) in
+        λ text status out. let p = plan_of asked.fail_fast asked.tolerated out.output.settings (answer parts.tree asked.request) in
         of_text saw first now times Holds same seen (IsPrintedJobs answers None asked out.output.settings p jobs) p (is_run None asked.details) text out.told out.output.output.1 in
         of_answer saw first now times Holds same seen Output output asked (λ fault. FailsProgram asked parts fault × SeesRefusal first now Output fault) old new result (λ fault fails. of_fault saw first now times Holds same seen Output output fault fails.1) is
 
@@ -52,7 +52,7 @@ module _ {L : Type 0} (saw : PlanParts → L → L → List Telling → Type 0) 
     pub unseen_jobs : is_run None asked.details ≡ false → (result : Result ExitStatus LaunchFault) → IsSeenProgramRun answers asked parts jobs saw first now times old new result → IfOk result (λ status. now ≡ first)
     unseen_jobs unrun (Ok status) is =
         let out = is.output in
-        let p = plan_of asked.fail_fast out.output.settings (answer parts.tree asked.request) in
+        let p = plan_of asked.fail_fast asked.tolerated out.output.settings (answer parts.tree asked.request) in
         unseen_text (IsPrintedJobs answers None asked out.output.settings p jobs) p (is_run None asked.details) is.text out.told unrun out.output.output.1
     unseen_jobs unrun (Err fault) is = tt
 
@@ -62,7 +62,7 @@ module _ {L : Type 0} (saw : PlanParts → L → L → List Telling → Type 0) 
     of_jobs Holds always runs (Ok status) is =
         let out = is.output in
         let settings = out.output.settings in
-        let p = plan_of asked.fail_fast settings (answer parts.tree asked.request) in
+        let p = plan_of asked.fail_fast asked.tolerated settings (answer parts.tree asked.request) in
         let seen = printed_seen (IsPrintedJobs answers None asked settings p jobs) p (is_run None asked.details) is.text out.told runs out.output.output.1 in
         record {
           settings = settings;
@@ -91,7 +91,7 @@ jobs_with answers asked parts jobs times old new status gives is = record {
   printed = is.printed;
   exits = is.exits;
   written = is.written;
-  holds = gives (plan_of asked.fail_fast is.settings (answer parts.tree asked.request)) is.history is.texts is.holds;
+  holds = gives (plan_of asked.fail_fast asked.tolerated is.settings (answer parts.tree asked.request)) is.history is.texts is.holds;
 }
 
 module _ {V O : Type 0} (saw : PlanParts → V → V → List Telling → Type 0) (beside : PlanParts → O → O → List Telling → Type 0) (first now : Beside V O) where

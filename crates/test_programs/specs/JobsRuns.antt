@@ -32,7 +32,7 @@ module _ {B : Type 0} (answers : B → List Reply) (asked : Asked) (parts : Suit
     pub texts : TextParts
     pub text : List ℕ
     pub told : ExitStatus
-    pub printed : IsPrintedJobs answers None asked settings (plan_of asked.fail_fast settings (answer parts.tree asked.request)) jobs history texts times text told
+    pub printed : IsPrintedJobs answers None asked settings (plan_of asked.fail_fast asked.tolerated settings (answer parts.tree asked.request)) jobs history texts times text told
     pub exits : status ≡ status_unless (is_missing asked parts.tree) told
     pub written : Appends old new text
-    pub holds : Holds (plan_of asked.fail_fast settings (answer parts.tree asked.request)) history texts
+    pub holds : Holds (plan_of asked.fail_fast asked.tolerated settings (answer parts.tree asked.request)) history texts
