@@ -1,6 +1,6 @@
 //! What a worker does from its event on.
 
-use crate::facts::{cancels, child_at, child_count, has_turn, is_spare, opens, pulls};
+use crate::facts::{child_at, child_count, has_turn, is_spare, opens, pulls, raises};
 use crate::search::Search;
 use plan_events::{Event, EventKind, Status};
 use resource_locks::Plan;
@@ -52,14 +52,15 @@ impl Search {
 
     /// What a worker does whose node has finished.
     fn leave(&mut self, plan: &Plan, worker: u8, node: u16, status: Option<Status>) {
-        if !cancels(plan, status) {
+        if !raises(plan, status) {
             self.close(plan, worker, node);
             return;
         }
         let mut found = self.worker(worker);
         found.raising = Some(node);
         self.set_worker(worker, found);
-        if self.is_cancelled {
+        // who starts a node later starts it before more have raised than are tolerated
+        if self.is_cancelled || found.next < found.starts_end {
             self.raise(plan, worker);
         }
     }

@@ -49,9 +49,7 @@ impl Search {
 
     /// The steps before an event.
     pub(crate) fn come_before(&mut self, plan: &Plan, history: &[Event], event: &Event) {
-        if self.is_cancelled_before(plan, event) {
-            self.cancel(plan, history);
-        }
+        self.raise_before(plan, history, event);
         let node = event.node.number();
         match event.kind {
             EventKind::Started => self.begin(plan, event.worker, node),

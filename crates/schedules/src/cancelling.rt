@@ -1,4 +1,4 @@
-//! When the plan is cancelled, behind nodes that failed.
+//! When failures are raised, and when the plan is cancelled by them.
 
 use crate::facts::{keep_apart, notices, parent_of};
 use crate::search::Search;
@@ -8,7 +8,7 @@ use resource_locks::Plan;
 impl Search {
     /// Whether an event can only stand behind the end of a node that failed, and is finished: it
     /// needs the node's keys or its turn, or the node has to be counted off, or the plan has to be
-    /// cancelled.
+    /// cancelled, for which each failure counts.
     fn waits_for(&self, plan: &Plan, event: &Event, failed: u16) -> bool {
         let node = event.node.number();
         match event.kind {
@@ -21,20 +21,48 @@ impl Search {
         }
     }
 
-    /// Whether some worker has to cancel the plan before an event.
-    pub(crate) fn is_cancelled_before(&self, plan: &Plan, event: &Event) -> bool {
-        // then no worker puts it off
-        if self.is_cancelled || !plan.fail_fast() {
-            return false;
+    /// Whether a worker has to raise its failure before an event.
+    fn has_to_raise(&self, plan: &Plan, event: &Event, worker: u8) -> bool {
+        match self.worker(worker).raising {
+            Some(failed) => worker == event.worker || self.waits_for(plan, event, failed),
+            None => false,
         }
+    }
+
+    /// How many failures were raised once those are that have to be before an event, if there are any.
+    fn raised_before(&self, plan: &Plan, event: &Event) -> Option<usize> {
+        let mut raised = self.raised;
         for worker in 1..=self.last {
-            if let Some(failed) = self.worker(worker).raising {
-                if worker == event.worker || self.waits_for(plan, event, failed) {
-                    return true;
-                }
+            if self.has_to_raise(plan, event, worker) {
+                raised = raised.saturating_add(1);
             }
         }
-        false
+        if raised == self.raised {
+            None
+        } else {
+            Some(raised)
+        }
+    }
+
+    /// The failures are raised that have to be before an event. If these are more than the plan
+    /// tolerates, it is cancelled.
+    pub(crate) fn raise_before(&mut self, plan: &Plan, history: &[Event], event: &Event) {
+        // then no worker puts it off
+        if self.is_cancelled || !plan.fail_fast() {
+            return;
+        }
+        let Some(raised) = self.raised_before(plan, event) else {
+            return;
+        };
+        if raised > usize::from(plan.tolerated()) {
+            self.cancel(plan, history);
+            return;
+        }
+        for worker in 1..=self.last {
+            if self.has_to_raise(plan, event, worker) {
+                self.raise(plan, worker);
+            }
+        }
     }
 
     /// A worker takes the node that it starts next, if it can, and finds that the plan is not cancelled.
@@ -50,9 +78,9 @@ impl Search {
         self.come_to(plan, worker, node);
     }
 
-    /// The plan is cancelled by all who are to. Before that the others go ahead, who could not
+    /// The plan is cancelled: all raise who are to. Before that the others go ahead, who could not
     /// start their nodes after it.
-    pub(crate) fn cancel(&mut self, plan: &Plan, history: &[Event]) {
+    fn cancel(&mut self, plan: &Plan, history: &[Event]) {
         for worker in 1..=self.last {
             self.go_ahead(plan, history, worker);
         }

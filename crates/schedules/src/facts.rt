@@ -138,8 +138,8 @@ pub(crate) fn keep_apart(plan: &Plan, one: u16, other: u16) -> bool {
     false
 }
 
-/// Whether a node that ended so cancels the plan.
-pub(crate) fn cancels(plan: &Plan, status: Option<Status>) -> bool {
+/// Whether a node that ended so raises a failure.
+pub(crate) fn raises(plan: &Plan, status: Option<Status>) -> bool {
     match status {
         Some(status) => plan.fail_fast() && status.is_failed(),
         None => false,

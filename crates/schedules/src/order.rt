@@ -1,7 +1,8 @@
-//! What follows what: the next sibling in its turn, and the next event of the same worker.
+//! What follows what: the next sibling in its turn, the next event of the same worker, and where a
+//! worker starts nothing more.
 
 use crate::facts::{has_turn, parent_of};
-use plan_events::Event;
+use plan_events::{Event, EventKind};
 use resource_locks::Plan;
 use std::alloc::{AllocError, Global};
 
@@ -77,4 +78,23 @@ impl Places {
         }
         *last = place;
     }
+}
+
+/// Of so many workers the places from which on they start no node of these events; that of worker k
+/// stands at k.
+pub(crate) fn starts_ends(
+    alloc: Global,
+    workers: usize,
+    history: &[Event],
+) -> Result<Vec<usize>, AllocError> {
+    let mut ends = vec![in alloc; 0usize; workers]?;
+    for place in 0..history.len() {
+        let event = &history[place];
+        if event.kind == EventKind::Started
+            && let Some(end) = ends.get_mut(usize::from(event.worker))
+        {
+            *end = place + 1;
+        }
+    }
+    Ok(ends)
 }

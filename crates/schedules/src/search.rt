@@ -1,12 +1,13 @@
 //! The search for steps that lead to a history, event by event.
 //!
-//! A worker takes at once what needs no event, but for three steps that it puts off: to cancel the
-//! plan, to take one off a node's counter, and to claim a node. It cancels the plan once the next
-//! event cannot stand before; then each other worker has claimed the node that it starts next, and
-//! has looked whether the plan is cancelled. It takes one off a counter once it goes on, or once
+//! A worker takes at once what needs no event, but for three steps that it puts off: to raise a
+//! failure, to take one off a node's counter, and to claim a node. It raises a failure at once if it
+//! starts a node later, and else once the next event cannot stand before. If the failures are then more
+//! than the plan tolerates, which cancels it, each other worker first claims the node that it starts
+//! next, and looks whether the plan is cancelled. It takes one off a counter once it goes on, or once
 //! another worker takes the last one off, who then finishes the node.
 
-use crate::order::{Places, next_in_turn, places_of};
+use crate::order::{Places, next_in_turn, places_of, starts_ends};
 use plan_events::{Event, worker_count};
 use resource_locks::Plan;
 use sched_core::Answers;
@@ -16,7 +17,7 @@ use std::alloc::{AllocError, Global};
 /// What a worker has to do yet that needs no event, and what it has.
 #[derive(Clone, Copy)]
 pub(crate) struct Worker {
-    /// Its node that failed and is finished: it is to cancel the plan, and then to close the node.
+    /// Its node that failed and is finished: it is to raise the failure, and then to close the node.
     pub(crate) raising: Option<u16>,
     /// The node off whose counter it is to take one.
     pub(crate) counting: Option<u16>,
@@ -26,16 +27,20 @@ pub(crate) struct Worker {
     pub(crate) is_ahead: bool,
     /// The place of its next event.
     pub(crate) next: usize,
+    /// The place from which on it starts no node.
+    pub(crate) starts_end: usize,
 }
 
-/// A worker that has nothing to do yet, whose next event stands at this place.
-fn free_worker(next: usize) -> Worker {
+/// A worker that has nothing to do yet, whose next event stands at this place, and that starts no node
+/// from this place on.
+fn free_worker(next: usize, starts_end: usize) -> Worker {
     Worker {
         raising: None,
         counting: None,
         hand: None,
         is_ahead: false,
         next,
+        starts_end,
     }
 }
 
@@ -53,16 +58,18 @@ pub(crate) struct Search {
     pub(crate) turns: Vec<Option<u16>>,
     /// For each node whether it was offered.
     pub(crate) offered: Vec<bool>,
+    /// How many failures were raised.
+    pub(crate) raised: usize,
     pub(crate) is_cancelled: bool,
     /// Whether there was no memory for a step.
     pub(crate) is_incomplete: bool,
 }
 
-/// Workers whose next events stand at these places.
-fn workers_at(alloc: Global, places: &[usize]) -> Result<Vec<Worker>, AllocError> {
+/// Workers whose next events stand at these places, and that start no node from these ends on.
+fn workers_at(alloc: Global, places: &[usize], ends: &[usize]) -> Result<Vec<Worker>, AllocError> {
     let mut workers = Vec::new(alloc);
-    for place in places {
-        workers.push(free_worker(*place))?;
+    for (place, end) in places.iter().zip(ends.iter()) {
+        workers.push(free_worker(*place, *end))?;
     }
     Ok(workers)
 }
@@ -82,8 +89,10 @@ impl Search {
         let turns = next_in_turn(alloc, plan)?;
         let offered = root_offered(alloc, plan.tree().len())?;
         // no worker has number 0
-        let Places { first, next } = places_of(alloc, 1 + usize::from(last), history)?;
-        let workers = workers_at(alloc, first.as_slice())?;
+        let count = 1 + usize::from(last);
+        let ends = starts_ends(alloc, count, history)?;
+        let Places { first, next } = places_of(alloc, count, history)?;
+        let workers = workers_at(alloc, first.as_slice(), ends.as_slice())?;
         Ok(Search {
             steps: Vec::new(alloc),
             last,
@@ -91,6 +100,7 @@ impl Search {
             follows: next,
             turns,
             offered,
+            raised: 0,
             is_cancelled: false,
             is_incomplete: false,
         })
@@ -108,7 +118,7 @@ impl Search {
     pub(crate) fn worker(&self, worker: u8) -> Worker {
         match self.workers.get(usize::from(worker)) {
             Some(found) => *found,
-            None => free_worker(usize::MAX),
+            None => free_worker(usize::MAX, 0),
         }
     }
 

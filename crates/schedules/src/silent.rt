@@ -48,7 +48,7 @@ impl Search {
         self.settle(plan, worker, node);
     }
 
-    /// A worker cancels the plan, if it is to, and closes its node.
+    /// A worker raises its failure, if it is to, and closes its node.
     pub(crate) fn raise(&mut self, plan: &Plan, worker: u8) {
         let mut found = self.worker(worker);
         let Some(node) = found.raising else {
@@ -56,6 +56,7 @@ impl Search {
         };
         found.raising = None;
         self.set_worker(worker, found);
+        self.raised = self.raised.saturating_add(1);
         self.push(worker, Action::Raise);
         self.close(plan, worker, node);
     }
