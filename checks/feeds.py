@@ -1,6 +1,7 @@
 """A small reader of feeds: it judges one by the definitions of its plan, and by nothing that the program says of itself."""
 
 import re
+from collections import Counter
 from dataclasses import dataclass
 
 from plans import conflict
@@ -30,10 +31,11 @@ class Event:
 
 @dataclass
 class Run:
-    """What was asked of a run: how many workers, and whether it fails fast."""
+    """What was asked of a run: how many workers, whether it fails fast, and how many failures it then tolerates."""
 
     workers: int
     fail_fast: bool = False
+    tolerated: int = 0
 
 
 def event_of(plan, line):
@@ -71,8 +73,11 @@ class Reader:
         self.run = run
         self.seen = {}
         self.running = {}
-        self.has_failed = False
-        self.failed_by = set()
+        # how many nodes failed; of how many of them the worker told more after; of each worker whether its last event is a
+        # failure, and of how many it knew at that event
+        self.failures = self.passed_failures = 0
+        self.last_failed = {}
+        self.known_to = Counter()
 
     def stands(self, kind, node):
         return (kind, node) in self.seen
@@ -120,10 +125,10 @@ class Reader:
                 raise Refused(f"spares: {node.id} is registered before {elder.id}")
 
     def skips(self, event):
-        """Only disabled nodes are skipped, and in a run that fails fast what follows a failure."""
+        """Only disabled nodes are skipped, and in a run that fails fast what follows more failures than it tolerates."""
         node = event.node
         if event.kind == "skipped" and not node.disabled:
-            if not self.run.fail_fast or not self.has_failed:
+            if not self.run.fail_fast or self.failures <= self.run.tolerated:
                 raise Refused(f"skips: {node.id} is skipped and is not disabled")
             if event.text != "cancelled":
                 raise Refused(f"skips: {node.id} is cancelled with the text {event.text!r}")
@@ -131,8 +136,9 @@ class Reader:
             raise Refused(f"skips: {node.id} is skipped with the text {event.text!r}")
         if event.kind == "started" and node.disabled:
             raise Refused(f"skips: {node.id} is disabled and is started")
-        if event.kind == "started" and self.run.fail_fast and event.worker in self.failed_by:
-            raise Refused(f"skips: worker {event.worker} starts {node.id} behind a failure of its own")
+        knows_too_many = self.known_to[event.worker] > self.run.tolerated
+        if event.kind == "started" and self.run.fail_fast and knows_too_many:
+            raise Refused(f"skips: worker {event.worker} starts {node.id} behind too many failures that it knew of")
         for above in node.ancestors():
             if self.stands("skipped", above):
                 raise Refused(f"skips: {node.id} is told of below the skipped {above.id}")
@@ -225,9 +231,15 @@ class Reader:
         ):
             rule(event)
         self.seen[(event.kind, event.node)] = event
-        if event.status == "FAILED":
-            self.has_failed = True
-            self.failed_by.add(event.worker)
+        self.learn(event)
+
+    def learn(self, event):
+        """A worker that tells an event knows of its own failures, and of those after which their workers told more."""
+        worker, fails = event.worker, event.status == "FAILED"
+        self.failures += fails
+        self.passed_failures += self.last_failed.get(worker, False)
+        self.last_failed[worker] = fails
+        self.known_to[worker] = self.passed_failures + fails
 
     def whole(self):
         """Whether all that had to be told was told, when the feed has ended."""

@@ -52,6 +52,22 @@ w1 finished {ENGINE} SUCCESSFUL
 w1 plan finished
 """
 
+TOLERATED = f"""w1 plan started
+w1 started {ENGINE}
+w1 started {A}
+w1 started {U}
+w1 finished {U} FAILED boom
+w1 started {T}
+w1 finished {T} SUCCESSFUL
+w2 finished {A} SUCCESSFUL
+w2 started {C}
+w2 finished {C} FAILED
+w2 skipped {B} cancelled
+w1 skipped {D} cancelled
+w1 finished {ENGINE} SUCCESSFUL
+w1 plan finished
+"""
+
 
 def suite():
     """Two classes that write one key, a third that its before-body ends, and one with a factory that leaves a spare."""
@@ -156,6 +172,12 @@ FAST_MISTAKES = [
     ("a cancelled test with another text", "skips", put_for(f"w2 skipped {T} cancelled", f"w2 skipped {T} late")),
 ]
 
+# The same of a run that tolerates one failure.
+TOLERATED_MISTAKES = [
+    ("a start behind two failures that its worker knew of", "skips", put_for(f"w2 skipped {B} cancelled", f"w2 started {B}")),
+    ("a test that is cancelled behind one failure", "skips", put_for(f"w1 started {T}", f"w1 skipped {T} cancelled")),
+]
+
 
 def changed(feed, change):
     """A feed with a change of its lines."""
@@ -177,19 +199,24 @@ def cases():
     """Plan, run, feed and the rule that refuses it (none where it is lawful), each with what it is."""
     root = suite()
     free, thread = Plan(root, True, "concurrent", "concurrent"), Plan(root, False, "same_thread", "same_thread")
-    two, one, fast = Run(2), Run(2), Run(2, True)
+    two, one, fast, tolerant = Run(2), Run(2), Run(2, True), Run(2, True, 1)
     feed = same_thread(LAWFUL)
     in_turn = moved(f"w1 started {U}", f"w1 finished {T} SUCCESSFUL")
     ordered = changed(feed, in_turn)
     yield "a lawful feed of two workers", free, two, LAWFUL, ""
     yield "a lawful feed of one thread", thread, one, ordered, ""
     yield "a lawful feed of a run that fails fast", free, fast, CANCELLED, ""
+    yield "a lawful feed of a run that tolerates a failure", free, tolerant, TOLERATED, ""
+    yield "the same where none is tolerated", free, fast, TOLERATED, "skips"
+    yield "the same where two are tolerated", free, Run(2, True, 2), TOLERATED, "skips"
     for what, rule, change in MISTAKES:
         yield what, free, two, changed(LAWFUL, change), rule
     for what, rule, change in THREAD_MISTAKES:
         yield what, thread, one, changed(ordered, change), rule
     for what, rule, change in FAST_MISTAKES:
         yield what, free, fast, changed(CANCELLED, change), rule
+    for what, rule, change in TOLERATED_MISTAKES:
+        yield what, free, tolerant, changed(TOLERATED, change), rule
 
 
 def failures():

@@ -60,7 +60,7 @@ def settings(random, workers):
     words += config("config.fixed.parallelism", workers)
     for key in ("mode.default", "mode.classes.default"):
         words += config(key, random.choice(["concurrent", "concurrent", "same_thread"]))
-    return words + (["--fail-fast"] if random.random() < 0.25 else [])
+    return words + random.choice([[], [], [], [], ["--fail-fast"], ["--max-fail", "2"], ["--max-fail", "3"]])
 
 
 def split(text):

@@ -1,5 +1,5 @@
 //! What a run of a plan leaves: the fixed schedule, or steps by so many workers. A word `fail-fast`
-//! sets that of the plan. `3=fail:late` says that body 3 fails with the text `late`, `3=2*pass`
+//! or `max-fail:2` says after how many failures the run stops. `3=fail:late` says that body 3 fails with the text `late`, `3=2*pass`
 //! that it is pulled twice before it passes.
 
 use crate::told::push_told;
@@ -56,14 +56,18 @@ pub(crate) fn cut_steps(words: &str) -> (&str, &str) {
     words.split_once(" : ").unwrap_or((words, ""))
 }
 
-/// Whether one of these words sets fail-fast.
-pub(crate) fn fails_fast(words: &str) -> bool {
+/// How many failures a run goes on after, if one of these words says after how many it stops.
+pub(crate) fn tolerated_by(words: &str) -> Option<u16> {
     for word in words.split(' ') {
         if word == "fail-fast" {
-            return true;
+            return Some(0);
+        }
+        if let Some(most) = word.strip_prefix("max-fail:") {
+            let most: u16 = most.parse().unwrap_or(1);
+            return Some(most.saturating_sub(1));
         }
     }
-    false
+    None
 }
 
 /// Adds how many steps there were, and what became of them.

@@ -1,7 +1,7 @@
 //! The plan of a tree under a configuration: how each node is executed, which locks it holds meanwhile, and its runs.
 
 use crate::configuration::requested;
-use crate::histories::{cut_steps, fails_fast, push_history};
+use crate::histories::{cut_steps, push_history, tolerated_by};
 use crate::lock_sets::{push_locks, push_locks_answer};
 use crate::words::{push_fault, say, show};
 use config_params::{Settings, modes};
@@ -94,7 +94,9 @@ fn push_hoisted(
     };
     match hoist(alloc, tree, modes) {
         Ok(plan) => {
-            let plan = plan.with_fail_fast(fails_fast(words));
+            let tolerated = tolerated_by(words);
+            let plan = plan.with_fail_fast(tolerated.is_some());
+            let plan = plan.with_tolerated(tolerated.unwrap_or(0));
             push_plan_answer(alloc, answer, &plan, asked, words);
             drop(plan)
         }

@@ -68,6 +68,7 @@ fn feed_options(alloc: Global) -> Options {
         fail_if_no_tests: false,
         fail_if_nothing_selected: false,
         fail_fast: false,
+        tolerated: 0,
         schedule: false,
         times: false,
         replay: None,

@@ -86,6 +86,13 @@ engine e
     test t() fail x
     test u() pass
 ==
+two failures +0 +1 +2 +3 -3! +4 -4! ~5 -2 -1 -0 unused 5 asked 0 told 11
+engine e
+  class a.B
+    test t() fail x
+    test u() fail y
+    test v() fail z
+==
 +0 +1 +2 +3 -3 -2! -1 -0 unused asked 0 told 4
 engine e
   class a.B
@@ -112,7 +119,10 @@ fn goes_as_wanted<R: Threads + Wait + Sync>(
         how.has_jobs = false;
         wanted = refusal;
     } else if let Some(events) = wanted.strip_prefix("fail-fast ") {
-        how.fail_fast = true;
+        how.tolerated = Some(0);
+        wanted = events;
+    } else if let Some(events) = wanted.strip_prefix("two failures ") {
+        how.tolerated = Some(1);
         wanted = events;
     }
     is_said(run_of_suite(rt, alloc, suite, how), wanted)

@@ -207,8 +207,8 @@ pub(crate) struct Setup {
     pub(crate) workers: u32,
     /// How many words the ring has.
     pub(crate) ring: u32,
-    /// Whether the run ends at the first failure.
-    pub(crate) fail_fast: bool,
+    /// How many failures the run goes on after, if failures end it.
+    pub(crate) tolerated: Option<u16>,
     /// Whether the plan is handed in with its jobs, and not without one.
     pub(crate) has_jobs: bool,
     /// Whose body the listener looks for while it is told the start before.
@@ -221,7 +221,7 @@ pub(crate) fn how(act: Act, workers: u32, ring: u32) -> Setup {
         act,
         workers,
         ring,
-        fail_fast: false,
+        tolerated: None,
         has_jobs: true,
         looks_for: None,
     }
@@ -274,7 +274,8 @@ fn run_before<R: Threads + Wait + Sync>(
     audience: &mut Audience,
 ) -> Option<Ran> {
     let (plan, scripts) = staged(alloc, text)?;
-    let plan = plan.with_fail_fast(how.fail_fast);
+    let plan = plan.with_fail_fast(how.tolerated.is_some());
+    let plan = plan.with_tolerated(how.tolerated.unwrap_or(0));
     let jobs = jobs_of(alloc, &plan, scripts.as_slice(), how, board);
     drop(scripts);
     let Some(jobs) = jobs else {
