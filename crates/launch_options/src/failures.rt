@@ -1,6 +1,6 @@
 //! What `--fail-fast` and `--max-fail` ask for.
 
-ghost use Rattle.std.specs.Prelude.{◌≡◌, ◌≢◌, ◌<◌, Some, None, IfOk, IfErr, IfSome};
+ghost use Rattle.std.specs.Prelude.{◌≡◌, ◌≢◌, ◌<◌, Some, IfOk, IfErr, IfSome};
 ghost use Rattle.launch_options.specs.declared.fault.LaunchFault.TheVariants.{NoMemory};
 ghost use Rattle.launch_options.specs.Asked.{failures_refusal, unless_named};
 ghost use Rattle.launch_options.specs.Failures.{fails_fast, max_fail_named as max_fail_of_name, tolerated_asked};

@@ -1,5 +1,5 @@
 -- The parameters are those of so many workers.
-use Rattle.std.proofs.Common.{◌≡◌, ℕ, List, Option, Some, subst, sym}
+use Rattle.std.proofs.Common.{◌≡◌, ℕ, List, Option, subst, sym}
 use Rattle.std.specs.Option.{option_or}
 use Rattle.config_params.specs.Parameters.{answer}
 use Rattle.launch_options.specs.Given.{values_of}

@@ -1,5 +1,5 @@
 -- What is no number of workers is refused.
-use Rattle.std.proofs.Common.{Option, Some, Bor, List, ℕ, ◌≡◌, IfErr, subst, sym}
+use Rattle.std.proofs.Common.{Option, Some, Bor, ◌≡◌, IfErr, subst, sym}
 use Rattle.launch_options.specs.Asked.{unless_named}
 use Rattle.launch_options.specs.Given.{Text, maybe_behind}
 use Rattle.launch_options.specs.Workers.{crew_named, workers_named}

@@ -10,4 +10,4 @@ returns-clause-workers c = λ number is. in_other_words (values_of c.args.given.
 
 pub returns-clause-fail_fast : goal.returns-clause-fail_fast
 returns-clause-fail_fast c = λ one is so.
-    in_a_number (values_of c.args.given.now) (asked_by c.in_ok-options_of.field-0) c.in_ok-options_of.ensures.asked c.in_ok-tolerated_given.ensures.accepted one is so
+    in_a_number (values_of c.args.given.now) (asked_by c.in_ok-options_of.field-0) c.in_ok-options_of.ensures.asked c.in_ok-tolerated.ensures.accepted one is so
