@@ -34,6 +34,7 @@ pub mod RowsContainers
 pub mod RowsAfterBodies
 pub mod RowsFactories
 pub mod RowsFailFast
+pub mod RowsTolerating
 pub mod Room
 pub mod Alike
 pub mod Published
