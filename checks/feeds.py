@@ -9,9 +9,9 @@ from plans import conflict
 LINE = re.compile(
     r"w(?P<worker>[1-9][0-9]*) (?:"
     r"plan (?P<plan>started|finished)"
-    r"|(?P<bare>started|registered) (?P<of>\S+)"
-    r"|skipped (?P<skipped>\S+)(?: (?P<reason>.+))?"
-    r"|finished (?P<finished>\S+) (?P<status>SUCCESSFUL|ABORTED|FAILED)(?: (?P<text>.+))?"
+    r"|(?P<bare>started|registered) (?P<of>[^ ]+)"
+    r"|skipped (?P<skipped>[^ ]+)(?: (?P<reason>.+))?"
+    r"|finished (?P<finished>[^ ]+) (?P<status>SUCCESSFUL|ABORTED|FAILED)(?: (?P<text>.+))?"
     r")"
 )
 
