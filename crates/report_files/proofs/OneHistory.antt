@@ -57,7 +57,7 @@ module _ {L : Type 0} (saw : PlanParts → L → L → List Telling → Type 0) 
     unseen_loaded (Err fault) result is = subst (λ (r : Result ExitStatus LaunchFault). IfOk r (λ status. now ≡ first)) (sym is) tt
 
   module _ (Holds : PlanParts → List Event → TextParts → Type 0) (always : (p : PlanParts) (history : List Event) (texts : TextParts) → HasSeenMore saw p (tellings_of texts history) first now → Holds p history texts) (asked : Asked) (read : Result SuiteParts SuiteFault) (old new : Option (List ℕ)) (runs : is_run asked.replay asked.details ≡ true) where
-    of_output : (status : ExitStatus) (suite : SuiteParts) → read ≡ Ok suite → (text : List ℕ) → Appends old new text → (out : IsSeenSuiteOutput saw first now times asked suite text status) → HasSeenPrinted saw (IsPrintedRun asked out.output.settings (plan_of asked.fail_fast asked.tolerated out.output.settings (answer suite.tree asked.request)) (answers_of suite.scripts)) (plan_of asked.fail_fast out.output.settings (answer suite.tree asked.request)) first now times text out.told
+    of_output : (status : ExitStatus) (suite : SuiteParts) → read ≡ Ok suite → (text : List ℕ) → Appends old new text → (out : IsSeenSuiteOutput saw first now times asked suite text status) → HasSeenPrinted saw (IsPrintedRun asked out.output.settings (plan_of asked.fail_fast asked.tolerated out.output.settings (answer suite.tree asked.request)) (answers_of suite.scripts)) (plan_of asked.fail_fast asked.tolerated out.output.settings (answer suite.tree asked.request)) first now times text out.told
         → IsRunWith Holds asked times read old new status
     of_output status suite is text written out seen = record {
       suite = suite;
