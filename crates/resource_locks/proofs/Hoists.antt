@@ -1,5 +1,5 @@
 -- The plan that hoisting gives of a tree.
-use Rattle.std.proofs.Common.{◌≡◌, ℕ, ◌<◌, ◌≤◌, List, [], length, map, get_or, Bool, false, inl, inr, sym, subst}
+use Rattle.std.proofs.Common.{◌≡◌, ℕ, ◌<◌, ◌≤◌, List, [], length, map, get_or, Bool, false, inl, inr, refl, sym, subst}
 use Rattle.std.proofs.lemmas.Bool.{cases_lt}
 use Rattle.descriptor.specs.Nodes.{Nodes, IsTree, size}
 use Rattle.descriptor.specs.declared.lock.Lock.{Lock}
@@ -23,9 +23,9 @@ use Rattle.resource_locks.proofs.LockTrees.{lock_tree}
 use Rattle.resource_locks.proofs.Numbered.{to_hold_numbered}
 
 -- the fields that hoisting fills
-pub plan_is : (t u : Nodes) (given modes : List Mode) (sets : List (List Lock)) (keys : List (List ℕ)) → u ≡ t → modes ≡ table (hoisted_mode (declared_of t) given) (size t) → sets ≡ table (held (declared_of t)) (size t) → keys ≡ keys_of (declared_of t)
-    → record { tree = u; modes = modes; held = sets; keys = keys; fail_fast = false; tolerated = 0 } ≡ plan_of t given
-plan_is t u given modes sets keys a b c d = λ i. record { tree = a i; modes = b i; held = c i; keys = d i; fail_fast = false; tolerated = 0 }
+pub plan_is : (t u : Nodes) (given modes : List Mode) (sets : List (List Lock)) (keys : List (List ℕ)) (limits : List ℕ) → u ≡ t → modes ≡ table (hoisted_mode (declared_of t) given) (size t) → sets ≡ table (held (declared_of t)) (size t) → keys ≡ keys_of (declared_of t) → limits ≡ []
+    → record { tree = u; modes = modes; held = sets; keys = keys; limits = limits; fail_fast = false; tolerated = 0 } ≡ plan_of t given
+plan_is t u given modes sets keys limits a b c d e = λ i. record { tree = a i; modes = b i; held = c i; keys = d i; limits = e i; fail_fast = false; tolerated = 0 }
 
 module _ (t : Nodes) (tree : IsTree t) (given : List Mode) (len : length given ≡ size t) where
   abbrev told : Declared
@@ -57,6 +57,7 @@ module _ (t : Nodes) (tree : IsTree t) (given : List Mode) (len : length given �
       layers = hoisted_layers told (lock_tree t tree).rooted (λ n. get_or given n SameThread) (plan_of t given) plan_hoisted;
       few = few;
       numbered = plan_numbered;
+      unlimited = refl;
     };
     numbers = is;
   }

@@ -20,5 +20,7 @@ pub mod Numbered
 pub mod Forced
 pub mod HoistedLines
 pub mod Hoists
+pub mod Marked
+pub mod Limited
 pub mod Spares
 pub mod Worked

@@ -5,6 +5,7 @@ use Rattle.std.specs.Str.{bytes_eq}
 use Rattle.std.specs.String.{string_eq}
 use Rattle.std.proofs.lemmas.Bool.{cases_lt, cond-true, cond-false, ltb-false}
 use Rattle.std.proofs.lemmas.List.{length-map, map_push}
+use Rattle.std.proofs.lemmas.List.Sums.{passes_at_first}
 use Rattle.std.proofs.lemmas.Option.{none-some, same_Some}
 use Rattle.std.proofs.lemmas.Grind.{common_steps}
 use Rattle.descriptor.specs.Nodes.{size}
@@ -12,6 +13,7 @@ use Rattle.descriptor.specs.declared.lock.Lock.{Lock}
 use Rattle.indexmap.specs.IndexSet.{insert_key}
 use Rattle.resource_locks.specs.Declarations.{Declared}
 use Rattle.resource_locks.specs.Plans.{number_of}
+use Rattle.resource_locks.proofs.Wants.{same_key}
 use Rattle.resource_locks.specs.Keys.{with_key, with_keys, keys_upto, keys_of}
 
 -- a test of texts is one of their bytes
@@ -115,3 +117,10 @@ module _ (ks : List (String Global)) (now : List (List ℕ)) (key : List ℕ) (i
       by : (x n : ℕ) (b : Bool) → ltb x n ≡ b → None ≡ cond b (Some x) None → n ≤ x
       by x n true t e = absurd (none-some x e)
       by x n false t e = ltb-false x n t
+
+-- keys of one number are one key
+pub same_number : (keys : List (List ℕ)) (a b : List ℕ) → number_of keys a < length keys → number_of keys b < length keys → number_of keys a ≡ number_of keys b → a ≡ b
+same_number keys a b la lb e =
+    same_key a (get_or keys (number_of keys a) []) (passes_at_first (bytes_eq a) keys [] la)
+    ∙ ap (λ (m : ℕ). get_or keys m []) e
+    ∙ sym (same_key b (get_or keys (number_of keys b) []) (passes_at_first (bytes_eq b) keys [] lb))

@@ -107,6 +107,7 @@ plan_by d given = record {
   modes = table (hoisted_mode d given) (size d.tree);
   held = table (held d) (size d.tree);
   keys = keys_of d;
+  limits = [];
   fail_fast = false;
   tolerated = 0;
 }

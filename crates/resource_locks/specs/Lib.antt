@@ -6,6 +6,7 @@ pub mod Conflicts
 pub mod Declarations
 pub mod Hoisted
 pub mod Held
+pub mod Limits
 pub mod Keys
 pub mod Spares
 pub mod Inside

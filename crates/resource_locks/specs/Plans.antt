@@ -21,6 +21,8 @@ pub record PlanParts : Type 0 where
   pub held : List (List Lock)
   -- the keys that are held, at least; the number of a key is its place here
   pub keys : List (List ℕ)
+  -- how many nodes may hold each of these at once: 0, or no entry, where that is not limited
+  pub limits : List ℕ
   -- whether nothing more is to start once more nodes have failed than are tolerated
   pub fail_fast : Bool
   pub tolerated : ℕ
@@ -45,6 +47,14 @@ numbers_of keys locks = map (λ lock. number_of keys lock.key) locks
 abbrev pub key_number : PlanParts → ℕ → ℕ → ℕ
 key_number p n place = slice_index_or (numbers_of p.keys (held_of p n)) place 0
 
+-- how many nodes may hold the key with this number at once; 0 where that is not limited
+abbrev pub limit_of : PlanParts → ℕ → ℕ
+limit_of p number = slice_index_or p.limits number 0
+
+-- how many may hold this key
+abbrev pub limit_for : PlanParts → List ℕ → ℕ
+limit_for p key = limit_of p (number_of p.keys key)
+
 -- the greatest number of events: two for each node, the plan's included, and one more for each spare
 abbrev pub most_events : PlanParts → ℕ
 most_events p = 2 * size p.tree + count_below (is_spare_at p.tree) (size p.tree)
@@ -64,6 +74,8 @@ pub record IsPlan (p : PlanParts) : Type 0 where
   -- at most 256 keys, and each that is held is one of them
   pub few : length p.keys ≤ 256
   pub numbered : (n : ℕ) (key : List ℕ) (mode : LockMode) → HasLock (held_of p n) key mode → number_of p.keys key < length p.keys
+  -- the global key, which a node may hold below another that does, is not limited
+  pub unlimited : limit_for p global ≡ 0
 
 -- the number of a refusal, and 0 for want of memory
 abbrev pub fault_number : PlanFault → ℕ

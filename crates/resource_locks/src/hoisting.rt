@@ -70,7 +70,7 @@ fn node_count(tree: &Tree) -> usize
 }
 
 /// The number of a node's parent.
-fn parent(tree: &Tree, node: usize) -> usize
+pub(crate) fn parent(tree: &Tree, node: usize) -> usize
     requires above_zero { 0 < node }
     requires inside { node < size tree.now }
     ensures value { result ≡ parent_of tree.now node }

@@ -4,9 +4,11 @@
 mod fault;
 mod hoisting;
 mod keys;
+mod limits;
 mod lock_set;
 mod plan;
 
 pub use fault::PlanFault;
+pub use limits::KeyLimit;
 pub use lock_set::LockSet;
 pub use plan::{Plan, hoist};

@@ -9,12 +9,14 @@ ghost use Rattle.resource_locks.specs.Declarations.{declared_of};
 ghost use Rattle.resource_locks.specs.Held.{plan_of};
 ghost use Rattle.resource_locks.specs.Hoisted.{IsHoisted, IsGuarded};
 ghost use Rattle.resource_locks.specs.Keys.{keys_of};
+ghost use Rattle.resource_locks.specs.Limits.{with_limits, modes_with, IsLimited, ShareLimited};
 ghost use Rattle.resource_locks.specs.Plans.{mode_of, numbers_of};
 ghost use Rattle.resource_locks.specs.Spares.{HasBareSpares, HasFreeSpares};
 
 use crate::fault::PlanFault;
 use crate::hoisting::{held_sets, hoisted_modes};
 use crate::keys::Keys;
+use crate::limits::{KeyLimit, limit_at, limited_modes, limits_of, share_limited};
 use crate::lock_set::LockSet;
 use descriptor::{Mode, NodeId, Role, Tree};
 use std::alloc::{AllocError, Global};
@@ -30,6 +32,8 @@ pub struct Plan {
     modes: Vec<Mode>,
     held: Vec<LockSet>,
     keys: Vec<Text>,
+    // for each key how many nodes may hold it at once, and nothing of the last keys where that is not limited
+    limits: Vec<u8>,
     // for each node the numbers of the keys that it holds, in the order of its set
     numbers: Vec<Vec<u8>>,
     fail_fast: bool,
@@ -48,6 +52,7 @@ impl Model for Plan {
       modes = p.modes.items;
       held = p.held.items;
       keys = p.keys.items;
+      limits = p.limits.items;
       fail_fast = p.fail_fast;
       tolerated = p.tolerated;
     } };
@@ -58,6 +63,7 @@ impl Model for Plan {
           modes = p.modes.items;
           held = p.held.items;
           keys = p.keys.items;
+          limits = p.limits.items;
           fail_fast =
               p.fail_fast;
           tolerated =
@@ -87,7 +93,7 @@ pub fn hoist(alloc: Global, tree: &Tree, modes: Vec<Mode>) -> Result<Plan, PlanF
 
 impl Plan {
     ghost use Rattle.descriptor.specs.Nodes.{IsTree, size, count_below, is_spare_at};
-    ghost use Rattle.resource_locks.specs.Plans.{IsPlan, mode_of, held_of, key_number, most_events};
+    ghost use Rattle.resource_locks.specs.Plans.{IsPlan, mode_of, held_of, key_number, limit_of, most_events};
 
     /// The plan of a tree whose nodes were given these modes. Locks are held by the nodes that they are
     /// hoisted to: where a node at or below the child of an engine is isolated, that child holds all
@@ -114,6 +120,7 @@ impl Plan {
                 modes: parts.modes,
                 held: parts.held,
                 keys: parts.keys,
+                limits: Vec::new(alloc),
                 numbers: parts.numbers,
                 fail_fast: false,
                 tolerated: 0,
@@ -167,6 +174,13 @@ impl Plan {
         usize::from(self.numbers[node.index()][place])
     }
 
+    /// How many nodes may hold the key with this number at once; 0 if that is not limited.
+    pub fn limit(&self, key: usize) -> u8
+        ensures { result ≡ limit_of self.now key }
+    {
+        limit_at(&self.limits, key)
+    }
+
     /// Whether nothing more is to start once more nodes have failed than are tolerated.
     pub fn fail_fast(&self) -> bool
         ensures { result ≡ self.now.fail_fast }
@@ -203,6 +217,38 @@ impl Plan {
         let mut plan = self;
         plan.tolerated = tolerated;
         plan
+    }
+
+    /// The same plan, in which no more nodes hold a key at once than is given for it; a key that is not there has no
+    /// limit, and neither has the global one. Below a node that holds a limited key every node is executed in the same
+    /// thread as its parent.
+    pub fn with_limits(self, alloc: Global, given: &[KeyLimit]) -> Result<Plan, AllocError>
+        ensures same { IfOk result (λ plan. plan ≡ with_limits self given.now) }
+        ensures limited { IfOk result (λ plan. IsLimited self plan) }
+        ensures hoisted { (modes : ℕ → ModeValue) → IsHoisted (declared_of self.tree) modes self →
+            IfOk result (λ plan. IsHoisted (declared_of self.tree) (modes_with self plan.limits modes) plan) }
+        ensures guarded { IsGuarded (declared_of self.tree) self →
+            IfOk result (λ plan. IsGuarded (declared_of self.tree) plan) }
+    {
+        let limits = limits_of(alloc, &self.keys, given)?;
+        let modes = limited_modes(alloc, &self.tree, &limits, &self.numbers, &self.modes)?;
+        let mut plan = self;
+        plan.limits = limits;
+        plan.modes = modes;
+        Ok(plan)
+    }
+
+    /// Whether two nodes hold a key that is limited.
+    pub fn share_limited(&self, one: NodeId, other: NodeId) -> bool
+        requires one { one < size self.now.tree }
+        requires other { other < size self.now.tree }
+        ensures { IsTrue result ↔ ShareLimited self.now one other }
+    {
+        share_limited(
+            &self.limits,
+            &self.numbers[one.index()],
+            &self.numbers[other.index()],
+        )
     }
 
     /// Whether no spare holds a key. Whatever the workers of such a plan have done, it can still be
@@ -255,6 +301,8 @@ impl Plan {
     {
         let mut modes = Vec::new(alloc);
         modes.extend_from_slice(&self.modes)?;
+        let mut limits = Vec::new(alloc);
+        limits.extend_from_slice(&self.limits)?;
         let held = copied_sets(alloc, &self.held);
         let keys = copied_texts(alloc, &self.keys);
         let rest = both(keys, copied_numbers(alloc, &self.numbers));
@@ -266,6 +314,7 @@ impl Plan {
             modes,
             held,
             keys,
+            limits,
             numbers,
             fail_fast: self.fail_fast,
             tolerated: self.tolerated,
