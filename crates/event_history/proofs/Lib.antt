@@ -16,6 +16,7 @@ pub mod Serial
 pub mod Exclusion
 pub mod Isolation
 pub mod AddedEventExclusion
+pub mod Limits
 pub mod Counting
 pub mod OneReply
 pub mod Roots

@@ -16,7 +16,7 @@ use Rattle.event_history.proofs.PlanTrees.{is_plan_tree}
 use Rattle.event_history.proofs.RowWords.{a_node, started, finished, aborted, failed, skipped, registered, a_reply, replies_in, first_of_all}
 
 abbrev plan_1 : PlanParts
-plan_1 = record { tree = record { parents = 0 ∷ 0 ∷ []; nodes = a_node Container Plain None None None ∷ [] }; held = []; keys = []; modes = SameThread ∷ SameThread ∷ []; fail_fast = false; tolerated = 0 }
+plan_1 = record { tree = record { parents = 0 ∷ 0 ∷ []; nodes = a_node Container Plain None None None ∷ [] }; held = []; keys = []; limits = []; modes = SameThread ∷ SameThread ∷ []; fail_fast = false; tolerated = 0 }
 
 abbrev replies_1 : ℕ → List Reply
 replies_1 = replies_in ([])
@@ -46,7 +46,7 @@ expected_1 : map (expected plan_1 (λ job. first_of_all (replies_1 job))) (0 ∷
 expected_1 = refl
 
 abbrev plan_2 : PlanParts
-plan_2 = record { tree = record { parents = 0 ∷ 0 ∷ 1 ∷ []; nodes = a_node Container Plain None None None ∷ a_node Container Plain None None None ∷ [] }; held = []; keys = []; modes = SameThread ∷ SameThread ∷ SameThread ∷ []; fail_fast = false; tolerated = 0 }
+plan_2 = record { tree = record { parents = 0 ∷ 0 ∷ 1 ∷ []; nodes = a_node Container Plain None None None ∷ a_node Container Plain None None None ∷ [] }; held = []; keys = []; limits = []; modes = SameThread ∷ SameThread ∷ SameThread ∷ []; fail_fast = false; tolerated = 0 }
 
 abbrev replies_2 : ℕ → List Reply
 replies_2 = replies_in ([])
@@ -73,7 +73,7 @@ legal_2 : map (is_legal plan_2 replies_2 1) lists_2 ≡ true ∷ true ∷ true �
 legal_2 = refl
 
 abbrev plan_3 : PlanParts
-plan_3 = record { tree = record { parents = 0 ∷ 0 ∷ []; nodes = a_node Test Plain (Some 1) None None ∷ [] }; held = []; keys = []; modes = SameThread ∷ SameThread ∷ []; fail_fast = false; tolerated = 0 }
+plan_3 = record { tree = record { parents = 0 ∷ 0 ∷ []; nodes = a_node Test Plain (Some 1) None None ∷ [] }; held = []; keys = []; limits = []; modes = SameThread ∷ SameThread ∷ []; fail_fast = false; tolerated = 0 }
 
 abbrev replies_3 : ℕ → List Reply
 replies_3 = replies_in ((1, a_reply Failed (codes "x") 0 ∷ []) ∷ [])
@@ -103,7 +103,7 @@ expected_3 : map (expected plan_3 (λ job. first_of_all (replies_3 job))) (0 ∷
 expected_3 = refl
 
 abbrev plan_4 : PlanParts
-plan_4 = record { tree = record { parents = 0 ∷ 0 ∷ 1 ∷ 2 ∷ 2 ∷ 2 ∷ 2 ∷ []; nodes = a_node Container Plain None None None ∷ a_node Container Plain None None None ∷ a_node Test Plain (Some 1) None None ∷ a_node Test Plain (Some 2) None None ∷ a_node Test Plain (Some 3) None None ∷ a_node Test Plain (Some 4) None None ∷ [] }; held = []; keys = []; modes = SameThread ∷ SameThread ∷ Concurrent ∷ SameThread ∷ SameThread ∷ SameThread ∷ Concurrent ∷ []; fail_fast = false; tolerated = 0 }
+plan_4 = record { tree = record { parents = 0 ∷ 0 ∷ 1 ∷ 2 ∷ 2 ∷ 2 ∷ 2 ∷ []; nodes = a_node Container Plain None None None ∷ a_node Container Plain None None None ∷ a_node Test Plain (Some 1) None None ∷ a_node Test Plain (Some 2) None None ∷ a_node Test Plain (Some 3) None None ∷ a_node Test Plain (Some 4) None None ∷ [] }; held = []; keys = []; limits = []; modes = SameThread ∷ SameThread ∷ Concurrent ∷ SameThread ∷ SameThread ∷ SameThread ∷ Concurrent ∷ []; fail_fast = false; tolerated = 0 }
 
 abbrev replies_4 : ℕ → List Reply
 replies_4 = replies_in ((1, a_reply Successful [] 0 ∷ a_reply Failed (codes "other") 3 ∷ []) ∷ (2, a_reply Aborted [] 0 ∷ []) ∷ (3, a_reply Successful [] 0 ∷ a_reply Failed (codes "other") 2 ∷ []) ∷ (4, a_reply Successful [] 0 ∷ a_reply Aborted (codes "other") 2 ∷ []) ∷ [])
@@ -130,7 +130,7 @@ legal_4 : map (is_legal plan_4 replies_4 2) lists_4 ≡ true ∷ true ∷ true �
 legal_4 = refl
 
 abbrev plan_5 : PlanParts
-plan_5 = record { tree = record { parents = 0 ∷ 0 ∷ 1 ∷ 2 ∷ []; nodes = a_node Container Plain None None None ∷ a_node Container Plain None None None ∷ a_node Test Plain (Some 1) None None ∷ [] }; held = []; keys = []; modes = SameThread ∷ SameThread ∷ Concurrent ∷ SameThread ∷ []; fail_fast = false; tolerated = 0 }
+plan_5 = record { tree = record { parents = 0 ∷ 0 ∷ 1 ∷ 2 ∷ []; nodes = a_node Container Plain None None None ∷ a_node Container Plain None None None ∷ a_node Test Plain (Some 1) None None ∷ [] }; held = []; keys = []; limits = []; modes = SameThread ∷ SameThread ∷ Concurrent ∷ SameThread ∷ []; fail_fast = false; tolerated = 0 }
 
 abbrev replies_5 : ℕ → List Reply
 replies_5 = replies_in ((1, a_reply Successful [] 0 ∷ []) ∷ [])
@@ -157,7 +157,7 @@ legal_5 : map (is_legal plan_5 replies_5 2) lists_5 ≡ true ∷ true ∷ true �
 legal_5 = refl
 
 abbrev plan_6 : PlanParts
-plan_6 = record { tree = record { parents = 0 ∷ 0 ∷ 1 ∷ 2 ∷ []; nodes = a_node Container Plain None None None ∷ a_node Container Plain None None None ∷ a_node Test Plain None None (Some (codes "later")) ∷ [] }; held = []; keys = []; modes = SameThread ∷ SameThread ∷ SameThread ∷ SameThread ∷ []; fail_fast = false; tolerated = 0 }
+plan_6 = record { tree = record { parents = 0 ∷ 0 ∷ 1 ∷ 2 ∷ []; nodes = a_node Container Plain None None None ∷ a_node Container Plain None None None ∷ a_node Test Plain None None (Some (codes "later")) ∷ [] }; held = []; keys = []; limits = []; modes = SameThread ∷ SameThread ∷ SameThread ∷ SameThread ∷ []; fail_fast = false; tolerated = 0 }
 
 abbrev replies_6 : ℕ → List Reply
 replies_6 = replies_in ([])
@@ -187,7 +187,7 @@ expected_6 : map (expected plan_6 (λ job. first_of_all (replies_6 job))) (0 ∷
 expected_6 = refl
 
 abbrev plan_7 : PlanParts
-plan_7 = record { tree = record { parents = 0 ∷ 0 ∷ 1 ∷ 2 ∷ []; nodes = a_node Container Plain None None None ∷ a_node Container Plain None None (Some []) ∷ a_node Test Plain (Some 1) None None ∷ [] }; held = []; keys = []; modes = SameThread ∷ SameThread ∷ SameThread ∷ SameThread ∷ []; fail_fast = false; tolerated = 0 }
+plan_7 = record { tree = record { parents = 0 ∷ 0 ∷ 1 ∷ 2 ∷ []; nodes = a_node Container Plain None None None ∷ a_node Container Plain None None (Some []) ∷ a_node Test Plain (Some 1) None None ∷ [] }; held = []; keys = []; limits = []; modes = SameThread ∷ SameThread ∷ SameThread ∷ SameThread ∷ []; fail_fast = false; tolerated = 0 }
 
 abbrev replies_7 : ℕ → List Reply
 replies_7 = replies_in ((1, a_reply Aborted (codes "boom y") 0 ∷ []) ∷ [])
@@ -217,7 +217,7 @@ expected_7 : map (expected plan_7 (λ job. first_of_all (replies_7 job))) (0 ∷
 expected_7 = refl
 
 abbrev plan_8 : PlanParts
-plan_8 = record { tree = record { parents = 0 ∷ 0 ∷ []; nodes = a_node Container Plain None None None ∷ [] }; held = []; keys = []; modes = SameThread ∷ SameThread ∷ []; fail_fast = false; tolerated = 0 }
+plan_8 = record { tree = record { parents = 0 ∷ 0 ∷ []; nodes = a_node Container Plain None None None ∷ [] }; held = []; keys = []; limits = []; modes = SameThread ∷ SameThread ∷ []; fail_fast = false; tolerated = 0 }
 
 abbrev replies_8 : ℕ → List Reply
 replies_8 = replies_in ([])
@@ -247,7 +247,7 @@ expected_8 : map (expected plan_8 (λ job. first_of_all (replies_8 job))) (0 ∷
 expected_8 = refl
 
 abbrev plan_9 : PlanParts
-plan_9 = record { tree = record { parents = 0 ∷ 0 ∷ 1 ∷ 1 ∷ 3 ∷ 3 ∷ 1 ∷ 6 ∷ []; nodes = a_node Container Plain None None None ∷ a_node Container Plain (Some 1) None None ∷ a_node Container Plain None None None ∷ a_node Test Plain (Some 2) None None ∷ a_node Test Plain (Some 3) None None ∷ a_node Container Plain None None None ∷ a_node Container Plain None None None ∷ [] }; held = []; keys = []; modes = SameThread ∷ SameThread ∷ SameThread ∷ SameThread ∷ Concurrent ∷ SameThread ∷ SameThread ∷ SameThread ∷ []; fail_fast = false; tolerated = 0 }
+plan_9 = record { tree = record { parents = 0 ∷ 0 ∷ 1 ∷ 1 ∷ 3 ∷ 3 ∷ 1 ∷ 6 ∷ []; nodes = a_node Container Plain None None None ∷ a_node Container Plain (Some 1) None None ∷ a_node Container Plain None None None ∷ a_node Test Plain (Some 2) None None ∷ a_node Test Plain (Some 3) None None ∷ a_node Container Plain None None None ∷ a_node Container Plain None None None ∷ [] }; held = []; keys = []; limits = []; modes = SameThread ∷ SameThread ∷ SameThread ∷ SameThread ∷ Concurrent ∷ SameThread ∷ SameThread ∷ SameThread ∷ []; fail_fast = false; tolerated = 0 }
 
 abbrev replies_9 : ℕ → List Reply
 replies_9 = replies_in ((1, a_reply Failed (codes "x") 0 ∷ []) ∷ (2, a_reply Successful [] 0 ∷ a_reply Aborted (codes "other") 2 ∷ []) ∷ (3, a_reply Failed (codes "x") 0 ∷ a_reply Successful (codes "other") 1 ∷ []) ∷ [])
@@ -274,7 +274,7 @@ legal_9 : map (is_legal plan_9 replies_9 2) lists_9 ≡ true ∷ true ∷ true �
 legal_9 = refl
 
 abbrev plan_10 : PlanParts
-plan_10 = record { tree = record { parents = 0 ∷ 0 ∷ 0 ∷ []; nodes = a_node Container Plain None None (Some []) ∷ a_node Test Plain (Some 1) None None ∷ [] }; held = []; keys = []; modes = SameThread ∷ SameThread ∷ SameThread ∷ []; fail_fast = false; tolerated = 0 }
+plan_10 = record { tree = record { parents = 0 ∷ 0 ∷ 0 ∷ []; nodes = a_node Container Plain None None (Some []) ∷ a_node Test Plain (Some 1) None None ∷ [] }; held = []; keys = []; limits = []; modes = SameThread ∷ SameThread ∷ SameThread ∷ []; fail_fast = false; tolerated = 0 }
 
 abbrev replies_10 : ℕ → List Reply
 replies_10 = replies_in ((1, a_reply Successful [] 0 ∷ []) ∷ [])
@@ -304,7 +304,7 @@ expected_10 : map (expected plan_10 (λ job. first_of_all (replies_10 job))) (0 
 expected_10 = refl
 
 abbrev plan_11 : PlanParts
-plan_11 = record { tree = record { parents = 0 ∷ 0 ∷ 0 ∷ []; nodes = a_node Container Plain None None None ∷ a_node Container Plain None None None ∷ [] }; held = []; keys = []; modes = SameThread ∷ SameThread ∷ SameThread ∷ []; fail_fast = false; tolerated = 0 }
+plan_11 = record { tree = record { parents = 0 ∷ 0 ∷ 0 ∷ []; nodes = a_node Container Plain None None None ∷ a_node Container Plain None None None ∷ [] }; held = []; keys = []; limits = []; modes = SameThread ∷ SameThread ∷ SameThread ∷ []; fail_fast = false; tolerated = 0 }
 
 abbrev replies_11 : ℕ → List Reply
 replies_11 = replies_in ([])
@@ -334,7 +334,7 @@ expected_11 : map (expected plan_11 (λ job. first_of_all (replies_11 job))) (0 
 expected_11 = refl
 
 abbrev plan_12 : PlanParts
-plan_12 = record { tree = record { parents = 0 ∷ 0 ∷ 1 ∷ 1 ∷ []; nodes = a_node Container Plain None None None ∷ a_node Test Plain (Some 1) None None ∷ a_node Container Plain None None None ∷ [] }; held = []; keys = []; modes = SameThread ∷ Concurrent ∷ Concurrent ∷ SameThread ∷ []; fail_fast = false; tolerated = 0 }
+plan_12 = record { tree = record { parents = 0 ∷ 0 ∷ 1 ∷ 1 ∷ []; nodes = a_node Container Plain None None None ∷ a_node Test Plain (Some 1) None None ∷ a_node Container Plain None None None ∷ [] }; held = []; keys = []; limits = []; modes = SameThread ∷ Concurrent ∷ Concurrent ∷ SameThread ∷ []; fail_fast = false; tolerated = 0 }
 
 abbrev replies_12 : ℕ → List Reply
 replies_12 = replies_in ((1, a_reply Aborted [] 0 ∷ []) ∷ [])
@@ -364,7 +364,7 @@ expected_12 : map (expected plan_12 (λ job. first_of_all (replies_12 job))) (0 
 expected_12 = refl
 
 abbrev plan_13 : PlanParts
-plan_13 = record { tree = record { parents = 0 ∷ 0 ∷ 1 ∷ 1 ∷ 3 ∷ []; nodes = a_node Container Plain None None None ∷ a_node Container Plain (Some 1) None None ∷ a_node Container Plain None None None ∷ a_node Test Plain (Some 2) None None ∷ [] }; held = []; keys = []; modes = SameThread ∷ SameThread ∷ SameThread ∷ SameThread ∷ SameThread ∷ []; fail_fast = false; tolerated = 0 }
+plan_13 = record { tree = record { parents = 0 ∷ 0 ∷ 1 ∷ 1 ∷ 3 ∷ []; nodes = a_node Container Plain None None None ∷ a_node Container Plain (Some 1) None None ∷ a_node Container Plain None None None ∷ a_node Test Plain (Some 2) None None ∷ [] }; held = []; keys = []; limits = []; modes = SameThread ∷ SameThread ∷ SameThread ∷ SameThread ∷ SameThread ∷ []; fail_fast = false; tolerated = 0 }
 
 abbrev replies_13 : ℕ → List Reply
 replies_13 = replies_in ((1, a_reply Successful [] 0 ∷ a_reply Aborted (codes "other") 2 ∷ []) ∷ (2, a_reply Failed (codes "x") 0 ∷ a_reply Successful (codes "other") 3 ∷ []) ∷ [])
@@ -391,7 +391,7 @@ legal_13 : map (is_legal plan_13 replies_13 1) lists_13 ≡ true ∷ true ∷ tr
 legal_13 = refl
 
 abbrev plan_14 : PlanParts
-plan_14 = record { tree = record { parents = 0 ∷ 0 ∷ 1 ∷ 2 ∷ 1 ∷ 1 ∷ []; nodes = a_node Container Plain None None None ∷ a_node ContainerAndTest Plain None None None ∷ a_node Test Plain None None None ∷ a_node Test Plain (Some 1) None None ∷ a_node Container Plain None None (Some (codes "later")) ∷ [] }; held = []; keys = []; modes = SameThread ∷ Concurrent ∷ SameThread ∷ Concurrent ∷ SameThread ∷ SameThread ∷ []; fail_fast = false; tolerated = 0 }
+plan_14 = record { tree = record { parents = 0 ∷ 0 ∷ 1 ∷ 2 ∷ 1 ∷ 1 ∷ []; nodes = a_node Container Plain None None None ∷ a_node ContainerAndTest Plain None None None ∷ a_node Test Plain None None None ∷ a_node Test Plain (Some 1) None None ∷ a_node Container Plain None None (Some (codes "later")) ∷ [] }; held = []; keys = []; limits = []; modes = SameThread ∷ Concurrent ∷ SameThread ∷ Concurrent ∷ SameThread ∷ SameThread ∷ []; fail_fast = false; tolerated = 0 }
 
 abbrev replies_14 : ℕ → List Reply
 replies_14 = replies_in ((1, a_reply Aborted [] 0 ∷ a_reply Aborted (codes "other") 3 ∷ []) ∷ [])
@@ -418,7 +418,7 @@ legal_14 : map (is_legal plan_14 replies_14 2) lists_14 ≡ true ∷ true ∷ tr
 legal_14 = refl
 
 abbrev plan_15 : PlanParts
-plan_15 = record { tree = record { parents = 0 ∷ 0 ∷ []; nodes = a_node Container Plain None None None ∷ [] }; held = []; keys = []; modes = SameThread ∷ SameThread ∷ []; fail_fast = false; tolerated = 0 }
+plan_15 = record { tree = record { parents = 0 ∷ 0 ∷ []; nodes = a_node Container Plain None None None ∷ [] }; held = []; keys = []; limits = []; modes = SameThread ∷ SameThread ∷ []; fail_fast = false; tolerated = 0 }
 
 abbrev replies_15 : ℕ → List Reply
 replies_15 = replies_in ([])
@@ -448,7 +448,7 @@ expected_15 : map (expected plan_15 (λ job. first_of_all (replies_15 job))) (0 
 expected_15 = refl
 
 abbrev plan_16 : PlanParts
-plan_16 = record { tree = record { parents = 0 ∷ 0 ∷ 1 ∷ 2 ∷ []; nodes = a_node Container Plain None None None ∷ a_node Container Plain None None None ∷ a_node Test Plain None None (Some (codes "later")) ∷ [] }; held = []; keys = []; modes = SameThread ∷ SameThread ∷ SameThread ∷ SameThread ∷ []; fail_fast = false; tolerated = 0 }
+plan_16 = record { tree = record { parents = 0 ∷ 0 ∷ 1 ∷ 2 ∷ []; nodes = a_node Container Plain None None None ∷ a_node Container Plain None None None ∷ a_node Test Plain None None (Some (codes "later")) ∷ [] }; held = []; keys = []; limits = []; modes = SameThread ∷ SameThread ∷ SameThread ∷ SameThread ∷ []; fail_fast = false; tolerated = 0 }
 
 abbrev replies_16 : ℕ → List Reply
 replies_16 = replies_in ([])
@@ -478,7 +478,7 @@ expected_16 : map (expected plan_16 (λ job. first_of_all (replies_16 job))) (0 
 expected_16 = refl
 
 abbrev plan_17 : PlanParts
-plan_17 = record { tree = record { parents = 0 ∷ 0 ∷ []; nodes = a_node Container Plain None None None ∷ [] }; held = []; keys = []; modes = SameThread ∷ SameThread ∷ []; fail_fast = false; tolerated = 0 }
+plan_17 = record { tree = record { parents = 0 ∷ 0 ∷ []; nodes = a_node Container Plain None None None ∷ [] }; held = []; keys = []; limits = []; modes = SameThread ∷ SameThread ∷ []; fail_fast = false; tolerated = 0 }
 
 abbrev replies_17 : ℕ → List Reply
 replies_17 = replies_in ([])
@@ -505,7 +505,7 @@ legal_17 : map (is_legal plan_17 replies_17 1) lists_17 ≡ true ∷ true ∷ tr
 legal_17 = refl
 
 abbrev plan_18 : PlanParts
-plan_18 = record { tree = record { parents = 0 ∷ 0 ∷ 0 ∷ []; nodes = a_node Container Plain None None None ∷ a_node Test Plain (Some 1) None None ∷ [] }; held = []; keys = []; modes = SameThread ∷ SameThread ∷ SameThread ∷ []; fail_fast = false; tolerated = 0 }
+plan_18 = record { tree = record { parents = 0 ∷ 0 ∷ 0 ∷ []; nodes = a_node Container Plain None None None ∷ a_node Test Plain (Some 1) None None ∷ [] }; held = []; keys = []; limits = []; modes = SameThread ∷ SameThread ∷ SameThread ∷ []; fail_fast = false; tolerated = 0 }
 
 abbrev replies_18 : ℕ → List Reply
 replies_18 = replies_in ((1, a_reply Successful [] 0 ∷ a_reply Aborted (codes "other") 0 ∷ []) ∷ [])
@@ -532,7 +532,7 @@ legal_18 : map (is_legal plan_18 replies_18 1) lists_18 ≡ true ∷ true ∷ tr
 legal_18 = refl
 
 abbrev plan_19 : PlanParts
-plan_19 = record { tree = record { parents = 0 ∷ 0 ∷ 1 ∷ 2 ∷ []; nodes = a_node Container Plain None None None ∷ a_node ContainerAndTest Plain None None None ∷ a_node Container Plain None None None ∷ [] }; held = []; keys = []; modes = SameThread ∷ SameThread ∷ SameThread ∷ SameThread ∷ []; fail_fast = false; tolerated = 0 }
+plan_19 = record { tree = record { parents = 0 ∷ 0 ∷ 1 ∷ 2 ∷ []; nodes = a_node Container Plain None None None ∷ a_node ContainerAndTest Plain None None None ∷ a_node Container Plain None None None ∷ [] }; held = []; keys = []; limits = []; modes = SameThread ∷ SameThread ∷ SameThread ∷ SameThread ∷ []; fail_fast = false; tolerated = 0 }
 
 abbrev replies_19 : ℕ → List Reply
 replies_19 = replies_in ([])
@@ -562,7 +562,7 @@ expected_19 : map (expected plan_19 (λ job. first_of_all (replies_19 job))) (0 
 expected_19 = refl
 
 abbrev plan_20 : PlanParts
-plan_20 = record { tree = record { parents = 0 ∷ 0 ∷ []; nodes = a_node Container Plain None None None ∷ [] }; held = []; keys = []; modes = SameThread ∷ SameThread ∷ []; fail_fast = false; tolerated = 0 }
+plan_20 = record { tree = record { parents = 0 ∷ 0 ∷ []; nodes = a_node Container Plain None None None ∷ [] }; held = []; keys = []; limits = []; modes = SameThread ∷ SameThread ∷ []; fail_fast = false; tolerated = 0 }
 
 abbrev replies_20 : ℕ → List Reply
 replies_20 = replies_in ([])
@@ -589,7 +589,7 @@ legal_20 : map (is_legal plan_20 replies_20 1) lists_20 ≡ true ∷ true ∷ tr
 legal_20 = refl
 
 abbrev plan_21 : PlanParts
-plan_21 = record { tree = record { parents = 0 ∷ 0 ∷ 1 ∷ 2 ∷ 1 ∷ 1 ∷ []; nodes = a_node Container Plain None None None ∷ a_node Container Plain None None None ∷ a_node Test Plain (Some 1) None None ∷ a_node Container Plain None None None ∷ a_node Container Plain None None None ∷ [] }; held = []; keys = []; modes = SameThread ∷ SameThread ∷ Concurrent ∷ Concurrent ∷ Concurrent ∷ Concurrent ∷ []; fail_fast = false; tolerated = 0 }
+plan_21 = record { tree = record { parents = 0 ∷ 0 ∷ 1 ∷ 2 ∷ 1 ∷ 1 ∷ []; nodes = a_node Container Plain None None None ∷ a_node Container Plain None None None ∷ a_node Test Plain (Some 1) None None ∷ a_node Container Plain None None None ∷ a_node Container Plain None None None ∷ [] }; held = []; keys = []; limits = []; modes = SameThread ∷ SameThread ∷ Concurrent ∷ Concurrent ∷ Concurrent ∷ Concurrent ∷ []; fail_fast = false; tolerated = 0 }
 
 abbrev replies_21 : ℕ → List Reply
 replies_21 = replies_in ((1, a_reply Aborted (codes "x") 0 ∷ []) ∷ [])

@@ -16,7 +16,7 @@ use Rattle.event_history.proofs.PlanTrees.{is_plan_tree}
 use Rattle.event_history.proofs.RowWords.{a_node, started, finished, aborted, failed, skipped, registered, a_reply, replies_in, first_of_all}
 
 abbrev plan_1 : PlanParts
-plan_1 = record { tree = record { parents = 0 ∷ 0 ∷ 1 ∷ 2 ∷ []; nodes = a_node Container Plain None None None ∷ a_node ContainerAndTest Factory (Some 1) None None ∷ a_node Test Spare (Some 2) None None ∷ [] }; held = []; keys = []; modes = Concurrent ∷ Concurrent ∷ Concurrent ∷ SameThread ∷ []; fail_fast = false; tolerated = 0 }
+plan_1 = record { tree = record { parents = 0 ∷ 0 ∷ 1 ∷ 2 ∷ []; nodes = a_node Container Plain None None None ∷ a_node ContainerAndTest Factory (Some 1) None None ∷ a_node Test Spare (Some 2) None None ∷ [] }; held = []; keys = []; limits = []; modes = Concurrent ∷ Concurrent ∷ Concurrent ∷ SameThread ∷ []; fail_fast = false; tolerated = 0 }
 
 abbrev replies_1 : ℕ → List Reply
 replies_1 = replies_in ((1, a_reply Successful [] 1 ∷ []) ∷ (2, a_reply Successful [] 0 ∷ []) ∷ [])
@@ -46,7 +46,7 @@ expected_1 : map (expected plan_1 (λ job. first_of_all (replies_1 job))) (0 ∷
 expected_1 = refl
 
 abbrev plan_2 : PlanParts
-plan_2 = record { tree = record { parents = 0 ∷ 0 ∷ 0 ∷ 2 ∷ 3 ∷ 4 ∷ []; nodes = a_node Container Plain None None None ∷ a_node Container Plain None None None ∷ a_node Container Plain None (Some 1) None ∷ a_node Container Factory (Some 2) None None ∷ a_node Test Spare None None None ∷ [] }; held = []; keys = []; modes = Concurrent ∷ SameThread ∷ SameThread ∷ SameThread ∷ SameThread ∷ Concurrent ∷ []; fail_fast = false; tolerated = 0 }
+plan_2 = record { tree = record { parents = 0 ∷ 0 ∷ 0 ∷ 2 ∷ 3 ∷ 4 ∷ []; nodes = a_node Container Plain None None None ∷ a_node Container Plain None None None ∷ a_node Container Plain None (Some 1) None ∷ a_node Container Factory (Some 2) None None ∷ a_node Test Spare None None None ∷ [] }; held = []; keys = []; limits = []; modes = Concurrent ∷ SameThread ∷ SameThread ∷ SameThread ∷ SameThread ∷ Concurrent ∷ []; fail_fast = false; tolerated = 0 }
 
 abbrev replies_2 : ℕ → List Reply
 replies_2 = replies_in ((1, a_reply Aborted [] 0 ∷ []) ∷ (2, a_reply Aborted (codes "boom y") 0 ∷ a_reply Aborted (codes "other") 0 ∷ []) ∷ [])
@@ -73,7 +73,7 @@ legal_2 : map (is_legal plan_2 replies_2 1) lists_2 ≡ true ∷ true ∷ true �
 legal_2 = refl
 
 abbrev plan_3 : PlanParts
-plan_3 = record { tree = record { parents = 0 ∷ 0 ∷ 1 ∷ 2 ∷ 3 ∷ 3 ∷ 5 ∷ []; nodes = a_node Container Plain None None None ∷ a_node Container Plain (Some 1) None None ∷ a_node ContainerAndTest Plain None None None ∷ a_node Container Factory (Some 2) None None ∷ a_node Container Factory (Some 3) None None ∷ a_node Test Spare None None None ∷ [] }; held = []; keys = []; modes = Concurrent ∷ Concurrent ∷ Concurrent ∷ SameThread ∷ SameThread ∷ SameThread ∷ SameThread ∷ []; fail_fast = false; tolerated = 0 }
+plan_3 = record { tree = record { parents = 0 ∷ 0 ∷ 1 ∷ 2 ∷ 3 ∷ 3 ∷ 5 ∷ []; nodes = a_node Container Plain None None None ∷ a_node Container Plain (Some 1) None None ∷ a_node ContainerAndTest Plain None None None ∷ a_node Container Factory (Some 2) None None ∷ a_node Container Factory (Some 3) None None ∷ a_node Test Spare None None None ∷ [] }; held = []; keys = []; limits = []; modes = Concurrent ∷ Concurrent ∷ Concurrent ∷ SameThread ∷ SameThread ∷ SameThread ∷ SameThread ∷ []; fail_fast = false; tolerated = 0 }
 
 abbrev replies_3 : ℕ → List Reply
 replies_3 = replies_in ((1, a_reply Aborted (codes "boom y") 0 ∷ a_reply Aborted (codes "other") 1 ∷ []) ∷ (2, a_reply Successful [] 1 ∷ a_reply Failed (codes "other") 2 ∷ []) ∷ (3, a_reply Aborted (codes "x") 3 ∷ a_reply Successful (codes "other") 3 ∷ []) ∷ [])
@@ -100,7 +100,7 @@ legal_3 : map (is_legal plan_3 replies_3 1) lists_3 ≡ true ∷ true ∷ true �
 legal_3 = refl
 
 abbrev plan_4 : PlanParts
-plan_4 = record { tree = record { parents = 0 ∷ 0 ∷ 1 ∷ 1 ∷ 3 ∷ 3 ∷ 3 ∷ []; nodes = a_node Container Plain None None None ∷ a_node Container Plain None None None ∷ a_node Container Plain (Some 1) None None ∷ a_node Test Plain (Some 2) None None ∷ a_node Container Factory (Some 3) None None ∷ a_node Container Factory None None (Some []) ∷ [] }; held = []; keys = []; modes = SameThread ∷ SameThread ∷ Concurrent ∷ SameThread ∷ SameThread ∷ SameThread ∷ SameThread ∷ []; fail_fast = false; tolerated = 0 }
+plan_4 = record { tree = record { parents = 0 ∷ 0 ∷ 1 ∷ 1 ∷ 3 ∷ 3 ∷ 3 ∷ []; nodes = a_node Container Plain None None None ∷ a_node Container Plain None None None ∷ a_node Container Plain (Some 1) None None ∷ a_node Test Plain (Some 2) None None ∷ a_node Container Factory (Some 3) None None ∷ a_node Container Factory None None (Some []) ∷ [] }; held = []; keys = []; limits = []; modes = SameThread ∷ SameThread ∷ Concurrent ∷ SameThread ∷ SameThread ∷ SameThread ∷ SameThread ∷ []; fail_fast = false; tolerated = 0 }
 
 abbrev replies_4 : ℕ → List Reply
 replies_4 = replies_in ((1, a_reply Successful [] 0 ∷ []) ∷ (2, a_reply Successful [] 0 ∷ []) ∷ (3, a_reply Successful [] 0 ∷ []) ∷ [])
@@ -130,7 +130,7 @@ expected_4 : map (expected plan_4 (λ job. first_of_all (replies_4 job))) (0 ∷
 expected_4 = refl
 
 abbrev plan_5 : PlanParts
-plan_5 = record { tree = record { parents = 0 ∷ 0 ∷ 1 ∷ 2 ∷ 3 ∷ 3 ∷ 2 ∷ 2 ∷ []; nodes = a_node Container Plain None None None ∷ a_node Container Plain (Some 1) None None ∷ a_node Container Factory (Some 2) None None ∷ a_node Test Spare (Some 3) None None ∷ a_node Test Spare (Some 4) None None ∷ a_node Test Plain (Some 5) None None ∷ a_node Test Plain (Some 6) None None ∷ [] }; held = []; keys = []; modes = SameThread ∷ SameThread ∷ Concurrent ∷ SameThread ∷ SameThread ∷ SameThread ∷ SameThread ∷ SameThread ∷ []; fail_fast = false; tolerated = 0 }
+plan_5 = record { tree = record { parents = 0 ∷ 0 ∷ 1 ∷ 2 ∷ 3 ∷ 3 ∷ 2 ∷ 2 ∷ []; nodes = a_node Container Plain None None None ∷ a_node Container Plain (Some 1) None None ∷ a_node Container Factory (Some 2) None None ∷ a_node Test Spare (Some 3) None None ∷ a_node Test Spare (Some 4) None None ∷ a_node Test Plain (Some 5) None None ∷ a_node Test Plain (Some 6) None None ∷ [] }; held = []; keys = []; limits = []; modes = SameThread ∷ SameThread ∷ Concurrent ∷ SameThread ∷ SameThread ∷ SameThread ∷ SameThread ∷ SameThread ∷ []; fail_fast = false; tolerated = 0 }
 
 abbrev replies_5 : ℕ → List Reply
 replies_5 = replies_in ((1, a_reply Failed (codes "x") 0 ∷ []) ∷ (2, a_reply Failed (codes "x") 2 ∷ []) ∷ (3, a_reply Successful [] 0 ∷ []) ∷ (4, a_reply Successful [] 0 ∷ []) ∷ (5, a_reply Successful [] 0 ∷ []) ∷ (6, a_reply Successful [] 0 ∷ []) ∷ [])
@@ -160,7 +160,7 @@ expected_5 : map (expected plan_5 (λ job. first_of_all (replies_5 job))) (0 ∷
 expected_5 = refl
 
 abbrev plan_6 : PlanParts
-plan_6 = record { tree = record { parents = 0 ∷ 0 ∷ 1 ∷ 1 ∷ 3 ∷ 4 ∷ 4 ∷ 4 ∷ []; nodes = a_node Container Plain None None None ∷ a_node Container Plain None None None ∷ a_node Container Plain None None None ∷ a_node Container Factory (Some 1) None None ∷ a_node Test Spare (Some 2) None None ∷ a_node Test Spare (Some 3) None None ∷ a_node Test Spare (Some 4) None None ∷ [] }; held = []; keys = []; modes = SameThread ∷ SameThread ∷ SameThread ∷ SameThread ∷ SameThread ∷ SameThread ∷ SameThread ∷ SameThread ∷ []; fail_fast = false; tolerated = 0 }
+plan_6 = record { tree = record { parents = 0 ∷ 0 ∷ 1 ∷ 1 ∷ 3 ∷ 4 ∷ 4 ∷ 4 ∷ []; nodes = a_node Container Plain None None None ∷ a_node Container Plain None None None ∷ a_node Container Plain None None None ∷ a_node Container Factory (Some 1) None None ∷ a_node Test Spare (Some 2) None None ∷ a_node Test Spare (Some 3) None None ∷ a_node Test Spare (Some 4) None None ∷ [] }; held = []; keys = []; limits = []; modes = SameThread ∷ SameThread ∷ SameThread ∷ SameThread ∷ SameThread ∷ SameThread ∷ SameThread ∷ SameThread ∷ []; fail_fast = false; tolerated = 0 }
 
 abbrev replies_6 : ℕ → List Reply
 replies_6 = replies_in ((1, a_reply Aborted (codes "x") 3 ∷ []) ∷ (2, a_reply Failed (codes "boom y") 0 ∷ []) ∷ (3, a_reply Failed (codes "boom y") 0 ∷ []) ∷ (4, a_reply Successful [] 0 ∷ []) ∷ [])
@@ -190,7 +190,7 @@ expected_6 : map (expected plan_6 (λ job. first_of_all (replies_6 job))) (0 ∷
 expected_6 = refl
 
 abbrev plan_7 : PlanParts
-plan_7 = record { tree = record { parents = 0 ∷ 0 ∷ 1 ∷ 2 ∷ 2 ∷ []; nodes = a_node Container Plain None (Some 1) None ∷ a_node Container Plain None None None ∷ a_node Test Plain (Some 2) None None ∷ a_node Container Factory (Some 3) None None ∷ [] }; held = []; keys = []; modes = SameThread ∷ SameThread ∷ SameThread ∷ SameThread ∷ SameThread ∷ []; fail_fast = false; tolerated = 0 }
+plan_7 = record { tree = record { parents = 0 ∷ 0 ∷ 1 ∷ 2 ∷ 2 ∷ []; nodes = a_node Container Plain None (Some 1) None ∷ a_node Container Plain None None None ∷ a_node Test Plain (Some 2) None None ∷ a_node Container Factory (Some 3) None None ∷ [] }; held = []; keys = []; limits = []; modes = SameThread ∷ SameThread ∷ SameThread ∷ SameThread ∷ SameThread ∷ []; fail_fast = false; tolerated = 0 }
 
 abbrev replies_7 : ℕ → List Reply
 replies_7 = replies_in ((1, a_reply Aborted (codes "x") 0 ∷ []) ∷ (2, a_reply Successful [] 0 ∷ []) ∷ (3, a_reply Failed (codes "x") 0 ∷ []) ∷ [])
@@ -220,7 +220,7 @@ expected_7 : map (expected plan_7 (λ job. first_of_all (replies_7 job))) (0 ∷
 expected_7 = refl
 
 abbrev plan_8 : PlanParts
-plan_8 = record { tree = record { parents = 0 ∷ 0 ∷ 1 ∷ 2 ∷ 3 ∷ 1 ∷ []; nodes = a_node Container Plain None None None ∷ a_node Container Plain None None None ∷ a_node Container Factory (Some 1) None None ∷ a_node Test Spare (Some 2) None None ∷ a_node Container Plain None None None ∷ [] }; held = []; keys = []; modes = SameThread ∷ SameThread ∷ Concurrent ∷ SameThread ∷ SameThread ∷ Concurrent ∷ []; fail_fast = false; tolerated = 0 }
+plan_8 = record { tree = record { parents = 0 ∷ 0 ∷ 1 ∷ 2 ∷ 3 ∷ 1 ∷ []; nodes = a_node Container Plain None None None ∷ a_node Container Plain None None None ∷ a_node Container Factory (Some 1) None None ∷ a_node Test Spare (Some 2) None None ∷ a_node Container Plain None None None ∷ [] }; held = []; keys = []; limits = []; modes = SameThread ∷ SameThread ∷ Concurrent ∷ SameThread ∷ SameThread ∷ Concurrent ∷ []; fail_fast = false; tolerated = 0 }
 
 abbrev replies_8 : ℕ → List Reply
 replies_8 = replies_in ((1, a_reply Successful [] 0 ∷ []) ∷ (2, a_reply Successful [] 0 ∷ []) ∷ [])
@@ -250,7 +250,7 @@ expected_8 : map (expected plan_8 (λ job. first_of_all (replies_8 job))) (0 ∷
 expected_8 = refl
 
 abbrev plan_9 : PlanParts
-plan_9 = record { tree = record { parents = 0 ∷ 0 ∷ 1 ∷ 1 ∷ 3 ∷ 3 ∷ 3 ∷ 3 ∷ []; nodes = a_node Container Plain None None None ∷ a_node Container Plain None None None ∷ a_node Container Factory None None (Some (codes "later")) ∷ a_node Test Spare (Some 1) None None ∷ a_node Test Spare (Some 2) None None ∷ a_node Test Spare (Some 3) None (Some []) ∷ a_node Test Spare None None (Some []) ∷ [] }; held = []; keys = []; modes = SameThread ∷ SameThread ∷ SameThread ∷ SameThread ∷ SameThread ∷ SameThread ∷ SameThread ∷ SameThread ∷ []; fail_fast = false; tolerated = 0 }
+plan_9 = record { tree = record { parents = 0 ∷ 0 ∷ 1 ∷ 1 ∷ 3 ∷ 3 ∷ 3 ∷ 3 ∷ []; nodes = a_node Container Plain None None None ∷ a_node Container Plain None None None ∷ a_node Container Factory None None (Some (codes "later")) ∷ a_node Test Spare (Some 1) None None ∷ a_node Test Spare (Some 2) None None ∷ a_node Test Spare (Some 3) None (Some []) ∷ a_node Test Spare None None (Some []) ∷ [] }; held = []; keys = []; limits = []; modes = SameThread ∷ SameThread ∷ SameThread ∷ SameThread ∷ SameThread ∷ SameThread ∷ SameThread ∷ SameThread ∷ []; fail_fast = false; tolerated = 0 }
 
 abbrev replies_9 : ℕ → List Reply
 replies_9 = replies_in ((1, a_reply Failed [] 0 ∷ []) ∷ (2, a_reply Aborted (codes "boom y") 0 ∷ []) ∷ (3, a_reply Successful [] 0 ∷ []) ∷ [])
@@ -280,7 +280,7 @@ expected_9 : map (expected plan_9 (λ job. first_of_all (replies_9 job))) (0 ∷
 expected_9 = refl
 
 abbrev plan_10 : PlanParts
-plan_10 = record { tree = record { parents = 0 ∷ 0 ∷ 1 ∷ 2 ∷ 2 ∷ 1 ∷ []; nodes = a_node Container Plain (Some 1) None None ∷ a_node Container Plain (Some 2) None None ∷ a_node ContainerAndTest Factory (Some 3) None None ∷ a_node Test Plain (Some 4) None None ∷ a_node Container Plain (Some 5) (Some 6) None ∷ [] }; held = []; keys = []; modes = SameThread ∷ SameThread ∷ Concurrent ∷ Concurrent ∷ SameThread ∷ Concurrent ∷ []; fail_fast = false; tolerated = 0 }
+plan_10 = record { tree = record { parents = 0 ∷ 0 ∷ 1 ∷ 2 ∷ 2 ∷ 1 ∷ []; nodes = a_node Container Plain (Some 1) None None ∷ a_node Container Plain (Some 2) None None ∷ a_node ContainerAndTest Factory (Some 3) None None ∷ a_node Test Plain (Some 4) None None ∷ a_node Container Plain (Some 5) (Some 6) None ∷ [] }; held = []; keys = []; limits = []; modes = SameThread ∷ SameThread ∷ Concurrent ∷ Concurrent ∷ SameThread ∷ Concurrent ∷ []; fail_fast = false; tolerated = 0 }
 
 abbrev replies_10 : ℕ → List Reply
 replies_10 = replies_in ((1, a_reply Successful [] 0 ∷ a_reply Failed (codes "other") 3 ∷ []) ∷ (2, a_reply Failed (codes "x") 0 ∷ a_reply Successful (codes "other") 1 ∷ []) ∷ (3, a_reply Successful [] 0 ∷ []) ∷ (4, a_reply Failed (codes "boom y") 0 ∷ []) ∷ (5, a_reply Failed (codes "x") 0 ∷ a_reply Successful (codes "other") 3 ∷ []) ∷ (6, a_reply Failed [] 0 ∷ []) ∷ [])
@@ -307,7 +307,7 @@ legal_10 : map (is_legal plan_10 replies_10 2) lists_10 ≡ true ∷ true ∷ tr
 legal_10 = refl
 
 abbrev plan_11 : PlanParts
-plan_11 = record { tree = record { parents = 0 ∷ 0 ∷ 1 ∷ 1 ∷ []; nodes = a_node Container Factory (Some 1) None None ∷ a_node Test Spare (Some 2) None None ∷ a_node Test Spare None None None ∷ [] }; held = []; keys = []; modes = Concurrent ∷ SameThread ∷ Concurrent ∷ SameThread ∷ []; fail_fast = false; tolerated = 0 }
+plan_11 = record { tree = record { parents = 0 ∷ 0 ∷ 1 ∷ 1 ∷ []; nodes = a_node Container Factory (Some 1) None None ∷ a_node Test Spare (Some 2) None None ∷ a_node Test Spare None None None ∷ [] }; held = []; keys = []; limits = []; modes = Concurrent ∷ SameThread ∷ Concurrent ∷ SameThread ∷ []; fail_fast = false; tolerated = 0 }
 
 abbrev replies_11 : ℕ → List Reply
 replies_11 = replies_in ((1, a_reply Successful [] 2 ∷ []) ∷ (2, a_reply Aborted (codes "boom y") 0 ∷ a_reply Successful (codes "other") 2 ∷ []) ∷ [])
@@ -334,7 +334,7 @@ legal_11 : map (is_legal plan_11 replies_11 2) lists_11 ≡ true ∷ true ∷ tr
 legal_11 = refl
 
 abbrev plan_12 : PlanParts
-plan_12 = record { tree = record { parents = 0 ∷ 0 ∷ 1 ∷ 1 ∷ 1 ∷ 1 ∷ []; nodes = a_node ContainerAndTest Factory (Some 1) None None ∷ a_node Test Spare None None None ∷ a_node Test Spare None None None ∷ a_node Test Spare None None (Some (codes "later")) ∷ a_node Test Spare (Some 2) None None ∷ [] }; held = []; keys = []; modes = SameThread ∷ SameThread ∷ SameThread ∷ Concurrent ∷ Concurrent ∷ Concurrent ∷ []; fail_fast = false; tolerated = 0 }
+plan_12 = record { tree = record { parents = 0 ∷ 0 ∷ 1 ∷ 1 ∷ 1 ∷ 1 ∷ []; nodes = a_node ContainerAndTest Factory (Some 1) None None ∷ a_node Test Spare None None None ∷ a_node Test Spare None None None ∷ a_node Test Spare None None (Some (codes "later")) ∷ a_node Test Spare (Some 2) None None ∷ [] }; held = []; keys = []; limits = []; modes = SameThread ∷ SameThread ∷ SameThread ∷ Concurrent ∷ Concurrent ∷ Concurrent ∷ []; fail_fast = false; tolerated = 0 }
 
 abbrev replies_12 : ℕ → List Reply
 replies_12 = replies_in ((1, a_reply Successful [] 4 ∷ []) ∷ (2, a_reply Failed [] 0 ∷ []) ∷ [])
@@ -361,7 +361,7 @@ legal_12 : map (is_legal plan_12 replies_12 1) lists_12 ≡ true ∷ true ∷ tr
 legal_12 = refl
 
 abbrev plan_13 : PlanParts
-plan_13 = record { tree = record { parents = 0 ∷ 0 ∷ 1 ∷ 2 ∷ 2 ∷ 1 ∷ []; nodes = a_node Container Plain None None None ∷ a_node Container Plain None None None ∷ a_node Container Factory (Some 1) None None ∷ a_node Test Plain (Some 2) None None ∷ a_node Container Plain None None None ∷ [] }; held = []; keys = []; modes = SameThread ∷ SameThread ∷ Concurrent ∷ SameThread ∷ SameThread ∷ SameThread ∷ []; fail_fast = false; tolerated = 0 }
+plan_13 = record { tree = record { parents = 0 ∷ 0 ∷ 1 ∷ 2 ∷ 2 ∷ 1 ∷ []; nodes = a_node Container Plain None None None ∷ a_node Container Plain None None None ∷ a_node Container Factory (Some 1) None None ∷ a_node Test Plain (Some 2) None None ∷ a_node Container Plain None None None ∷ [] }; held = []; keys = []; limits = []; modes = SameThread ∷ SameThread ∷ Concurrent ∷ SameThread ∷ SameThread ∷ SameThread ∷ []; fail_fast = false; tolerated = 0 }
 
 abbrev replies_13 : ℕ → List Reply
 replies_13 = replies_in ((1, a_reply Failed [] 0 ∷ []) ∷ (2, a_reply Successful [] 0 ∷ []) ∷ [])
@@ -391,7 +391,7 @@ expected_13 : map (expected plan_13 (λ job. first_of_all (replies_13 job))) (0 
 expected_13 = refl
 
 abbrev plan_14 : PlanParts
-plan_14 = record { tree = record { parents = 0 ∷ 0 ∷ 1 ∷ 1 ∷ 3 ∷ 4 ∷ 4 ∷ 3 ∷ []; nodes = a_node Container Plain None None None ∷ a_node Container Plain (Some 1) (Some 2) None ∷ a_node Container Plain None (Some 3) None ∷ a_node Container Factory None None None ∷ a_node Test Spare None None (Some (codes "later")) ∷ a_node Test Spare None None None ∷ a_node Test Plain (Some 4) None None ∷ [] }; held = []; keys = []; modes = SameThread ∷ SameThread ∷ Concurrent ∷ SameThread ∷ SameThread ∷ SameThread ∷ SameThread ∷ SameThread ∷ []; fail_fast = false; tolerated = 0 }
+plan_14 = record { tree = record { parents = 0 ∷ 0 ∷ 1 ∷ 1 ∷ 3 ∷ 4 ∷ 4 ∷ 3 ∷ []; nodes = a_node Container Plain None None None ∷ a_node Container Plain (Some 1) (Some 2) None ∷ a_node Container Plain None (Some 3) None ∷ a_node Container Factory None None None ∷ a_node Test Spare None None (Some (codes "later")) ∷ a_node Test Spare None None None ∷ a_node Test Plain (Some 4) None None ∷ [] }; held = []; keys = []; limits = []; modes = SameThread ∷ SameThread ∷ Concurrent ∷ SameThread ∷ SameThread ∷ SameThread ∷ SameThread ∷ SameThread ∷ []; fail_fast = false; tolerated = 0 }
 
 abbrev replies_14 : ℕ → List Reply
 replies_14 = replies_in ((1, a_reply Failed (codes "boom y") 0 ∷ []) ∷ (2, a_reply Successful [] 0 ∷ []) ∷ (3, a_reply Aborted [] 0 ∷ []) ∷ (4, a_reply Successful [] 0 ∷ []) ∷ [])
@@ -421,7 +421,7 @@ expected_14 : map (expected plan_14 (λ job. first_of_all (replies_14 job))) (0 
 expected_14 = refl
 
 abbrev plan_15 : PlanParts
-plan_15 = record { tree = record { parents = 0 ∷ 0 ∷ 1 ∷ 2 ∷ 2 ∷ 2 ∷ 2 ∷ []; nodes = a_node Container Plain None None None ∷ a_node Container Plain None None None ∷ a_node Test Plain (Some 1) None None ∷ a_node Test Plain None None None ∷ a_node Test Plain (Some 2) None None ∷ a_node Container Factory None None None ∷ [] }; held = []; keys = []; modes = SameThread ∷ SameThread ∷ SameThread ∷ SameThread ∷ Concurrent ∷ Concurrent ∷ Concurrent ∷ []; fail_fast = false; tolerated = 0 }
+plan_15 = record { tree = record { parents = 0 ∷ 0 ∷ 1 ∷ 2 ∷ 2 ∷ 2 ∷ 2 ∷ []; nodes = a_node Container Plain None None None ∷ a_node Container Plain None None None ∷ a_node Test Plain (Some 1) None None ∷ a_node Test Plain None None None ∷ a_node Test Plain (Some 2) None None ∷ a_node Container Factory None None None ∷ [] }; held = []; keys = []; limits = []; modes = SameThread ∷ SameThread ∷ SameThread ∷ SameThread ∷ Concurrent ∷ Concurrent ∷ Concurrent ∷ []; fail_fast = false; tolerated = 0 }
 
 abbrev replies_15 : ℕ → List Reply
 replies_15 = replies_in ((1, a_reply Successful [] 0 ∷ []) ∷ (2, a_reply Successful [] 0 ∷ []) ∷ [])
@@ -451,7 +451,7 @@ expected_15 : map (expected plan_15 (λ job. first_of_all (replies_15 job))) (0 
 expected_15 = refl
 
 abbrev plan_16 : PlanParts
-plan_16 = record { tree = record { parents = 0 ∷ 0 ∷ 1 ∷ 2 ∷ 3 ∷ []; nodes = a_node Container Plain None None None ∷ a_node Container Plain None (Some 1) None ∷ a_node Container Factory (Some 2) None None ∷ a_node Test Spare (Some 3) None None ∷ [] }; held = []; keys = []; modes = SameThread ∷ SameThread ∷ SameThread ∷ SameThread ∷ SameThread ∷ []; fail_fast = false; tolerated = 0 }
+plan_16 = record { tree = record { parents = 0 ∷ 0 ∷ 1 ∷ 2 ∷ 3 ∷ []; nodes = a_node Container Plain None None None ∷ a_node Container Plain None (Some 1) None ∷ a_node Container Factory (Some 2) None None ∷ a_node Test Spare (Some 3) None None ∷ [] }; held = []; keys = []; limits = []; modes = SameThread ∷ SameThread ∷ SameThread ∷ SameThread ∷ SameThread ∷ []; fail_fast = false; tolerated = 0 }
 
 abbrev replies_16 : ℕ → List Reply
 replies_16 = replies_in ((1, a_reply Successful [] 0 ∷ []) ∷ (2, a_reply Successful [] 1 ∷ []) ∷ (3, a_reply Successful [] 0 ∷ []) ∷ [])
@@ -481,7 +481,7 @@ expected_16 : map (expected plan_16 (λ job. first_of_all (replies_16 job))) (0 
 expected_16 = refl
 
 abbrev plan_17 : PlanParts
-plan_17 = record { tree = record { parents = 0 ∷ 0 ∷ 1 ∷ 2 ∷ 2 ∷ 2 ∷ []; nodes = a_node Container Plain None None None ∷ a_node Container Plain (Some 1) None None ∷ a_node Test Plain (Some 2) None None ∷ a_node Test Plain (Some 3) None None ∷ a_node ContainerAndTest Factory None None None ∷ [] }; held = []; keys = []; modes = SameThread ∷ SameThread ∷ Concurrent ∷ SameThread ∷ SameThread ∷ SameThread ∷ []; fail_fast = false; tolerated = 0 }
+plan_17 = record { tree = record { parents = 0 ∷ 0 ∷ 1 ∷ 2 ∷ 2 ∷ 2 ∷ []; nodes = a_node Container Plain None None None ∷ a_node Container Plain (Some 1) None None ∷ a_node Test Plain (Some 2) None None ∷ a_node Test Plain (Some 3) None None ∷ a_node ContainerAndTest Factory None None None ∷ [] }; held = []; keys = []; limits = []; modes = SameThread ∷ SameThread ∷ Concurrent ∷ SameThread ∷ SameThread ∷ SameThread ∷ []; fail_fast = false; tolerated = 0 }
 
 abbrev replies_17 : ℕ → List Reply
 replies_17 = replies_in ((1, a_reply Failed (codes "x") 0 ∷ []) ∷ (2, a_reply Successful [] 0 ∷ []) ∷ (3, a_reply Failed (codes "x") 0 ∷ []) ∷ [])
@@ -511,7 +511,7 @@ expected_17 : map (expected plan_17 (λ job. first_of_all (replies_17 job))) (0 
 expected_17 = refl
 
 abbrev plan_18 : PlanParts
-plan_18 = record { tree = record { parents = 0 ∷ 0 ∷ 1 ∷ 2 ∷ 3 ∷ 2 ∷ 5 ∷ 0 ∷ []; nodes = a_node Container Plain None None (Some []) ∷ a_node Container Plain None None None ∷ a_node Container Plain None None None ∷ a_node Test Plain (Some 1) None None ∷ a_node ContainerAndTest Factory (Some 2) None None ∷ a_node Test Spare (Some 3) None None ∷ a_node Container Plain None None None ∷ [] }; held = []; keys = []; modes = Concurrent ∷ SameThread ∷ SameThread ∷ Concurrent ∷ Concurrent ∷ Concurrent ∷ Concurrent ∷ Concurrent ∷ []; fail_fast = false; tolerated = 0 }
+plan_18 = record { tree = record { parents = 0 ∷ 0 ∷ 1 ∷ 2 ∷ 3 ∷ 2 ∷ 5 ∷ 0 ∷ []; nodes = a_node Container Plain None None (Some []) ∷ a_node Container Plain None None None ∷ a_node Container Plain None None None ∷ a_node Test Plain (Some 1) None None ∷ a_node ContainerAndTest Factory (Some 2) None None ∷ a_node Test Spare (Some 3) None None ∷ a_node Container Plain None None None ∷ [] }; held = []; keys = []; limits = []; modes = Concurrent ∷ SameThread ∷ SameThread ∷ Concurrent ∷ Concurrent ∷ Concurrent ∷ Concurrent ∷ Concurrent ∷ []; fail_fast = false; tolerated = 0 }
 
 abbrev replies_18 : ℕ → List Reply
 replies_18 = replies_in ((1, a_reply Failed (codes "boom y") 0 ∷ []) ∷ (2, a_reply Successful [] 1 ∷ []) ∷ (3, a_reply Successful [] 0 ∷ []) ∷ [])
@@ -541,7 +541,7 @@ expected_18 : map (expected plan_18 (λ job. first_of_all (replies_18 job))) (0 
 expected_18 = refl
 
 abbrev plan_19 : PlanParts
-plan_19 = record { tree = record { parents = 0 ∷ 0 ∷ 1 ∷ 2 ∷ 2 ∷ 4 ∷ 1 ∷ 6 ∷ []; nodes = a_node Container Plain None None None ∷ a_node Container Plain None None None ∷ a_node Test Plain (Some 1) None None ∷ a_node Container Plain None None None ∷ a_node Container Factory (Some 2) None None ∷ a_node Container Plain None None None ∷ a_node Container Plain None None None ∷ [] }; held = []; keys = []; modes = SameThread ∷ SameThread ∷ Concurrent ∷ Concurrent ∷ Concurrent ∷ Concurrent ∷ Concurrent ∷ Concurrent ∷ []; fail_fast = false; tolerated = 0 }
+plan_19 = record { tree = record { parents = 0 ∷ 0 ∷ 1 ∷ 2 ∷ 2 ∷ 4 ∷ 1 ∷ 6 ∷ []; nodes = a_node Container Plain None None None ∷ a_node Container Plain None None None ∷ a_node Test Plain (Some 1) None None ∷ a_node Container Plain None None None ∷ a_node Container Factory (Some 2) None None ∷ a_node Container Plain None None None ∷ a_node Container Plain None None None ∷ [] }; held = []; keys = []; limits = []; modes = SameThread ∷ SameThread ∷ Concurrent ∷ Concurrent ∷ Concurrent ∷ Concurrent ∷ Concurrent ∷ Concurrent ∷ []; fail_fast = false; tolerated = 0 }
 
 abbrev replies_19 : ℕ → List Reply
 replies_19 = replies_in ((1, a_reply Successful [] 0 ∷ []) ∷ (2, a_reply Successful [] 0 ∷ []) ∷ [])

@@ -15,7 +15,7 @@ use Rattle.event_history.proofs.PlanTrees.{is_plan_tree}
 use Rattle.event_history.proofs.RowWords.{a_node, started, finished, aborted, failed, skipped, registered, a_reply, replies_in}
 
 abbrev plan_1 : PlanParts
-plan_1 = record { tree = record { parents = 0 ∷ 0 ∷ 1 ∷ 2 ∷ 2 ∷ 4 ∷ 4 ∷ []; nodes = a_node Container Plain None None None ∷ a_node Container Plain None None None ∷ a_node Test Plain (Some 1) None None ∷ a_node Container Factory None None (Some (codes "later")) ∷ a_node Test Spare (Some 2) None None ∷ a_node Test Spare (Some 3) None None ∷ [] }; held = []; keys = []; modes = SameThread ∷ SameThread ∷ SameThread ∷ SameThread ∷ Concurrent ∷ Concurrent ∷ Concurrent ∷ []; fail_fast = true; tolerated = 0 }
+plan_1 = record { tree = record { parents = 0 ∷ 0 ∷ 1 ∷ 2 ∷ 2 ∷ 4 ∷ 4 ∷ []; nodes = a_node Container Plain None None None ∷ a_node Container Plain None None None ∷ a_node Test Plain (Some 1) None None ∷ a_node Container Factory None None (Some (codes "later")) ∷ a_node Test Spare (Some 2) None None ∷ a_node Test Spare (Some 3) None None ∷ [] }; held = []; keys = []; limits = []; modes = SameThread ∷ SameThread ∷ SameThread ∷ SameThread ∷ Concurrent ∷ Concurrent ∷ Concurrent ∷ []; fail_fast = true; tolerated = 0 }
 
 abbrev replies_1 : ℕ → List Reply
 replies_1 = replies_in ((1, a_reply Failed (codes "boom y") 0 ∷ []) ∷ (2, a_reply Successful [] 0 ∷ []) ∷ (3, a_reply Successful [] 0 ∷ []) ∷ [])
@@ -42,7 +42,7 @@ legal_1 : map (is_legal plan_1 replies_1 1) lists_1 ≡ true ∷ true ∷ true �
 legal_1 = refl
 
 abbrev plan_2 : PlanParts
-plan_2 = record { tree = record { parents = 0 ∷ 0 ∷ []; nodes = a_node Container Plain None None None ∷ [] }; held = []; keys = []; modes = SameThread ∷ SameThread ∷ []; fail_fast = true; tolerated = 0 }
+plan_2 = record { tree = record { parents = 0 ∷ 0 ∷ []; nodes = a_node Container Plain None None None ∷ [] }; held = []; keys = []; limits = []; modes = SameThread ∷ SameThread ∷ []; fail_fast = true; tolerated = 0 }
 
 abbrev replies_2 : ℕ → List Reply
 replies_2 = replies_in ([])
@@ -69,7 +69,7 @@ legal_2 : map (is_legal plan_2 replies_2 2) lists_2 ≡ true ∷ true ∷ true �
 legal_2 = refl
 
 abbrev plan_3 : PlanParts
-plan_3 = record { tree = record { parents = 0 ∷ 0 ∷ 1 ∷ 2 ∷ []; nodes = a_node Container Plain None None None ∷ a_node Container Plain None None None ∷ a_node Test Plain (Some 1) None None ∷ [] }; held = []; keys = []; modes = SameThread ∷ SameThread ∷ Concurrent ∷ Concurrent ∷ []; fail_fast = true; tolerated = 0 }
+plan_3 = record { tree = record { parents = 0 ∷ 0 ∷ 1 ∷ 2 ∷ []; nodes = a_node Container Plain None None None ∷ a_node Container Plain None None None ∷ a_node Test Plain (Some 1) None None ∷ [] }; held = []; keys = []; limits = []; modes = SameThread ∷ SameThread ∷ Concurrent ∷ Concurrent ∷ []; fail_fast = true; tolerated = 0 }
 
 abbrev replies_3 : ℕ → List Reply
 replies_3 = replies_in ((1, a_reply Failed (codes "x") 0 ∷ []) ∷ [])
@@ -96,7 +96,7 @@ legal_3 : map (is_legal plan_3 replies_3 1) lists_3 ≡ true ∷ true ∷ true �
 legal_3 = refl
 
 abbrev plan_4 : PlanParts
-plan_4 = record { tree = record { parents = 0 ∷ 0 ∷ 1 ∷ 2 ∷ 2 ∷ 2 ∷ 5 ∷ 6 ∷ []; nodes = a_node Container Plain None (Some 1) None ∷ a_node Container Plain (Some 2) None None ∷ a_node Test Plain (Some 3) None None ∷ a_node Test Plain None None (Some (codes "later")) ∷ a_node Container Plain (Some 4) (Some 5) None ∷ a_node Container Plain None None None ∷ a_node ContainerAndTest Factory (Some 6) None None ∷ [] }; held = []; keys = []; modes = SameThread ∷ SameThread ∷ SameThread ∷ SameThread ∷ SameThread ∷ Concurrent ∷ Concurrent ∷ Concurrent ∷ []; fail_fast = true; tolerated = 0 }
+plan_4 = record { tree = record { parents = 0 ∷ 0 ∷ 1 ∷ 2 ∷ 2 ∷ 2 ∷ 5 ∷ 6 ∷ []; nodes = a_node Container Plain None (Some 1) None ∷ a_node Container Plain (Some 2) None None ∷ a_node Test Plain (Some 3) None None ∷ a_node Test Plain None None (Some (codes "later")) ∷ a_node Container Plain (Some 4) (Some 5) None ∷ a_node Container Plain None None None ∷ a_node ContainerAndTest Factory (Some 6) None None ∷ [] }; held = []; keys = []; limits = []; modes = SameThread ∷ SameThread ∷ SameThread ∷ SameThread ∷ SameThread ∷ Concurrent ∷ Concurrent ∷ Concurrent ∷ []; fail_fast = true; tolerated = 0 }
 
 abbrev replies_4 : ℕ → List Reply
 replies_4 = replies_in ((1, a_reply Failed [] 0 ∷ []) ∷ (2, a_reply Successful [] 0 ∷ []) ∷ (3, a_reply Successful [] 0 ∷ a_reply Aborted (codes "other") 3 ∷ []) ∷ (4, a_reply Aborted [] 0 ∷ []) ∷ (5, a_reply Failed (codes "x") 0 ∷ a_reply Failed (codes "other") 1 ∷ []) ∷ (6, a_reply Failed (codes "boom y") 0 ∷ a_reply Successful (codes "other") 0 ∷ []) ∷ [])
@@ -123,7 +123,7 @@ legal_4 : map (is_legal plan_4 replies_4 2) lists_4 ≡ true ∷ true ∷ true �
 legal_4 = refl
 
 abbrev plan_5 : PlanParts
-plan_5 = record { tree = record { parents = 0 ∷ 0 ∷ 1 ∷ 1 ∷ 1 ∷ []; nodes = a_node Container Plain None None None ∷ a_node Container Plain None None None ∷ a_node Container Plain None None None ∷ a_node Container Plain None None None ∷ [] }; held = []; keys = []; modes = SameThread ∷ SameThread ∷ Concurrent ∷ Concurrent ∷ SameThread ∷ []; fail_fast = true; tolerated = 0 }
+plan_5 = record { tree = record { parents = 0 ∷ 0 ∷ 1 ∷ 1 ∷ 1 ∷ []; nodes = a_node Container Plain None None None ∷ a_node Container Plain None None None ∷ a_node Container Plain None None None ∷ a_node Container Plain None None None ∷ [] }; held = []; keys = []; limits = []; modes = SameThread ∷ SameThread ∷ Concurrent ∷ Concurrent ∷ SameThread ∷ []; fail_fast = true; tolerated = 0 }
 
 abbrev replies_5 : ℕ → List Reply
 replies_5 = replies_in ([])
@@ -150,7 +150,7 @@ legal_5 : map (is_legal plan_5 replies_5 1) lists_5 ≡ true ∷ true ∷ true �
 legal_5 = refl
 
 abbrev plan_6 : PlanParts
-plan_6 = record { tree = record { parents = 0 ∷ 0 ∷ 1 ∷ 2 ∷ 2 ∷ 2 ∷ 5 ∷ 5 ∷ []; nodes = a_node Container Plain None None None ∷ a_node Container Plain (Some 1) None None ∷ a_node ContainerAndTest Plain (Some 2) None None ∷ a_node Test Plain (Some 3) None None ∷ a_node ContainerAndTest Plain None None None ∷ a_node Test Plain None None (Some []) ∷ a_node ContainerAndTest Factory (Some 4) None None ∷ [] }; held = []; keys = []; modes = SameThread ∷ SameThread ∷ SameThread ∷ SameThread ∷ Concurrent ∷ Concurrent ∷ Concurrent ∷ Concurrent ∷ []; fail_fast = true; tolerated = 0 }
+plan_6 = record { tree = record { parents = 0 ∷ 0 ∷ 1 ∷ 2 ∷ 2 ∷ 2 ∷ 5 ∷ 5 ∷ []; nodes = a_node Container Plain None None None ∷ a_node Container Plain (Some 1) None None ∷ a_node ContainerAndTest Plain (Some 2) None None ∷ a_node Test Plain (Some 3) None None ∷ a_node ContainerAndTest Plain None None None ∷ a_node Test Plain None None (Some []) ∷ a_node ContainerAndTest Factory (Some 4) None None ∷ [] }; held = []; keys = []; limits = []; modes = SameThread ∷ SameThread ∷ SameThread ∷ SameThread ∷ Concurrent ∷ Concurrent ∷ Concurrent ∷ Concurrent ∷ []; fail_fast = true; tolerated = 0 }
 
 abbrev replies_6 : ℕ → List Reply
 replies_6 = replies_in ((1, a_reply Failed [] 0 ∷ []) ∷ (2, a_reply Failed (codes "boom y") 0 ∷ []) ∷ (3, a_reply Failed (codes "x") 0 ∷ []) ∷ (4, a_reply Failed [] 0 ∷ []) ∷ [])
@@ -177,7 +177,7 @@ legal_6 : map (is_legal plan_6 replies_6 2) lists_6 ≡ true ∷ true ∷ true �
 legal_6 = refl
 
 abbrev plan_7 : PlanParts
-plan_7 = record { tree = record { parents = 0 ∷ 0 ∷ 1 ∷ 2 ∷ 3 ∷ 2 ∷ 2 ∷ []; nodes = a_node Container Plain None None (Some (codes "later")) ∷ a_node Container Plain None None None ∷ a_node Container Plain (Some 1) None (Some []) ∷ a_node Test Plain (Some 2) None None ∷ a_node Container Factory (Some 3) None None ∷ a_node Container Plain (Some 4) None None ∷ [] }; held = []; keys = []; modes = Concurrent ∷ SameThread ∷ Concurrent ∷ SameThread ∷ SameThread ∷ SameThread ∷ SameThread ∷ []; fail_fast = true; tolerated = 0 }
+plan_7 = record { tree = record { parents = 0 ∷ 0 ∷ 1 ∷ 2 ∷ 3 ∷ 2 ∷ 2 ∷ []; nodes = a_node Container Plain None None (Some (codes "later")) ∷ a_node Container Plain None None None ∷ a_node Container Plain (Some 1) None (Some []) ∷ a_node Test Plain (Some 2) None None ∷ a_node Container Factory (Some 3) None None ∷ a_node Container Plain (Some 4) None None ∷ [] }; held = []; keys = []; limits = []; modes = Concurrent ∷ SameThread ∷ Concurrent ∷ SameThread ∷ SameThread ∷ SameThread ∷ SameThread ∷ []; fail_fast = true; tolerated = 0 }
 
 abbrev replies_7 : ℕ → List Reply
 replies_7 = replies_in ((1, a_reply Successful [] 0 ∷ []) ∷ (2, a_reply Successful [] 0 ∷ []) ∷ (3, a_reply Successful [] 0 ∷ []) ∷ (4, a_reply Failed (codes "boom y") 0 ∷ []) ∷ [])
@@ -204,7 +204,7 @@ legal_7 : map (is_legal plan_7 replies_7 1) lists_7 ≡ true ∷ true ∷ true �
 legal_7 = refl
 
 abbrev plan_8 : PlanParts
-plan_8 = record { tree = record { parents = 0 ∷ 0 ∷ []; nodes = a_node Test Plain (Some 1) None None ∷ [] }; held = []; keys = []; modes = Concurrent ∷ SameThread ∷ []; fail_fast = true; tolerated = 0 }
+plan_8 = record { tree = record { parents = 0 ∷ 0 ∷ []; nodes = a_node Test Plain (Some 1) None None ∷ [] }; held = []; keys = []; limits = []; modes = Concurrent ∷ SameThread ∷ []; fail_fast = true; tolerated = 0 }
 
 abbrev replies_8 : ℕ → List Reply
 replies_8 = replies_in ((1, a_reply Successful [] 0 ∷ []) ∷ [])
@@ -231,7 +231,7 @@ legal_8 : map (is_legal plan_8 replies_8 2) lists_8 ≡ true ∷ true ∷ true �
 legal_8 = refl
 
 abbrev plan_9 : PlanParts
-plan_9 = record { tree = record { parents = 0 ∷ 0 ∷ 1 ∷ 1 ∷ 3 ∷ 3 ∷ []; nodes = a_node Container Plain (Some 1) None (Some []) ∷ a_node Container Plain None None None ∷ a_node Container Plain None None None ∷ a_node Test Plain None None None ∷ a_node ContainerAndTest Factory (Some 2) None None ∷ [] }; held = []; keys = []; modes = SameThread ∷ SameThread ∷ Concurrent ∷ SameThread ∷ SameThread ∷ Concurrent ∷ []; fail_fast = true; tolerated = 0 }
+plan_9 = record { tree = record { parents = 0 ∷ 0 ∷ 1 ∷ 1 ∷ 3 ∷ 3 ∷ []; nodes = a_node Container Plain (Some 1) None (Some []) ∷ a_node Container Plain None None None ∷ a_node Container Plain None None None ∷ a_node Test Plain None None None ∷ a_node ContainerAndTest Factory (Some 2) None None ∷ [] }; held = []; keys = []; limits = []; modes = SameThread ∷ SameThread ∷ Concurrent ∷ SameThread ∷ SameThread ∷ Concurrent ∷ []; fail_fast = true; tolerated = 0 }
 
 abbrev replies_9 : ℕ → List Reply
 replies_9 = replies_in ((1, a_reply Successful [] 0 ∷ a_reply Failed (codes "other") 2 ∷ []) ∷ (2, a_reply Failed [] 0 ∷ []) ∷ [])
@@ -258,7 +258,7 @@ legal_9 : map (is_legal plan_9 replies_9 2) lists_9 ≡ true ∷ true ∷ true �
 legal_9 = refl
 
 abbrev plan_10 : PlanParts
-plan_10 = record { tree = record { parents = 0 ∷ 0 ∷ 1 ∷ 2 ∷ 2 ∷ 1 ∷ []; nodes = a_node Container Plain None None None ∷ a_node Container Plain None None None ∷ a_node Test Plain (Some 1) None None ∷ a_node Test Plain (Some 2) None None ∷ a_node Container Plain None None None ∷ [] }; held = []; keys = []; modes = SameThread ∷ SameThread ∷ SameThread ∷ SameThread ∷ SameThread ∷ SameThread ∷ []; fail_fast = true; tolerated = 0 }
+plan_10 = record { tree = record { parents = 0 ∷ 0 ∷ 1 ∷ 2 ∷ 2 ∷ 1 ∷ []; nodes = a_node Container Plain None None None ∷ a_node Container Plain None None None ∷ a_node Test Plain (Some 1) None None ∷ a_node Test Plain (Some 2) None None ∷ a_node Container Plain None None None ∷ [] }; held = []; keys = []; limits = []; modes = SameThread ∷ SameThread ∷ SameThread ∷ SameThread ∷ SameThread ∷ SameThread ∷ []; fail_fast = true; tolerated = 0 }
 
 abbrev replies_10 : ℕ → List Reply
 replies_10 = replies_in ((1, a_reply Aborted (codes "boom y") 0 ∷ []) ∷ (2, a_reply Successful [] 0 ∷ []) ∷ [])
@@ -285,7 +285,7 @@ legal_10 : map (is_legal plan_10 replies_10 2) lists_10 ≡ true ∷ true ∷ tr
 legal_10 = refl
 
 abbrev plan_11 : PlanParts
-plan_11 = record { tree = record { parents = 0 ∷ 0 ∷ 1 ∷ 2 ∷ []; nodes = a_node Container Plain None None None ∷ a_node Container Plain None None (Some (codes "later")) ∷ a_node Test Plain (Some 1) None None ∷ [] }; held = []; keys = []; modes = SameThread ∷ SameThread ∷ Concurrent ∷ SameThread ∷ []; fail_fast = true; tolerated = 0 }
+plan_11 = record { tree = record { parents = 0 ∷ 0 ∷ 1 ∷ 2 ∷ []; nodes = a_node Container Plain None None None ∷ a_node Container Plain None None (Some (codes "later")) ∷ a_node Test Plain (Some 1) None None ∷ [] }; held = []; keys = []; limits = []; modes = SameThread ∷ SameThread ∷ Concurrent ∷ SameThread ∷ []; fail_fast = true; tolerated = 0 }
 
 abbrev replies_11 : ℕ → List Reply
 replies_11 = replies_in ((1, a_reply Successful [] 0 ∷ []) ∷ [])
@@ -312,7 +312,7 @@ legal_11 : map (is_legal plan_11 replies_11 2) lists_11 ≡ true ∷ true ∷ tr
 legal_11 = refl
 
 abbrev plan_12 : PlanParts
-plan_12 = record { tree = record { parents = 0 ∷ 0 ∷ 1 ∷ 2 ∷ 2 ∷ 2 ∷ 2 ∷ 2 ∷ []; nodes = a_node Container Plain (Some 1) (Some 2) None ∷ a_node Container Plain (Some 3) None None ∷ a_node Test Plain (Some 4) None None ∷ a_node Test Plain (Some 5) None None ∷ a_node Test Plain None None None ∷ a_node Test Plain None None None ∷ a_node Test Plain (Some 6) None None ∷ [] }; held = []; keys = []; modes = SameThread ∷ SameThread ∷ Concurrent ∷ SameThread ∷ SameThread ∷ SameThread ∷ SameThread ∷ SameThread ∷ []; fail_fast = true; tolerated = 0 }
+plan_12 = record { tree = record { parents = 0 ∷ 0 ∷ 1 ∷ 2 ∷ 2 ∷ 2 ∷ 2 ∷ 2 ∷ []; nodes = a_node Container Plain (Some 1) (Some 2) None ∷ a_node Container Plain (Some 3) None None ∷ a_node Test Plain (Some 4) None None ∷ a_node Test Plain (Some 5) None None ∷ a_node Test Plain None None None ∷ a_node Test Plain None None None ∷ a_node Test Plain (Some 6) None None ∷ [] }; held = []; keys = []; limits = []; modes = SameThread ∷ SameThread ∷ Concurrent ∷ SameThread ∷ SameThread ∷ SameThread ∷ SameThread ∷ SameThread ∷ []; fail_fast = true; tolerated = 0 }
 
 abbrev replies_12 : ℕ → List Reply
 replies_12 = replies_in ((1, a_reply Successful [] 0 ∷ []) ∷ (2, a_reply Failed (codes "x") 0 ∷ []) ∷ (3, a_reply Successful [] 0 ∷ []) ∷ (4, a_reply Failed [] 0 ∷ []) ∷ (5, a_reply Successful [] 0 ∷ []) ∷ (6, a_reply Failed (codes "boom y") 0 ∷ []) ∷ [])
@@ -339,7 +339,7 @@ legal_12 : map (is_legal plan_12 replies_12 1) lists_12 ≡ true ∷ true ∷ tr
 legal_12 = refl
 
 abbrev plan_13 : PlanParts
-plan_13 = record { tree = record { parents = 0 ∷ 0 ∷ 0 ∷ 0 ∷ []; nodes = a_node Container Plain None None (Some (codes "later")) ∷ a_node Container Plain None None None ∷ a_node Container Plain None None None ∷ [] }; held = []; keys = []; modes = SameThread ∷ SameThread ∷ SameThread ∷ Concurrent ∷ []; fail_fast = true; tolerated = 0 }
+plan_13 = record { tree = record { parents = 0 ∷ 0 ∷ 0 ∷ 0 ∷ []; nodes = a_node Container Plain None None (Some (codes "later")) ∷ a_node Container Plain None None None ∷ a_node Container Plain None None None ∷ [] }; held = []; keys = []; limits = []; modes = SameThread ∷ SameThread ∷ SameThread ∷ Concurrent ∷ []; fail_fast = true; tolerated = 0 }
 
 abbrev replies_13 : ℕ → List Reply
 replies_13 = replies_in ([])
@@ -366,7 +366,7 @@ legal_13 : map (is_legal plan_13 replies_13 2) lists_13 ≡ true ∷ true ∷ tr
 legal_13 = refl
 
 abbrev plan_14 : PlanParts
-plan_14 = record { tree = record { parents = 0 ∷ 0 ∷ 1 ∷ 1 ∷ 3 ∷ 3 ∷ []; nodes = a_node Container Plain None None None ∷ a_node Container Plain None None None ∷ a_node Container Plain None (Some 1) None ∷ a_node Test Plain (Some 2) None None ∷ a_node Test Plain (Some 3) None None ∷ [] }; held = []; keys = []; modes = SameThread ∷ SameThread ∷ SameThread ∷ SameThread ∷ SameThread ∷ SameThread ∷ []; fail_fast = true; tolerated = 0 }
+plan_14 = record { tree = record { parents = 0 ∷ 0 ∷ 1 ∷ 1 ∷ 3 ∷ 3 ∷ []; nodes = a_node Container Plain None None None ∷ a_node Container Plain None None None ∷ a_node Container Plain None (Some 1) None ∷ a_node Test Plain (Some 2) None None ∷ a_node Test Plain (Some 3) None None ∷ [] }; held = []; keys = []; limits = []; modes = SameThread ∷ SameThread ∷ SameThread ∷ SameThread ∷ SameThread ∷ SameThread ∷ []; fail_fast = true; tolerated = 0 }
 
 abbrev replies_14 : ℕ → List Reply
 replies_14 = replies_in ((1, a_reply Successful [] 0 ∷ []) ∷ (2, a_reply Successful [] 0 ∷ []) ∷ (3, a_reply Failed (codes "x") 0 ∷ []) ∷ [])
@@ -393,7 +393,7 @@ legal_14 : map (is_legal plan_14 replies_14 2) lists_14 ≡ true ∷ true ∷ tr
 legal_14 = refl
 
 abbrev plan_15 : PlanParts
-plan_15 = record { tree = record { parents = 0 ∷ 0 ∷ 0 ∷ 2 ∷ 3 ∷ 3 ∷ 3 ∷ 3 ∷ []; nodes = a_node Container Plain None None None ∷ a_node Container Plain None None (Some (codes "later")) ∷ a_node Container Plain (Some 1) None None ∷ a_node ContainerAndTest Plain (Some 2) None None ∷ a_node Container Plain None None (Some (codes "later")) ∷ a_node Test Plain None None None ∷ a_node ContainerAndTest Plain (Some 3) None None ∷ [] }; held = []; keys = []; modes = SameThread ∷ Concurrent ∷ SameThread ∷ SameThread ∷ Concurrent ∷ SameThread ∷ Concurrent ∷ SameThread ∷ []; fail_fast = true; tolerated = 0 }
+plan_15 = record { tree = record { parents = 0 ∷ 0 ∷ 0 ∷ 2 ∷ 3 ∷ 3 ∷ 3 ∷ 3 ∷ []; nodes = a_node Container Plain None None None ∷ a_node Container Plain None None (Some (codes "later")) ∷ a_node Container Plain (Some 1) None None ∷ a_node ContainerAndTest Plain (Some 2) None None ∷ a_node Container Plain None None (Some (codes "later")) ∷ a_node Test Plain None None None ∷ a_node ContainerAndTest Plain (Some 3) None None ∷ [] }; held = []; keys = []; limits = []; modes = SameThread ∷ Concurrent ∷ SameThread ∷ SameThread ∷ Concurrent ∷ SameThread ∷ Concurrent ∷ SameThread ∷ []; fail_fast = true; tolerated = 0 }
 
 abbrev replies_15 : ℕ → List Reply
 replies_15 = replies_in ((1, a_reply Failed (codes "boom y") 0 ∷ []) ∷ (2, a_reply Successful [] 0 ∷ []) ∷ (3, a_reply Failed (codes "x") 0 ∷ []) ∷ [])
@@ -420,7 +420,7 @@ legal_15 : map (is_legal plan_15 replies_15 1) lists_15 ≡ true ∷ true ∷ tr
 legal_15 = refl
 
 abbrev plan_16 : PlanParts
-plan_16 = record { tree = record { parents = 0 ∷ 0 ∷ []; nodes = a_node Test Plain (Some 1) None None ∷ [] }; held = []; keys = []; modes = Concurrent ∷ SameThread ∷ []; fail_fast = true; tolerated = 0 }
+plan_16 = record { tree = record { parents = 0 ∷ 0 ∷ []; nodes = a_node Test Plain (Some 1) None None ∷ [] }; held = []; keys = []; limits = []; modes = Concurrent ∷ SameThread ∷ []; fail_fast = true; tolerated = 0 }
 
 abbrev replies_16 : ℕ → List Reply
 replies_16 = replies_in ((1, a_reply Failed (codes "x") 0 ∷ []) ∷ [])
@@ -447,7 +447,7 @@ legal_16 : map (is_legal plan_16 replies_16 2) lists_16 ≡ true ∷ true ∷ tr
 legal_16 = refl
 
 abbrev plan_17 : PlanParts
-plan_17 = record { tree = record { parents = 0 ∷ 0 ∷ 1 ∷ 2 ∷ 2 ∷ 4 ∷ []; nodes = a_node Container Plain None None None ∷ a_node Container Plain None (Some 1) (Some []) ∷ a_node Test Plain None None (Some (codes "later")) ∷ a_node Container Factory (Some 2) None None ∷ a_node Test Spare (Some 3) None None ∷ [] }; held = []; keys = []; modes = SameThread ∷ SameThread ∷ SameThread ∷ Concurrent ∷ SameThread ∷ SameThread ∷ []; fail_fast = true; tolerated = 0 }
+plan_17 = record { tree = record { parents = 0 ∷ 0 ∷ 1 ∷ 2 ∷ 2 ∷ 4 ∷ []; nodes = a_node Container Plain None None None ∷ a_node Container Plain None (Some 1) (Some []) ∷ a_node Test Plain None None (Some (codes "later")) ∷ a_node Container Factory (Some 2) None None ∷ a_node Test Spare (Some 3) None None ∷ [] }; held = []; keys = []; limits = []; modes = SameThread ∷ SameThread ∷ SameThread ∷ Concurrent ∷ SameThread ∷ SameThread ∷ []; fail_fast = true; tolerated = 0 }
 
 abbrev replies_17 : ℕ → List Reply
 replies_17 = replies_in ((1, a_reply Successful [] 0 ∷ []) ∷ (2, a_reply Aborted [] 1 ∷ []) ∷ (3, a_reply Successful [] 0 ∷ []) ∷ [])
@@ -474,7 +474,7 @@ legal_17 : map (is_legal plan_17 replies_17 2) lists_17 ≡ true ∷ true ∷ tr
 legal_17 = refl
 
 abbrev plan_18 : PlanParts
-plan_18 = record { tree = record { parents = 0 ∷ 0 ∷ []; nodes = a_node Container Plain (Some 1) None None ∷ [] }; held = []; keys = []; modes = SameThread ∷ SameThread ∷ []; fail_fast = true; tolerated = 0 }
+plan_18 = record { tree = record { parents = 0 ∷ 0 ∷ []; nodes = a_node Container Plain (Some 1) None None ∷ [] }; held = []; keys = []; limits = []; modes = SameThread ∷ SameThread ∷ []; fail_fast = true; tolerated = 0 }
 
 abbrev replies_18 : ℕ → List Reply
 replies_18 = replies_in ((1, a_reply Successful [] 0 ∷ []) ∷ [])
@@ -501,7 +501,7 @@ legal_18 : map (is_legal plan_18 replies_18 2) lists_18 ≡ true ∷ true ∷ tr
 legal_18 = refl
 
 abbrev plan_19 : PlanParts
-plan_19 = record { tree = record { parents = 0 ∷ 0 ∷ 1 ∷ 2 ∷ 2 ∷ []; nodes = a_node Container Plain None None None ∷ a_node Container Plain None None None ∷ a_node Test Plain (Some 1) None None ∷ a_node Container Factory None None (Some (codes "later")) ∷ [] }; held = []; keys = []; modes = SameThread ∷ SameThread ∷ SameThread ∷ SameThread ∷ SameThread ∷ []; fail_fast = true; tolerated = 0 }
+plan_19 = record { tree = record { parents = 0 ∷ 0 ∷ 1 ∷ 2 ∷ 2 ∷ []; nodes = a_node Container Plain None None None ∷ a_node Container Plain None None None ∷ a_node Test Plain (Some 1) None None ∷ a_node Container Factory None None (Some (codes "later")) ∷ [] }; held = []; keys = []; limits = []; modes = SameThread ∷ SameThread ∷ SameThread ∷ SameThread ∷ SameThread ∷ []; fail_fast = true; tolerated = 0 }
 
 abbrev replies_19 : ℕ → List Reply
 replies_19 = replies_in ((1, a_reply Successful [] 0 ∷ a_reply Successful (codes "other") 3 ∷ []) ∷ [])
@@ -528,7 +528,7 @@ legal_19 : map (is_legal plan_19 replies_19 1) lists_19 ≡ true ∷ true ∷ tr
 legal_19 = refl
 
 abbrev plan_20 : PlanParts
-plan_20 = record { tree = record { parents = 0 ∷ 0 ∷ 1 ∷ 1 ∷ []; nodes = a_node Container Plain None None None ∷ a_node Container Plain None None None ∷ a_node Container Plain None None None ∷ [] }; held = []; keys = []; modes = SameThread ∷ SameThread ∷ SameThread ∷ SameThread ∷ []; fail_fast = true; tolerated = 0 }
+plan_20 = record { tree = record { parents = 0 ∷ 0 ∷ 1 ∷ 1 ∷ []; nodes = a_node Container Plain None None None ∷ a_node Container Plain None None None ∷ a_node Container Plain None None None ∷ [] }; held = []; keys = []; limits = []; modes = SameThread ∷ SameThread ∷ SameThread ∷ SameThread ∷ []; fail_fast = true; tolerated = 0 }
 
 abbrev replies_20 : ℕ → List Reply
 replies_20 = replies_in ([])
@@ -555,7 +555,7 @@ legal_20 : map (is_legal plan_20 replies_20 1) lists_20 ≡ true ∷ true ∷ tr
 legal_20 = refl
 
 abbrev plan_21 : PlanParts
-plan_21 = record { tree = record { parents = 0 ∷ 0 ∷ []; nodes = a_node Test Plain None None (Some []) ∷ [] }; held = []; keys = []; modes = Concurrent ∷ SameThread ∷ []; fail_fast = true; tolerated = 0 }
+plan_21 = record { tree = record { parents = 0 ∷ 0 ∷ []; nodes = a_node Test Plain None None (Some []) ∷ [] }; held = []; keys = []; limits = []; modes = Concurrent ∷ SameThread ∷ []; fail_fast = true; tolerated = 0 }
 
 abbrev replies_21 : ℕ → List Reply
 replies_21 = replies_in ([])
@@ -582,7 +582,7 @@ legal_21 : map (is_legal plan_21 replies_21 1) lists_21 ≡ true ∷ true ∷ tr
 legal_21 = refl
 
 abbrev plan_22 : PlanParts
-plan_22 = record { tree = record { parents = 0 ∷ 0 ∷ 1 ∷ 1 ∷ []; nodes = a_node Container Plain (Some 1) None None ∷ a_node Container Plain None None None ∷ a_node Container Plain None None (Some (codes "later")) ∷ [] }; held = []; keys = []; modes = SameThread ∷ SameThread ∷ SameThread ∷ SameThread ∷ []; fail_fast = true; tolerated = 0 }
+plan_22 = record { tree = record { parents = 0 ∷ 0 ∷ 1 ∷ 1 ∷ []; nodes = a_node Container Plain (Some 1) None None ∷ a_node Container Plain None None None ∷ a_node Container Plain None None (Some (codes "later")) ∷ [] }; held = []; keys = []; limits = []; modes = SameThread ∷ SameThread ∷ SameThread ∷ SameThread ∷ []; fail_fast = true; tolerated = 0 }
 
 abbrev replies_22 : ℕ → List Reply
 replies_22 = replies_in ((1, a_reply Successful [] 0 ∷ []) ∷ [])
@@ -609,7 +609,7 @@ legal_22 : map (is_legal plan_22 replies_22 2) lists_22 ≡ true ∷ true ∷ tr
 legal_22 = refl
 
 abbrev plan_23 : PlanParts
-plan_23 = record { tree = record { parents = 0 ∷ 0 ∷ 1 ∷ 1 ∷ 1 ∷ 4 ∷ []; nodes = a_node Container Plain None None None ∷ a_node Container Plain None None None ∷ a_node Container Plain None None None ∷ a_node Container Plain None (Some 1) None ∷ a_node Container Factory (Some 2) None None ∷ [] }; held = []; keys = []; modes = SameThread ∷ SameThread ∷ Concurrent ∷ SameThread ∷ Concurrent ∷ SameThread ∷ []; fail_fast = true; tolerated = 0 }
+plan_23 = record { tree = record { parents = 0 ∷ 0 ∷ 1 ∷ 1 ∷ 1 ∷ 4 ∷ []; nodes = a_node Container Plain None None None ∷ a_node Container Plain None None None ∷ a_node Container Plain None None None ∷ a_node Container Plain None (Some 1) None ∷ a_node Container Factory (Some 2) None None ∷ [] }; held = []; keys = []; limits = []; modes = SameThread ∷ SameThread ∷ Concurrent ∷ SameThread ∷ Concurrent ∷ SameThread ∷ []; fail_fast = true; tolerated = 0 }
 
 abbrev replies_23 : ℕ → List Reply
 replies_23 = replies_in ((1, a_reply Successful [] 0 ∷ []) ∷ (2, a_reply Successful [] 0 ∷ []) ∷ [])
@@ -636,7 +636,7 @@ legal_23 : map (is_legal plan_23 replies_23 2) lists_23 ≡ true ∷ true ∷ tr
 legal_23 = refl
 
 abbrev plan_24 : PlanParts
-plan_24 = record { tree = record { parents = 0 ∷ 0 ∷ 1 ∷ 1 ∷ 3 ∷ 3 ∷ 3 ∷ []; nodes = a_node Container Plain None None None ∷ a_node Container Plain None None None ∷ a_node Container Plain (Some 1) None None ∷ a_node Test Plain (Some 2) None None ∷ a_node Test Plain (Some 3) None None ∷ a_node Container Plain (Some 4) None None ∷ [] }; held = []; keys = []; modes = SameThread ∷ SameThread ∷ Concurrent ∷ Concurrent ∷ SameThread ∷ SameThread ∷ SameThread ∷ []; fail_fast = true; tolerated = 0 }
+plan_24 = record { tree = record { parents = 0 ∷ 0 ∷ 1 ∷ 1 ∷ 3 ∷ 3 ∷ 3 ∷ []; nodes = a_node Container Plain None None None ∷ a_node Container Plain None None None ∷ a_node Container Plain (Some 1) None None ∷ a_node Test Plain (Some 2) None None ∷ a_node Test Plain (Some 3) None None ∷ a_node Container Plain (Some 4) None None ∷ [] }; held = []; keys = []; limits = []; modes = SameThread ∷ SameThread ∷ Concurrent ∷ Concurrent ∷ SameThread ∷ SameThread ∷ SameThread ∷ []; fail_fast = true; tolerated = 0 }
 
 abbrev replies_24 : ℕ → List Reply
 replies_24 = replies_in ((1, a_reply Successful [] 0 ∷ a_reply Aborted (codes "other") 2 ∷ []) ∷ (2, a_reply Successful [] 0 ∷ []) ∷ (3, a_reply Failed (codes "boom y") 0 ∷ []) ∷ (4, a_reply Aborted [] 0 ∷ []) ∷ [])
@@ -663,7 +663,7 @@ legal_24 : map (is_legal plan_24 replies_24 2) lists_24 ≡ true ∷ true ∷ tr
 legal_24 = refl
 
 abbrev plan_25 : PlanParts
-plan_25 = record { tree = record { parents = 0 ∷ 0 ∷ 1 ∷ 2 ∷ []; nodes = a_node Container Plain None None None ∷ a_node Container Plain None (Some 1) None ∷ a_node Test Plain (Some 2) None None ∷ [] }; held = []; keys = []; modes = SameThread ∷ SameThread ∷ SameThread ∷ Concurrent ∷ []; fail_fast = true; tolerated = 0 }
+plan_25 = record { tree = record { parents = 0 ∷ 0 ∷ 1 ∷ 2 ∷ []; nodes = a_node Container Plain None None None ∷ a_node Container Plain None (Some 1) None ∷ a_node Test Plain (Some 2) None None ∷ [] }; held = []; keys = []; limits = []; modes = SameThread ∷ SameThread ∷ SameThread ∷ Concurrent ∷ []; fail_fast = true; tolerated = 0 }
 
 abbrev replies_25 : ℕ → List Reply
 replies_25 = replies_in ((1, a_reply Successful [] 0 ∷ []) ∷ (2, a_reply Failed (codes "x") 0 ∷ []) ∷ [])
@@ -690,7 +690,7 @@ legal_25 : map (is_legal plan_25 replies_25 1) lists_25 ≡ true ∷ true ∷ tr
 legal_25 = refl
 
 abbrev plan_26 : PlanParts
-plan_26 = record { tree = record { parents = 0 ∷ 0 ∷ 1 ∷ 2 ∷ 1 ∷ 4 ∷ 4 ∷ []; nodes = a_node Container Plain None None None ∷ a_node Container Plain None None None ∷ a_node Test Plain (Some 1) None None ∷ a_node Container Plain (Some 2) None None ∷ a_node Test Plain (Some 3) None None ∷ a_node Container Plain None None None ∷ [] }; held = []; keys = []; modes = SameThread ∷ SameThread ∷ SameThread ∷ SameThread ∷ Concurrent ∷ Concurrent ∷ Concurrent ∷ []; fail_fast = true; tolerated = 0 }
+plan_26 = record { tree = record { parents = 0 ∷ 0 ∷ 1 ∷ 2 ∷ 1 ∷ 4 ∷ 4 ∷ []; nodes = a_node Container Plain None None None ∷ a_node Container Plain None None None ∷ a_node Test Plain (Some 1) None None ∷ a_node Container Plain (Some 2) None None ∷ a_node Test Plain (Some 3) None None ∷ a_node Container Plain None None None ∷ [] }; held = []; keys = []; limits = []; modes = SameThread ∷ SameThread ∷ SameThread ∷ SameThread ∷ Concurrent ∷ Concurrent ∷ Concurrent ∷ []; fail_fast = true; tolerated = 0 }
 
 abbrev replies_26 : ℕ → List Reply
 replies_26 = replies_in ((1, a_reply Successful [] 0 ∷ []) ∷ (2, a_reply Successful [] 0 ∷ []) ∷ (3, a_reply Aborted (codes "x") 0 ∷ []) ∷ [])
@@ -717,7 +717,7 @@ legal_26 : map (is_legal plan_26 replies_26 2) lists_26 ≡ true ∷ true ∷ tr
 legal_26 = refl
 
 abbrev plan_27 : PlanParts
-plan_27 = record { tree = record { parents = 0 ∷ 0 ∷ 1 ∷ 2 ∷ 2 ∷ 0 ∷ 5 ∷ []; nodes = a_node Container Plain (Some 1) None None ∷ a_node Container Plain None None None ∷ a_node Test Plain (Some 2) None None ∷ a_node Test Plain (Some 3) None None ∷ a_node Container Plain (Some 4) None None ∷ a_node Container Plain (Some 5) None None ∷ [] }; held = []; keys = []; modes = Concurrent ∷ SameThread ∷ Concurrent ∷ Concurrent ∷ SameThread ∷ SameThread ∷ SameThread ∷ []; fail_fast = true; tolerated = 0 }
+plan_27 = record { tree = record { parents = 0 ∷ 0 ∷ 1 ∷ 2 ∷ 2 ∷ 0 ∷ 5 ∷ []; nodes = a_node Container Plain (Some 1) None None ∷ a_node Container Plain None None None ∷ a_node Test Plain (Some 2) None None ∷ a_node Test Plain (Some 3) None None ∷ a_node Container Plain (Some 4) None None ∷ a_node Container Plain (Some 5) None None ∷ [] }; held = []; keys = []; limits = []; modes = Concurrent ∷ SameThread ∷ Concurrent ∷ Concurrent ∷ SameThread ∷ SameThread ∷ SameThread ∷ []; fail_fast = true; tolerated = 0 }
 
 abbrev replies_27 : ℕ → List Reply
 replies_27 = replies_in ((1, a_reply Successful [] 0 ∷ []) ∷ (2, a_reply Successful [] 0 ∷ []) ∷ (3, a_reply Aborted (codes "boom y") 0 ∷ a_reply Successful (codes "other") 2 ∷ []) ∷ (4, a_reply Successful [] 0 ∷ a_reply Successful (codes "other") 0 ∷ []) ∷ (5, a_reply Failed (codes "boom y") 0 ∷ a_reply Failed (codes "other") 0 ∷ []) ∷ [])

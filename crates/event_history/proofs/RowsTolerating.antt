@@ -15,7 +15,7 @@ use Rattle.event_history.proofs.PlanTrees.{is_plan_tree}
 use Rattle.event_history.proofs.RowWords.{a_node, started, finished, aborted, failed, skipped, registered, a_reply, replies_in}
 
 abbrev plan_1 : PlanParts
-plan_1 = record { tree = record { parents = 0 ∷ 0 ∷ 1 ∷ 1 ∷ 1 ∷ 1 ∷ 1 ∷ []; nodes = a_node Container Plain None None None ∷ a_node Test Plain (Some 1) None None ∷ a_node Test Plain (Some 2) None None ∷ a_node Test Plain (Some 3) None None ∷ a_node Test Plain None None None ∷ a_node Test Plain None None None ∷ [] }; held = []; keys = []; modes = SameThread ∷ SameThread ∷ Concurrent ∷ Concurrent ∷ Concurrent ∷ Concurrent ∷ Concurrent ∷ []; fail_fast = true; tolerated = 1 }
+plan_1 = record { tree = record { parents = 0 ∷ 0 ∷ 1 ∷ 1 ∷ 1 ∷ 1 ∷ 1 ∷ []; nodes = a_node Container Plain None None None ∷ a_node Test Plain (Some 1) None None ∷ a_node Test Plain (Some 2) None None ∷ a_node Test Plain (Some 3) None None ∷ a_node Test Plain None None None ∷ a_node Test Plain None None None ∷ [] }; held = []; keys = []; limits = []; modes = SameThread ∷ SameThread ∷ Concurrent ∷ Concurrent ∷ Concurrent ∷ Concurrent ∷ Concurrent ∷ []; fail_fast = true; tolerated = 1 }
 
 abbrev replies_1 : ℕ → List Reply
 replies_1 = replies_in ((1, a_reply Failed [] 0 ∷ []) ∷ (2, a_reply Failed [] 0 ∷ []) ∷ (3, a_reply Failed [] 0 ∷ []) ∷ [])
@@ -48,7 +48,7 @@ legal_1 : map (is_legal plan_1 replies_1 2) lists_1 ≡ true ∷ false ∷ false
 legal_1 = refl
 
 abbrev plan_2 : PlanParts
-plan_2 = record { tree = record { parents = 0 ∷ 0 ∷ 1 ∷ 1 ∷ 1 ∷ 1 ∷ 1 ∷ []; nodes = a_node Container Plain None None None ∷ a_node Test Plain (Some 1) None None ∷ a_node Test Plain (Some 2) None None ∷ a_node Test Plain (Some 3) None None ∷ a_node Test Plain (Some 4) None None ∷ a_node Test Plain None None None ∷ [] }; held = []; keys = []; modes = SameThread ∷ SameThread ∷ SameThread ∷ SameThread ∷ SameThread ∷ SameThread ∷ SameThread ∷ []; fail_fast = true; tolerated = 2 }
+plan_2 = record { tree = record { parents = 0 ∷ 0 ∷ 1 ∷ 1 ∷ 1 ∷ 1 ∷ 1 ∷ []; nodes = a_node Container Plain None None None ∷ a_node Test Plain (Some 1) None None ∷ a_node Test Plain (Some 2) None None ∷ a_node Test Plain (Some 3) None None ∷ a_node Test Plain (Some 4) None None ∷ a_node Test Plain None None None ∷ [] }; held = []; keys = []; limits = []; modes = SameThread ∷ SameThread ∷ SameThread ∷ SameThread ∷ SameThread ∷ SameThread ∷ SameThread ∷ []; fail_fast = true; tolerated = 2 }
 
 abbrev replies_2 : ℕ → List Reply
 replies_2 = replies_in ((1, a_reply Failed [] 0 ∷ []) ∷ (2, a_reply Aborted [] 0 ∷ []) ∷ (3, a_reply Failed [] 0 ∷ []) ∷ (4, a_reply Failed [] 0 ∷ []) ∷ [])
@@ -68,7 +68,7 @@ legal_2 : map (is_legal plan_2 replies_2 1) lists_2 ≡ true ∷ false ∷ false
 legal_2 = refl
 
 abbrev plan_3 : PlanParts
-plan_3 = record { tree = record { parents = 0 ∷ 0 ∷ 1 ∷ 1 ∷ 1 ∷ []; nodes = a_node Container Plain None None None ∷ a_node Test Plain (Some 1) None None ∷ a_node Test Plain (Some 2) None None ∷ a_node Test Plain None None None ∷ [] }; held = []; keys = []; modes = SameThread ∷ SameThread ∷ SameThread ∷ SameThread ∷ SameThread ∷ []; fail_fast = false; tolerated = 1 }
+plan_3 = record { tree = record { parents = 0 ∷ 0 ∷ 1 ∷ 1 ∷ 1 ∷ []; nodes = a_node Container Plain None None None ∷ a_node Test Plain (Some 1) None None ∷ a_node Test Plain (Some 2) None None ∷ a_node Test Plain None None None ∷ [] }; held = []; keys = []; limits = []; modes = SameThread ∷ SameThread ∷ SameThread ∷ SameThread ∷ SameThread ∷ []; fail_fast = false; tolerated = 1 }
 
 abbrev replies_3 : ℕ → List Reply
 replies_3 = replies_in ((1, a_reply Failed [] 0 ∷ []) ∷ (2, a_reply Failed [] 0 ∷ []) ∷ [])

@@ -62,6 +62,7 @@ two_tests body after disabled fast = record {
   tree = record { parents = 0 ∷ 0 ∷ 1 ∷ 2 ∷ 2 ∷ []; nodes = engine ∷ class body after disabled ∷ test 2 ∷ test 3 ∷ [] };
   held = [];
   keys = [];
+  limits = [];
   modes = Concurrent ∷ SameThread ∷ SameThread ∷ SameThread ∷ SameThread ∷ [];
   fail_fast = fast;
   tolerated = 0;
@@ -121,6 +122,7 @@ factory = record {
   tree = record { parents = 0 ∷ 0 ∷ 1 ∷ 2 ∷ 2 ∷ 2 ∷ []; nodes = engine ∷ node_of Container Factory (Some 1) None None ∷ spare 2 ∷ spare 3 ∷ spare 4 ∷ [] };
   held = [];
   keys = [];
+  limits = [];
   modes = Concurrent ∷ SameThread ∷ SameThread ∷ SameThread ∷ SameThread ∷ SameThread ∷ [];
   fail_fast = false;
   tolerated = 0;

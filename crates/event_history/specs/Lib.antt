@@ -6,6 +6,7 @@ pub mod Results
 pub mod History
 pub mod Order
 pub mod Exclusion
+pub mod Limits
 pub mod Apart
 pub mod Published
 pub mod Parts

@@ -9,10 +9,11 @@ use Rattle.plan_events.specs.declared.outcome.Reply.{Reply}
 use Rattle.plan_events.specs.Words.{is_lawful}
 use Rattle.event_history.specs.Places.{is_of, has_event, has}
 use Rattle.event_history.specs.Failures.{failures, known, up_to}
-use Rattle.resource_locks.specs.Plans.{PlanParts}
+use Rattle.resource_locks.specs.Plans.{PlanParts, limit_for}
 use Rattle.event_history.specs.Plans.{IsElder, is_spare_of, pulls_job, is_same}
 use Rattle.event_history.specs.Results.{jobs_of, Ends}
 use Rattle.event_history.specs.Exclusion.{HeldConflict}
+use Rattle.event_history.specs.Limits.{holds_key, is_running}
 use Rattle.event_history.specs.Order.{goes_first, is_opening}
 
 -- whether the start of node n by this worker stands in the list
@@ -91,8 +92,17 @@ pub record MayGoNext (p : PlanParts) (h : List Event) (e : Event) : Type 0 where
 abbrev pub MayHold : PlanParts → List Event → Event → Type 0
 MayHold p h e = e.kind ≡ Started → (m : ℕ) → has Started m h ≡ true → has Finished m h ≡ false → HeldConflict p m e.node → ⊥
 
+-- how many nodes hold the key once node n has started too
+abbrev pub holders_with : PlanParts → List ℕ → List Event → ℕ → ℕ
+holders_with p key h n = count_below (λ m. holds_key p key m && ((m == n) || is_running h m)) (size p.tree)
+
+-- with the node that starts no more nodes hold a key than its limit says
+abbrev pub MayJoin : PlanParts → List Event → Event → Type 0
+MayJoin p h e = e.kind ≡ Started → (key : List ℕ) → 0 < limit_for p key → holders_with p key h e.node ≤ limit_for p key
+
 -- what a drawn event needs
 pub record MayBeDrawn (p : PlanParts) (replies : ℕ → List Reply) (workers : ℕ) (h : List Event) (e : Event) : Type 0 where
   pub follows : MayFollow p replies workers h e
   pub next : MayGoNext p h e
   pub holds : MayHold p h e
+  pub joins : MayJoin p h e
