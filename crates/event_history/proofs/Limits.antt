@@ -1,8 +1,8 @@
--- No more nodes hold a key than its limit says, still, where a start leaves it so.
-use Rattle.std.proofs.Common.{◌≡◌, ℕ, zero, suc, ◌<◌, ◌≤◌, Bool, true, false, ◌&&◌, ◌||◌, ◌==◌, not, List, [], ◌∷◌, ◌++◌, length, take, Some, slice_get, ◌⊎◌, inl, inr, refl, sym, ap, ◌∙◌, subst, arith, length-append}
+-- No more nodes hold a key than its limit says, still, where a start leaves it so; and a limit of 1 excludes as READ_WRITE does.
+use Rattle.std.proofs.Common.{◌≡◌, ◌≢◌, ℕ, zero, suc, ◌<◌, ◌≤◌, Bool, true, false, ◌&&◌, ◌||◌, ◌==◌, not, List, [], ◌∷◌, ◌++◌, length, take, Some, slice_get, ◌⊎◌, inl, inr, refl, sym, ap, ◌∙◌, subst, arith, length-append}
 use Rattle.std.specs.List.{list_any}
 use Rattle.std.specs.Str.{bytes_eq}
-use Rattle.std.proofs.lemmas.Bool.{cases_lt, both_ways, and_parts, and_from, or_cases, or_left, or_right, eq-eqb, false_from_ne_true, false≢true}
+use Rattle.std.proofs.lemmas.Bool.{cases_eq, cases_lt, both_ways, and_parts, and_from, or_cases, or_left, or_right, eq-eqb, false_from_ne_true, false≢true}
 use Rattle.std.proofs.lemmas.Option.{same_Some, none-some}
 use Rattle.std.proofs.lemmas.List.{take-append-le, take_all}
 use Rattle.descriptor.specs.declared.lock.Lock.{Lock}
@@ -11,13 +11,16 @@ use Rattle.descriptor.specs.Nodes.{bit, size, count_below}
 use Rattle.plan_events.specs.declared.event.EventKind.{EventKind}
 use Rattle.plan_events.specs.declared.event.EventKind.TheVariants.{Started, Finished, Skipped, Registered}
 use Rattle.plan_events.specs.declared.event.Event.{Event}
-use Rattle.resource_locks.specs.Plans.{PlanParts, limit_for}
+use Rattle.plan_events.specs.declared.outcome.Reply.{Reply}
+use Rattle.resource_locks.specs.Plans.{PlanParts, held_of, limit_for}
 use Rattle.resource_locks.specs.Wants.{HasLock}
 use Rattle.resource_locks.proofs.Wants.{same_key, key_same}
-use Rattle.event_history.specs.Places.{has}
+use Rattle.event_history.specs.Exclusion.{Overlaps}
+use Rattle.event_history.specs.History.{IsLegal}
+use Rattle.event_history.specs.Places.{StandsAt, StandsBefore, has}
 use Rattle.event_history.specs.Inside.Following.{holders_with, MayJoin}
 use Rattle.event_history.specs.Limits.{holds_key, is_running, holders_after, IsWithinLimits}
-use Rattle.event_history.proofs.Counting.{count_le}
+use Rattle.event_history.proofs.Counting.{count_le, has_front, front_has}
 use Rattle.event_history.proofs.Places.{has_stands, has_at, stands_added, stands_later}
 
 -- a node that passes the test has the key in some mode, and one that has the key passes it
@@ -112,3 +115,63 @@ within_front p g r within i key some =
           (take-append-le (length g) g r (omega arith) ∙ take_all (length g) g (omega arith) ∙ sym (take_all i g (omega (arith, past)))) (within (length g) key some)
       | inr le ↦ subst (λ (l : List Event). holders_after p key l ≤ limit_for p key) (take-append-le i g r le) (within i key some)
     ]
+
+-- a number that passes is counted, and two are counted twice
+count_one : (q : ℕ → Bool) (a n : ℕ) → a < n → q a ≡ true → 1 ≤ count_below q n
+count_one q a zero la x = absurd (omega (arith, la))
+count_one q a (suc n) la x =
+    elim (cases_eq a n) [
+      | inl e ↦ (let here : bit (q n) ≡ 1 = ap bit (ap q (sym e) ∙ x) in omega (arith, here))
+      | inr ne ↦ (let rest = count_one q a n (omega (arith, la, ne)) x in omega (arith, rest))
+    ]
+
+count_two : (q : ℕ → Bool) (a b n : ℕ) → a < n → b < n → a ≢ b → q a ≡ true → q b ≡ true → 2 ≤ count_below q n
+count_two q a b zero la lb ne x y = absurd (omega (arith, la))
+count_two q a b (suc n) la lb ne x y =
+    elim (cases_eq a n) [
+      | inl e ↦ (let here : bit (q n) ≡ 1 = ap bit (ap q (sym e) ∙ x) in let rest = count_one q b n (omega (arith, lb, e, ne)) y in omega (arith, here, rest))
+      | inr na ↦ elim (cases_eq b n) [
+        | inl e ↦ (let here : bit (q n) ≡ 1 = ap bit (ap q (sym e) ∙ y) in let rest = count_one q a n (omega (arith, la, na)) x in omega (arith, here, rest))
+        | inr nb ↦ (let rest = count_two q a b n (omega (arith, la, na)) (omega (arith, lb, nb)) ne x y in omega (arith, rest))
+      ]
+    ]
+
+module _ (p : PlanParts) (replies : ℕ → List Reply) (workers : ℕ) (h : List Event) (legal : IsLegal p replies workers h) (within : IsWithinLimits p h) where
+  -- a node that has started, and does not finish before the later start of another, runs behind that
+  runs_behind : (m n i j : ℕ) → StandsAt h i Started m → StandsAt h j Started n → (StandsBefore h j Finished m → ⊥) → i ≤ j → is_running (take (suc j) h) m ≡ true
+  runs_behind m n i j s t unended le =
+      and_from (has Started m (take (suc j) h)) (not (has Finished m (take (suc j) h))) (front_has Started m (suc j) h (record { place = i; before = omega (arith, le); stands = s }))
+      (ap not (false_from_ne_true (has Finished m (take (suc j) h)) (λ q. (let f = has_front Finished m (suc j) h q in
+      let early : f.place < suc j = f.before in
+      elim (cases_eq f.place j) [
+        | inl e ↦ other_kind (sym f.stands.kind ∙ ap (λ (y : Event). y.kind) (same_Some f.stands.event t.event (sym f.stands.here ∙ ap (slice_get h) e ∙ t.here)) ∙ t.kind)
+        | inr ne ↦ unended (record { place = f.place; before = omega (arith, early, ne); stands = f.stands })
+      ]))))
+    where
+      other_kind : Finished ≡ Started → ⊥
+      other_kind q = cc
+
+  -- and so does a node behind its own start
+  runs_itself : (n j : ℕ) → StandsAt h j Started n → is_running (take (suc j) h) n ≡ true
+  runs_itself n j t = runs_behind n n j j t t (λ f. (let s = legal.after_start f.place n f.stands in
+      let one : s.place ≡ j = legal.once s.place j n Started s.stands t in
+      let a : s.place < f.place = s.before in let b : f.place < j = f.before in omega (arith, one, a, b))) (omega arith)
+
+  in_order : (key : List ℕ) (m n i j : ℕ) (a b : LockMode) → limit_for p key ≡ 1 → HasLock (held_of p m) key a → HasLock (held_of p n) key b → m ≢ n → StandsAt h i Started m → StandsAt h j Started n → (StandsBefore h j Finished m → ⊥) → i ≤ j → ⊥
+  in_order key m n i j a b one x y ne s t unended le =
+      let two : 2 ≤ holders_after p key (take (suc j) h) = count_two (λ k. holds_key p key k && is_running (take (suc j) h) k) m n (size p.tree) (inside m i s) (inside n j t) ne
+      (and_from (holds_key p key m) (is_running (take (suc j) h) m) (held_key key a (held_of p m) x.0 x.1) (runs_behind m n i j s t unended le))
+      (and_from (holds_key p key n) (is_running (take (suc j) h) n) (held_key key b (held_of p n) y.0 y.1) (runs_itself n j t)) in
+      let few = within (suc j) key (omega (arith, one)) in
+      omega (arith, two, few, one)
+    where
+      inside : (m i : ℕ) → StandsAt h i Started m → m < size p.tree
+      inside m i s = subst (λ (x : ℕ). x < size p.tree) s.node (legal.nodes i s.event s.here)
+
+  -- Of a key with the limit 1 two holders never overlap, as if one wrote it.
+  pub one_excludes : (key : List ℕ) (m n : ℕ) (a b : LockMode) → limit_for p key ≡ 1 → HasLock (held_of p m) key a → HasLock (held_of p n) key b → m ≢ n → Overlaps h m n → ⊥
+  one_excludes key m n a b one x y ne o =
+      elim (cases_lt o.other_place o.place) [
+        | inl lt ↦ in_order key n m o.other_place o.place b a one y x (λ e. ne (sym e)) o.other_start o.start o.other_unended (omega (arith, lt))
+        | inr le ↦ in_order key m n o.place o.other_place a b one x y ne o.start o.other_start o.unended le
+      ]

@@ -31,65 +31,16 @@ use Rattle.scheduling.specs.declared.task.Closing.TheVariants.{Ending, AwaitingA
 use Rattle.scheduling.specs.declared.task.Task.TheVariants.{Opens}
 use Rattle.scheduling.specs.declared.seat.Seat.{Seat}
 use Rattle.scheduling.specs.State.{State, lock_at}
-use Rattle.scheduling.specs.Choices.{key_place, key_at, mode_at, lock_of, keys_count, event_of}
+use Rattle.scheduling.specs.Choices.{key_place, keys_count, event_of}
 use Rattle.scheduling.specs.Inside.Stages.{How, Gave, Kept, Skips, Stage, Unseen, OpenedBy, InHand, Waiting, ClosedBy, Over, Runs, Mark, Blank, Known, Begun, Ended, Passed, has_mark, picture, closing_picture, mark_of, runner_of, starter_by, is_unseen, is_live, is_past, is_over, raises, is_bold}
 use Rattle.scheduling.specs.Inside.Invariant.{IsCorePlan, same_mode, is_key, keys_in, holders, holders_by, EndsSo, IsEnding, OpeningOk, ShapeOk, RunsSo, Fits, HandOk, IsInHand, IsBrought, SeatOk, Holds}
 use Rattle.scheduling.proofs.Basics.{count_some, sum_one, sum_two}
+use Rattle.scheduling.proofs.Holding.{begun_keys, holds_one, word_apart, mark_any, started_not, finished_not, running_keys, may_join}
 use Rattle.scheduling.proofs.Parts.{fits_runs}
 use Rattle.scheduling.proofs.RowsOne.{parent_inside, runs_is}
 use Rattle.scheduling.proofs.RowsUp.{maker_is}
 use Rattle.scheduling.proofs.RowsTwo.{unseen_is}
 use Rattle.scheduling.proofs.Spares.{elder_is_registered}
-
--- Keys
--- a node that has started, and not finished, holds all of its keys
-begun_keys : (p : PlanParts) (n : ℕ) (st : Stage) → has_mark true Started (picture p n st).mark ≡ true → has_mark true Finished (picture p n st).mark ≡ false → (picture p n st).keys ≡ keys_count p n
-begun_keys p n (OpenedBy w (StartedAt i)) q r = refl
-begun_keys p n (OpenedBy w Awaiting) q r = refl
-begun_keys p n (OpenedBy w (Admitting c)) q r = refl
-begun_keys p n (OpenedBy w Guarding) q r = refl
-begun_keys p n (OpenedBy w (Beginning true)) q r = absurd (false≢true q)
-begun_keys p n (OpenedBy w (Beginning false)) q r = absurd (false≢true q)
-begun_keys p n (InHand w) q r = refl
-begun_keys p n (Waiting c t) q r = refl
-begun_keys p n (ClosedBy w c d how) q r = closed d how q r
-  where
-    ended : (how : How) → has_mark true Started (mark_of how) ≡ true → has_mark true Finished (mark_of how) ≡ false → ⊥
-    ended Gave q r = false≢true (sym r)
-    ended Kept q r = false≢true (sym r)
-    ended Skips q r = false≢true q
-
-    closed : (d : Closing) (how : How) → has_mark true Started (closing_picture p n c d how).mark ≡ true → has_mark true Finished (closing_picture p n c d how).mark ≡ false → (closing_picture p n c d how).keys ≡ keys_count p n
-    closed AwaitingAfter how q r = refl
-    closed (Ending s) how q r = refl
-    closed (FinishedAt i s) how q r = refl
-    closed (SkippedAt i) how q r = absurd (ended how q r)
-    closed Raising how q r = refl
-    closed (Giving i) how q r = absurd (ended how q r)
-    closed Settling how q r = absurd (ended how q r)
-    closed (Looking m) how q r = absurd (ended how q r)
-    closed (Passing m o) how q r = absurd (ended how q r)
-    closed CountingOff how q r = absurd (ended how q r)
-begun_keys p n (Over Gave) q r = absurd (false≢true (sym r))
-begun_keys p n (Over Kept) q r = absurd (false≢true (sym r))
-begun_keys p n (Over Skips) q r = absurd (false≢true q)
-begun_keys p n _ q r = absurd (false≢true q)
-
-same_mode-refl : (m : LockMode) → same_mode m m ≡ true
-same_mode-refl Read = refl
-same_mode-refl ReadWrite = refl
-
--- a node that holds all of its keys holds each one
-holds_one : (p : PlanParts) (n : ℕ) (key : List ℕ) (mode : LockMode) → HasLock (held_of p n) key mode → 1 ≤ keys_in p (key_place p key) mode n (keys_count p n)
-unfolding keys_in
-holds_one p n key mode lock =
-    let is : lock_of p n lock.0 ≡ record { key = key; mode = mode } = get_or_from_slice_get (held_of p n) lock.0 (record { key = key; mode = mode }) (record { key = []; mode = Read }) lock.1 in
-    count_some (is_key p (key_place p key) mode n) (keys_count p n) lock.0 (slice_get_within (held_of p n) lock.0 (record { key = key; mode = mode }) lock.1)
-    (and_from (key_at p n lock.0 == key_place p key) (same_mode (mode_at p n lock.0) mode) (eq-eqb (key_at p n lock.0) (key_place p key) (ap (λ (l : Lock). key_place p l.key) is)) (ap (λ (l : Lock). same_mode l.mode mode) is ∙ same_mode-refl mode))
-
-word_apart : (word : LockWord) → 1 ≤ holders_by ReadWrite word → (holders_by Read word ≡ 0) × (holders_by ReadWrite word ≡ 1)
-word_apart (Readers n) le = absurd (omega (arith, le))
-word_apart Written le = (refl, refl)
 
 -- a settled node is finished or skipped
 past_settled : (p : PlanParts) (n : ℕ) (st : Stage) → is_past st ≡ true → (has_mark true Finished (picture p n st).mark || has_mark true Skipped (picture p n st).mark) ≡ true
@@ -111,35 +62,11 @@ root_success p replies false count status text lawful = go (has_child p 0) lawfu
     go true l = l.0
     go false l = l.0
 
-mark_any : (a b : Bool) (k : EventKind) (m : Mark) → (k ≡ Registered → ⊥) → has_mark a k m ≡ has_mark b k m
-mark_any a b Started Blank ne = refl
-mark_any a b Started Known ne = refl
-mark_any a b Started Begun ne = refl
-mark_any a b Started Ended ne = refl
-mark_any a b Started Passed ne = refl
-mark_any a b Finished Blank ne = refl
-mark_any a b Finished Known ne = refl
-mark_any a b Finished Begun ne = refl
-mark_any a b Finished Ended ne = refl
-mark_any a b Finished Passed ne = refl
-mark_any a b Skipped Blank ne = refl
-mark_any a b Skipped Known ne = refl
-mark_any a b Skipped Begun ne = refl
-mark_any a b Skipped Ended ne = refl
-mark_any a b Skipped Passed ne = refl
-mark_any a b Registered m ne = absurd (ne refl)
-
 pub blank_none : (spare : Bool) (k : EventKind) → has_mark spare k Blank ≡ false
 blank_none spare Started = refl
 blank_none spare Finished = refl
 blank_none spare Skipped = refl
 blank_none spare Registered = refl
-
-started_not : Started ≡ Registered → ⊥
-started_not q = cc
-
-finished_not : Finished ≡ Registered → ⊥
-finished_not q = cc
 
 skipped_not : Skipped ≡ Registered → ⊥
 skipped_not q = cc
@@ -231,15 +158,15 @@ module _ (p : PlanParts) (core : IsCorePlan p) (replies : ℕ → List Reply) (s
       let kw : 1 ≤ keys_in p k ReadWrite a (picture p a (g a)).keys = subst (λ m. 1 ≤ keys_in p k m a (picture p a (g a)).keys) q ka in
       let one = holders_one k ReadWrite a ia in
       let two = holders_one k Read b ib in
-      let lw = h.locks k ReadWrite in
-      let lr = h.locks k Read in
+      let lw = h.locks.counted k ReadWrite in
+      let lr = h.locks.counted k Read in
       let apart = word_apart (lock_at s k) (omega (arith, kw, one, lw)) in
       let z = apart.0 in
       omega (arith, kb, two, lr, z)
   writes k a b mode ReadWrite ia ib q ka kb ne =
       let kw : 1 ≤ keys_in p k ReadWrite a (picture p a (g a)).keys = subst (λ m. 1 ≤ keys_in p k m a (picture p a (g a)).keys) q ka in
       let two = holders_two k ReadWrite a b ia ib ne in
-      let lw = h.locks k ReadWrite in
+      let lw = h.locks.counted k ReadWrite in
       let apart = word_apart (lock_at s k) (omega (arith, kw, two, lw)) in
       let z = apart.1 in
       omega (arith, kw, kb, two, lw, z)
@@ -249,19 +176,16 @@ module _ (p : PlanParts) (core : IsCorePlan p) (replies : ℕ → List Reply) (s
       elim (cases_eq m x) [
         | inl q ↦ both_ways (has Started x s.published) (flag_is Started (OpenedBy w (Beginning false)) at) (subst (λ k. has Started k s.published ≡ true) q started)
         | inr ne ↦ elim c.writes [
-          | inl a ↦ writes (key_place p c.key) m x c.mode c.other_mode m_inside inside a (at_m c.mode c.here) (at_x c.other_mode c.there) ne
-          | inr b ↦ writes (key_place p c.key) x m c.other_mode c.mode inside m_inside b (at_x c.other_mode c.there) (at_m c.mode c.here) (λ q. ne (sym q))
+          | inl a ↦ writes (key_place p c.key) m x c.mode c.other_mode m_running.0 inside a (at_m c.mode c.here) (at_x c.other_mode c.there) ne
+          | inr b ↦ writes (key_place p c.key) x m c.other_mode c.mode inside m_running.0 b (at_x c.other_mode c.there) (at_m c.mode c.here) (λ q. ne (sym q))
         ]
       ]
     where
-      m_inside : m < size p.tree
-      m_inside = (let st = has_stands Started m s.published started in let lt = h.published.legal.nodes st.0 st.1.event st.1.here in let e = st.1.node in omega (arith, lt, e))
-
-      m_keys : (picture p m (g m)).keys ≡ keys_count p m
-      m_keys = begun_keys p m (g m) (mark_any true (is_spare_at p.tree m) Started (picture p m (g m)).mark started_not ∙ sym (h.flags Started m m_inside) ∙ started) (mark_any true (is_spare_at p.tree m) Finished (picture p m (g m)).mark finished_not ∙ sym (h.flags Finished m m_inside) ∙ unfinished)
+      m_running : (m < size p.tree) × ((picture p m (g m)).keys ≡ keys_count p m)
+      m_running = running_keys p replies s g h m started unfinished
 
       at_m : (mode : LockMode) → HasLock (held_of p m) c.key mode → 1 ≤ keys_in p (key_place p c.key) mode m (picture p m (g m)).keys
-      at_m mode lock = subst (λ n. 1 ≤ keys_in p (key_place p c.key) mode m n) (sym m_keys) (holds_one p m c.key mode lock)
+      at_m mode lock = subst (λ n. 1 ≤ keys_in p (key_place p c.key) mode m n) (sym m_running.1) (holds_one p m c.key mode lock)
 
       at_x : (mode : LockMode) → HasLock (held_of p x) c.key mode → 1 ≤ keys_in p (key_place p c.key) mode x (picture p x (g x)).keys
       at_x mode lock = subst (λ st. 1 ≤ keys_in p (key_place p c.key) mode x (picture p x st).keys) (sym at) (holds_one p x c.key mode lock)
@@ -280,6 +204,7 @@ module _ (p : PlanParts) (core : IsCorePlan p) (replies : ℕ → List Reply) (s
     };
     next = record { elders = λ _. elders_settled (OpenedBy w (Beginning false)) at refl; by_parent = λ _ pos same. by_starter (Beginning false) at pos same };
     holds = λ _. may_hold at;
+    joins = λ _. may_join p replies s g h x (ap (λ st. (picture p x st).keys) at);
   }
 
   pub draws_skip : g x ≡ OpenedBy w (Beginning true) → MayBeDrawn p replies (length s.seats) s.published (event_of Skipped x None w)
@@ -295,6 +220,7 @@ module _ (p : PlanParts) (core : IsCorePlan p) (replies : ℕ → List Reply) (s
         };
         next = record { elders = λ _. elders_settled (OpenedBy w (Beginning true)) at refl; by_parent = λ _ above same. by_starter (Beginning true) at above same };
         holds = λ q. absurd (skipped_start q);
+        joins = λ q. absurd (skipped_start q);
       }
     where
       skipped_start : Skipped ≡ Started → ⊥
@@ -322,6 +248,7 @@ module _ (p : PlanParts) (core : IsCorePlan p) (replies : ℕ → List Reply) (s
         };
         next = record { elders = λ _. elders_settled (OpenedBy w Registering) at refl; by_parent = λ _ above same. by_starter Registering at above same };
         holds = λ q. absurd (registered_start q);
+        joins = λ q. absurd (registered_start q);
       }
     where
       registered_start : Registered ≡ Started → ⊥
@@ -344,6 +271,7 @@ module _ (p : PlanParts) (core : IsCorePlan p) (replies : ℕ → List Reply) (s
         };
         next = record { elders = λ q. absurd (false≢true q); by_parent = λ q. absurd (false≢true q) };
         holds = λ q. absurd (finished_start q);
+        joins = λ q. absurd (finished_start q);
       }
     where
       finished_start : Finished ≡ Started → ⊥

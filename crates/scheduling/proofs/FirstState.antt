@@ -127,7 +127,10 @@ opening_is p core replies workers few = (
     words = λ n lt. each_at first_status Hidden (size p.tree) n lt ∙ first_words p n;
     counters = λ n lt. (let a = each_at (first_counter p) 0 (size p.tree) n lt in let b = first_pending p n in let c = first_guard p n in omega (arith, a, b, c));
     results = λ n c r lt q. absurd (none_waits n c r q);
-    locks = λ k mode. first_holders p k mode ∙ sym (ap (holders_by mode) (all_same _ k (Readers 0)) ∙ free_word mode);
+    locks = record {
+      counted = λ k mode. first_holders p k mode ∙ sym (ap (holders_by mode) (all_same _ k (Readers 0)) ∙ free_word mode);
+      limited = λ k some. (let none : holders_by Read (get_or (opening p workers).locks k (Readers 0)) ≡ 0 = ap (holders_by Read) (all_same _ k (Readers 0)) ∙ free_word Read in omega (arith, none));
+    };
     flags = λ k n lt. first_flags p k n;
     starters = λ n c lt q. absurd (none_started n c q);
     shapes = λ n lt. shape n;

@@ -25,7 +25,7 @@ use Rattle.scheduling.specs.declared.task.Task.TheVariants.{Free, Opens, Closes}
 use Rattle.scheduling.specs.declared.seat.Hand.{Hand}
 use Rattle.scheduling.specs.declared.seat.Seat.{Seat}
 use Rattle.scheduling.specs.State.{State, status_at, lock_at}
-use Rattle.scheduling.specs.Choices.{key_at, mode_at, admits, in_batch, first_from, admit_next, admit_from, is_leaf, status_by, decided, awaited, hand_job}
+use Rattle.scheduling.specs.Choices.{key_at, mode_at, admits_at, in_batch, first_from, admit_next, admit_from, is_leaf, status_by, decided, awaited, hand_job}
 use Rattle.scheduling.specs.declared.step.Action.{Action}
 use Rattle.scheduling.specs.Rows.{goes_to, decided_seat, after_seat, after, Works, Dispatches, read_event, read_row}
 use Rattle.scheduling.specs.Runs.{first_status, opening}
@@ -96,7 +96,7 @@ module _ (p : PlanParts) (core : IsCorePlan p) (replies : ℕ → List Reply) wh
         some_open p core s.statuses kept.words kept.turns s.counters kept.counts unsettled
 
     -- A key that is wanted is free; the word that was seen of it is still there; and none is given back before the node is run.
-    pub going_locking : IsPlan p → (seat : Seat) → slice_get s.seats 0 ≡ Some seat → (x k : ℕ) → seat.task ≡ Opens x (Locking k) → admits (mode_at p x k) (lock_at s (key_at p x k)) ≡ true
+    pub going_locking : IsPlan p → (seat : Seat) → slice_get s.seats 0 ≡ Some seat → (x k : ℕ) → seat.task ≡ Opens x (Locking k) → admits_at p x k (lock_at s (key_at p x k)) ≡ true
     going_locking plan seat is = key_free p core replies s g i.holds seat (one_here seat is) (goes_here seat is) plan
 
     pub going_weighed : IsPlan p → (seat : Seat) → slice_get s.seats 0 ≡ Some seat → (x k : ℕ) (word : LockWord) → seat.task ≡ Opens x (Weighed k word) → slice_get s.locks (key_at p x k) ≡ Some word

@@ -21,7 +21,7 @@ use Rattle.scheduling.specs.declared.task.Task.TheVariants.{Opens}
 use Rattle.scheduling.specs.declared.seat.Hand.{Hand}
 use Rattle.scheduling.specs.declared.seat.Seat.{Seat}
 use Rattle.scheduling.specs.State.{State, status_at, lock_at}
-use Rattle.scheduling.specs.Choices.{key_at, mode_at, keys_count, admits}
+use Rattle.scheduling.specs.Choices.{key_at, mode_at, limit_at, keys_count, admits, admits_at}
 use Rattle.scheduling.specs.Inside.Stages.{Stage, Unseen, Offered, OpenedBy, InHand, Waiting, ClosedBy, Over, Shut, Runs, picture, is_live, runner_of}
 use Rattle.scheduling.specs.Inside.Invariant.{IsCorePlan, same_mode, is_key, keys_in, sum_below, holders, holders_by, ShapeOk, HandOk, TaskOk, Holds}
 use Rattle.scheduling.specs.Inside.Going.{is_about, is_in_hand, is_begun, owes, Goes}
@@ -31,7 +31,8 @@ use Rattle.scheduling.proofs.RowsUp.{maker_is}
 use Rattle.scheduling.proofs.RowsTwo.{waiting_hand}
 use Rattle.scheduling.proofs.GoingBasics.{hidden_claimed, settled_claimed, claimed_stage, opened_about, closed_about, seat_ok}
 use Rattle.scheduling.proofs.GoingWords.{spare_childless, maker_leaf}
-use Rattle.scheduling.proofs.GoingSharedKeys.{key_once, both_read}
+use Rattle.scheduling.proofs.Holding.{free_admits}
+use Rattle.scheduling.proofs.GoingSharedKeys.{key_once, both_read, shared_unlimited}
 
 -- who holds a key
 sum_some : (f : ℕ → ℕ) (n : ℕ) → 0 < sum_below f n → (k : ℕ) × (k < n) × (0 < f k)
@@ -173,8 +174,8 @@ module _ (p : PlanParts) (core : IsCorePlan p) (replies : ℕ → List Reply) (s
       place_ok : i < keys_count p x
       place_ok = (let ok : ShapeOk p replies s.published x (OpenedBy 0 (Locking i)) = subst (ShapeOk p replies s.published x) task.1 (h.shapes x task.0) in ok.0)
 
-      -- whoever holds the key that is wanted reads it, and it is wanted to be read
-      holder_reads : (mode : LockMode) → 0 < holders p g (key_at p x i) mode → (mode ≡ Read) × (mode_at p x i ≡ Read)
+      -- whoever holds the key that is wanted reads it, and it is wanted to be read and has no limit
+      holder_reads : (mode : LockMode) → 0 < holders p g (key_at p x i) mode → (mode ≡ Read) × (mode_at p x i ≡ Read) × (limit_at p x i ≡ 0)
       holder_reads mode some =
           let f = some_holder p g (key_at p x i) mode some in
           by_node f.0 f.1 f.2
@@ -182,7 +183,7 @@ module _ (p : PlanParts) (core : IsCorePlan p) (replies : ℕ → List Reply) (s
           keys_x : (picture p x (g x)).keys ≡ i
           keys_x = ap (λ st. (picture p x st).keys) task.1
 
-          by_node : (n place : ℕ) → IsHolder p g (key_at p x i) mode n place → (mode ≡ Read) × (mode_at p x i ≡ Read)
+          by_node : (n place : ℕ) → IsHolder p g (key_at p x i) mode n place → (mode ≡ Read) × (mode_at p x i ≡ Read) × (limit_at p x i ≡ 0)
           by_node n place holder =
               let held = holder.held in
               elim (cases_eq n x) [
@@ -193,29 +194,35 @@ module _ (p : PlanParts) (core : IsCorePlan p) (replies : ℕ → List Reply) (s
                     (λ b. not_runs ((above_runs x n b (claimed_live p n (g n) all.1.0 (sym (h.words n holder.inside) ∙ all.1.1))).0) ((above_runs x n b (claimed_live p n (g n) all.1.0 (sym (h.words n holder.inside) ∙ all.1.1))).1)
                     (sym (ap (λ st. (picture p x st).below) task.1) ∙ (above_runs x n b (claimed_live p n (g n) all.1.0 (sym (h.words n holder.inside) ∙ all.1.1))).2.0)) in
                     let r = both_read p plan n x place i above all.0 place_ok holder.key in
-                    (sym holder.in_mode ∙ r.0, r.1))
+                    (sym holder.in_mode ∙ r.0, r.1, shared_unlimited p plan n x place i above all.0 place_ok holder.key))
               ]
             where
               not_runs : (o from : ℕ) → Shut ≡ Runs o from → ⊥
               not_runs o from q = cc
 
       -- So the key's word admits it.
-      pub key_free : admits (mode_at p x i) (lock_at s (key_at p x i)) ≡ true
-      key_free = go (mode_at p x i) (lock_at s (key_at p x i)) refl refl
+      pub key_free : admits_at p x i (lock_at s (key_at p x i)) ≡ true
+      key_free = go (limit_at p x i) (mode_at p x i) (lock_at s (key_at p x i)) refl refl refl
         where
           write_read : ReadWrite ≡ Read → ⊥
           write_read q = cc
 
           written : lock_at s (key_at p x i) ≡ Written → ⊥
           written word =
-              let n : holders p g (key_at p x i) ReadWrite ≡ 1 = h.locks (key_at p x i) ReadWrite ∙ ap (holders_by ReadWrite) word in
+              let n : holders p g (key_at p x i) ReadWrite ≡ 1 = h.locks.counted (key_at p x i) ReadWrite ∙ ap (holders_by ReadWrite) word in
               write_read (holder_reads ReadWrite (omega (arith, n))).0
 
-          go : (mode : LockMode) (word : LockWord) → mode_at p x i ≡ mode → lock_at s (key_at p x i) ≡ word → admits mode word ≡ true
-          go Read (Readers n) at_mode at_word = refl
-          go Read Written at_mode at_word = absurd (written at_word)
-          go ReadWrite Written at_mode at_word = absurd (written at_word)
-          go ReadWrite (Readers zero) at_mode at_word = refl
-          go ReadWrite (Readers (suc n)) at_mode at_word =
-              let k : holders p g (key_at p x i) Read ≡ suc n = h.locks (key_at p x i) Read ∙ ap (holders_by Read) at_word in
-              absurd (write_read (sym at_mode ∙ (holder_reads Read (omega (arith, k))).1))
+          read : (n : ℕ) → lock_at s (key_at p x i) ≡ Readers (suc n) → (mode_at p x i ≡ Read) × (limit_at p x i ≡ 0)
+          read n word =
+              let k : holders p g (key_at p x i) Read ≡ suc n = h.locks.counted (key_at p x i) Read ∙ ap (holders_by Read) word in
+              let both = holder_reads Read (omega (arith, k)) in
+              (both.1, both.2)
+
+          go : (limit : ℕ) (mode : LockMode) (word : LockWord) → limit_at p x i ≡ limit → mode_at p x i ≡ mode → lock_at s (key_at p x i) ≡ word → admits limit mode word ≡ true
+          go zero Read (Readers n) at_limit at_mode at_word = refl
+          go (suc limit) Read (Readers zero) at_limit at_mode at_word = free_admits (suc limit)
+          go (suc limit) Read (Readers (suc n)) at_limit at_mode at_word = (let none = (read n at_word).1 in absurd (omega (arith, none, at_limit)))
+          go limit Read Written at_limit at_mode at_word = absurd (written at_word)
+          go limit ReadWrite Written at_limit at_mode at_word = absurd (written at_word)
+          go limit ReadWrite (Readers zero) at_limit at_mode at_word = refl
+          go limit ReadWrite (Readers (suc n)) at_limit at_mode at_word = absurd (write_read (sym at_mode ∙ (read n at_word).0))

@@ -20,7 +20,7 @@ use Rattle.scheduling.specs.declared.task.Task.TheVariants.{Opens, Closes}
 use Rattle.scheduling.specs.declared.seat.Hand.{Hand}
 use Rattle.scheduling.specs.declared.seat.Seat.{Seat}
 use Rattle.scheduling.specs.State.{State, status_at, lock_at}
-use Rattle.scheduling.specs.Choices.{in_batch, key_at, mode_at, keys_count, admits, taken, given_back, same_word, lock_from, begins, notices, claims, giving, after_finish, event_of}
+use Rattle.scheduling.specs.Choices.{in_batch, key_at, mode_at, keys_count, admits_at, taken, given_back, same_word, lock_from, begins, notices, claims, giving, after_finish, event_of}
 use Rattle.scheduling.specs.declared.step.Action.{Action}
 use Rattle.scheduling.specs.declared.step.Action.TheVariants.{Notice, Weigh, Take, Give, Draw, Show, Look, Raise}
 use Rattle.scheduling.specs.Rows.{row, with_task, goes, goes_to, notice_row, weighed, weigh_row, take_found, take_row, puts_word, gives_key, give_row, raised, raise_row, drawn, one_more, draw_row, shows, show_row, look_found, look_row, is_cancelled}
@@ -92,15 +92,15 @@ module _ (p : PlanParts) (replies : ℕ → List Reply) (s : State) (seat : Seat
         goes2 = opening_turn x Noticing (begins p x (is_cancelled p s)) s.locks e calm.quiet (λ c lt b z. calm.to c) (calm.keys s.locks) refl;
       }
 
-  pub weigh_goes : (x i : ℕ) → seat.task ≡ Opens x (Locking i) → admits (mode_at p x i) (lock_at s (key_at p x i)) ≡ true → IsStep p replies s seat reply Weigh
+  pub weigh_goes : (x i : ℕ) → seat.task ≡ Opens x (Locking i) → admits_at p x i (lock_at s (key_at p x i)) ≡ true → IsStep p replies s seat reply Weigh
   weigh_goes x i e free = record {
     next = goes s 0 seat (Opens x (weighed p x i (lock_at s (key_at p x i))));
     is = ap (weigh_row p s 0 seat) e;
     seat2 = with_task seat (Opens x (weighed p x i (lock_at s (key_at p x i))));
     one2 = seats_go (with_task seat (Opens x (weighed p x i (lock_at s (key_at p x i)))));
-    goes2 = by_cond (λ d. Goes p replies s.statuses s.counters s.locks (Opens x d) seat.hand) (admits (mode_at p x i) (lock_at s (key_at p x i))) (Weighed i (lock_at s (key_at p x i))) (Backing i)
+    goes2 = by_cond (λ d. Goes p replies s.statuses s.counters s.locks (Opens x d) seat.hand) (admits_at p x i (lock_at s (key_at p x i))) (Weighed i (lock_at s (key_at p x i))) (Backing i)
         (λ _. opening_turn x (Locking i) (Weighed i (lock_at s (key_at p x i))) s.locks e refl (λ c lt b z. tt) refl refl)
-        (λ busy. absurd (both_ways (admits (mode_at p x i) (lock_at s (key_at p x i))) busy free));
+        (λ busy. absurd (both_ways (admits_at p x i (lock_at s (key_at p x i))) busy free));
   }
 
   pub take_goes : (x i : ℕ) (v : LockWord) → seat.task ≡ Opens x (Weighed i v) → key_at p x i < length p.keys → IsStep p replies s seat reply Take

@@ -36,6 +36,7 @@ kept_right p core replies s kept placed =
       legal = h.published.legal;
       order = h.published.order;
       exclusive = h.published.exclusive;
+      within = h.published.within;
       given = (h.given.rest, h.given.front);
       shown = given_shown s h.given placed;
       last = nothing_after p core.plan replies (length s.seats) s.published h.published.legal;
@@ -46,7 +47,7 @@ kept_right p core replies s kept placed =
 pub core_plan : (p : PlanParts) → IsTree p.tree → IsCorePlan p
 core_plan p tree = record { plan = plan_tree p.tree tree; few = tree.few; makers = maker_spares p.tree tree }
 
--- Whatever steps the workers and the dispatcher take, in whatever order: what is published is legal, in order and exclusive;
+-- Whatever steps the workers and the dispatcher take, in whatever order: what is published is legal, in order, exclusive and within limits;
 -- what is given is a beginning of it, and was shown; and where the plan's finish stands, it stands last and the history is complete.
 pub headline : (p : PlanParts) → IsTree p.tree → (replies : ℕ → List Reply) (workers : ℕ) → workers ≤ 64 → (list : List Step) → AllReplied p replies (opening p workers) list
     → IsRight p replies workers (run p (opening p workers) list)

@@ -1,10 +1,8 @@
 -- A node holds each of its keys once, so no key has more holders than there are nodes.
 use Rattle.std.proofs.Common.{◌≡◌, ℕ, zero, suc, ◌<◌, ◌≤◌, Bool, true, false, ◌==◌, List, [], length, get_or, Some, slice_get, inl, inr, sym, ap, ◌∙◌, subst, arith}
-use Rattle.std.specs.Str.{bytes_eq}
 use Rattle.std.specs.declared.cmp.Ordering.TheVariants.{Less}
 use Rattle.std.proofs.Math.Nat.{le_refl}
 use Rattle.std.proofs.lemmas.Bool.{cases_Bool, false_from_ne_true, and_parts, eqb-true}
-use Rattle.std.proofs.lemmas.List.Sums.{passes_at_first}
 use Rattle.std.proofs.lemmas.Option.{slice_get-get_or, get_or_from_slice_get}
 use Rattle.descriptor.specs.declared.lock_mode.LockMode.{LockMode}
 use Rattle.descriptor.specs.declared.lock_mode.LockMode.TheVariants.{Read}
@@ -15,7 +13,7 @@ use Rattle.resource_locks.specs.LockSets.{key_cmp}
 use Rattle.resource_locks.specs.Plans.{number_of, PlanParts, held_of, IsPlan}
 use Rattle.resource_locks.proofs.Places.{in_order}
 use Rattle.resource_locks.proofs.SetLaws.{not_less}
-use Rattle.resource_locks.proofs.Wants.{same_key}
+use Rattle.resource_locks.proofs.Numbering.{same_number}
 use Rattle.scheduling.specs.declared.lock_word.LockWord.TheVariants.{Readers}
 use Rattle.scheduling.specs.declared.task.Opening.{Opening}
 use Rattle.scheduling.specs.declared.task.Opening.TheVariants.{Registering, RegisteredAt, Offering, Noticing, Locking, Weighed, Backing, Beginning, StartedAt, Awaiting, Admitting, Guarding}
@@ -26,13 +24,6 @@ use Rattle.scheduling.specs.Choices.{lock_of, key_place, key_at, mode_at, keys_c
 use Rattle.scheduling.specs.Inside.Stages.{How, Stage, Unseen, Offered, OpenedBy, InHand, Waiting, ClosedBy, Over, picture}
 use Rattle.scheduling.specs.Inside.Invariant.{same_mode, is_key, keys_in, sum_below, holders, holders_by, OpeningOk, ClosingOk, ShapeOk, Holds}
 use Rattle.scheduling.proofs.Spares.{count_zero}
-
--- keys of one number are one key
-pub same_number : (keys : List (List ℕ)) (a b : List ℕ) → number_of keys a < length keys → number_of keys b < length keys → number_of keys a ≡ number_of keys b → a ≡ b
-same_number keys a b la lb e =
-    same_key a (get_or keys (number_of keys a) []) (passes_at_first (bytes_eq a) keys [] la)
-    ∙ ap (λ (m : ℕ). get_or keys m []) e
-    ∙ sym (same_key b (get_or keys (number_of keys b) []) (passes_at_first (bytes_eq b) keys [] lb))
 
 pub own_key : (p : PlanParts) (n i : ℕ) → i < keys_count p n → slice_get (held_of p n) i ≡ Some (lock_of p n i)
 own_key p n i inside = slice_get-get_or (held_of p n) i (record { key = []; mode = Read }) inside
@@ -125,6 +116,6 @@ module _ (p : PlanParts) (plan : IsPlan p) (replies : ℕ → List Reply) (s : S
   pub readers_few : (k n : ℕ) → slice_get s.locks k ≡ Some (Readers n) → n ≤ size p.tree
   readers_few k n q =
       let word : lock_at s k ≡ Readers n = get_or_from_slice_get s.locks k (Readers n) (Readers 0) q in
-      let held : holders p g k Read ≡ n = h.locks k Read ∙ ap (holders_by Read) word in
+      let held : holders p g k Read ≡ n = h.locks.counted k Read ∙ ap (holders_by Read) word in
       let few = holders_few k Read in
       omega (arith, held, few)

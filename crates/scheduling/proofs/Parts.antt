@@ -1,14 +1,14 @@
 -- Parts of a move: what a list of words is after one change, where the stage of node x changes from a to b.
-use Rattle.std.proofs.Common.{◌≡◌, ◌≢◌, ℕ, zero, suc, ◌+◌, ◌-◌, ◌<◌, ◌≤◌, Bool, true, false, ◌&&◌, ◌==◌, not, nat_lt, List, length, set, get_or, Option, Some, None, slice_get, slice_index_or, ◌⊎◌, inl, inr, refl, sym, ap, ◌∙◌, arith, length-set, get_or-set_other}
+use Rattle.std.proofs.Common.{◌≡◌, ◌≢◌, ℕ, zero, suc, ◌+◌, ◌-◌, ◌<◌, ◌≤◌, Bool, true, false, ◌&&◌, ◌==◌, not, nat_lt, ◌||◌, List, length, set, get_or, Option, Some, None, slice_get, slice_index_or, ◌⊎◌, inl, inr, refl, sym, ap, ◌∙◌, arith, length-set, get_or-set_other}
 use Rattle.std.proofs.lemmas.Option.{slice_get_within, get_or_from_slice_get}
 use Rattle.std.proofs.lemmas.Grind.{get_or-set_at}
-use Rattle.std.proofs.lemmas.Bool.{cases_eq, cases_Bool, false≢true, both_ways, and_from, and_left, and_right, eq-eqb, ne_eqb, lt-ltb, eqb-true}
+use Rattle.std.proofs.lemmas.Bool.{cases_eq, cases_Bool, false≢true, both_ways, and_from, and_left, and_right, eq-eqb, ne_eqb, lt-ltb, ltb-true, eqb-true, or_cases}
 use Rattle.descriptor.specs.declared.lock_mode.LockMode.{LockMode}
 use Rattle.descriptor.specs.declared.lock_mode.LockMode.TheVariants.{Read, ReadWrite}
 use Rattle.descriptor.specs.Nodes.{size, parent_of, IsChild, is_child, is_spare_at, bit}
 use Rattle.plan_events.specs.declared.event.Event.{Event}
 use Rattle.plan_events.specs.declared.status.Status.{Status}
-use Rattle.resource_locks.specs.Plans.{PlanParts}
+use Rattle.resource_locks.specs.Plans.{PlanParts, limit_of}
 use Rattle.event_history.specs.Plans.{IsPlanTree, is_same}
 use Rattle.event_history.specs.Failures.{known, up_to}
 use Rattle.scheduling.specs.declared.status.NodeStatus.{NodeStatus}
@@ -18,9 +18,9 @@ use Rattle.scheduling.specs.declared.lock_word.LockWord.TheVariants.{Readers, Wr
 use Rattle.scheduling.specs.declared.task.Task.{Task}
 use Rattle.scheduling.specs.declared.seat.Hand.{Hand}
 use Rattle.scheduling.specs.State.{State}
-use Rattle.scheduling.specs.Choices.{admits, taken, given_back, key_at, mode_at}
+use Rattle.scheduling.specs.Choices.{admits, admits_at, taken, given_back, key_at, mode_at, limit_at}
 use Rattle.scheduling.specs.Inside.Stages.{Stage, Unseen, Offered, OpenedBy, InHand, Waiting, ClosedBy, Over, Below, Shut, Runs, Past, picture, is_unseen, is_live, is_owned, is_pending, is_over, is_unsettled, raises, is_bold}
-use Rattle.scheduling.specs.Inside.Invariant.{pends_at, pending, same_mode, is_key, keys_in, holders, holders_by, ResultsOk, Fits, HandOk}
+use Rattle.scheduling.specs.Inside.Invariant.{pends_at, pending, same_mode, is_key, keys_in, holders, holders_by, KeysCount, ResultsOk, Fits, HandOk}
 use Rattle.scheduling.proofs.Basics.{upd, upd_same, upd_other, upd_all, count_same, count_change, count_none, sum_change}
 
 -- Statuses
@@ -158,7 +158,7 @@ counters_child p l g par x v a b plan inside ch at guard change old = (
 
 -- Locks
 abbrev pub LockList : PlanParts → List LockWord → (ℕ → Stage) → Type 0
-LockList p l g = (k : ℕ) (mode : LockMode) → holders p g k mode ≡ holders_by mode (slice_index_or l k (Readers 0))
+LockList p l g = KeysCount p l g
 
 pub holders_change : (p : PlanParts) (g : ℕ → Stage) (x : ℕ) (a b : Stage) (k : ℕ) (mode : LockMode) → x < size p.tree → g x ≡ a
     → holders p g k mode + keys_in p k mode x (picture p x b).keys ≡ holders p (upd g x b) k mode + keys_in p k mode x (picture p x a).keys
@@ -170,11 +170,13 @@ holders_change p g x a b k mode inside at =
     omega (arith, change, u, v)
 
 pub locks_keep : (p : PlanParts) (l : List LockWord) (g : ℕ → Stage) (x : ℕ) (a b : Stage) → x < size p.tree → g x ≡ a → (picture p x a).keys ≡ (picture p x b).keys → LockList p l g → LockList p l (upd g x b)
-locks_keep p l g x a b inside at same old k mode =
-    let c = holders_change p g x a b k mode inside at in
-    let o = old k mode in
-    let e : keys_in p k mode x (picture p x a).keys ≡ keys_in p k mode x (picture p x b).keys = ap (keys_in p k mode x) same in
-    omega (arith, c, o, e)
+locks_keep p l g x a b inside at same old = record {
+  counted = λ k mode. (let c = holders_change p g x a b k mode inside at in
+      let o = old.counted k mode in
+      let e : keys_in p k mode x (picture p x a).keys ≡ keys_in p k mode x (picture p x b).keys = ap (keys_in p k mode x) same in
+      omega (arith, c, o, e));
+  limited = old.limited;
+}
 
 -- one key more, or one less
 one_key : (p : PlanParts) (k : ℕ) (mode : LockMode) (x i : ℕ) → keys_in p k mode x (suc i) ≡ bit (is_key p k mode x i) + keys_in p k mode x i
@@ -187,36 +189,62 @@ key_elsewhere p k mode x i ne = ap bit (and_left (key_at p x i == k) (same_mode 
 key_here : (p : PlanParts) (k : ℕ) (mode : LockMode) (x i : ℕ) → k ≡ key_at p x i → bit (is_key p k mode x i) ≡ bit (same_mode (mode_at p x i) mode)
 key_here p k mode x i e = ap (λ (t : Bool). bit (t && same_mode (mode_at p x i) mode)) (eq-eqb (key_at p x i) k (sym e))
 
-taken_is : (m mode : LockMode) (word : LockWord) → admits m word ≡ true → holders_by mode (taken m word) ≡ holders_by mode word + bit (same_mode m mode)
-taken_is Read Read (Readers n) q = refl
-taken_is Read ReadWrite (Readers n) q = refl
-taken_is Read mode Written q = absurd (false≢true q)
-taken_is ReadWrite Read (Readers n) q = zero_of n q
+taken_is : (limit : ℕ) (m mode : LockMode) (word : LockWord) → admits limit m word ≡ true → holders_by mode (taken m word) ≡ holders_by mode word + bit (same_mode m mode)
+taken_is limit Read Read (Readers n) q = refl
+taken_is limit Read ReadWrite (Readers n) q = refl
+taken_is limit Read mode Written q = absurd (false≢true q)
+taken_is limit ReadWrite Read (Readers n) q = zero_of n q
   where
     zero_of : (n : ℕ) → (n == 0) ≡ true → 0 ≡ n + 0
     zero_of n q = (let e : n ≡ 0 = eqb-true n 0 q in omega (arith, e))
-taken_is ReadWrite ReadWrite (Readers n) q = refl
-taken_is ReadWrite mode Written q = absurd (false≢true q)
+taken_is limit ReadWrite ReadWrite (Readers n) q = refl
+taken_is limit ReadWrite mode Written q = absurd (false≢true q)
 
-pub locks_take : (p : PlanParts) (l : List LockWord) (g : ℕ → Stage) (x i : ℕ) (a b : Stage) (word : LockWord) → x < size p.tree → g x ≡ a → (picture p x a).keys ≡ i → (picture p x b).keys ≡ suc i → slice_get l (key_at p x i) ≡ Some word → admits (mode_at p x i) word ≡ true
-    → LockList p l g → LockList p (set l (key_at p x i) (taken (mode_at p x i) word)) (upd g x b)
-locks_take p l g x i a b word inside at ka kb found ok old k mode =
-    let c = holders_change p g x a b k mode inside at in
-    let o = old k mode in
-    let e : keys_in p k mode x (picture p x a).keys ≡ keys_in p k mode x i = ap (keys_in p k mode x) ka in
-    let f : keys_in p k mode x (picture p x b).keys ≡ bit (is_key p k mode x i) + keys_in p k mode x i = ap (keys_in p k mode x) kb ∙ one_key p k mode x i in
-    elim (cases_eq k (key_at p x i)) [
-      | inl q ↦ (let within = slice_get_within l (key_at p x i) word found in
-          let now : get_or (set l (key_at p x i) (taken (mode_at p x i) word)) k (Readers 0) ≡ taken (mode_at p x i) word = get_or-set_at l (key_at p x i) k (taken (mode_at p x i) word) (Readers 0) q within in
-          let was : get_or l k (Readers 0) ≡ word = ap (λ (j : ℕ). get_or l j (Readers 0)) q ∙ get_or_from_slice_get l (key_at p x i) word (Readers 0) found in
-          let u : holders_by mode (get_or (set l (key_at p x i) (taken (mode_at p x i) word)) k (Readers 0)) ≡ holders_by mode word + bit (same_mode (mode_at p x i) mode) = ap (holders_by mode) now ∙ taken_is (mode_at p x i) mode word ok in
-          let v : holders_by mode (get_or l k (Readers 0)) ≡ holders_by mode word = ap (holders_by mode) was in
-          let z = key_here p k mode x i q in
-          omega (arith, c, o, e, f, u, v, z))
-      | inr ne ↦ (let z = key_elsewhere p k mode x i ne in
-          let u : holders_by mode (get_or (set l (key_at p x i) (taken (mode_at p x i) word)) k (Readers 0)) ≡ holders_by mode (get_or l k (Readers 0)) = ap (holders_by mode) (get_or-set_other l (key_at p x i) k (taken (mode_at p x i) word) (Readers 0) ne) in
-          omega (arith, c, o, e, f, u, z))
+-- of a key that has a limit no more read it than that
+taken_few : (limit : ℕ) (m : LockMode) (word : LockWord) → 0 < limit → admits limit m word ≡ true → holders_by Read (taken m word) ≤ limit
+taken_few limit Read (Readers n) some q =
+    elim (or_cases (limit == 0) (nat_lt n limit) q) [
+      | inl z ↦ (let none : limit ≡ 0 = eqb-true limit 0 z in absurd (omega (arith, none, some)))
+      | inr lt ↦ (let less : n < limit = ltb-true n limit lt in omega (arith, less))
     ]
+taken_few limit Read Written some q = absurd (false≢true q)
+taken_few limit ReadWrite word some q = omega arith
+
+pub locks_take : (p : PlanParts) (l : List LockWord) (g : ℕ → Stage) (x i : ℕ) (a b : Stage) (word : LockWord) → x < size p.tree → g x ≡ a → (picture p x a).keys ≡ i → (picture p x b).keys ≡ suc i → slice_get l (key_at p x i) ≡ Some word → admits_at p x i word ≡ true
+    → LockList p l g → LockList p (set l (key_at p x i) (taken (mode_at p x i) word)) (upd g x b)
+locks_take p l g x i a b word inside at ka kb found ok old = record { counted = taken_count; limited = taken_limit }
+  where
+    taken_count : (k : ℕ) (mode : LockMode) → holders p (upd g x b) k mode ≡ holders_by mode (slice_index_or (set l (key_at p x i) (taken (mode_at p x i) word)) k (Readers 0))
+    taken_count k mode =
+        let c = holders_change p g x a b k mode inside at in
+        let o = old.counted k mode in
+        let e : keys_in p k mode x (picture p x a).keys ≡ keys_in p k mode x i = ap (keys_in p k mode x) ka in
+        let f : keys_in p k mode x (picture p x b).keys ≡ bit (is_key p k mode x i) + keys_in p k mode x i = ap (keys_in p k mode x) kb ∙ one_key p k mode x i in
+        elim (cases_eq k (key_at p x i)) [
+          | inl q ↦ (let within = slice_get_within l (key_at p x i) word found in
+              let now : get_or (set l (key_at p x i) (taken (mode_at p x i) word)) k (Readers 0) ≡ taken (mode_at p x i) word = get_or-set_at l (key_at p x i) k (taken (mode_at p x i) word) (Readers 0) q within in
+              let was : get_or l k (Readers 0) ≡ word = ap (λ (j : ℕ). get_or l j (Readers 0)) q ∙ get_or_from_slice_get l (key_at p x i) word (Readers 0) found in
+              let u : holders_by mode (get_or (set l (key_at p x i) (taken (mode_at p x i) word)) k (Readers 0)) ≡ holders_by mode word + bit (same_mode (mode_at p x i) mode) = ap (holders_by mode) now ∙ taken_is (limit_at p x i) (mode_at p x i) mode word ok in
+              let v : holders_by mode (get_or l k (Readers 0)) ≡ holders_by mode word = ap (holders_by mode) was in
+              let z = key_here p k mode x i q in
+              omega (arith, c, o, e, f, u, v, z))
+          | inr ne ↦ (let z = key_elsewhere p k mode x i ne in
+              let u : holders_by mode (get_or (set l (key_at p x i) (taken (mode_at p x i) word)) k (Readers 0)) ≡ holders_by mode (get_or l k (Readers 0)) = ap (holders_by mode) (get_or-set_other l (key_at p x i) k (taken (mode_at p x i) word) (Readers 0) ne) in
+              omega (arith, c, o, e, f, u, z))
+        ]
+
+    taken_limit : (k : ℕ) → 0 < limit_of p k → holders_by Read (slice_index_or (set l (key_at p x i) (taken (mode_at p x i) word)) k (Readers 0)) ≤ limit_of p k
+    taken_limit k some =
+        elim (cases_eq k (key_at p x i)) [
+          | inl q ↦ (let now : get_or (set l (key_at p x i) (taken (mode_at p x i) word)) k (Readers 0) ≡ taken (mode_at p x i) word = get_or-set_at l (key_at p x i) k (taken (mode_at p x i) word) (Readers 0) q (slice_get_within l (key_at p x i) word found) in
+              let u : holders_by Read (get_or (set l (key_at p x i) (taken (mode_at p x i) word)) k (Readers 0)) ≡ holders_by Read (taken (mode_at p x i) word) = ap (holders_by Read) now in
+              let v : limit_of p k ≡ limit_at p x i = ap (limit_of p) q in
+              let few = taken_few (limit_at p x i) (mode_at p x i) word (omega (arith, some, v)) ok in
+              omega (arith, u, v, few))
+          | inr ne ↦ (let u : holders_by Read (get_or (set l (key_at p x i) (taken (mode_at p x i) word)) k (Readers 0)) ≡ holders_by Read (get_or l k (Readers 0)) = ap (holders_by Read) (get_or-set_other l (key_at p x i) k (taken (mode_at p x i) word) (Readers 0) ne) in
+              let few = old.limited k some in
+              omega (arith, u, few))
+        ]
 
 given_is : (m mode : LockMode) (word : LockWord) → 1 ≤ holders_by m word → holders_by mode (given_back m word) + bit (same_mode m mode) ≡ holders_by mode word
 given_is Read Read (Readers zero) le = absurd (omega (arith, le))
@@ -227,26 +255,16 @@ given_is ReadWrite mode (Readers n) le = absurd (omega (arith, le))
 given_is ReadWrite Read Written le = refl
 given_is ReadWrite ReadWrite Written le = refl
 
+-- and a key that is given back is read by no more
+given_few : (m : LockMode) (word : LockWord) → holders_by Read (given_back m word) ≤ holders_by Read word
+given_few Read (Readers zero) = omega arith
+given_few Read (Readers (suc n)) = omega arith
+given_few Read Written = omega arith
+given_few ReadWrite word = omega arith
+
 pub locks_give : (p : PlanParts) (l : List LockWord) (g : ℕ → Stage) (x i : ℕ) (a b : Stage) (word : LockWord) → x < size p.tree → g x ≡ a → (picture p x a).keys ≡ suc i → (picture p x b).keys ≡ i → slice_get l (key_at p x i) ≡ Some word
     → LockList p l g → LockList p (set l (key_at p x i) (given_back (mode_at p x i) word)) (upd g x b)
-locks_give p l g x i a b word inside at ka kb found old k mode =
-    let c = holders_change p g x a b k mode inside at in
-    let o = old k mode in
-    let e : keys_in p k mode x (picture p x b).keys ≡ keys_in p k mode x i = ap (keys_in p k mode x) kb in
-    let f : keys_in p k mode x (picture p x a).keys ≡ bit (is_key p k mode x i) + keys_in p k mode x i = ap (keys_in p k mode x) ka ∙ one_key p k mode x i in
-    elim (cases_eq k (key_at p x i)) [
-      | inl q ↦ (let within = slice_get_within l (key_at p x i) word found in
-          let now : get_or (set l (key_at p x i) (given_back (mode_at p x i) word)) k (Readers 0) ≡ given_back (mode_at p x i) word = get_or-set_at l (key_at p x i) k (given_back (mode_at p x i) word) (Readers 0) q within in
-          let was : get_or l k (Readers 0) ≡ word = ap (λ (j : ℕ). get_or l j (Readers 0)) q ∙ get_or_from_slice_get l (key_at p x i) word (Readers 0) found in
-          let u : holders_by mode (get_or (set l (key_at p x i) (given_back (mode_at p x i) word)) k (Readers 0)) ≡ holders_by mode (given_back (mode_at p x i) word) = ap (holders_by mode) now in
-          let v : holders_by mode (get_or l k (Readers 0)) ≡ holders_by mode word = ap (holders_by mode) was in
-          let y = given_is (mode_at p x i) mode word some_held in
-          let z = key_here p k mode x i q in
-          omega (arith, c, o, e, f, u, v, y, z))
-      | inr ne ↦ (let z = key_elsewhere p k mode x i ne in
-          let u : holders_by mode (get_or (set l (key_at p x i) (given_back (mode_at p x i) word)) k (Readers 0)) ≡ holders_by mode (get_or l k (Readers 0)) = ap (holders_by mode) (get_or-set_other l (key_at p x i) k (given_back (mode_at p x i) word) (Readers 0) ne) in
-          omega (arith, c, o, e, f, u, z))
-    ]
+locks_give p l g x i a b word inside at ka kb found old = record { counted = given_count; limited = given_limit }
   where
     same_refl : (m : LockMode) → bit (same_mode m m) ≡ 1
     same_refl Read = refl
@@ -256,13 +274,47 @@ locks_give p l g x i a b word inside at ka kb found old k mode =
     some_held =
         let m = mode_at p x i in
         let c = holders_change p g x a b (key_at p x i) (mode_at p x i) inside at in
-        let o = old (key_at p x i) (mode_at p x i) in
+        let o = old.counted (key_at p x i) (mode_at p x i) in
         let was : holders_by (mode_at p x i) (get_or l (key_at p x i) (Readers 0)) ≡ holders_by (mode_at p x i) word = ap (holders_by (mode_at p x i)) (get_or_from_slice_get l (key_at p x i) word (Readers 0) found) in
         let e : keys_in p (key_at p x i) (mode_at p x i) x (picture p x b).keys ≡ keys_in p (key_at p x i) (mode_at p x i) x i = ap (keys_in p (key_at p x i) (mode_at p x i) x) kb in
         let f : keys_in p (key_at p x i) (mode_at p x i) x (picture p x a).keys ≡ bit (is_key p (key_at p x i) (mode_at p x i) x i) + keys_in p (key_at p x i) (mode_at p x i) x i = ap (keys_in p (key_at p x i) (mode_at p x i) x) ka ∙ one_key p (key_at p x i) (mode_at p x i) x i in
         let z = key_here p (key_at p x i) (mode_at p x i) x i refl in
         let y = same_refl (mode_at p x i) in
         omega (arith, c, o, was, e, f, z, y)
+
+    given_count : (k : ℕ) (mode : LockMode) → holders p (upd g x b) k mode ≡ holders_by mode (slice_index_or (set l (key_at p x i) (given_back (mode_at p x i) word)) k (Readers 0))
+    given_count k mode =
+        let c = holders_change p g x a b k mode inside at in
+        let o = old.counted k mode in
+        let e : keys_in p k mode x (picture p x b).keys ≡ keys_in p k mode x i = ap (keys_in p k mode x) kb in
+        let f : keys_in p k mode x (picture p x a).keys ≡ bit (is_key p k mode x i) + keys_in p k mode x i = ap (keys_in p k mode x) ka ∙ one_key p k mode x i in
+        elim (cases_eq k (key_at p x i)) [
+          | inl q ↦ (let within = slice_get_within l (key_at p x i) word found in
+              let now : get_or (set l (key_at p x i) (given_back (mode_at p x i) word)) k (Readers 0) ≡ given_back (mode_at p x i) word = get_or-set_at l (key_at p x i) k (given_back (mode_at p x i) word) (Readers 0) q within in
+              let was : get_or l k (Readers 0) ≡ word = ap (λ (j : ℕ). get_or l j (Readers 0)) q ∙ get_or_from_slice_get l (key_at p x i) word (Readers 0) found in
+              let u : holders_by mode (get_or (set l (key_at p x i) (given_back (mode_at p x i) word)) k (Readers 0)) ≡ holders_by mode (given_back (mode_at p x i) word) = ap (holders_by mode) now in
+              let v : holders_by mode (get_or l k (Readers 0)) ≡ holders_by mode word = ap (holders_by mode) was in
+              let y = given_is (mode_at p x i) mode word some_held in
+              let z = key_here p k mode x i q in
+              omega (arith, c, o, e, f, u, v, y, z))
+          | inr ne ↦ (let z = key_elsewhere p k mode x i ne in
+              let u : holders_by mode (get_or (set l (key_at p x i) (given_back (mode_at p x i) word)) k (Readers 0)) ≡ holders_by mode (get_or l k (Readers 0)) = ap (holders_by mode) (get_or-set_other l (key_at p x i) k (given_back (mode_at p x i) word) (Readers 0) ne) in
+              omega (arith, c, o, e, f, u, z))
+        ]
+
+    given_limit : (k : ℕ) → 0 < limit_of p k → holders_by Read (slice_index_or (set l (key_at p x i) (given_back (mode_at p x i) word)) k (Readers 0)) ≤ limit_of p k
+    given_limit k some =
+        let few = old.limited k some in
+        elim (cases_eq k (key_at p x i)) [
+          | inl q ↦ (let now : get_or (set l (key_at p x i) (given_back (mode_at p x i) word)) k (Readers 0) ≡ given_back (mode_at p x i) word = get_or-set_at l (key_at p x i) k (given_back (mode_at p x i) word) (Readers 0) q (slice_get_within l (key_at p x i) word found) in
+              let was : get_or l k (Readers 0) ≡ word = ap (λ (j : ℕ). get_or l j (Readers 0)) q ∙ get_or_from_slice_get l (key_at p x i) word (Readers 0) found in
+              let u : holders_by Read (get_or (set l (key_at p x i) (given_back (mode_at p x i) word)) k (Readers 0)) ≡ holders_by Read (given_back (mode_at p x i) word) = ap (holders_by Read) now in
+              let v : holders_by Read (get_or l k (Readers 0)) ≡ holders_by Read word = ap (holders_by Read) was in
+              let less = given_few (mode_at p x i) word in
+              omega (arith, u, v, less, few))
+          | inr ne ↦ (let u : holders_by Read (get_or (set l (key_at p x i) (given_back (mode_at p x i) word)) k (Readers 0)) ≡ holders_by Read (get_or l k (Readers 0)) = ap (holders_by Read) (get_or-set_other l (key_at p x i) k (given_back (mode_at p x i) word) (Readers 0) ne) in
+              omega (arith, u, few))
+        ]
 
 -- Edges: a node that is live goes on
 pub live_seen : (st : Stage) → is_live st ≡ true → is_unseen st ≡ false

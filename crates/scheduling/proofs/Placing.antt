@@ -24,7 +24,7 @@ use Rattle.scheduling.specs.declared.task.Task.TheVariants.{Free, Opens, Closes}
 use Rattle.scheduling.specs.declared.seat.Hand.{Hand}
 use Rattle.scheduling.specs.declared.seat.Seat.{Seat}
 use Rattle.scheduling.specs.State.{State, status_at, counter_at, result_at, lock_at}
-use Rattle.scheduling.specs.Choices.{answered, keys_count, in_batch, is_same_sibling, first_from, notices, is_leaf, status_by, admits, event_of, next_spare, is_pulled, pulled_result, same_word, key_at, mode_at, taken, lock_from, begins, claims, giving, after_finish, after_settle, pass_to, admit_next, admit_from, ending, decided}
+use Rattle.scheduling.specs.Choices.{answered, keys_count, in_batch, is_same_sibling, first_from, notices, is_leaf, status_by, admits_at, event_of, next_spare, is_pulled, pulled_result, same_word, key_at, mode_at, taken, lock_from, begins, claims, giving, after_finish, after_settle, pass_to, admit_next, admit_from, ending, decided}
 use Rattle.scheduling.specs.declared.step.Action.{Action}
 use Rattle.scheduling.specs.declared.step.Action.TheVariants.{Claim, Own, Notice, Weigh, Take, Give, GiveUp, Draw, Show, Admit, AddChild, Done, Settle, Look, Raise}
 use Rattle.scheduling.specs.Rows.{one_more, waits_for, waits_no_more, with_task, goes, puts_word, weighed, claimed, guard_given, ends_or_free, after_start, row, is_free, is_empty, is_of_hand, is_ready_for, notice_row, weigh_row, take_found, take_row, gives_key, give_row, give_up_row, draw_row, show_row, admit_row, child_added, add_by_hand, add_child_hand, add_child_row, done_by_hand, done_hand, done_row, settle_row, look_found, look_row, raise_row, goes_to, decided_seat, after_seat, after, Step, Works, Dispatches, read_event, is_cancelled}
@@ -48,7 +48,7 @@ module _ (p : PlanParts) (w n : ℕ) where
   claims_unnamed = by_cond (λ d. named w (Opens n d) ≡ None) (notices p n) Noticing (begins p n (is_disabled p.tree n)) (λ _. refl) (λ _. begins_unnamed (is_disabled p.tree n))
 
   weighed_unnamed : (i : ℕ) (word : LockWord) → named w (Opens n (weighed p n i word)) ≡ None
-  weighed_unnamed i word = by_cond (λ d. named w (Opens n d) ≡ None) (admits (mode_at p n i) word) (Weighed i word) (Backing i) (λ _. refl) (λ _. refl)
+  weighed_unnamed i word = by_cond (λ d. named w (Opens n d) ≡ None) (admits_at p n i word) (Weighed i word) (Backing i) (λ _. refl) (λ _. refl)
 
   admit_unnamed : (found : Option ℕ) → named w (Opens n (admit_next found)) ≡ None
   admit_unnamed None = refl

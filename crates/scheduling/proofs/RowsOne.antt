@@ -23,7 +23,7 @@ use Rattle.scheduling.specs.declared.task.Task.{Task}
 use Rattle.scheduling.specs.declared.task.Task.TheVariants.{Free, Opens, Closes}
 use Rattle.scheduling.specs.declared.seat.Seat.{Seat}
 use Rattle.scheduling.specs.State.{State, status_at, lock_at, subject}
-use Rattle.scheduling.specs.Choices.{key_at, mode_at, keys_count, admits, taken, given_back, same_word, lock_from, begins, giving, after_finish}
+use Rattle.scheduling.specs.Choices.{key_at, mode_at, keys_count, admits_at, taken, given_back, same_word, lock_from, begins, giving, after_finish}
 use Rattle.scheduling.specs.Rows.{with_task, goes, goes_to, notice_row, weighed, weigh_row, take_found, take_row, puts_word, gives_key, give_row, raised, raise_row, shows, look_found, look_row, is_cancelled}
 use Rattle.scheduling.specs.Inside.Stages.{How, Gave, Kept, Skips, Stage, OpenedBy, InHand, Waiting, ClosedBy, Over, Shut, Runs, picture, closing_picture, runner_of, starter_by, below_of, Begun, passes_to, closing_past, closing_passed, opening_offered, raises, is_bold, brings}
 use Rattle.scheduling.specs.Inside.Invariant.{IsCorePlan, OpeningOk, ClosingOk, ShapeOk, TaskOk, BringsOk, SeatOk, Holds, IsKept}
@@ -257,7 +257,7 @@ module _ (p : PlanParts) (core : IsCorePlan p) (replies : ℕ → List Reply) (s
       let at = opening_at x (Locking i) e in
       let word = lock_at s (key_at p x i) in
       kept_some p replies (goes s w seat (Opens x (weighed p x i (lock_at s (key_at p x i))))) t
-      (by_cond (λ d2. IsKept p replies (goes s w seat (Opens x d2))) (admits (mode_at p x i) (lock_at s (key_at p x i))) (Weighed i (lock_at s (key_at p x i))) (Backing i)
+      (by_cond (λ d2. IsKept p replies (goes s w seat (Opens x d2))) (admits_at p x i (lock_at s (key_at p x i))) (Weighed i (lock_at s (key_at p x i))) (Backing i)
       (λ c. turn x (Locking i) (Weighed i (lock_at s (key_at p x i))) s.locks s.shown e refl (keys_stay x (OpenedBy w (Locking i)) (OpenedBy w (Weighed i (lock_at s (key_at p x i)))) at.0 at.1 refl) same_shown refl refl refl (λ r. r) (λ b. absurd (false≢true b)) (ok.0, ok.1, c)
       (quit_same p s.published w (Opens x (Locking i)) (Opens x (Weighed i (lock_at s (key_at p x i)))) refl))
       (λ c. turn x (Locking i) (Backing i) s.locks s.shown e refl (keys_stay x (OpenedBy w (Locking i)) (OpenedBy w (Backing i)) at.0 at.1 refl) same_shown refl refl refl (λ r. r) (λ b. absurd (false≢true b)) (let lt = ok.0 in omega (arith, lt))
@@ -268,7 +268,7 @@ module _ (p : PlanParts) (core : IsCorePlan p) (replies : ℕ → List Reply) (s
   pub take_keeps : (t0 : Task) → seat.task ≡ t0 → (t : State) → take_row p s w seat t0 ≡ Some t → IsKept p replies t
   take_keeps (Opens x (Weighed i v)) e t q = go (slice_get s.locks (key_at p x i)) refl q
     where
-      ok : (i < keys_count p x) × (is_disabled p.tree x ≡ false) × (admits (mode_at p x i) v ≡ true)
+      ok : (i < keys_count p x) × (is_disabled p.tree x ≡ false) × (admits_at p x i v ≡ true)
       ok = opening_shape x (Weighed i v) e
 
       at : (x < size p.tree) × (g x ≡ OpenedBy w (Weighed i v))
@@ -284,7 +284,7 @@ module _ (p : PlanParts) (core : IsCorePlan p) (replies : ℕ → List Reply) (s
       go None f r = absurd (none-some t r)
       go (Some word) f r =
           by_cond (λ o. o ≡ Some t → IsKept p replies t) (same_word word v) (Some (puts_word s w seat (Opens x (lock_from p x (suc i))) (key_at p x i) (taken (mode_at p x i) word))) (Some (goes s w seat (Opens x (Locking i))))
-          (λ c. (let admit : admits (mode_at p x i) word ≡ true = ap (admits (mode_at p x i)) (same word v c) ∙ ok.2 in
+          (λ c. (let admit : admits_at p x i word ≡ true = ap (admits_at p x i) (same word v c) ∙ ok.2 in
           let lt = ok.0 in
           kept_some p replies (puts_word s w seat (Opens x (lock_from p x (suc i))) (key_at p x i) (taken (mode_at p x i) word)) t
           (locks_on x (suc i) (Weighed i v) (set s.locks (key_at p x i) (taken (mode_at p x i) word)) e refl refl refl refl refl ok.1 (omega (arith, lt)) (quit_same p s.published w (Opens x (Weighed i v)) (Opens x (Beginning false)) refl)

@@ -58,6 +58,7 @@ class fail_fast = record {
   tree = record { parents = 0 ∷ 0 ∷ 1 ∷ 1 ∷ []; nodes = node Container Plain None (Some 9) ∷ node Test Plain (Some 2) None ∷ node Test Plain (Some 3) None ∷ [] };
   held = [] ∷ [] ∷ (record { key = 7 ∷ []; mode = ReadWrite } ∷ []) ∷ [] ∷ [];
   keys = (7 ∷ []) ∷ [];
+  limits = [];
   modes = Concurrent ∷ Concurrent ∷ SameThread ∷ SameThread ∷ [];
   fail_fast = fail_fast;
   tolerated = 0;
@@ -69,6 +70,7 @@ factory = record {
   tree = record { parents = 0 ∷ 0 ∷ 1 ∷ 1 ∷ []; nodes = node Container Factory (Some 1) None ∷ node Test Spare (Some 2) None ∷ node Test Spare (Some 3) None ∷ [] };
   held = [] ∷ [] ∷ [] ∷ [] ∷ [];
   keys = [];
+  limits = [];
   modes = Concurrent ∷ Concurrent ∷ SameThread ∷ SameThread ∷ [];
   fail_fast = false;
   tolerated = 0;

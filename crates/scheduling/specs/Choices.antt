@@ -11,7 +11,7 @@ use Rattle.plan_events.specs.declared.event.Event.{Event}
 use Rattle.plan_events.specs.declared.event.EventKind.{EventKind}
 use Rattle.plan_events.specs.Statuses.{is_successful}
 use Rattle.event_history.specs.Places.{is_failed_or}
-use Rattle.resource_locks.specs.Plans.{number_of, PlanParts, held_of}
+use Rattle.resource_locks.specs.Plans.{number_of, limit_of, PlanParts, held_of}
 use Rattle.event_history.specs.Plans.{Sort, Leaf, sort_of, is_same, is_spare_of, spare_count, rank}
 use Rattle.event_history.specs.Results.{Jobs, Around, jobs_of}
 use Rattle.scheduling.specs.declared.lock_word.LockWord.{LockWord}
@@ -87,12 +87,20 @@ mode_at p n i = (lock_of p n i).mode
 abbrev pub keys_count : PlanParts → ℕ → ℕ
 keys_count p n = length (held_of p n)
 
--- whether the word lets the key be taken in this mode
-abbrev pub admits : LockMode → LockWord → Bool
-admits Read (Readers n) = true
-admits Read Written = false
-admits ReadWrite (Readers n) = n == 0
-admits ReadWrite Written = false
+-- how many nodes may hold it at once; 0 where that is not limited
+abbrev pub limit_at : PlanParts → ℕ → ℕ → ℕ
+limit_at p n i = limit_of p (key_at p n i)
+
+-- whether the word lets the key be taken in this mode, where so many may hold it
+abbrev pub admits : ℕ → LockMode → LockWord → Bool
+admits limit Read (Readers n) = limit == 0 || nat_lt n limit
+admits limit Read Written = false
+admits limit ReadWrite (Readers n) = n == 0
+admits limit ReadWrite Written = false
+
+-- whether it lets node n take the key at place i of those that it holds
+abbrev pub admits_at : PlanParts → ℕ → ℕ → LockWord → Bool
+admits_at p n i word = admits (limit_at p n i) (mode_at p n i) word
 
 -- the word after the key is taken in this mode, and after it is given back
 abbrev pub taken : LockMode → LockWord → LockWord

@@ -21,7 +21,7 @@ use Rattle.scheduling.specs.declared.seat.Seat.{Seat}
 use Rattle.scheduling.specs.declared.step.Action.{Action}
 use Rattle.scheduling.specs.declared.step.Action.TheVariants.{Claim, Own, Notice, Weigh, Take, Give, GiveUp, Draw, Show, Admit, AddChild, Done, Settle, Look, Raise}
 use Rattle.scheduling.specs.State.{State, status_at, counter_at, result_at, lock_at}
-use Rattle.scheduling.specs.Choices.{next_spare, admit_from, after_settle, offered_to, key_at, mode_at, admits, taken, given_back, same_word, keys_count, lock_from, begins, claims, giving, after_finish, decided, ending, is_pulled, pulled_result, event_of}
+use Rattle.scheduling.specs.Choices.{next_spare, admit_from, after_settle, offered_to, key_at, mode_at, admits_at, taken, given_back, same_word, keys_count, lock_from, begins, claims, giving, after_finish, decided, ending, is_pulled, pulled_result, event_of}
 
 -- the worker's next task
 abbrev pub with_task : Seat → Task → Seat
@@ -82,7 +82,7 @@ raise_row p s w seat _ = None
 
 -- weigh, take, give, give_up
 abbrev pub weighed : PlanParts → ℕ → ℕ → LockWord → Opening
-weighed p n i word = cond (admits (mode_at p n i) word) (Weighed i word) (Backing i)
+weighed p n i word = cond (admits_at p n i word) (Weighed i word) (Backing i)
 
 abbrev pub weigh_row : PlanParts → State → ℕ → Seat → Task → Option State
 weigh_row p s w seat (Opens n (Locking i)) = Some (goes s w seat (Opens n (weighed p n i (lock_at s (key_at p n i)))))

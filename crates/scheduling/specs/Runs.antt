@@ -11,6 +11,7 @@ use Rattle.event_history.specs.Places.{StandsAt}
 use Rattle.event_history.specs.History.{IsLegal, IsComplete}
 use Rattle.event_history.specs.Order.{IsInOrder}
 use Rattle.event_history.specs.Exclusion.{IsExclusive}
+use Rattle.event_history.specs.Limits.{IsWithinLimits}
 use Rattle.scheduling.specs.declared.status.NodeStatus.{NodeStatus}
 use Rattle.scheduling.specs.declared.status.NodeStatus.TheVariants.{Hidden, Ready}
 use Rattle.scheduling.specs.declared.lock_word.LockWord.TheVariants.{Readers}
@@ -69,6 +70,7 @@ pub record IsRight (p : PlanParts) (replies : ℕ → List Reply) (workers : ℕ
   pub legal : IsLegal p replies workers s.published
   pub order : IsInOrder p s.published
   pub exclusive : IsExclusive p s.published
+  pub within : IsWithinLimits p s.published
   -- what is given is a beginning of what is published, and was shown
   pub given : IsPrefix s.given s.published
   pub shown : IsShown s s.given

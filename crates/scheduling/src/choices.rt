@@ -4,7 +4,7 @@ ghost use Rattle.std.specs.Prelude.{◌≡◌, ◌<◌, ◌+◌, ◌==◌, ◌&&
 ghost use Rattle.descriptor.specs.Nodes.{size, is_factory_at};
 ghost use Rattle.scheduling.specs.Answers.{reply_by};
 ghost use Rattle.scheduling.specs.Choices.{lock_from as lock_from_of, begins as begins_of, claims as claims_of};
-ghost use Rattle.scheduling.specs.Choices.{keys_count, mode_at, key_at, admits as admits_of, taken as taken_of};
+ghost use Rattle.scheduling.specs.Choices.{keys_count, mode_at, limit_at, key_at, admits as admits_of, taken as taken_of};
 ghost use Rattle.scheduling.specs.Choices.{given_back as given_back_of, same_word as same_word_of};
 ghost use Rattle.scheduling.specs.Choices.{giving as giving_of, after_finish as after_finish_of};
 ghost use Rattle.scheduling.specs.Choices.{offered_to as offered_to_of, ending as ending_of};
@@ -96,12 +96,21 @@ pub fn mode_at_place(plan: &Plan, node: NodeId, place: usize) -> LockMode
     plan.held(node).locks()[place].mode
 }
 
-/// Whether a key's word lets the key be taken in this mode.
-pub fn admits(mode: LockMode, word: LockWord) -> bool
-    ensures { result ≡ admits_of mode word }
+/// How many nodes may hold that key at once; 0 if that is not limited.
+pub fn limit_at_place(plan: &Plan, node: NodeId, place: usize) -> u8
+    requires node { node < size plan.now.tree }
+    requires place { place < keys_count plan.now node }
+    ensures { result ≡ limit_at plan.now node place }
+{
+    plan.limit(key_at_place(plan, node, place))
+}
+
+/// Whether a key's word lets the key be taken in this mode, if so many nodes may hold it at once; 0 is for any number.
+pub fn admits(limit: u8, mode: LockMode, word: LockWord) -> bool
+    ensures { result ≡ admits_of limit mode word }
 {
     match (mode, word) {
-        (LockMode::Read, LockWord::Readers(_)) => true,
+        (LockMode::Read, LockWord::Readers(readers)) => limit == 0 || readers < u16::from(limit),
         (LockMode::ReadWrite, LockWord::Readers(readers)) => readers == 0,
         (_, LockWord::Written) => false,
     }
@@ -137,7 +146,8 @@ pub fn weighed(plan: &Plan, node: NodeId, index: usize, word: LockWord) -> Openi
     requires key { index < keys_count plan.now node }
     ensures { result ≡ weighed_of plan.now node index word }
 {
-    if admits(mode_at_place(plan, node, index), word) {
+    let limit = limit_at_place(plan, node, index);
+    if admits(limit, mode_at_place(plan, node, index), word) {
         Opening::Weighed(index, word)
     } else {
         Opening::Backing(index)

@@ -30,8 +30,9 @@ pub use cancelling::{due_notice, due_raise};
 pub use children::due_child;
 pub use choices::{
     admits, after_finish, after_run, after_start, awaited, back_to, begins, claims, ending,
-    ends_or_free, given_back, giving, is_pulled, is_same, is_same_word, key_at_place, lock_after,
-    mode_at_place, next_spare, offered_to, pulled_result, taken, weighed,
+    ends_or_free, given_back, giving, is_pulled, is_same, is_same_word, key_at_place,
+    limit_at_place, lock_after, mode_at_place, next_spare, offered_to, pulled_result, taken,
+    weighed,
 };
 pub use events::{after_draw, after_show, due_event, named_by};
 pub use guards::{DueGuard, counted_off, due_guard};

@@ -1,5 +1,5 @@
 -- What each state of the core keeps: there are stages of which the state is the picture. Only proofs need this file.
-use Rattle.std.specs.Prelude.{◌≡◌, ℕ, zero, suc, ◌+◌, ◌<◌, ◌≤◌, Bool, true, false, ◌&&◌, ◌==◌, List, ◌++◌, length, Option, Some, None, slice_get, ◌⊎◌}
+use Rattle.std.specs.Prelude.{◌≡◌, ℕ, zero, suc, ◌+◌, ◌<◌, ◌≤◌, Bool, true, false, ◌&&◌, ◌==◌, List, ◌++◌, length, Option, Some, None, slice_get, slice_index_or, ◌⊎◌}
 use Rattle.descriptor.specs.declared.lock_mode.LockMode.{LockMode}
 use Rattle.descriptor.specs.declared.lock_mode.LockMode.TheVariants.{Read, ReadWrite}
 use Rattle.descriptor.specs.Nodes.{bit, size, parent_of, IsChild, is_child, count_below, is_spare_at, is_disabled}
@@ -8,7 +8,7 @@ use Rattle.plan_events.specs.declared.status.Status.{Status}
 use Rattle.plan_events.specs.declared.status.Status.TheVariants.{Successful}
 use Rattle.plan_events.specs.declared.event.Event.{Event}
 use Rattle.plan_events.specs.declared.outcome.Reply.{Reply}
-use Rattle.resource_locks.specs.Plans.{PlanParts}
+use Rattle.resource_locks.specs.Plans.{PlanParts, limit_of}
 use Rattle.event_history.specs.Plans.{IsPlanTree, Leaf, Maker, IsElder, sort_of, is_same, rank, pulls_job}
 use Rattle.event_history.specs.Places.{has}
 use Rattle.event_history.specs.Results.{Jobs, NoJob, Around, jobs_of, HasAnswer, Ends}
@@ -28,7 +28,7 @@ use Rattle.scheduling.specs.declared.task.Task.TheVariants.{Free, Opens, Closes}
 use Rattle.scheduling.specs.declared.seat.Hand.{Hand}
 use Rattle.scheduling.specs.declared.seat.Seat.{Seat}
 use Rattle.scheduling.specs.State.{State, status_at, counter_at, result_at, lock_at}
-use Rattle.scheduling.specs.Choices.{in_batch, key_at, mode_at, keys_count, admits, ending}
+use Rattle.scheduling.specs.Choices.{in_batch, key_at, mode_at, keys_count, admits_at, ending}
 use Rattle.scheduling.specs.Inside.Stages.{How, Gave, Kept, Skips, Stage, OpenedBy, InHand, Waiting, ClosedBy, Below, Shut, Runs, Past, picture, has_mark, starter_of, is_unseen, is_pending, is_past, is_unsettled, is_owned, is_over, raises, is_bold, brings}
 
 -- what the core asks of a plan's tree, and what every tree of nodes has: besides, its nodes have numbers of events, and the
@@ -80,8 +80,15 @@ CountersOk p s g = (n : ℕ) → n < size p.tree → counter_at s n ≡ (picture
 abbrev pub ResultsOk : PlanParts → State → (ℕ → Stage) → Type 0
 ResultsOk p s g = (n c : ℕ) (r : Status) → n < size p.tree → g n ≡ Waiting c r → result_at s n ≡ r
 
+-- what the words of the keys say
+pub record KeysCount (p : PlanParts) (locks : List LockWord) (g : ℕ → Stage) : Type 0 where
+  -- so many nodes have the key in this mode
+  pub counted : (k : ℕ) (mode : LockMode) → holders p g k mode ≡ holders_by mode (slice_index_or locks k (Readers 0))
+  -- and no more read it than its limit says
+  pub limited : (k : ℕ) → 0 < limit_of p k → holders_by Read (slice_index_or locks k (Readers 0)) ≤ limit_of p k
+
 abbrev pub LocksOk : PlanParts → State → (ℕ → Stage) → Type 0
-LocksOk p s g = (k : ℕ) (mode : LockMode) → holders p g k mode ≡ holders_by mode (lock_at s k)
+LocksOk p s g = KeysCount p s.locks g
 
 -- The history.
 -- it has an event exactly where the stage says so
@@ -139,7 +146,7 @@ abbrev pub OpeningOk : PlanParts → (ℕ → List Reply) → List Event → ℕ
 OpeningOk p replies h n Registering = (is_spare_at p.tree n && pulls_job p (parent_of p.tree n)) ≡ true
 OpeningOk p replies h n Noticing = (p.fail_fast ≡ true) × (0 < n) × (is_disabled p.tree n ≡ false)
 OpeningOk p replies h n (Locking i) = (i < keys_count p n) × (is_disabled p.tree n ≡ false)
-OpeningOk p replies h n (Weighed i word) = (i < keys_count p n) × (is_disabled p.tree n ≡ false) × (admits (mode_at p n i) word ≡ true)
+OpeningOk p replies h n (Weighed i word) = (i < keys_count p n) × (is_disabled p.tree n ≡ false) × (admits_at p n i word ≡ true)
 OpeningOk p replies h n (Backing i) = i ≤ keys_count p n
 OpeningOk p replies h n (Beginning true) = (0 < n) × SkipReason p h n
 OpeningOk p replies h n (Beginning false) = is_disabled p.tree n ≡ false

@@ -13,7 +13,7 @@ use Rattle.scheduling.specs.declared.task.Task.{Task}
 use Rattle.scheduling.specs.declared.task.Task.TheVariants.{Free, Opens, Closes}
 use Rattle.scheduling.specs.declared.seat.Seat.{Seat}
 use Rattle.scheduling.specs.State.{State, lock_at}
-use Rattle.scheduling.specs.Choices.{keys_count, key_at, mode_at, admits}
+use Rattle.scheduling.specs.Choices.{keys_count, key_at, mode_at, admits_at}
 use Rattle.scheduling.specs.Inside.Invariant.{sum_below}
 
 -- how many changes of its status a node has before it
@@ -72,7 +72,7 @@ work_left p s = changes_left p s * weight p + sum_by (seat_rank p) s.seats + (le
 
 -- no other worker is in the way of the task: the key that it comes to may be taken, and has the word that was seen
 abbrev pub IsClear : PlanParts → State → Task → Type 0
-IsClear p s (Opens n (Locking i)) = admits (mode_at p n i) (lock_at s (key_at p n i)) ≡ true
+IsClear p s (Opens n (Locking i)) = admits_at p n i (lock_at s (key_at p n i)) ≡ true
 IsClear p s (Opens n (Weighed i word)) = slice_get s.locks (key_at p n i) ≡ Some word
 IsClear p s (Opens n (Backing i)) = ⊥
 IsClear p s _ = Unit {0}
