@@ -148,6 +148,7 @@ module _ (p : PlanParts) (core : IsCorePlan p) (replies : ℕ → List Reply) (r
     };
     order = old.order;
     exclusive = old.exclusive;
+    within = old.within;
   })
 
   held_first : (n : ℕ) (st : Stage) → HeldBy q n st → HeldBy q2 n st

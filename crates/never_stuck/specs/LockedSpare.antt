@@ -70,6 +70,7 @@ locked_plan = record {
   modes = locked_modes;
   held = [] ∷ [] ∷ (read_global ∷ db ∷ []) ∷ [] ∷ (read_global ∷ []) ∷ (db ∷ []) ∷ [];
   keys = global ∷ codes "db" ∷ [];
+  limits = [];
   fail_fast = false;
   tolerated = 0;
 }
