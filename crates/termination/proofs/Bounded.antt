@@ -16,7 +16,7 @@ use Rattle.scheduling.specs.declared.task.Task.TheVariants.{Free, Opens}
 use Rattle.scheduling.specs.declared.seat.Seat.{Seat}
 use Rattle.scheduling.specs.declared.step.Action.{Action}
 use Rattle.scheduling.specs.State.{State, status_at, lock_at}
-use Rattle.scheduling.specs.Choices.{keys_count, key_at, mode_at, admits, same_word, given_back, decided}
+use Rattle.scheduling.specs.Choices.{keys_count, key_at, mode_at, admits_at, same_word, given_back, decided}
 use Rattle.scheduling.specs.Rows.{with_task, goes, weighed, back_to, row, decided_seat, Step, Works, Dispatches, after}
 use Rattle.scheduling.specs.Runs.{opening, IsReplied, AllReplied, or_stays, next}
 use Rattle.scheduling.specs.Inside.Stages.{Stage, OpenedBy, picture}
@@ -85,7 +85,7 @@ module _ (p : PlanParts) (core : IsCorePlan p) (replies : ℕ → List Reply) (s
   turned_so b e = ap (try_if p) e
 
   weigh_falls : (t : State) → Weighs p s w seat seat.task a t → Falls t
-  weigh_falls t k = subst Falls (sym k.is) (go (admits (mode_at p k.node k.place) word) refl)
+  weigh_falls t k = subst Falls (sym k.is) (go (admits_at p k.node k.place word) refl)
     where
       word : LockWord
       word = lock_at s (key_at p k.node k.place)
@@ -96,14 +96,14 @@ module _ (p : PlanParts) (core : IsCorePlan p) (replies : ℕ → List Reply) (s
       goes_on : (d : Opening) → weighed p k.node k.place word ≡ d → task_steps p (Opens k.node d) < task_steps p (Opens k.node (Locking k.place)) + try_if p (is_turned_back p s.locks seat.task a) → Falls (goes s w seat (Opens k.node (weighed p k.node k.place word)))
       goes_on d e less = subst (λ (x : Opening). Falls (goes s w seat (Opens k.node x))) (sym e) (moved s.locks (Opens k.node (Locking k.place)) (Opens k.node d) k.task less)
 
-      go : (free : Bool) → admits (mode_at p k.node k.place) word ≡ free → Falls (goes s w seat (Opens k.node (weighed p k.node k.place word)))
-      go true e = goes_on (Weighed k.place word) (cond-true (admits (mode_at p k.node k.place) word) (Weighed k.place word) (Backing k.place) e) (omega arith)
+      go : (free : Bool) → admits_at p k.node k.place word ≡ free → Falls (goes s w seat (Opens k.node (weighed p k.node k.place word)))
+      go true e = goes_on (Weighed k.place word) (cond-true (admits_at p k.node k.place word) (Weighed k.place word) (Backing k.place) e) (omega arith)
       go false e =
           let busy : is_turned_back p s.locks seat.task a ≡ true = ap (λ (x : Task). is_turned_back p s.locks x a) k.task ∙ ap (is_turned_back p s.locks (Opens k.node (Locking k.place))) k.action ∙ ap not e in
           let more = turned_so true busy in
           let few = keys_few p k.node in
           let low = inside in
-          goes_on (Backing k.place) (cond-false (admits (mode_at p k.node k.place) word) (Weighed k.place word) (Backing k.place) e) (omega (arith, more, few, low))
+          goes_on (Backing k.place) (cond-false (admits_at p k.node k.place word) (Weighed k.place word) (Backing k.place) e) (omega (arith, more, few, low))
 
   miss_falls : (t : State) → Misses p s w seat seat.task a t → Falls t
   miss_falls t k =

@@ -12,7 +12,7 @@ use Rattle.scheduling.specs.declared.seat.Seat.{Seat}
 use Rattle.scheduling.specs.declared.step.Action.{Action}
 use Rattle.scheduling.specs.declared.step.Action.TheVariants.{Look}
 use Rattle.scheduling.specs.State.{State, lock_at}
-use Rattle.scheduling.specs.Choices.{key_at, mode_at, admits, decided}
+use Rattle.scheduling.specs.Choices.{key_at, mode_at, admits_at, decided}
 use Rattle.scheduling.specs.Rows.{with_task, weighed, decided_seat, Step, Works, Dispatches, after}
 use Rattle.scheduling.specs.Runs.{IsReplied}
 use Rattle.scheduling.specs.Inside.Invariant.{IsCorePlan, IsKept}
@@ -27,7 +27,7 @@ use Rattle.termination.proofs.StepKinds.{is_midway, Kind, AsFree, AsPlain, AsWei
 use Rattle.termination.proofs.Acting.{decides, Acts, acts_so, free_same, no_look}
 
 weighed_midway : (p : PlanParts) (n i : ℕ) (word : LockWord) → is_midway (Opens n (weighed p n i word)) ≡ true
-weighed_midway p n i word = by_cond (λ d. is_midway (Opens n d) ≡ true) (admits (mode_at p n i) word) (Weighed i word) (Backing i) (λ _. refl) (λ _. refl)
+weighed_midway p n i word = by_cond (λ d. is_midway (Opens n d) ≡ true) (admits_at p n i word) (Weighed i word) (Backing i) (λ _. refl) (λ _. refl)
 
 midway_stays : (p : PlanParts) (reply : Reply) (t : Task) → is_midway t ≡ true → decided p reply t ≡ t
 midway_stays p reply (Opens n (Weighed i word)) q = refl

@@ -1,11 +1,10 @@
 -- Where two nodes branch, and that they take turns just where the elder branch goes first.
-use Rattle.std.proofs.Common.{◌≡◌, ◌≢◌, ℕ, zero, suc, ◌+◌, ◌<◌, true, inl, inr, refl, sym, ◌∙◌, subst, arith}
+use Rattle.std.proofs.Common.{◌≡◌, ◌≢◌, ℕ, zero, suc, ◌+◌, ◌<◌, true, inl, inr, refl, sym, ap, ◌∙◌, subst, arith}
 use Rattle.std.proofs.lemmas.Bool.{cases_eq, cases_lt, and_from, or_left}
 use Rattle.descriptor.specs.declared.lock_mode.LockMode.TheVariants.{Read, ReadWrite}
 use Rattle.descriptor.specs.Nodes.{Nodes, IsTree, size, parent_of, IsChild, Below, child}
-use Rattle.resource_locks.specs.Conflicts.{AreInConflict}
-use Rattle.resource_locks.specs.Declarations.{AtOrBelow}
-use Rattle.resource_locks.specs.Plans.{PlanParts, IsPlan, held_of}
+use Rattle.resource_locks.specs.Declarations.{AtOrBelow, global}
+use Rattle.resource_locks.specs.Plans.{PlanParts, IsPlan, held_of, limit_for}
 use Rattle.resource_locks.proofs.Conflicts.{conflict_back}
 use Rattle.resource_locks.proofs.Lines.{at_child, at_through, last_step}
 use Rattle.resource_locks.proofs.Tops.{line}
@@ -14,7 +13,7 @@ use Rattle.event_history.specs.Order.{goes_first}
 use Rattle.event_history.specs.Plans.{IsElder, is_same}
 use Rattle.event_history.proofs.Branches.{Branches, branches, below_root, below_less}
 use Rattle.event_history.proofs.Spares.{plan_tree}
-use Rattle.termination.specs.Conflicts.{TakeTurns, AreKeptApart, IsFreeOfConflict, IsOnOneThread}
+use Rattle.termination.specs.Conflicts.{TakeTurns, AreInTheWay, AreKeptApart, IsFreeOfConflict, IsOnOneThread}
 use Rattle.termination.specs.Inside.Branches.{IsBranch, IsKeptApartFrom, AreAllKeptApart}
 
 write_read : ReadWrite ≡ Read → ⊥
@@ -22,6 +21,10 @@ write_read q = cc
 
 pub turn_back : (p : PlanParts) (m n : ℕ) → TakeTurns p m n → TakeTurns p n m
 turn_back p m n t = record { elder = t.elder; younger = t.younger; siblings = t.siblings; first = t.first; at = elim t.at [ inl z ↦ inr z | inr z ↦ inl z ] }
+
+pub way_back : (p : PlanParts) (m n : ℕ) → AreInTheWay p m n → AreInTheWay p n m
+way_back p m n (inl c) = inl (conflict_back (held_of p m) (held_of p n) c)
+way_back p m n (inr s) = inr (record { key = s.key; limited = s.limited; mode = s.other_mode; here = s.there; other_mode = s.mode; there = s.here })
 
 module _ (t : Nodes) where
   -- one of two branches above a node is no higher
@@ -72,15 +75,20 @@ module _ (p : PlanParts) (plan : IsPlan p) where
     above = subst (λ (k : ℕ). AtOrBelow p.tree k n) (sym a.parent) (at_through p.tree top y n (inr (child b)) at_y);
   }
 
-  -- nodes in conflict lie apart
-  pub conflict_apart : (m n : ℕ) → m ≢ n → AreInConflict (held_of p m) (held_of p n) → AreApart p.tree m n
-  conflict_apart m n ne c = record { one = λ r. over m n ne c r; other = λ r. over n m (λ e. ne (sym e)) (conflict_back (held_of p m) (held_of p n) c) r }
+  -- nodes in the way of one another lie apart
+  pub conflict_apart : (m n : ℕ) → m ≢ n → AreInTheWay p m n → AreApart p.tree m n
+  conflict_apart m n ne c = record { one = λ r. over m n ne c r; other = λ r. over n m (λ e. ne (sym e)) (way_back p m n c) r }
     where
-      over : (a b : ℕ) → a ≢ b → AreInConflict (held_of p a) (held_of p b) → AtOrBelow p.tree a b → ⊥
-      over a b differ k (inl same) = differ same
-      over a b differ k (inr below) =
+      over : (a b : ℕ) → a ≢ b → AreInTheWay p a b → AtOrBelow p.tree a b → ⊥
+      over a b differ way (inl same) = differ same
+      over a b differ (inl k) (inr below) =
           let both = plan.lines a b k.key k.mode k.other_mode below k.here k.there in
           elim k.writes [ inl w ↦ write_read (sym w ∙ both.0) | inr w ↦ write_read (sym w ∙ both.1) ]
+      over a b differ (inr k) (inr below) =
+          let is : k.key ≡ global = (plan.layers a b k.key k.key k.mode k.other_mode below k.here k.there).0 in
+          let none : limit_for p k.key ≡ 0 = ap (limit_for p) is ∙ plan.unlimited in
+          let some = k.limited in
+          omega (arith, some, none)
 
   -- two nodes that lie apart branch
   branch_apart : (m n : ℕ) → m < size p.tree → n < size p.tree → AreApart p.tree m n → Branches p.tree 0 m n
@@ -162,7 +170,7 @@ next_all p m before here n lt = elim (cases_eq n m) [
 pub free_is : (p : PlanParts) → AreAllKeptApart p (size p.tree) → IsFreeOfConflict p
 free_is p all m n m_in n_in ne c =
     elim (cases_lt m n) [
-      | inl less ↦ turn_back p n m (all n n_in m less (conflict_back (held_of p m) (held_of p n) c))
+      | inl less ↦ turn_back p n m (all n n_in m less (way_back p m n c))
       | inr ge ↦ all m m_in n (omega (arith, ge, ne)) c
     ]
 

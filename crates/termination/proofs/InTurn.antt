@@ -24,7 +24,7 @@ use Rattle.scheduling.specs.declared.seat.Seat.{Seat}
 use Rattle.scheduling.specs.declared.step.Action.{Action}
 use Rattle.scheduling.specs.declared.step.Action.TheVariants.{Claim, Own, Notice, Weigh, Take, AddChild, Done, Look}
 use Rattle.scheduling.specs.State.{State, status_at, counter_at, lock_at}
-use Rattle.scheduling.specs.Choices.{keys_count, key_at, mode_at, admits, taken, same_word, lock_from, begins, notices, claims, next_spare, is_pulled, pulled_result, ending, awaited, hand_job}
+use Rattle.scheduling.specs.Choices.{keys_count, key_at, mode_at, admits_at, taken, same_word, lock_from, begins, notices, claims, next_spare, is_pulled, pulled_result, ending, awaited, hand_job}
 use Rattle.scheduling.specs.Rows.{with_task, goes_to, is_free, same_offer, is_empty, is_ready_for, is_of_hand, claimed, goes, notice_row, weighed, weigh_row, puts_word, take_found, take_row, child_added, add_by_hand, add_child_hand, add_child_row, ends_or_free, guard_given, done_by_hand, done_hand, done_row, decided_seat, row, is_cancelled}
 use Rattle.scheduling.specs.Schedule.{may_add, action_waiting, taking, hand_action, opening_action, closing_action}
 use Rattle.scheduling.specs.Inside.Stages.{Stage}
@@ -181,10 +181,10 @@ module _ (p : PlanParts) (plan : IsPlan p) (core : IsCorePlan p) (replies : ℕ 
         let lt : i < keys_count p n = (opened n (Locking i) e).0 in
         let word : LockWord = lock_at s (key_at p n i) in
         let free : AreFreeFrom p s n i = ahead_at (Opens n (Locking i)) e in
-        let may : admits (mode_at p n i) word ≡ true = free i (omega arith) lt in
+        let may : admits_at p n i word ≡ true = free i (omega arith) lt in
         let t : State = goes U w D (Opens n (weighed p n i word)) in
         goes_so Weigh t (with_task D (Opens n (weighed p n i word))) (ap (weigh_row p U w D) e) refl
-        (subst (λ (d : Opening). IsAhead p s (Opens n d)) (sym (cond-true (admits (mode_at p n i) word) (Weighed i word) (Backing i) may)) (free, key_word n i lt))
+        (subst (λ (d : Opening). IsAhead p s (Opens n d)) (sym (cond-true (admits_at p n i word) (Weighed i word) (Backing i) may)) (free, key_word n i lt))
         (subst (IsClear p U) (sym e) may) (λ z _. weigh_look z)
 
     takes_goes : (n i : ℕ) (v : LockWord) → D.task ≡ Opens n (Weighed i v) → Goes Take
@@ -194,7 +194,7 @@ module _ (p : PlanParts) (plan : IsPlan p) (core : IsCorePlan p) (replies : ℕ 
         let key : ℕ = key_at p n i in
         let t : State = puts_word U w D (Opens n (lock_from p n (suc i))) key (taken (mode_at p n i) v) in
         let q : take_row p U w D D.task ≡ Some t = ap (take_row p U w D) e ∙ ap (take_found p U w D n i v) both.1 ∙ cond-true (same_word v v) (Some t) (Some (goes U w D (Opens n (Locking i)))) (word_is v) in
-        let free : AreFreeFrom p t n (suc i) = λ j le j_lt. ap (admits (mode_at p n j)) (get_or-set_other s.locks key (key_at p n j) (taken (mode_at p n i) v) (Readers 0) (λ z. key_once p plan n i j (omega (arith, le)) j_lt (sym z))) ∙ both.0 j (omega (arith, le)) j_lt in
+        let free : AreFreeFrom p t n (suc i) = λ j le j_lt. ap (admits_at p n j) (get_or-set_other s.locks key (key_at p n j) (taken (mode_at p n i) v) (Readers 0) (λ z. key_once p plan n i j (omega (arith, le)) j_lt (sym z))) ∙ both.0 j (omega (arith, le)) j_lt in
         goes_so Take t (with_task D (Opens n (lock_from p n (suc i)))) q refl
         (by_cond (λ (d : Opening). IsAhead p t (Opens n d)) (nat_lt (suc i) (keys_count p n)) (Locking (suc i)) (Beginning false) (λ _. free) (λ _. tt))
         (subst (IsClear p U) (sym e) both.1) (λ z _. take_look z)

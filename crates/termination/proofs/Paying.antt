@@ -30,7 +30,7 @@ use Rattle.scheduling.specs.declared.task.Task.TheVariants.{Free, Opens, Closes}
 use Rattle.scheduling.specs.declared.seat.Hand.{Hand}
 use Rattle.scheduling.specs.declared.seat.Seat.{Seat}
 use Rattle.scheduling.specs.State.{State, status_at, counter_at, result_at, lock_at}
-use Rattle.scheduling.specs.Choices.{next_spare, admit_from, after_settle, offered_to, keys_count, key_at, mode_at, admits, taken, given_back, same_word, lock_from, begins, claims, giving, after_finish, is_pulled, pulled_result, event_of}
+use Rattle.scheduling.specs.Choices.{next_spare, admit_from, after_settle, offered_to, keys_count, key_at, mode_at, admits_at, taken, given_back, same_word, lock_from, begins, claims, giving, after_finish, is_pulled, pulled_result, event_of}
 use Rattle.scheduling.specs.declared.step.Action.{Action}
 use Rattle.scheduling.specs.declared.step.Action.TheVariants.{Claim, Own, Notice, Weigh, Take, Give, GiveUp, Draw, Show, Admit, AddChild, Done, Settle, Look, Raise}
 use Rattle.scheduling.specs.Rows.{with_task, goes, claimed, is_free, is_ready_for, is_empty, is_of_hand, notice_row, weighed, weigh_row, puts_word, take_found, take_row, gives_key, give_row, give_up_row, drawn, one_more, draw_row, after_start, show_row, offers, waits_for, admit_row, child_added, add_by_hand, add_child_hand, add_child_row, ends_or_free, guard_given, done_by_hand, done_hand, done_row, waits_no_more, settle_row, look_found, look_row, raise_row, row, is_cancelled}
@@ -125,7 +125,7 @@ module _ (p : PlanParts) (core : IsCorePlan p) (replies : ℕ → List Reply) (s
   weigh_pays : (t0 : Task) → seat.task ≡ t0 → IsClear p s t0 → (t : State) → weigh_row p s w seat t0 ≡ Some t → steps_left p t < steps_left p s
   weigh_pays (Opens n (Locking i)) e clear t r =
       let word : LockWord = lock_at s (key_at p n i) in
-      let next : opening_steps p n (weighed p n i word) ≡ 2 * (keys_count p n - i) + most_keys p = ap (opening_steps p n) (cond-true (admits (mode_at p n i) word) (Weighed i word) (Backing i) clear) in
+      let next : opening_steps p n (weighed p n i word) ≡ 2 * (keys_count p n - i) + most_keys p = ap (opening_steps p n) (cond-true (admits_at p n i word) (Weighed i word) (Backing i) clear) in
       made _ t (lower (Opens n (Locking i)) (Opens n (weighed p n i word)) s.locks s.cancel s.shown e (omega (arith, next))) r
   weigh_pays _ e clear t r = absurd (none-some t r)
 

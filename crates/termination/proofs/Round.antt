@@ -169,7 +169,7 @@ none_same (suc (suc (suc (suc n)))) pos lt = absurd (omega (arith, lt))
 
 pub is_disputed : IsFreeOfConflict disputed_plan → ⊥
 is_disputed free =
-    let turns = free 2 3 (omega arith) (omega arith) (λ e. omega (arith, e)) (record { key = db.key; mode = ReadWrite; here = (1, refl); other_mode = ReadWrite; there = (1, refl); writes = inl refl }) in
+    let turns = free 2 3 (omega arith) (omega arith) (λ e. omega (arith, e)) (inl (record { key = db.key; mode = ReadWrite; here = (1, refl); other_mode = ReadWrite; there = (1, refl); writes = inl refl })) in
     let elder = turns.siblings.elder in
     both_ways (is_same disputed_plan turns.elder) (none_same turns.elder elder.above_zero elder.inside) (and_parts (is_same disputed_plan turns.elder) _ turns.first).0
 

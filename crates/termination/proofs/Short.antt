@@ -17,7 +17,7 @@ use Rattle.scheduling.specs.declared.task.Task.TheVariants.{Free, Opens}
 use Rattle.scheduling.specs.declared.seat.Seat.{Seat}
 use Rattle.scheduling.specs.declared.step.Action.{Action}
 use Rattle.scheduling.specs.State.{State, lock_at}
-use Rattle.scheduling.specs.Choices.{key_at, mode_at, admits, same_word}
+use Rattle.scheduling.specs.Choices.{key_at, mode_at, admits_at, same_word}
 use Rattle.scheduling.specs.Rows.{with_task, goes, weighed, row, decided_seat, Step, Works, Dispatches, after}
 use Rattle.scheduling.specs.Runs.{opening, IsReplied, AllReplied, or_stays, next}
 use Rattle.scheduling.specs.Inside.Stages.{Stage, OpenedBy}
@@ -170,7 +170,7 @@ module _ (p : PlanParts) (plan : IsPlan p) (apart : IsFreeOfConflict p) (core : 
         let ok : OpeningOk p replies s.published k.node (Locking k.place) = subst (ShapeOk p replies s.published k.node) at.1 (h.shapes k.node at.0) in
         let word : LockWord = lock_at s (key_at p k.node k.place) in
         let free = never_busy p plan apart core replies s g h w k.node k.place at.0 at.1 ok.0 in
-        let next : weighed p k.node k.place word ≡ Weighed k.place word = cond-true (admits (mode_at p k.node k.place) word) (Weighed k.place word) (Backing k.place) free in
+        let next : weighed p k.node k.place word ≡ Weighed k.place word = cond-true (admits_at p k.node k.place word) (Weighed k.place word) (Backing k.place) free in
         let fresh : turn_rank p s.locks (Opens k.node (Weighed k.place word)) ≡ 0 = cond-true (same_word word word) 0 2 (word_is word) in
         subst (Shortens p workers s) (sym k.is) (subst (λ (d : Opening). Shortens p workers s (goes s w seat (Opens k.node d))) (sym next)
         (turned (Opens k.node (Locking k.place)) (Opens k.node (Weighed k.place word)) k.task (omega arith) (omega (arith, fresh))))

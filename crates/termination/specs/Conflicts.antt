@@ -3,6 +3,7 @@ use Rattle.std.specs.Prelude.{◌≡◌, ◌≢◌, ℕ, ◌<◌, true, ◌⊎�
 use Rattle.descriptor.specs.Nodes.{size}
 use Rattle.resource_locks.specs.Conflicts.{AreInConflict}
 use Rattle.resource_locks.specs.Declarations.{AtOrBelow}
+use Rattle.resource_locks.specs.Limits.{ShareLimited}
 use Rattle.resource_locks.specs.Plans.{PlanParts, held_of}
 use Rattle.event_history.specs.Order.{goes_first}
 use Rattle.event_history.specs.Plans.{IsElder, is_same}
@@ -16,11 +17,15 @@ pub record TakeTurns (p : PlanParts) (m n : ℕ) : Type 0 where
   pub first : goes_first p elder younger ≡ true
   pub at : (AtOrBelow p.tree elder m × AtOrBelow p.tree younger n) ⊎ (AtOrBelow p.tree elder n × AtOrBelow p.tree younger m)
 
--- if one of them holds a key in READ_WRITE that the other holds, they take turns
-abbrev pub AreKeptApart : PlanParts → ℕ → ℕ → Type 0
-AreKeptApart p m n = AreInConflict (held_of p m) (held_of p n) → TakeTurns p m n
+-- one of them holds a key in READ_WRITE that the other holds, or both hold one that is limited
+abbrev pub AreInTheWay : PlanParts → ℕ → ℕ → Type 0
+AreInTheWay p m n = AreInConflict (held_of p m) (held_of p n) ⊎ ShareLimited p m n
 
--- No two nodes that may run side by side want a key in conflict. Of a node and one below it no plan has such a key.
+-- if one is in the way of the other, they take turns
+abbrev pub AreKeptApart : PlanParts → ℕ → ℕ → Type 0
+AreKeptApart p m n = AreInTheWay p m n → TakeTurns p m n
+
+-- No two nodes that may run side by side want a key in conflict, or a limited one. Of a node and one below it no plan has such a key.
 abbrev pub IsFreeOfConflict : PlanParts → Type 0
 IsFreeOfConflict p = (m n : ℕ) → m < size p.tree → n < size p.tree → m ≢ n → AreKeptApart p m n
 

@@ -51,6 +51,7 @@ long_plan = record {
   modes = long_modes;
   held = [] ∷ [] ∷ (read_global ∷ db ∷ []) ∷ (read_global ∷ db ∷ []) ∷ (read_global ∷ db ∷ []) ∷ [];
   keys = global ∷ codes "db" ∷ [];
+  limits = [];
   fail_fast = false;
   tolerated = 0;
 }

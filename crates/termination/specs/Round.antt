@@ -73,6 +73,7 @@ disputed_plan = record {
   modes = disputed_modes;
   held = [] ∷ [] ∷ (read_global ∷ db ∷ []) ∷ (read_global ∷ db ∷ []) ∷ [];
   keys = global ∷ codes "db" ∷ [];
+  limits = [];
   fail_fast = false;
   tolerated = 0;
 }

@@ -11,7 +11,7 @@ use Rattle.scheduling.specs.declared.seat.Seat.{Seat}
 use Rattle.scheduling.specs.declared.step.Action.{Action}
 use Rattle.scheduling.specs.declared.step.Action.TheVariants.{Weigh, Take}
 use Rattle.scheduling.specs.State.{State}
-use Rattle.scheduling.specs.Choices.{key_at, mode_at, admits, same_word}
+use Rattle.scheduling.specs.Choices.{key_at, mode_at, admits_at, same_word}
 use Rattle.scheduling.specs.Rows.{Step, Works, Dispatches, after}
 use Rattle.scheduling.specs.Runs.{next}
 
@@ -29,7 +29,7 @@ AllTaken p s (a ∷ list) = IsTaken p s a × AllTaken p (next p s a) list
 -- whether a worker with this task is turned back by this step, where the keys have these words: the key that it weighs is busy,
 -- or the key that it comes to take has another word than when it was weighed
 abbrev pub is_turned_back : PlanParts → List LockWord → Task → Action → Bool
-is_turned_back p locks (Opens n (Locking i)) Weigh = not (admits (mode_at p n i) (slice_index_or locks (key_at p n i) (Readers 0)))
+is_turned_back p locks (Opens n (Locking i)) Weigh = not (admits_at p n i (slice_index_or locks (key_at p n i) (Readers 0)))
 is_turned_back p locks (Opens n (Weighed i word)) Take = not (same_word (slice_index_or locks (key_at p n i) (Readers 0)) word)
 is_turned_back p locks _ _ = false
 

@@ -11,7 +11,7 @@ use Rattle.scheduling.specs.declared.task.Task.TheVariants.{Free, Opens, Closes}
 use Rattle.scheduling.specs.declared.seat.Hand.{Hand}
 use Rattle.scheduling.specs.declared.step.Action.{Action}
 use Rattle.scheduling.specs.declared.step.Action.TheVariants.{Own}
-use Rattle.scheduling.specs.Choices.{keys_count, key_at, mode_at, admits}
+use Rattle.scheduling.specs.Choices.{keys_count, key_at, mode_at, admits_at}
 use Rattle.scheduling.specs.Schedule.{taking, hand_action, opening_action, closing_action}
 use Rattle.scheduling.specs.State.{State, status_at, lock_at}
 
@@ -23,7 +23,7 @@ is_offered_to w _ = false
 
 -- the keys of node n from this place on may be taken
 abbrev pub AreFreeFrom : PlanParts → State → ℕ → ℕ → Type 0
-AreFreeFrom p s n i = (j : ℕ) → i ≤ j → j < keys_count p n → admits (mode_at p n j) (lock_at s (key_at p n j)) ≡ true
+AreFreeFrom p s n i = (j : ℕ) → i ≤ j → j < keys_count p n → admits_at p n j (lock_at s (key_at p n j)) ≡ true
 
 -- the worker at place w may take node n, and all its keys
 pub record MayTake (p : PlanParts) (s : State) (w n : ℕ) : Type 0 where

@@ -29,9 +29,9 @@ pub fn steps_are_bounded()
     ensures rests { (p : PlanParts) → IsPlan p → HasFreeSpares p → RestsAtItsEnd p }
 {}
 
-/// Whether no two nodes that may run side by side hold locks that conflict. Of such a plan every run
-/// ends. Takes as many steps as each two nodes hold locks, and for each two in conflict at most 8,192
-/// more.
+/// Whether no two nodes that may run side by side hold locks that conflict, or a limited key. Of such a plan every run
+/// ends. Takes for each two nodes at most as many steps as one holds locks times those of the other, and for each two that
+/// are in the way of one another at most 8,192 more.
 pub fn is_free_of_conflict(plan: &Plan) -> bool
     ensures free { IsTrue result ↔ IsFreeOfConflict plan.now }
     ensures one_thread { IsOnOneThread plan.now → IsTrue result }

@@ -2,32 +2,39 @@
 
 ghost use Rattle.std.specs.Prelude.{◌≡◌, ◌<◌, ◌↔◌, ℕ, IsTrue};
 ghost use Rattle.descriptor.specs.Nodes.{size, IsTree};
-ghost use Rattle.resource_locks.specs.Conflicts.{AreInConflict};
 ghost use Rattle.resource_locks.specs.Declarations.{AtOrBelow};
-ghost use Rattle.resource_locks.specs.Plans.{held_of};
 ghost use Rattle.event_history.specs.Order.{goes_first as goes_first_of};
-ghost use Rattle.termination.specs.Conflicts.{TakeTurns, AreKeptApart};
+ghost use Rattle.termination.specs.Conflicts.{TakeTurns, AreInTheWay, AreKeptApart};
 ghost use Rattle.termination.specs.Inside.Branches.{IsBranch};
 
 use descriptor::{NodeId, Tree};
 use resource_locks::Plan;
 use scheduling::is_same;
 
-/// Whether two nodes take turns if their locks conflict. Takes as many steps as both hold locks, and
-/// where they conflict at most 8,192 more.
+/// Whether two nodes take turns if one is in the way of the other: their locks conflict, or both hold a limited key. Takes as
+/// many steps as one holds locks, each as many as the other does, and where they are in the way at most 8,192 more.
 pub(crate) fn are_kept_apart(plan: &Plan, one: NodeId, other: NodeId) -> bool
     requires one { one < size plan.now.tree }
     requires other { other < one }
     ensures { IsTrue result ↔ AreKeptApart plan.now one other }
 {
-    !plan.held(one).conflicts(plan.held(other)) || take_turns(plan, one, other)
+    !are_in_the_way(plan, one, other) || take_turns(plan, one, other)
 }
 
-/// Whether of two nodes whose locks conflict one is settled before the other begins.
+/// Whether the locks of two nodes conflict, or both hold a limited key.
+fn are_in_the_way(plan: &Plan, one: NodeId, other: NodeId) -> bool
+    requires one { one < size plan.now.tree }
+    requires other { other < size plan.now.tree }
+    ensures { IsTrue result ↔ AreInTheWay plan.now one other }
+{
+    plan.held(one).conflicts(plan.held(other)) || plan.share_limited(one, other)
+}
+
+/// Whether of two nodes that are in the way of one another one is settled before the other begins.
 fn take_turns(plan: &Plan, one: NodeId, other: NodeId) -> bool
     requires one { one < size plan.now.tree }
     requires other { other < one }
-    requires conflict { AreInConflict (held_of plan.now one) (held_of plan.now other) }
+    requires conflict { AreInTheWay plan.now one other }
     ensures { IsTrue result ↔ TakeTurns plan.now one other }
 {
     let tree = plan.tree();

@@ -4,7 +4,7 @@ use Rattle.std.proofs.lemmas.Bool.{false≢true}
 use Rattle.std.proofs.lemmas.Grind.{common_steps}
 use Rattle.descriptor.specs.Nodes.{size}
 use Rattle.termination.specs.Inside.Branches.{IsKeptApartFrom, AreAllKeptApart}
-use Rattle.termination.proofs.Free.{free_on_one, free_is, free_all}
+use Rattle.termination.proofs.Free.{free_on_one, free_is, free_all, next_all}
 use Rattle.termination.proofs.Short.{short}
 use Rattle.termination.proofs.Ends.{ends}
 use Rattle.termination.proofs.is_free_of_conflict.Goals as goal
@@ -39,3 +39,8 @@ pub returns-clause-ends : goal.returns-clause-ends
 returns-clause-ends c t =
     let all : c.loop-node.node ≡ size c.args.plan.now.tree = grind (arith, common_steps) in
     ends c.args.plan.now c.tree.ensures.plan (free_is c.args.plan.now (subst (AreAllKeptApart c.args.plan.now) all c.loop-node.invariant))
+
+pub loop-node-preserved : goal.loop-node-preserved
+loop-node-preserved c =
+    let here : c.new.result ≡ c.loop-node.node = grind (arith, common_steps) in
+    next_all c.args.plan.now c.loop-node.node c.loop-node.invariant (subst (λ (k : ℕ). IsKeptApartFrom c.args.plan.now k k) here (c.is_kept_apart.ensures.0 c.if-not-is_kept_apart.false))
