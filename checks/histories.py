@@ -15,7 +15,7 @@ from pathlib import Path
 
 sys.dont_write_bytecode = True
 
-from history_rules import ABORTED, FAILED, PASSED, Event, Node, Plan, Reply, expected, judged
+from history_rules import ABORTED, FAILED, PASSED, Event, Node, Plan, Reply, expected, judged, keeps_limits
 
 HERE = Path(__file__).resolve().parent
 PROOFS = HERE.parent / "crates" / "event_history" / "proofs"
@@ -78,6 +78,8 @@ def add_node(nodes, text):
             node.disabled = value
         elif name == "concurrent":
             node.concurrent = True
+        elif name == "holds":
+            node.holds = {key: mode == "rw" for key, _, mode in (lock.partition(":") for lock in value.split("/"))}
         else:
             raise SystemExit(f"no node has the word {word!r}")
     node.parent.children.append(node)
@@ -107,7 +109,9 @@ class Case:
         workers, *marks = words.split(", ")
         root = Node(0, None, concurrent="concurrent" in marks)
         tolerated = [int(mark.split()[1]) for mark in marks if mark.startswith("tolerates ")]
+        limits = dict(mark.removeprefix("limit ").split("=") for mark in marks if mark.startswith("limit "))
         self.plan = Plan([root], int(workers.split()[0]), "fail fast" in marks, sum(tolerated))
+        self.plan.limits = {key: int(limit) for key, limit in limits.items()}
         self.has_results = "results" in marks
         self.rows = []
 
@@ -168,10 +172,20 @@ def plan_text(plan, jobs):
     ]
     parents = [str(node.parent.number if node.parent else 0) for node in plan.nodes]
     modes = ["Concurrent" if node.concurrent else "SameThread" for node in plan.nodes]
+    keys = sorted({key for node in plan.nodes for key in node.holds})
+    held = [locks_text(node.holds) for node in plan.nodes] if keys else []
+    limits = [str(plan.limits.get(key, 0)) for key in keys] if plan.limits else []
     return (
-        f"record {{ tree = record {{ parents = {listed(parents)}; nodes = {listed(nodes)} }}; held = []; keys = [];"
+        f"record {{ tree = record {{ parents = {listed(parents)}; nodes = {listed(nodes)} }}; held = {listed(held)};"
+        f" keys = {listed(map(text_of, keys))}; limits = {listed(limits)};"
         f" modes = {listed(modes)}; fail_fast = {str(plan.fail_fast).lower()}; tolerated = {plan.tolerated} }}"
     )
+
+
+def locks_text(holds):
+    """The locks that a node holds, in byte order of the keys."""
+    locks = [f"a_lock {text_of(key)} {'ReadWrite' if holds[key] else 'Read'}" for key in sorted(holds)]
+    return f"({listed(locks)})"
 
 
 def end_text(end):
@@ -206,6 +220,8 @@ def case_text(number, case):
         answers("in_order", "is_in_order", arguments, number, [in_order for _, in_order in verdicts]),
         answers("legal", "is_legal", arguments, number, [is_legal for is_legal, _ in verdicts]),
     ]
+    if plan.limits:
+        parts.append(answers("within", "is_within", f"plan_{number}", number, [keeps_limits(plan, row) for row in case.rows]))
     if case.has_results:
         nodes = listed([str(node.number) for node in plan.nodes])
         parts.append(
@@ -219,10 +235,16 @@ def head_text(about, cases):
     """What a file begins with: only the words that it uses."""
     has_factory = any(node.is_factory for case in cases for node in case.plan.nodes)
     has_results = any(case.has_results for case in cases)
+    has_limits = any(case.plan.limits for case in cases)
     roles = "Plain, Factory, Spare" if has_factory else "Plain"
     of_expected = "use Rattle.event_history.specs.Expected.{Silent, Skips, Finishes, expected}\n" if has_results else ""
     words = "a_node, started, finished, aborted, failed, skipped, registered, a_reply, replies_in"
     words += ", first_of_all" if has_results else ""
+    words += ", a_lock" if has_limits else ""
+    of_locks = (
+        "use Rattle.descriptor.specs.declared.lock_mode.LockMode.TheVariants.{Read, ReadWrite}\n" if has_limits else ""
+    )
+    of_limits = "use Rattle.event_history.proofs.DecidingLimits.{is_within}\n" if has_limits else ""
     says = f"What another writing of these definitions says of many lists of events on {about}: the tests agree."
     return f"""\
 -- {says} Written by a program.
@@ -230,14 +252,14 @@ use Rattle.std.specs.Prelude.{{codes}}
 use Rattle.std.specs.List.{{list_all}}
 use Rattle.std.proofs.Common.{{◌≡◌, ℕ, true, false, List, [], ◌∷◌, Some, None, map, refl}}
 use Rattle.descriptor.specs.declared.kind.Kind.TheVariants.{{Test, Container, ContainerAndTest}}
-use Rattle.descriptor.specs.declared.mode.Mode.TheVariants.{{SameThread, Concurrent}}
+{of_locks}use Rattle.descriptor.specs.declared.mode.Mode.TheVariants.{{SameThread, Concurrent}}
 use Rattle.descriptor.specs.declared.role.Role.TheVariants.{{{roles}}}
 use Rattle.plan_events.specs.declared.event.Event.{{Event}}
 use Rattle.plan_events.specs.declared.outcome.Reply.{{Reply}}
 use Rattle.plan_events.specs.declared.status.Status.TheVariants.{{Successful, Aborted, Failed}}
 use Rattle.resource_locks.specs.Plans.{{PlanParts}}
 {of_expected}use Rattle.event_history.proofs.Deciding.{{is_legal}}
-use Rattle.event_history.proofs.DecidingOrder.{{is_in_order}}
+{of_limits}use Rattle.event_history.proofs.DecidingOrder.{{is_in_order}}
 use Rattle.event_history.proofs.PlanTrees.{{is_plan_tree}}
 use Rattle.event_history.proofs.RowWords.{{{words}}}
 """

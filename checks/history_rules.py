@@ -21,7 +21,8 @@ class Reply:
 
 @dataclass
 class Node:
-    """A node of a plan; body and after are the replies that the jobs may give, None if there is no such job."""
+    """A node of a plan; body and after are the replies that the jobs may give, None if there is no such job. It holds keys,
+    each with whether it writes it."""
 
     number: int
     parent: "Node | None"
@@ -31,6 +32,7 @@ class Node:
     after: "list[Reply] | None" = None
     disabled: "str | None" = None
     concurrent: bool = False
+    holds: "dict[str, bool]" = field(default_factory=dict)
     children: "list[Node]" = field(default_factory=list)
 
     def above(self):
@@ -80,6 +82,7 @@ class Plan:
     workers: int
     fail_fast: bool
     tolerated: int = 0
+    limits: "dict[str, int]" = field(default_factory=dict)
 
 
 @dataclass(frozen=True)
@@ -219,6 +222,17 @@ def judged(plan, events):
         is_ordered = is_ordered and history.is_ordered_next(event)
         history.take(event)
     return True, is_ordered
+
+
+def keeps_limits(plan, events):
+    """Whether after each event at most as many nodes hold a key as its limit says: those that started and did not finish."""
+    started, finished = set(), set()
+    for event in events:
+        {"started": started, "finished": finished}.get(event.kind, set()).add(event.node)
+        for key, limit in plan.limits.items():
+            if sum(key in plan.nodes[node].holds for node in started - finished) > limit:
+                return False
+    return True
 
 
 def expected(plan):

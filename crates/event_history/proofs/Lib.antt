@@ -30,12 +30,14 @@ pub mod Flags
 pub mod Needed
 pub mod Deciding
 pub mod DecidingOrder
+pub mod DecidingLimits
 pub mod RowWords
 pub mod RowsContainers
 pub mod RowsAfterBodies
 pub mod RowsFactories
 pub mod RowsFailFast
 pub mod RowsTolerating
+pub mod RowsLimits
 pub mod Room
 pub mod Alike
 pub mod Published

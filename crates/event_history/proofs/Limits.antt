@@ -96,7 +96,7 @@ module _ (p : PlanParts) (h : List Event) (e : Event) (within : IsWithinLimits p
       longer lt = (let len = length-append h (e ∷ []) in omega (arith, lt, len))
 
 -- where no number passes, none are counted
-none_pass : (q : ℕ → Bool) (n limit : ℕ) → ((m : ℕ) → q m ≡ true → ⊥) → count_below q n ≤ limit
+pub none_pass : (q : ℕ → Bool) (n limit : ℕ) → ((m : ℕ) → q m ≡ true → ⊥) → count_below q n ≤ limit
 none_pass q zero limit none = omega arith
 none_pass q (suc n) limit none =
     let rest = none_pass q n limit none in

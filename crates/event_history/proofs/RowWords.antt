@@ -1,6 +1,8 @@
 -- Short words for the nodes, events and replies of the tests by rows.
 use Rattle.std.proofs.Common.{ℕ, ◌==◌, cond, List, [], ◌∷◌, Option, Some, None}
 use Rattle.descriptor.specs.declared.kind.Kind.{Kind}
+use Rattle.descriptor.specs.declared.lock.Lock.{Lock}
+use Rattle.descriptor.specs.declared.lock_mode.LockMode.{LockMode}
 use Rattle.descriptor.specs.declared.node.Node.{Node}
 use Rattle.descriptor.specs.declared.role.Role.{Role}
 use Rattle.descriptor.specs.PlainNodes.{plain}
@@ -13,6 +15,9 @@ use Rattle.plan_events.specs.declared.status.Status.TheVariants.{Successful, Abo
 
 abbrev pub a_node : Kind → Role → Option ℕ → Option ℕ → Option (List ℕ) → Node
 a_node kind role body after disabled = record (plain [] [] kind) { role = role; body = body; after = after; disabled = disabled }
+
+abbrev pub a_lock : List ℕ → LockMode → Lock
+a_lock key mode = record { key = key; mode = mode }
 
 abbrev pub an_event : EventKind → ℕ → Option Status → ℕ → Event
 an_event kind node status worker = record { kind = kind; node = node; status = status; worker = worker }
