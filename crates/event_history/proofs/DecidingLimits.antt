@@ -1,39 +1,22 @@
 -- A test that passes exactly if no more nodes hold a key than its limit says.
-use Rattle.std.proofs.Common.{◌≡◌, ℕ, zero, suc, ◌<◌, ◌≤◌, Bool, true, false, ◌&&◌, ◌||◌, not, nat_lt, nat_le, List, [], ◌∷◌, length, take, ◌+◌, inl, inr, refl, sym, ap, ◌∙◌, subst, arith}
+use Rattle.std.proofs.Common.{◌≡◌, ℕ, suc, ◌<◌, ◌≤◌, Bool, true, ◌&&◌, nat_lt, nat_le, List, [], ◌∷◌, length, take, ◌+◌, inl, inr, refl, sym, ap, ◌∙◌, subst, arith}
 use Rattle.std.specs.List.{list_all}
 use Rattle.std.specs.Str.{bytes_eq}
-use Rattle.std.proofs.lemmas.Bool.{cases_eq, cases_lt, cases_Bool, false≢true, and_parts, and_from, or_cases, or_left, or_right, lt-ltb, ltb-true, le-leb, leb-true}
+use Rattle.std.proofs.lemmas.Bool.{cases_lt, cases_Bool, and_parts, and_from, lt-ltb, ltb-true, le-leb, leb-true}
 use Rattle.std.proofs.lemmas.List.{take_all}
 use Rattle.descriptor.specs.declared.lock_mode.LockMode.{LockMode}
 use Rattle.descriptor.specs.Nodes.{size}
 use Rattle.plan_events.specs.declared.event.Event.{Event}
 use Rattle.resource_locks.specs.Plans.{PlanParts, held_of, number_of, limit_for}
 use Rattle.resource_locks.specs.Wants.{HasLock}
-use Rattle.resource_locks.proofs.Wants.{same_key, key_same}
+use Rattle.resource_locks.proofs.Wants.{same_key}
 use Rattle.event_history.specs.Limits.{holds_key, is_running, holders_after, IsWithinLimits}
+use Rattle.event_history.proofs.Deciding.{implies, implies_use, implies_from, all_below, all_use, all_from}
 use Rattle.event_history.proofs.Limits.{key_held, none_pass}
-
--- whether each number below n passes
-abbrev all_below : (ℕ → Bool) → ℕ → Bool
-all_below q zero = true
-all_below q (suc n) = q n && all_below q n
-
-all_use : (q : ℕ → Bool) (n k : ℕ) → k < n → all_below q n ≡ true → q k ≡ true
-all_use q zero k lt t = absurd (omega (arith, lt))
-all_use q (suc n) k lt t =
-    let b = and_parts (q n) (all_below q n) t in
-    elim (cases_eq k n) [
-      | inl e ↦ ap q e ∙ b.0
-      | inr ne ↦ all_use q n k (omega (arith, lt, ne)) b.1
-    ]
-
-all_from : (q : ℕ → Bool) (n : ℕ) → ((k : ℕ) → q k ≡ true) → all_below q n ≡ true
-all_from q zero each = refl
-all_from q (suc n) each = and_from (q n) (all_below q n) (each n) (all_from q n each)
 
 -- no more nodes hold the key after the first i events than its limit says, if it has one
 abbrev within_at : PlanParts → List Event → List ℕ → ℕ → Bool
-within_at p h key i = not (nat_lt 0 (limit_for p key)) || nat_le (holders_after p key (take i h)) (limit_for p key)
+within_at p h key i = implies (nat_lt 0 (limit_for p key)) (nat_le (holders_after p key (take i h)) (limit_for p key))
 
 abbrev pub is_within : PlanParts → List Event → Bool
 is_within p h = list_all (λ key. all_below (within_at p h key) (suc (length h))) p.keys
@@ -54,14 +37,9 @@ each_from q (k ∷ keys) each = and_from (q k) (list_all q keys) (each k) (each_
 module _ (p : PlanParts) (h : List Event) where
   -- The test passes if it is so,
   pub within_test : IsWithinLimits p h → is_within p h ≡ true
-  within_test within = each_from (λ key. all_below (within_at p h key) (suc (length h))) p.keys (λ key. all_from (within_at p h key) (suc (length h)) (passes key))
-    where
-      passes : (key : List ℕ) (i : ℕ) → within_at p h key i ≡ true
-      passes key i =
-          elim (cases_Bool (nat_lt 0 (limit_for p key))) [
-            | inr f ↦ or_left (not (nat_lt 0 (limit_for p key))) (nat_le (holders_after p key (take i h)) (limit_for p key)) (ap not f)
-            | inl t ↦ or_right (not (nat_lt 0 (limit_for p key))) (nat_le (holders_after p key (take i h)) (limit_for p key)) (le-leb (holders_after p key (take i h)) (limit_for p key) (within i key (ltb-true 0 (limit_for p key) t)))
-          ]
+  within_test within =
+      each_from (λ key. all_below (within_at p h key) (suc (length h))) p.keys (λ key. all_from (within_at p h key) (suc (length h)) (λ i lt. implies_from (nat_lt 0 (limit_for p key)) (nat_le (holders_after p key (take i h)) (limit_for p key))
+      (λ some. le-leb (holders_after p key (take i h)) (limit_for p key) (within i key (ltb-true 0 (limit_for p key) some)))))
 
   -- and only then, if each key that is held is one of the plan's.
   pub test_within : ((n : ℕ) (key : List ℕ) (mode : LockMode) → HasLock (held_of p n) key mode → number_of p.keys key < length p.keys) → is_within p h ≡ true → IsWithinLimits p h
@@ -77,7 +55,6 @@ module _ (p : PlanParts) (h : List Event) where
     where
       at : number_of p.keys key < length p.keys → (j : ℕ) → j < suc (length h) → holders_after p key (take j h) ≤ limit_for p key
       at low j lt =
-          elim (or_cases (not (nat_lt 0 (limit_for p key))) (nat_le (holders_after p key (take j h)) (limit_for p key)) (all_use (within_at p h key) (suc (length h)) j lt (each_use (λ key. all_below (within_at p h key) (suc (length h))) key p.keys low t))) [
-            | inl none ↦ absurd (false≢true (sym (ap not (lt-ltb 0 (limit_for p key) some)) ∙ none))
-            | inr le ↦ leb-true (holders_after p key (take j h)) (limit_for p key) le
-          ]
+          let each = each_use (λ key. all_below (within_at p h key) (suc (length h))) key p.keys low t in
+          leb-true (holders_after p key (take j h)) (limit_for p key)
+          (implies_use (nat_lt 0 (limit_for p key)) (nat_le (holders_after p key (take j h)) (limit_for p key)) (all_use (within_at p h key) (suc (length h)) j each lt) (lt-ltb 0 (limit_for p key) some))
