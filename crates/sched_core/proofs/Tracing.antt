@@ -56,6 +56,7 @@ module _ (p : PlanParts) (answers : List (ℕ × Reply)) (m : Machine) (sound : 
         legal = legal;
         order = right_state.order;
         exclusive = right_state.exclusive;
+        within = right_state.within;
         few = legal_few p (replies_of answers) workers m.published.items legal;
         given_first = given_first;
         given_legal = prefix_legal p (replies_of answers) workers (state_of m).given m.published.items given_first legal;

@@ -9,6 +9,7 @@ use Rattle.event_history.specs.Places.{StandsAt}
 use Rattle.event_history.specs.History.{IsLegal, IsComplete}
 use Rattle.event_history.specs.Order.{IsInOrder}
 use Rattle.event_history.specs.Exclusion.{IsExclusive}
+use Rattle.event_history.specs.Limits.{IsWithinLimits}
 use Rattle.event_history.specs.Parts.{part_of}
 use Rattle.scheduling.specs.declared.step.Step.{Step}
 use Rattle.scheduling.specs.State.{State}
@@ -36,12 +37,13 @@ passed_over p answers s [] = 0
 passed_over p answers s (a ∷ steps) = missed (after_step p answers s a) + passed_over p answers (state_or s (after_step p answers s a)) steps
 
 -- The headline, of what was published, what was given and each worker's own list: what was published is legal, in
--- same-thread order and exclusive, and so is what was given, a beginning of it; each worker's list is its part, and begins
+-- same-thread order, exclusive and within limits, and so is what was given, a beginning of it; each worker's list is its part, and begins
 -- with its part of what was given; and where the plan's finish stands, it is last, and the history is complete.
 pub record IsRight (p : PlanParts) (answers : List (ℕ × Reply)) (workers : ℕ) (published given : List Event) (mine : List (List Event)) : Type 0 where
   pub legal : IsLegal p (replies_of answers) workers published
   pub order : IsInOrder p published
   pub exclusive : IsExclusive p published
+  pub within : IsWithinLimits p published
   pub few : length published ≤ most_events p
   pub given_first : IsPrefix given published
   pub given_legal : IsLegal p (replies_of answers) workers given

@@ -4,7 +4,7 @@ ghost use Rattle.std.specs.Prelude.{◌≡◌, ◌<◌, ◌↔◌, ℕ, IsTrue, 
 ghost use Rattle.descriptor.specs.Nodes.{size, is_factory_at};
 ghost use Rattle.plan_events.specs.declared.outcome.Reply.{Reply};
 ghost use Rattle.scheduling.specs.Answers.{answer_of};
-ghost use Rattle.scheduling.specs.Choices.{keys_count, key_at, mode_at, admits as admits_of};
+ghost use Rattle.scheduling.specs.Choices.{keys_count, key_at, admits_at};
 ghost use Rattle.scheduling.specs.LinkLists.{AreTurns};
 ghost use Rattle.scheduling.specs.Rows.{read_row};
 ghost use Rattle.scheduling.specs.State.{State, status_at, lock_at};
@@ -25,7 +25,7 @@ use descriptor::NodeId;
 use resource_locks::Plan;
 use scheduling::{
     Action, Answer, Hand, NodeStatus, Opening, Step, Task, Turns, admits, awaited, closing_action,
-    decided, hand_action, key_at_place, mode_at_place, opening_action, taking,
+    decided, hand_action, key_at_place, limit_at_place, mode_at_place, opening_action, taking,
 };
 
 /// Whether the worker at a place may take a node that is there: it is offered to any, or to it.
@@ -60,10 +60,11 @@ impl Machine {
     fn is_key_free(&self, plan: &Plan, node: NodeId, index: usize) -> bool
         requires node { node < size plan.now.tree }
         requires index { index < keys_count plan.now node }
-        ensures { result ≡ admits_of (mode_at plan.now node index)
+        ensures { result ≡ admits_at plan.now node index
             (lock_at (state_of self.now) (key_at plan.now node index)) }
     {
         admits(
+            limit_at_place(plan, node, index),
             mode_at_place(plan, node, index),
             self.word(key_at_place(plan, node, index)),
         )

@@ -5,7 +5,7 @@ use Rattle.plan_events.specs.declared.outcome.Reply.{Reply}
 use Rattle.resource_locks.specs.Plans.{PlanParts}
 use Rattle.scheduling.specs.declared.status.NodeStatus.TheVariants.{Settled}
 use Rattle.scheduling.specs.declared.step.Step.{Step}
-use Rattle.scheduling.specs.Choices.{key_at, mode_at, admits}
+use Rattle.scheduling.specs.Choices.{key_at, mode_at, admits_at}
 use Rattle.scheduling.specs.Rows.{read_row}
 use Rattle.scheduling.specs.State.{State, status_at, lock_at}
 use Rattle.termination.specs.Inside.Accounts.{steps_left}
@@ -15,7 +15,7 @@ use Rattle.sched_core.specs.Runs.{run, passed_over}
 
 -- the first so many keys of node n may be taken
 abbrev pub AreFreeBelow : PlanParts → State → ℕ → ℕ → Type 0
-AreFreeBelow p s n i = (j : ℕ) → j < i → admits (mode_at p n j) (lock_at s (key_at p n j)) ≡ true
+AreFreeBelow p s n i = (j : ℕ) → j < i → admits_at p n j (lock_at s (key_at p n j)) ≡ true
 
 -- none of the first so many nodes may be taken by the worker at place w
 abbrev pub NoneFoundBelow : PlanParts → State → ℕ → ℕ → Type 0
