@@ -1,6 +1,6 @@
 -- The held sets and modes that the walk down gives are hoisted.
-use Rattle.std.proofs.Common.{◌≡◌, ℕ, zero, suc, ◌<◌, ◌≤◌, Bool, true, false, eqb, ltb, cond, List, [], ◌∷◌, Some, length, get_or, inl, inr, refl, sym, ap, ◌∙◌, subst, arith}
-use Rattle.std.proofs.lemmas.Bool.{cases_eq, cases_lt, cases_Bool, cond-true, cond-false, eq-eqb, eqb-true, ltb-true, lt-ltb, and_parts, and_from, or_cases, or_left, or_right, false_from_ne_true}
+use Rattle.std.proofs.Common.{◌≡◌, ℕ, ◌<◌, ◌≤◌, Bool, true, false, eqb, ltb, cond, List, [], ◌∷◌, Some, length, get_or, inl, inr, refl, sym, ap, ◌∙◌, subst, arith}
+use Rattle.std.proofs.lemmas.Bool.{cases_lt, cases_Bool, cond-true, cond-false, eq-eqb, eqb-true, ltb-true, lt-ltb, and_parts, and_from, false_from_ne_true}
 use Rattle.std.proofs.lemmas.Option.{none-some}
 use Rattle.std.proofs.lemmas.List.{get_or_past}
 use Rattle.descriptor.specs.Nodes.{size, parent_of, Below, child, under}
@@ -13,11 +13,12 @@ use Rattle.resource_locks.specs.Wants.{mode_for, writes, HasLock}
 use Rattle.resource_locks.specs.Declarations.{Declared, AtOrBelow, IsTop, IsLockTree, HasIsolated, IsFirstToDeclare, IsToHold, isolated_all, global_read, first, global}
 use Rattle.resource_locks.specs.Hoisted.{IsHoisted}
 use Rattle.resource_locks.specs.Plans.{PlanParts, held_of, mode_of}
-use Rattle.resource_locks.specs.Held.{top_of, is_whole, is_top, holder_of, own, held, writer_step, writer_at, is_forced, hoisted_mode, plan_by}
+use Rattle.resource_locks.specs.Held.{top_of, is_whole, is_top, holder_of, own, held, writer_at, is_forced, hoisted_mode, plan_by}
 use Rattle.resource_locks.proofs.Wants.{AtLeast, at_least_write, at_least_read, has_wanted, first_or_later, writes_use, writes_from}
 use Rattle.resource_locks.proofs.SetLaws.{wants_exactly, one_mode}
-use Rattle.resource_locks.proofs.Lines.{at_through, at_child, last_step}
-use Rattle.resource_locks.proofs.Walks.{carried_root, carried_down, table_at, table_past}
+use Rattle.resource_locks.proofs.Lines.{at_through, at_child}
+use Rattle.resource_locks.proofs.Marked.{mark_above, mark_use}
+use Rattle.resource_locks.proofs.Walks.{table_at, table_past}
 use Rattle.resource_locks.proofs.Tops.{below_inside, below_above_zero, has_top, high, deep, top_of_top}
 use Rattle.resource_locks.proofs.Holders.{whole_use, whole_from, light_use, holder_high, holder_whole, none, some, has_holder, whole_holds, light_holds}
 use Rattle.resource_locks.proofs.Gathering.{gathered_set, gathers_own, gathers, gathered_from}
@@ -154,46 +155,12 @@ module _ (told : Declared) (given : List Mode) (tree : IsLockTree told) where
         | inr past ↦ absurd (nothing_past n key mode past l)
       ]
 
-  -- a writer at or above a node is carried to it
-  writer_here : (n : ℕ) → n < size told.tree → writes (held told n) ≡ true → writer_at told n ≡ true
-  writer_here n inside w =
-      elim (cases_eq n 0) [
-        | inl z ↦ ap (writer_at told) z ∙ carried_root told.tree (writer_step told) false tree.rooted.root ∙ sym (ap (λ (x : ℕ). writes (held told x)) z) ∙ w
-        | inr nz ↦ carried_down told.tree (writer_step told) false n inside (tree.rooted.up n (omega (arith, nz)) inside) ∙ or_right (writer_at told (parent_of told.tree n)) (writes (held told n)) w
-      ]
-
-  writer_below : (a n : ℕ) → writer_at told a ≡ true → Below told.tree a n → writer_at told n ≡ true
-  writer_below a n w (child c) =
-      carried_down told.tree (writer_step told) false n c.inside (tree.rooted.up n c.above_zero c.inside)
-      ∙ or_left (writer_at told (parent_of told.tree n)) (writes (held told n)) (ap (writer_at told) c.parent ∙ w)
-  writer_below a n w (under {c = d} b c) =
-      carried_down told.tree (writer_step told) false n c.inside (tree.rooted.up n c.above_zero c.inside)
-      ∙ or_left (writer_at told (parent_of told.tree n)) (writes (held told n)) (ap (writer_at told) c.parent ∙ writer_below a d w b)
-
+  -- a writer above a node is carried to its parent, and what is carried there has a writer
   writer_above : (a n : ℕ) → a < size told.tree → writes (held told a) ≡ true → Below told.tree a n → writer_at told (parent_of told.tree n) ≡ true
-  writer_above a n inside w b =
-      elim (last_step told.tree a n b).1 [
-        | inl e ↦ ap (writer_at told) (sym e) ∙ writer_here a inside w
-        | inr d ↦ writer_below a (parent_of told.tree n) (writer_here a inside w) d
-      ]
+  writer_above = mark_above told.tree tree.rooted (λ n. writes (held told n))
 
-  -- a node that is carried a writer has one at or above it
   writer_use : (n : ℕ) → n < size told.tree → writer_at told n ≡ true → (a : ℕ) × ((a < size told.tree) × AtOrBelow told.tree a n × (writes (held told a) ≡ true))
-  writer_use n inside w = climb (suc n) n (omega arith) inside w
-    where
-      climb : (fuel m : ℕ) → m < fuel → m < size told.tree → writer_at told m ≡ true → (a : ℕ) × ((a < size told.tree) × AtOrBelow told.tree a m × (writes (held told a) ≡ true))
-      climb zero m lt inside w = absurd (omega (arith, lt))
-      climb (suc k) m lt inside w =
-          elim (cases_eq m 0) [
-            | inl z ↦ (m, (inside, inl refl, ap (λ (x : ℕ). writes (held told x)) z ∙ sym (carried_root told.tree (writer_step told) false tree.rooted.root) ∙ ap (writer_at told) (sym z) ∙ w))
-            | inr nz ↦ (let pos : 0 < m = omega (arith, nz) in
-                let up = tree.rooted.up m pos inside in
-                elim (or_cases (writer_at told (parent_of told.tree m)) (writes (held told m)) (sym (carried_down told.tree (writer_step told) false m inside up) ∙ w)) [
-                  | inr here ↦ (m, (inside, inl refl, here))
-                  | inl above ↦ (let r = climb k (parent_of told.tree m) (omega (arith, lt, up)) (omega (arith, up, inside)) above in
-                      (r.0, (r.1.0, inr (at_child told.tree r.0 (parent_of told.tree m) m r.1.1 (record { above_zero = pos; inside = inside; parent = refl })), r.1.2)))
-                ])
-          ]
+  writer_use = mark_use told.tree tree.rooted (λ n. writes (held told n))
 
   mode_is : (n : ℕ) → n < size told.tree → mode_of the_hoisting n ≡ hoisted_mode told given n
   mode_is n inside = table_at (hoisted_mode told given) SameThread (size told.tree) n inside

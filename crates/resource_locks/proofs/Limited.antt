@@ -1,11 +1,11 @@
 -- A plan with limits is a plan, and hoisted and guarded as before but for the modes below limited keys.
-use Rattle.std.proofs.Common.{◌≡◌, ℕ, zero, suc, ◌+◌, ◌<◌, ◌≤◌, Bool, true, false, ◌&&◌, ◌==◌, cond, ltb, List, [], ◌∷◌, length, map, get_or, slice_get, Some, inl, inr, refl, sym, ap, ◌∙◌, subst, arith}
+use Rattle.std.proofs.Common.{◌≡◌, ℕ, zero, suc, ◌+◌, ◌<◌, ◌≤◌, Bool, true, false, ◌&&◌, ◌==◌, cond, ltb, List, [], ◌∷◌, map, get_or, slice_get, Some, inl, inr, refl, sym, ap, ◌∙◌, subst, arith}
 use Rattle.std.specs.List.{list_any}
 use Rattle.std.specs.Str.{bytes_eq}
 use Rattle.std.proofs.lemmas.Bool.{cases_lt, cond-true, cond-false, and_parts, and_from, or_cases, or_left, or_right, lt-ltb, ltb-true, eq-eqb, eqb-true, false_from_ne_true, false≢true}
 use Rattle.std.proofs.lemmas.List.{get_or_past}
 use Rattle.std.proofs.lemmas.Option.{same_Some, none-some}
-use Rattle.descriptor.specs.Nodes.{size, parent_of, Below, IsChild}
+use Rattle.descriptor.specs.Nodes.{size, parent_of, Below}
 use Rattle.descriptor.specs.declared.lock.Lock.{Lock}
 use Rattle.descriptor.specs.declared.lock_mode.LockMode.{LockMode}
 use Rattle.descriptor.specs.declared.lock_mode.LockMode.TheVariants.{ReadWrite}
@@ -19,7 +19,7 @@ use Rattle.resource_locks.specs.Hoisted.{IsHoisted, IsHeldFor, IsGuarded}
 use Rattle.resource_locks.specs.Inside.PlanFields.{IsSound}
 use Rattle.resource_locks.specs.Limits.{first_limit, limit_given, numbers_at, any_limited, is_below_marked, mode_below, modes_with, limited_by, with_limits, IsLimited, ShareLimited, share_numbers}
 use Rattle.resource_locks.specs.Plans.{PlanParts, IsPlan, mode_of, held_of, number_of, numbers_of, limit_for}
-use Rattle.resource_locks.proofs.Lines.{at_child, last_step}
+use Rattle.resource_locks.proofs.Lines.{at_child}
 use Rattle.resource_locks.proofs.LockTrees.{lock_tree}
 use Rattle.resource_locks.proofs.Numbering.{same_number}
 use Rattle.resource_locks.proofs.Marked.{mark_above, mark_use}
@@ -63,6 +63,14 @@ unlimited_global given (key ∷ keys) = by (bytes_eq global key) refl (unlimited
     by : (b : Bool) → bytes_eq global key ≡ b → get_or (map (limit_given given) keys) (number_of keys global) 0 ≡ 0 → get_or (map (limit_given given) (key ∷ keys)) (number_of (key ∷ keys) global) 0 ≡ 0
     by true e rest = ap (λ (n : ℕ). get_or (map (limit_given given) (key ∷ keys)) n 0) (number_first global key keys e) ∙ cond-true (bytes_eq global key) 0 (first_limit given key) e
     by false e rest = ap (λ (n : ℕ). get_or (map (limit_given given) (key ∷ keys)) n 0) (number_later global key keys e) ∙ rest
+
+same_either : (b : Bool) (m : Mode) → m ≡ SameThread → cond b SameThread m ≡ SameThread
+same_either true m e = refl
+same_either false m e = e
+
+-- a node that was given the thread of its parent keeps it
+pub same_thread_stays : (p : PlanParts) (limits : List ℕ) (given : ℕ → Mode) (n : ℕ) → given n ≡ SameThread → modes_with p limits given n ≡ SameThread
+same_thread_stays p limits given n e = same_either (is_below_marked p.tree (λ k. any_limited limits (numbers_at p k)) n) (given n) e
 
 module _ (p : PlanParts) (plan : IsPlan p) (limits : List ℕ) where
   abbrev limited : ℕ → Bool
@@ -109,10 +117,6 @@ module _ (p : PlanParts) (plan : IsPlan p) (limits : List ℕ) where
       | inr le ↦ table_past (modes_with p limits (mode_of p)) SameThread (size p.tree) n le ∙ sym (past_mode n le)
     ];
   }
-
-  same_either : (b : Bool) (m : Mode) → m ≡ SameThread → cond b SameThread m ≡ SameThread
-  same_either true m e = refl
-  same_either false m e = e
 
   still_forced : (a n : ℕ) (key : List ℕ) → (HasLock (held_of p a) key ReadWrite → Below p.tree a n → mode_of p n ≡ SameThread) → HasLock (held_of p a) key ReadWrite → Below p.tree a n → mode_of (limited_by p limits) n ≡ SameThread
   still_forced a n key old lock b = mode_is n (below_inside p.tree a n b) ∙ same_either (is_below_marked p.tree limited n) (mode_of p n) (old lock b)

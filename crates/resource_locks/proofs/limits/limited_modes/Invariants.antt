@@ -1,5 +1,5 @@
 -- The modes of the nodes so far, and the walk so far.
-use Rattle.std.proofs.Common.{◌≡◌, ℕ, [], false, length, map, get_or}
+use Rattle.std.proofs.Common.{◌≡◌, [], false, length, map, get_or}
 use Rattle.descriptor.specs.declared.mode.Mode.TheVariants.{SameThread}
 use Rattle.resource_locks.specs.Held.{walk, table}
 use Rattle.resource_locks.specs.Limits.{any_limited, marked_step, mode_below}

@@ -1,5 +1,5 @@
 -- The numbers of the keys tell whether two nodes have one.
-use Rattle.std.proofs.Common.{◌≡◌, ◌∙◌, ap, sym, subst, map, get_or, List, ℕ, arith}
+use Rattle.std.proofs.Common.{◌≡◌, ◌∙◌, ap, sym, subst, map, get_or, arith}
 use Rattle.std.proofs.lemmas.Grind.{common_steps}
 use Rattle.resource_locks.specs.Inside.PlanFields.{IsSound}
 use Rattle.resource_locks.specs.Limits.{share_numbers}

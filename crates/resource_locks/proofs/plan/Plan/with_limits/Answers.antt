@@ -1,5 +1,5 @@
 -- The plan is the one with these limits; and what holds of it.
-use Rattle.std.proofs.Common.{◌≡◌, ◌∙◌, ap, sym, subst, map}
+use Rattle.std.proofs.Common.{◌∙◌, ap, sym, subst, map}
 use Rattle.resource_locks.specs.Declarations.{declared_of}
 use Rattle.resource_locks.specs.Hoisted.{IsHoisted, IsGuarded}
 use Rattle.resource_locks.specs.Inside.PlanFields.{IsSound}
