@@ -1,6 +1,6 @@
 //! What a worker does until it draws an event.
 
-use crate::facts::key_count;
+use crate::facts::{key_at, key_count};
 use crate::search::Search;
 use plan_events::{Event, EventKind};
 use resource_locks::Plan;
@@ -10,9 +10,12 @@ impl Search {
     /// A worker takes a node, whose start is the next event, and the node's keys.
     fn begin(&mut self, plan: &Plan, worker: u8, node: u16) {
         self.come_to(plan, worker, node);
-        for _key in 0..key_count(plan, node) {
+        for place in 0..key_count(plan, node) {
             self.push(worker, Action::Weigh);
             self.push(worker, Action::Take);
+            if let Some(key) = key_at(plan, node, place) {
+                self.hold(key);
+            }
         }
     }
 

@@ -1,6 +1,6 @@
 //! When failures are raised, and when the plan is cancelled by them.
 
-use crate::facts::{keep_apart, notices, parent_of};
+use crate::facts::{holds, keep_apart, key_at, key_count, notices, parent_of};
 use crate::search::Search;
 use plan_events::{Event, EventKind};
 use resource_locks::Plan;
@@ -13,12 +13,27 @@ impl Search {
         let node = event.node.number();
         match event.kind {
             EventKind::Started => {
-                keep_apart(plan, failed, node) || self.turn_after(failed) == Some(node)
+                keep_apart(plan, failed, node)
+                    || self.wants_full_key(plan, failed, node)
+                    || self.turn_after(failed) == Some(node)
             }
             EventKind::Skipped => notices(plan, node) || self.turn_after(failed) == Some(node),
             EventKind::Finished => parent_of(plan, failed) == Some(node),
             EventKind::Registered => false,
         }
+    }
+
+    /// Whether a node wants a limited key that as many nodes hold as may, the node that failed among them.
+    fn wants_full_key(&self, plan: &Plan, failed: u16, node: u16) -> bool {
+        for place in 0..key_count(plan, node) {
+            if let Some(key) = key_at(plan, node, place)
+                && holds(plan, failed, key)
+                && self.is_full(plan, key)
+            {
+                return true;
+            }
+        }
+        false
     }
 
     /// Whether a worker has to raise its failure before an event.

@@ -108,6 +108,28 @@ pub(crate) fn key_count(plan: &Plan, number: u16) -> usize {
     }
 }
 
+/// The number of its key at this place, from 0.
+pub(crate) fn key_at(plan: &Plan, number: u16, place: usize) -> Option<usize> {
+    let node = node_of(plan, number)?;
+    if place < plan.held(node).locks().len() {
+        Some(key_at_place(plan, node, place))
+    } else {
+        None
+    }
+}
+
+/// Whether it holds this key.
+pub(crate) fn holds(plan: &Plan, number: u16, key: usize) -> bool {
+    for place in 0..key_count(plan, number) {
+        if let Some(found) = key_at(plan, number, place)
+            && found == key
+        {
+            return true;
+        }
+    }
+    false
+}
+
 /// Whether it holds this key, and not to read it beside another that reads it.
 fn keeps_out(plan: &Plan, number: u16, key: usize, mode: LockMode) -> bool {
     let Some(node) = node_of(plan, number) else {

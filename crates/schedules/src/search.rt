@@ -58,6 +58,8 @@ pub(crate) struct Search {
     pub(crate) turns: Vec<Option<u16>>,
     /// For each node whether it was offered.
     pub(crate) offered: Vec<bool>,
+    /// Of each key how many nodes hold it.
+    pub(crate) holders: Vec<u16>,
     /// How many failures were raised.
     pub(crate) raised: usize,
     pub(crate) is_cancelled: bool,
@@ -91,6 +93,7 @@ impl Search {
         // no worker has number 0
         let count = 1 + usize::from(last);
         let ends = starts_ends(alloc, count, history)?;
+        let holders = vec![in alloc; 0u16; plan.key_count()]?;
         let Places { first, next } = places_of(alloc, count, history)?;
         let workers = workers_at(alloc, first.as_slice(), ends.as_slice())?;
         Ok(Search {
@@ -100,6 +103,7 @@ impl Search {
             follows: next,
             turns,
             offered,
+            holders,
             raised: 0,
             is_cancelled: false,
             is_incomplete: false,
@@ -142,6 +146,26 @@ impl Search {
             .get(usize::from(node))
             .copied()
             .unwrap_or(false)
+    }
+
+    /// A key has one holder more.
+    pub(crate) fn hold(&mut self, key: usize) {
+        if let Some(holders) = self.holders.get_mut(key) {
+            *holders = holders.saturating_add(1);
+        }
+    }
+
+    /// A key has one holder less.
+    pub(crate) fn let_go(&mut self, key: usize) {
+        if let Some(holders) = self.holders.get_mut(key) {
+            *holders = holders.saturating_sub(1);
+        }
+    }
+
+    /// Whether as many nodes hold a key as may.
+    pub(crate) fn is_full(&self, plan: &Plan, key: usize) -> bool {
+        let limit = u16::from(plan.limit(key));
+        limit > 0 && self.holders.get(key).copied().unwrap_or(0) >= limit
     }
 
     /// The sibling whose turn is after that of a node.

@@ -1,6 +1,6 @@
 //! The steps that need no event, a worker's alone.
 
-use crate::facts::{is_same_thread, key_count, notices, parent_of};
+use crate::facts::{is_same_thread, key_at, key_count, notices, parent_of};
 use crate::search::Search;
 use descriptor::NodeId;
 use resource_locks::Plan;
@@ -42,8 +42,11 @@ impl Search {
 
     /// A worker gives the keys of its node back, and settles it.
     pub(crate) fn close(&mut self, plan: &Plan, worker: u8, node: u16) {
-        for _key in 0..key_count(plan, node) {
+        for place in 0..key_count(plan, node) {
             self.push(worker, Action::Give);
+            if let Some(key) = key_at(plan, node, place) {
+                self.let_go(key);
+            }
         }
         self.settle(plan, worker, node);
     }
