@@ -39,7 +39,7 @@ module _ (p : PlanParts) (tree : IsTree p.tree) (reply : ℕ → Reply) (replies
   -- the report in XML
   pub xml_as_expected : (texts : TextParts) → ((n : ℕ) → n < size p.tree → IsTextOf p replies h n (text_at texts n)) → junit_of p texts h ≡ expected_xml p.tree reply
   xml_as_expected texts are =
-      same_report p tree [] [] [] false 0 texts (expected_texts p.tree reply) (λ n inside. text_is p tree reply replies one calm workers h legal complete texts n inside (are n inside)) h (expected_told p.tree reply) told_so
+      same_report p tree [] [] [] [] false 0 texts (expected_texts p.tree reply) (λ n inside. text_is p tree reply replies one calm workers h legal complete texts n inside (are n inside)) h (expected_told p.tree reply) told_so
 
   -- the twelve counts
   pub counts_as_expected : counts_of p h ≡ expected_counts p.tree reply

@@ -81,10 +81,10 @@ same_flat : (f g : ℕ → List ℕ) (ns : List ℕ) → ((n : ℕ) → f n ≡ 
 same_flat f g [] each = refl
 same_flat f g (n ∷ ns) each = ap₂ (λ (x xs : List ℕ). x ++ xs) (each n) (same_flat f g ns each)
 
-module _ (p : PlanParts) (tree : IsTree p.tree) (ms : List Mode) (hs : List (List Lock)) (ks : List (List ℕ)) (fast : Bool) (tolerated : ℕ) (a b : TextParts) (same : (n : ℕ) → n < size p.tree → text_at a n ≡ text_at b n) where
+module _ (p : PlanParts) (tree : IsTree p.tree) (ms : List Mode) (hs : List (List Lock)) (ks : List (List ℕ)) (limits : List ℕ) (fast : Bool) (tolerated : ℕ) (a b : TextParts) (same : (n : ℕ) → n < size p.tree → text_at a n ≡ text_at b n) where
   -- another plan on the tree
   abbrev other : PlanParts
-  other = record { tree = p.tree; modes = ms; held = hs; keys = ks; fail_fast = fast; tolerated = tolerated }
+  other = record { tree = p.tree; modes = ms; held = hs; keys = ks; limits = limits; fail_fast = fast; tolerated = tolerated }
 
   -- a case with this text
   abbrev line_with : List ℕ → Case → Option (List ℕ) → List ℕ

@@ -23,7 +23,7 @@ use Rattle.resource_locks.specs.Plans.{PlanParts}
 
 -- a plan on this tree; modes and locks say nothing of results
 abbrev pub plan_on : Nodes → PlanParts
-plan_on t = record { tree = t; modes = []; held = []; keys = []; fail_fast = false; tolerated = 0 }
+plan_on t = record { tree = t; modes = []; held = []; keys = []; limits = []; fail_fast = false; tolerated = 0 }
 
 -- the result that is expected of node n
 abbrev pub result_at : Nodes → (ℕ → Reply) → ℕ → Expected
