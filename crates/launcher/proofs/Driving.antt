@@ -29,6 +29,7 @@ driven_history p tree safe free answers workers t right ends apart expected =
       legal = right.legal;
       order = right.order;
       exclusive = right.exclusive;
+      within = right.within;
       apart = apart safe;
       complete = whole.complete;
       ends = whole.ends;

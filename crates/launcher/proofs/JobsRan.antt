@@ -51,6 +51,7 @@ module _ {B : Type 0} (answers : B → List Reply) (asked : Asked) (settings : S
         legal = legal;
         order = report.order;
         exclusive = report.exclusive;
+        within = report.within;
         apart = apart p tree (one_each answered) settings.workers history safe legal report.order report.exclusive;
         complete = report.complete;
         ends = report.ends;

@@ -58,6 +58,7 @@ history_of p tree safe answers jobs are workers ring history report =
       legal = legal;
       order = report.order;
       exclusive = report.exclusive;
+      within = report.within;
       apart = apart p tree (replies_by answers) workers history safe legal report.order report.exclusive;
       complete = report.complete;
       ends = report.ends;

@@ -31,7 +31,7 @@ module _ (asked : Asked) (settings : Settings) (p : PlanParts) (tree : IsTree p.
 
   suite_prints : (history : List Event) (texts : TextParts) (times : Times) (text : List ℕ) (status : ExitStatus) → JobsPrint history texts times text status → IsPrintedRun asked settings p answers history texts times text status
   suite_prints history texts times text status out =
-      let report : IsReport (run_of p settings.workers asked.ring jobs) (replies_of replies_left (run_of p settings.workers asked.ring jobs)) history = record { legal = out.may_be; order = out.published.order; exclusive = out.published.exclusive; complete = out.published.complete; ends = out.published.ends } in
+      let report : IsReport (run_of p settings.workers asked.ring jobs) (replies_of replies_left (run_of p settings.workers asked.ring jobs)) history = record { legal = out.may_be; order = out.published.order; exclusive = out.published.exclusive; within = out.published.within; complete = out.published.complete; ends = out.published.ends } in
       printed_run out.behind text status asked settings p answers history texts (told_of p tree safe answers jobs are settings.workers asked.ring history texts report out.may_say) times out.is_behind out.printed out.exits
 
   pub suite_outputs : (result : Result Output LaunchFault) → IfOk result (λ report. HasHistory JobsPrint (string_bytes report.text) report.status) → IfOk result (λ report. IsRunOutput asked settings p answers (string_bytes report.text) report.status)

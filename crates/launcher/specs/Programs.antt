@@ -11,6 +11,7 @@ use Rattle.resource_locks.specs.Plans.{PlanParts}
 use Rattle.resource_locks.specs.Spares.{HasBareSpares}
 use Rattle.event_history.specs.Apart.{IsApart}
 use Rattle.event_history.specs.Exclusion.{IsExclusive}
+use Rattle.event_history.specs.Limits.{IsWithinLimits}
 use Rattle.event_history.specs.Expected.{expected, IsAsExpected}
 use Rattle.event_history.specs.History.{IsLegal, IsComplete}
 use Rattle.event_history.specs.Order.{IsInOrder}
@@ -51,11 +52,12 @@ one_each reply job = reply job ∷ []
 
 -- A history of a run of the plan by so many workers, whatever these do first, in which each job gave this reply: it is legal by
 -- these replies, in same-thread order, nodes that hold conflicting locks stand apart in it, and so do those that declare them or are
--- isolated, it is complete, and the plan's finish stands last.
+-- isolated, no more nodes hold a key at once than its limit says, it is complete, and the plan's finish stands last.
 pub record IsHistoryBy (workers : ℕ) (p : PlanParts) (reply : ℕ → Reply) (history : List Event) : Type 0 where
   pub legal : IsLegal p (one_each reply) workers history
   pub order : IsInOrder p history
   pub exclusive : IsExclusive p history
+  pub within : IsWithinLimits p history
   pub apart : IsApart p history
   pub complete : IsComplete p history
   pub ends : EndsInPlan history

@@ -9,6 +9,7 @@ use Rattle.plan_events.specs.Texts.{TextParts}
 use Rattle.resource_locks.specs.Plans.{PlanParts}
 use Rattle.event_history.specs.Apart.{IsApart}
 use Rattle.event_history.specs.Exclusion.{IsExclusive}
+use Rattle.event_history.specs.Limits.{IsWithinLimits}
 use Rattle.event_history.specs.Expected.{expected, IsAsExpected}
 use Rattle.event_history.specs.History.{IsLegal, IsComplete}
 use Rattle.event_history.specs.Order.{IsInOrder}
@@ -47,12 +48,13 @@ use Rattle.launcher.specs.WarningTexts.{head_of}
 use Rattle.launch_options.specs.Asked.{Asked}
 
 -- A history of a run of the plan by so many workers, whatever these do first: it is legal for what the suite has its bodies answer,
--- in same-thread order, nodes that hold conflicting locks stand apart in it, and so do those that declare them or are isolated, it is
--- complete, and the plan's finish stands last.
+-- in same-thread order, nodes that hold conflicting locks stand apart in it, and so do those that declare them or are isolated, no
+-- more nodes hold a key at once than its limit says, it is complete, and the plan's finish stands last.
 pub record IsHistory (workers : ℕ) (p : PlanParts) (answers : List (ℕ × Reply)) (history : List Event) : Type 0 where
   pub legal : IsLegal p (replies_of answers) workers history
   pub order : IsInOrder p history
   pub exclusive : IsExclusive p history
+  pub within : IsWithinLimits p history
   pub apart : IsApart p history
   pub complete : IsComplete p history
   pub ends : EndsInPlan history

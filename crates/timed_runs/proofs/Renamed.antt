@@ -225,7 +225,7 @@ module _ {J B : Type 0} (job : J → B) where
       }
 
       as_report : (replies : ℕ → List Reply) (events : List Event) → IsReport (run_of p workers ring jobs) replies events → IsReport (run_of p workers ring (map stands_for jobs)) replies events
-      as_report replies events r = record { legal = r.legal; order = r.order; exclusive = r.exclusive; complete = r.complete; ends = r.ends }
+      as_report replies events r = record { legal = r.legal; order = r.order; exclusive = r.exclusive; within = r.within; complete = r.complete; ends = r.ends }
 
       pub reported : (events : List Event) → IsReport (run_of p workers ring jobs) (replies_of told (run_of p workers ring jobs)) events
           → IsReport (run_of p workers ring (map stands_for jobs)) (replies_of answers (run_of p workers ring (map stands_for jobs))) events
