@@ -17,26 +17,33 @@ pub enum Pull {
 /// says that there are no more.
 pub trait Job: Drop {
     ghost use Rattle.plan_events.specs.declared.outcome.Reply.{Reply};
-    ghost use Rattle.plan_events.specs.Jobs.{IsPull, IsRun, unpulled};
+    ghost use Rattle.plan_events.specs.Jobs.{GivesAsPulled, GivesOutcome, IsPull, IsRun, unpulled};
 
     /// The replies that it may still give.
     ghost answers: { Self → List Reply };
 
+    /// Whether it gives this reply when it is run: what its own code says of that.
+    ghost gives: { Self → Reply → Type 0 };
+
     /// Whether there is a dynamic test more. It is asked only while it may still give a reply.
     fn next(&mut self) -> Pull
         requires { 0 < length (answers self.old) }
-        ensures { IsPull (answers self.old) result (answers self.new) };
+        ensures pull { IsPull (answers self.old) result (answers self.new) }
+        ensures given { GivesAsPulled (gives self.old) result (gives self.new) };
 
     /// Runs it, and answers how it ended. It is run only while it may still give a reply without a dynamic test, so
     /// at most once, and not if it has asked for more dynamic tests than its factory has.
     fn run(&mut self) -> Outcome
         requires { 0 < length (unpulled (answers self.old)) }
         ensures outcome { IsRun (answers self.old) result }
+        ensures given { GivesOutcome (gives self.old) result }
         ensures over { answers self.new ≡ [] };
 }
 
 impl Job for Box<dyn Job + Send> {
     ghost answers = { λ b. (Job-box b).answers b.value };
+
+    ghost gives = { λ b. (Job-box b).gives b.value };
 
     fn next(&mut self) -> Pull {
         (**self).next()
