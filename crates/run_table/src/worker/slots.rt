@@ -5,7 +5,7 @@ ghost use Rattle.descriptor.specs.Nodes.{size};
 ghost use Rattle.resource_locks.specs.Plans.{PlanParts};
 ghost use Rattle.scheduling.specs.Choices.{awaited as awaited_of};
 ghost use Rattle.table_rule.specs.Slots.{made_of, slot_due, job_at, slot_count, job_with};
-ghost use Rattle.table_rule.specs.Picture.{replies_in};
+ghost use Rattle.table_rule.specs.Picture.{given_by, gives_in, replies_in};
 ghost use Rattle.table_rule.specs.Plays.{makes};
 ghost use Rattle.table_rule.specs.declared.view.SlotState.TheVariants.{Unmoved, Out, Left, Noted};
 ghost use Rattle.run_table.specs.Handles.{about_at, plan_at, worker_at, IsUnchanged};
@@ -99,6 +99,10 @@ impl<B: Job> WorkerSeat<B> {
         ensures replies { IfSome result
             (λ b. (number : ℕ) → awaited_of (plan_at self.old.seat) (seated self.old.task self.old.hand)
             self.old.task ≡ Some number → replies_in B.answers (about_at self.old.seat).jobs number ≡ B.answers b) }
+        ensures given { IfSome result
+            (λ b. (number : ℕ) → awaited_of (plan_at self.old.seat) (seated self.old.task self.old.hand)
+            self.old.task ≡ Some number → (reply : ReplyValue) → B.gives b reply → gives_in B.gives
+            (about_at self.old.seat).jobs number reply) }
         ensures none { IfNone result (IsUnchanged self.old.seat self.new.seat
             × ((slot number : ℕ) → job_slot_of (plan_at self.old.seat) self.old.task self.old.hand node ≡ Some
             slot → awaited_of (plan_at self.old.seat) (seated self.old.task self.old.hand) self.old.task ≡ Some
@@ -163,7 +167,7 @@ impl<B: Job> WorkerSeat<B> {
         requires due { slot_due (plan_at self.old.seat) (seated self.old.task self.old.hand)
             self.old.task ≡ Some slot }
         requires answer { MayTell (plan_at self.old.seat) (replies_in B.answers (about_at self.old.seat).jobs)
-            (worker_at self.old.seat).slots (seated self.old.task self.old.hand) slot status note }
+            (given_by B.gives (about_at self.old.seat)) (worker_at self.old.seat).slots (seated self.old.task self.old.hand) slot status note }
         requires pulls { pulls ≡ noted_pulls (registered_by self.old.task self.old.hand) note }
         ensures same { SameSeat self.old.seat self.new.seat }
         ensures told { (reply : ReplyValue) × IsToldAs (plan_at self.old.seat)
@@ -185,7 +189,7 @@ impl<B: Job> WorkerSeat<B> {
 
     /// Puts the answer of this node's job, which has left, into the job's slot, if the seat waits
     /// for it: how it ended, and its note. It is for the caller that the job has answered so: by
-    /// one of the replies that it may give, after as many answers that there is one more dynamic
+    /// one of the replies that it may give, which it gave, after as many answers that there is one more dynamic
     /// test as are registered; or, of a factory all of whose tests are registered, by one answer
     /// more.
     pub fn text_in(
@@ -198,8 +202,8 @@ impl<B: Job> WorkerSeat<B> {
         requires table { IsSeatOf table.now.table self.old.seat }
         requires answer { (slot : ℕ) → job_slot_of (plan_at self.old.seat) self.old.task self.old.hand
             node ≡ Some slot → MayTell (plan_at self.old.seat)
-            (replies_in B.answers (about_at self.old.seat).jobs) (worker_at self.old.seat).slots
-            (seated self.old.task self.old.hand) slot status note }
+            (replies_in B.answers (about_at self.old.seat).jobs) (given_by B.gives (about_at self.old.seat))
+            (worker_at self.old.seat).slots (seated self.old.task self.old.hand) slot status note }
         ensures same { SameSeat self.old.seat self.new.seat }
         ensures task { self.new.task ≡ self.old.task }
         ensures hand { self.new.hand ≡ self.old.hand }
