@@ -199,7 +199,7 @@ fn is_told_at<R: Wait>(
 /// The texts of a plan of which nothing was told.
 fn texts_at_first(alloc: Global, plan: &Plan) -> Result<Texts, AllocError>
     ensures tree { IfOk result (λ _. IsTree plan.now.tree) }
-    ensures texts { IfOk result (λ texts. (replies : ℕ → List Reply) → AreTextsRead plan.now replies [] texts) }
+    ensures texts { IfOk result (λ texts. (replies : ℕ → List Reply) → AreTextsRead plan.now replies [] [] texts) }
 {
     Texts::new(alloc, plan.tree())
 }

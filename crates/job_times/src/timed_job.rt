@@ -39,6 +39,8 @@ impl<'s, B: Job, S: Stopwatch> Drop for TimedJob<'s, B, S> {
 impl<'s, B: Job, S: Stopwatch> Job for TimedJob<'s, B, S> {
     ghost answers = { λ timed. B.answers timed.job };
 
+    ghost gives = { λ timed. B.gives timed.job };
+
     fn next(&mut self) -> Pull {
         self.job.next()
     }

@@ -18,6 +18,10 @@ left_of (Some ends) false pulls = reply pulls ends.well ∷ []
 abbrev pub replies_left : Actor → List Reply
 replies_left job = left_of job.ends job.fresh job.pulls
 
+-- nothing is said of what such a job gives but that it is one of its replies
+abbrev pub gives_any : Reply → Type 0
+gives_any reply = Unit {0}
+
 module _ {B : Type 0} (answers : B → List Reply) where
   -- each of these jobs, of whatever kinds, may end without being asked
   abbrev pub AreFresh : List (ℕ × B) → Type 0

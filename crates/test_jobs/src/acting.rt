@@ -2,7 +2,7 @@
 
 ghost use Rattle.std.specs.Prelude.{◌≡◌, []};
 ghost use Rattle.plan_events.specs.Jobs.{IsRun};
-ghost use Rattle.test_jobs.specs.Acting.{replies_left};
+ghost use Rattle.test_jobs.specs.Acting.{gives_any, replies_left};
 
 use crate::board::Board;
 use plan_events::{Job, Outcome, Pull, Status};
@@ -138,6 +138,8 @@ impl Actor {
 
 impl Job for Actor {
     ghost answers = { replies_left };
+
+    ghost gives = { λ job. gives_any };
 
     fn next(&mut self) -> Pull {
         self.board.ask();

@@ -1,7 +1,7 @@
 //! Jobs of a second kind, which count how often they are run.
 
 ghost use Rattle.std.specs.Prelude.{◌≡◌};
-ghost use Rattle.test_jobs.specs.Acting.{replies_left};
+ghost use Rattle.test_jobs.specs.Acting.{gives_any, replies_left};
 ghost use Rattle.test_jobs.specs.Counting.{replies_counted};
 
 use crate::acting::Actor;
@@ -24,6 +24,8 @@ impl Counted {
 
 impl Job for Counted {
     ghost answers = { replies_counted };
+
+    ghost gives = { λ job. gives_any };
 
     fn next(&mut self) -> Pull {
         self.actor.next()

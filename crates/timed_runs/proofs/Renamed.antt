@@ -1,5 +1,5 @@
 -- What is said of a run of some jobs is said of a run of what they stand for: jobs with the same numbers and the same answers.
-use Rattle.std.proofs.Common.{◌≡◌, ◌∙◌, ◌==◌, ◌≤◌, ◌&&◌, ℕ, zero, suc, not, cond, Bool, true, false, List, [], ◌∷◌, ◌++◌, map, length, Option, Some, None, option_map, IsPermutation, slice_get, refl, sym, ap, subst, arith}
+use Rattle.std.proofs.Common.{◌≡◌, ◌∙◌, ◌==◌, ◌≤◌, ◌&&◌, ℕ, zero, suc, not, cond, Bool, true, false, List, [], ◌∷◌, ◌++◌, map, length, Option, Some, None, option_map, IsPermutation, slice_get, inl, inr, refl, sym, ap, subst, arith}
 use Rattle.std.specs.Option.{is_some}
 use Rattle.std.proofs.lemmas.List.{length-append, length-map, map-append}
 use Rattle.std.proofs.lemmas.List.Sorted.{IsPermutation-map, length_permutation}
@@ -16,7 +16,7 @@ use Rattle.table_rule.specs.declared.view.Slot.{Slot}
 use Rattle.table_rule.specs.declared.view.Slot.TheVariants.{Empty, Body, Answered}
 use Rattle.table_rule.specs.declared.view.SlotState.{SlotState}
 use Rattle.table_rule.specs.declared.view.SlotState.TheVariants.{Unmoved, Out, Left, Noted, Taking, Taken}
-use Rattle.table_rule.specs.Picture.{that_count, replies_in, replies_of}
+use Rattle.table_rule.specs.Picture.{given_by, that_count, replies_in, replies_of}
 use Rattle.table_rule.specs.Slots.{job_at, job_with, slot_with, slot_for, home_by}
 use Rattle.run_table.specs.Balance.{IsBalanced}
 use Rattle.run_table.specs.Ended.{HasEnded}
@@ -24,7 +24,7 @@ use Rattle.run_table.specs.Prepared.{slot_of, goes_in, unused_after, unused_of, 
 use Rattle.run_table.specs.declared.fault.TableFault.{TableFault}
 use Rattle.run_table.specs.declared.fault.TableFault.TheVariants.{NoMemory, NoWorkers, TooManyWorkers, BadRing, JobsMissing}
 use Rattle.worker_pool.specs.Premises.{JobsMayAnswer}
-use Rattle.worker_pool.specs.Reports.{run_of, AreTexts, EndsAsReplied, IsLeft, IsReport, IsRefusedRun}
+use Rattle.worker_pool.specs.Reports.{run_of, AreTexts, EndsAsReplied, IsLeft, IsReport, IsRefusedRun, IsToldAsGiven}
 use Rattle.worker_pool.specs.declared.report.RunCause.{RunCause}
 use Rattle.worker_pool.specs.declared.report.RunCause.TheVariants.{Table, NoWorker}
 
@@ -203,6 +203,17 @@ module _ {J B : Type 0} (job : J → B) where
   pub refused : (p : PlanParts) (workers ring : ℕ) (jobs : List (ℕ × J)) (cause : RunCause) → IsRefusedRun p workers ring jobs cause → IsRefusedRun p workers ring (map stands_for jobs) cause
   refused p workers ring jobs (Table fault) is = refused_by p workers ring jobs fault is
   refused p workers ring jobs NoWorker is = (is.0, is.1, all_there p jobs is.2)
+
+  -- What a job gives, so does the one that it stands for.
+  module _ (gives : B → Reply → Type 0) (p : PlanParts) (workers ring : ℕ) (jobs : List (ℕ × J)) where
+    abbrev given : J → Reply → Type 0
+    given j = gives (job j)
+
+    given_job : (number : ℕ) (reply : Reply) → given_by given (run_of p workers ring jobs) number reply → given_by gives (run_of p workers ring (map stands_for jobs)) number reply
+    given_job number reply is = elim is [ inl x ↦ inl (job x.0, found_some jobs number x.0 x.1, x.2) | inr many ↦ inr many ]
+
+    pub told_given : (events : List Event) (texts : TextParts) → IsToldAsGiven (given_by given (run_of p workers ring jobs)) p workers events texts → IsToldAsGiven (given_by gives (run_of p workers ring (map stands_for jobs))) p workers events texts
+    told_given events texts is = record { told = is.told; given_so = λ number i reply at. given_job number reply (is.given_so number i reply at); once = is.once; legal = is.legal; texts_are = is.texts_are }
 
   -- What is said by the replies of the jobs.
   module _ (answers : B → List Reply) where

@@ -6,13 +6,13 @@ ghost use Rattle.std.specs.List.{All};
 ghost use Rattle.job_times.specs.TimedJobs.{untimed};
 ghost use Rattle.listeners.specs.Listeners.{tellings_of};
 ghost use Rattle.table_rule.specs.Moments.{KeepsApart};
-ghost use Rattle.table_rule.specs.Picture.{replies_of};
+ghost use Rattle.table_rule.specs.Picture.{given_by, replies_of};
 ghost use Rattle.run_table.specs.Balance.{IsBalanced};
 ghost use Rattle.run_table.specs.Prepared.{HasAllJobs, IsRightCount, IsRightRing};
 ghost use Rattle.worker_pool.specs.Hearings.{HaveHeard, HaveHeardNothing};
 ghost use Rattle.worker_pool.specs.Premises.{JobsMayAnswer};
 ghost use Rattle.worker_pool.specs.Reports.{run_of, AreParts, AreTexts, IsReport, IsRefusedRun};
-ghost use Rattle.worker_pool.specs.Reports.{EndsAsReplied, IsLeft};
+ghost use Rattle.worker_pool.specs.Reports.{EndsAsReplied, IsLeft, IsToldAsGiven};
 ghost use Rattle.worker_pool.specs.Watching.{HasSeenMore};
 
 use job_times::{Stopwatch, TimedJob, timed_jobs, untimed_jobs};
@@ -135,6 +135,8 @@ fn run_noted<'s, B: Job + Send, V: Watcher, R: Threads + Wait + Sync, S: Stopwat
     ensures mine { IfOk result (λ report. AreParts workers report.events.items (map (λ l. l.items) report.mine.items)) }
     ensures texts { IfOk result (λ report. AreTexts plan
         (replies_of B.answers (run_of plan workers ring (untimed timed.entry.items))) report.events.items report.texts) }
+    ensures given { IfOk result (λ report. IsToldAsGiven (given_by B.gives (run_of plan workers ring (untimed timed.entry.items)))
+        plan workers report.events.items report.texts) }
     ensures left { IfOk result (λ report. IsLeft (replies_of B.answers (run_of plan workers ring (untimed timed.entry.items)))
         (run_of plan workers ring (untimed timed.entry.items)) report.events.items report.unused_jobs.items) }
     ensures balanced { IfOk result (λ report. IsBalanced plan (untimed timed.entry.items) report.events.items
@@ -185,6 +187,8 @@ pub fn run_timed<B: Job + Send, V: Watcher, R: Threads + Wait + Sync, S: Stopwat
     ensures mine { IfOk result (λ report. AreParts workers report.events.items (map (λ l. l.items) report.mine.items)) }
     ensures texts { IfOk result (λ report. AreTexts plan (replies_of B.answers (run_of plan workers ring jobs.items))
         report.events.items report.texts) }
+    ensures given { IfOk result (λ report. IsToldAsGiven (given_by B.gives (run_of plan workers ring jobs.items)) plan
+        workers report.events.items report.texts) }
     ensures left { IfOk result (λ report. IsLeft (replies_of B.answers (run_of plan workers ring jobs.items))
         (run_of plan workers ring jobs.items) report.events.items report.unused_jobs.items) }
     ensures balanced { IfOk result (λ report. IsBalanced plan jobs.items report.events.items report.unused_jobs.items) }

@@ -22,6 +22,7 @@ use Rattle.worker_pool.proofs.TextsRead.{read_alike}
 pub record IsDealt {B : Type 0} (before dealt : DispatcherState B) : Type 0 where
   pub same : IsOf before.seat.seat dealt.seat.seat
   pub read : (dispatcher dealt.seat.seat.me.0).read ≡ (dispatcher before.seat.seat.me.0).read
+  pub slots : (dispatcher dealt.seat.seat.me.0).slots ≡ (dispatcher before.seat.seat.me.0).slots
   pub texts : dealt.texts ≡ before.texts
   pub events : dealt.events ≡ before.events
 
@@ -30,8 +31,8 @@ module _ {B : Type 0} (before : DispatcherState B) (seat : DispatcherSeat B) whe
   abbrev pub at_seat : DispatcherState B
   at_seat = record { seat = seat; texts = before.texts; events = before.events }
 
-  pub is_dealt : IsOf before.seat.seat seat.seat → (dispatcher seat.seat.me.0).read ≡ (dispatcher before.seat.seat.me.0).read → IsDealt before at_seat
-  is_dealt same read = record { same = same; read = read; texts = refl; events = refl }
+  pub is_dealt : IsOf before.seat.seat seat.seat → (dispatcher seat.seat.me.0).read ≡ (dispatcher before.seat.seat.me.0).read → (dispatcher seat.seat.me.0).slots ≡ (dispatcher before.seat.seat.me.0).slots → IsDealt before at_seat
+  is_dealt same read slots = record { same = same; read = read; slots = slots; texts = refl; events = refl }
 
   pub none_dealt : (n : ℕ) → (n ≡ 0 → seat ≡ before.seat) → n ≡ 0 → at_seat ≡ before
   none_dealt n was none = ap (λ (s : DispatcherSeat B). record { seat = s; texts = before.texts; events = before.events }) (was none)
@@ -65,7 +66,7 @@ module _ {B L : Type 0} (answers : B → List Reply) (got : L → List Event) (b
       record {
         told = told_alike old new is.same.about is.read got listeners ready.told;
         room = room_alike old new is.same.about is.read room_of listeners ready.room;
-        texts = carried is.texts (λ t. KeepsTexts answers new t) (read_alike answers old new before.texts is.same.about is.read ready.texts);
+        texts = carried is.texts (λ t. KeepsTexts answers new t) (read_alike answers old new before.texts is.same.about is.read is.slots ready.texts);
         noted = carried is.events (λ e. IsNoted new e.items (vec_capacity e)) (noted_alike old new is.same.about is.read before.events.items (vec_capacity before.events) ready.noted);
       }
 

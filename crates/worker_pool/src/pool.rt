@@ -41,6 +41,7 @@ fn deal_seat<B: Job, M: TableBrand<B>, R: Wait>(
     requires { IsSeatOf shared.now.table.table seat.old.seat }
     ensures same { IsOf seat.old.seat seat.new.seat }
     ensures read { (dispatcher_at seat.new.seat).read ≡ (dispatcher_at seat.old.seat).read }
+    ensures slots { (dispatcher_at seat.new.seat).slots ≡ (dispatcher_at seat.old.seat).slots }
     ensures deals { (dispatcher_at seat.old.seat).dealt < (about_at seat.old.seat).workers
         → (dispatcher_at seat.new.seat).dealt ≡ (dispatcher_at seat.old.seat).dealt + 1 }
 {
@@ -102,6 +103,7 @@ impl<'s, E, B: Job + Send, M: TableBrand<B> + Send + Sync, R: Threads + Wait + S
         requires { IsSeatOf shared.now.table.table seat.old.seat }
         ensures same { IsOf seat.old.seat seat.new.seat }
         ensures read { (dispatcher_at seat.new.seat).read ≡ (dispatcher_at seat.old.seat).read }
+        ensures slots { (dispatcher_at seat.new.seat).slots ≡ (dispatcher_at seat.old.seat).slots }
         ensures more { vec_len self.old.started ≤ vec_len self.new.started }
         ensures none { vec_len self.new.started ≡ 0 → seat.new ≡ seat.old }
         ensures one { result ≡ true → vec_len self.new.started ≡ vec_len self.old.started + 1 }
@@ -134,6 +136,7 @@ impl<'s, E, B: Job + Send, M: TableBrand<B> + Send + Sync, R: Threads + Wait + S
         requires { IsSeatOf shared.now.table.table seat.old.seat }
         ensures same { IsOf seat.old.seat seat.new.seat }
         ensures read { (dispatcher_at seat.new.seat).read ≡ (dispatcher_at seat.old.seat).read }
+        ensures slots { (dispatcher_at seat.new.seat).slots ≡ (dispatcher_at seat.old.seat).slots }
         ensures none { vec_len self.new.started ≡ 0 → seat.new ≡ seat.old }
         ensures all_failed { vec_len self.new.started ≡ 0 → result ≡ length self.old.gates.now }
     {

@@ -1,8 +1,9 @@
 -- At a table at which nobody has worked the jobs may answer, and nothing was told.
-use Rattle.std.proofs.Common.{◌≡◌, ◌∙◌, List, [], ap}
+use Rattle.std.proofs.Common.{◌≡◌, ◌∙◌, ℕ, List, [], ap}
 use Rattle.std.specs.List.{All}
 use Rattle.plan_events.specs.declared.event.Event.{Event}
 use Rattle.table_rule.specs.Picture.{replies_of}
+use Rattle.table_rule.specs.declared.view.SlotState.{SlotState}
 use Rattle.table_rule.specs.Plays.{dispatcher}
 use Rattle.test_jobs.specs.Acting.{replies_left}
 use Rattle.worker_pool.specs.Premises.{MayAnswer}
@@ -28,5 +29,6 @@ is_told_at-requires-clause-texts g c =
     let about = c.in-Some.ensures.same.about ∙ c.in-Ok.ensures.seat.about ∙ c.in-Ok.ensures.about in
     let read : (dispatcher c.split.new.self.seat.me.0).read ≡ [] = ap (λ d. d.read) c.in-Some.ensures.dealt ∙ ap (λ d. d.read) c.in-Ok.ensures.opens in
     let key = run_of c.args.plan 1 c.args.ring c.args.jobs.items in
-    carried {a = key} about (λ a. AreTextsRead a.plan (replies_of replies_left a) (dispatcher c.split.new.self.seat.me.0).read c.in_ok-texts.texts)
-    (carried read (λ (r : List Event). AreTextsRead key.plan (replies_of replies_left key) r c.in_ok-texts.texts) (c.in_ok-texts.ensures.texts (replies_of replies_left key)))
+    let slots : (dispatcher c.split.new.self.seat.me.0).slots ≡ [] = ap (λ d. d.slots) c.in-Some.ensures.dealt ∙ ap (λ d. d.slots) c.in-Ok.ensures.opens in
+    carried {a = key} about (λ a. AreTextsRead a.plan (replies_of replies_left a) (dispatcher c.split.new.self.seat.me.0).slots (dispatcher c.split.new.self.seat.me.0).read c.in_ok-texts.texts)
+    (carried (λ k. (slots k, read k)) (λ (z : List (ℕ × SlotState) × List Event). AreTextsRead key.plan (replies_of replies_left key) z.0 z.1 c.in_ok-texts.texts) (c.in_ok-texts.ensures.texts (replies_of replies_left key)))

@@ -4,14 +4,14 @@ use Rattle.std.specs.List.{All}
 use Rattle.std.proofs.lemmas.List.Sorted.{IsPermutation-map, length_permutation}
 use Rattle.listeners.specs.Listeners.{tellings_of}
 use Rattle.table_rule.specs.Moments.{KeepsApart}
-use Rattle.table_rule.specs.Picture.{replies_of}
+use Rattle.table_rule.specs.Picture.{given_by, replies_of}
 use Rattle.run_table.specs.Balance.{IsBalanced}
 use Rattle.job_times.specs.TimedJobs.{job_of, untimed}
 use Rattle.worker_pool.specs.Hearings.{HaveHeard}
-use Rattle.worker_pool.specs.Reports.{run_of, AreParts, AreTexts, EndsAsReplied, IsLeft, IsReport, IsRefusedRun}
+use Rattle.worker_pool.specs.Reports.{run_of, AreParts, AreTexts, EndsAsReplied, IsLeft, IsReport, IsRefusedRun, IsToldAsGiven}
 use Rattle.worker_pool.specs.Watching.{HasSeenMore}
 use Rattle.worker_pool.proofs.Reported.{carried}
-use Rattle.timed_runs.proofs.Renamed.{all_there, balanced, few_left, left_over, may_answer, refused, replied, reported, texts_are}
+use Rattle.timed_runs.proofs.Renamed.{all_there, balanced, few_left, left_over, may_answer, refused, replied, reported, texts_are, told_given}
 use Rattle.timed_runs.proofs.timed_run.run_noted.Goals as goal
 
 pub run_watched-requires-clause-jobs : goal.run_watched-requires-clause-jobs
@@ -49,6 +49,12 @@ returns-in-Ok-clause-texts g c =
     let key = run_of c.args.plan c.args.workers c.args.ring (untimed c.args.timed.items) in
     carried c.untimed_report.ensures.same (λ r. AreTexts c.args.plan (replies_of g.B.Job.answers key) r.events.items r.texts)
     (texts_are (λ t. t.job) g.B.Job.answers c.args.plan c.args.workers c.args.ring c.args.timed.items c.in-Ok.report.events.items c.in-Ok.report.texts c.in-Ok.ensures.texts)
+
+pub returns-in-Ok-clause-given : goal.returns-in-Ok-clause-given
+returns-in-Ok-clause-given g c =
+    let key = run_of c.args.plan c.args.workers c.args.ring (untimed c.args.timed.items) in
+    carried c.untimed_report.ensures.same (λ r. IsToldAsGiven (given_by g.B.Job.gives key) c.args.plan c.args.workers r.events.items r.texts)
+    (told_given (λ t. t.job) g.B.Job.gives c.args.plan c.args.workers c.args.ring c.args.timed.items c.in-Ok.report.events.items c.in-Ok.report.texts c.in-Ok.ensures.given)
 
 pub returns-in-Ok-clause-left : goal.returns-in-Ok-clause-left
 returns-in-Ok-clause-left g c =

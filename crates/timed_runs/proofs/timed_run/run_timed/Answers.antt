@@ -1,10 +1,10 @@
 -- The jobs that are timed are the caller's.
 use Rattle.std.proofs.Common.{IfOk, IfErr, IsPermutation, sym}
-use Rattle.table_rule.specs.Picture.{replies_of}
+use Rattle.table_rule.specs.Picture.{given_by, replies_of}
 use Rattle.run_table.specs.Balance.{IsBalanced}
 use Rattle.run_table.specs.Prepared.{HasAllJobs, IsRightCount, IsRightRing}
 use Rattle.worker_pool.specs.Premises.{JobsMayAnswer}
-use Rattle.worker_pool.specs.Reports.{run_of, AreTexts, EndsAsReplied, IsLeft, IsReport, IsRefusedRun}
+use Rattle.worker_pool.specs.Reports.{run_of, AreTexts, EndsAsReplied, IsLeft, IsReport, IsRefusedRun, IsToldAsGiven}
 use Rattle.worker_pool.proofs.Reported.{carried}
 use Rattle.timed_runs.proofs.timed_run.run_timed.Goals as goal
 
@@ -22,6 +22,10 @@ returns-in-Ok-timed_jobs-clause-expected g c =
 pub returns-in-Ok-timed_jobs-clause-texts : goal.returns-in-Ok-timed_jobs-clause-texts
 returns-in-Ok-timed_jobs-clause-texts g c =
     carried (sym c.in-Ok-timed_jobs.ensures.jobs) (λ js. IfOk c.run_noted.result (λ r. AreTexts c.args.plan (replies_of g.B.Job.answers (run_of c.args.plan c.args.workers c.args.ring js)) r.events.items r.texts)) c.run_noted.ensures.texts
+
+pub returns-in-Ok-timed_jobs-clause-given : goal.returns-in-Ok-timed_jobs-clause-given
+returns-in-Ok-timed_jobs-clause-given g c =
+    carried (sym c.in-Ok-timed_jobs.ensures.jobs) (λ js. IfOk c.run_noted.result (λ r. IsToldAsGiven (given_by g.B.Job.gives (run_of c.args.plan c.args.workers c.args.ring js)) c.args.plan c.args.workers r.events.items r.texts)) c.run_noted.ensures.given
 
 pub returns-in-Ok-timed_jobs-clause-left : goal.returns-in-Ok-timed_jobs-clause-left
 returns-in-Ok-timed_jobs-clause-left g c =

@@ -93,6 +93,6 @@ loop-preserved g c =
       seen = subst (λ (z : TextParts × List Event). HasSeenSince g.V.Watcher.saw c.args.dispatcher_seat.now.seat.me.0.about.plan z.0 first z.1 c.args.watcher.now c.leave_a_moment.new.watcher) (λ k. (sym silent.2 k, sym later k))
           (seen_kept g.V.Watcher.saw c.args.dispatcher_seat.now.seat.me.0.about.plan c.loop.texts first _ c.args.watcher.now c.loop.watcher c.leave_a_moment.new.watcher c.leave_a_moment.ensures was.seen);
       room = room_alike told now rests.same.about rests.read (λ b. (goal.Listener-dyn g (b.vtable, b.value)).room b.value) _ q.room;
-      texts = read_alike g.B.Job.answers told now _ rests.same.about rests.read q.texts;
+      texts = read_alike g.B.Job.answers told now _ rests.same.about rests.read rests.slots q.texts;
       noted = noted_alike c.loop.dispatcher_seat.seat.me.0 now (rests.same.about ∙ q.same.about) later _ _ was.noted;
     }

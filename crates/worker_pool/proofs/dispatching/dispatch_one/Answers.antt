@@ -1,9 +1,10 @@
 -- One event less is left to read; and neither the texts nor the telling change what was read.
-use Rattle.std.proofs.Common.{◌≡◌, ◌≤◌, ◌+◌, ◌∙◌, [], ◌∷◌, ◌++◌, length, length-append, ap, subst, List}
+use Rattle.std.proofs.Common.{◌≡◌, ◌≤◌, ◌+◌, ◌∙◌, ℕ, [], ◌∷◌, ◌++◌, length, length-append, ap, subst, List}
 use Rattle.std.specs.List.{All}
 use Rattle.plan_events.specs.declared.event.Event.{Event}
 use Rattle.resource_locks.specs.Plans.{most_events}
 use Rattle.event_history.specs.History.{IsLegal}
+use Rattle.table_rule.specs.declared.view.SlotState.{SlotState}
 use Rattle.table_rule.specs.Picture.{replies_of}
 use Rattle.table_rule.specs.Plays.{dispatcher}
 use Rattle.worker_pool.specs.Telling.{AreTextsRead, KeepsTexts, left_to_read}
@@ -22,7 +23,8 @@ keep_text-requires-clause-last g c =
     let v = c.args.dispatcher_seat.now.seat.me.0 in (
       (dispatcher v).read,
       ap (λ d. d.read) c.in_ok-read.ensures.read,
-      carried c.read.ensures.same.about (λ a. AreTextsRead a.plan (replies_of g.B.Job.answers a) (dispatcher v).read c.args.texts.now) c.requires.texts,
+      carried c.read.ensures.same.about (λ a. AreTextsRead a.plan (replies_of g.B.Job.answers a) (dispatcher c.read.new.self.seat.me.0).slots (dispatcher v).read c.args.texts.now)
+          (carried (ap (λ d. d.slots) c.in_ok-read.ensures.read) (λ (made : List (ℕ × SlotState)). AreTextsRead v.about.plan (replies_of g.B.Job.answers v.about) made (dispatcher v).read c.args.texts.now) c.requires.texts),
     )
 
 pub tell-requires : goal.tell-requires
@@ -45,7 +47,7 @@ returns-clause-told g c =
 
 pub returns-clause-texts : goal.returns-clause-texts
 returns-clause-texts g c =
-    read_alike g.B.Job.answers c.keep_text.new.dispatcher_seat.seat.me.0 c.advance.new.self.seat.me.0 c.keep_text.new.texts c.advance.ensures.same.about (ap (λ d. d.read) c.advance.ensures.told) c.keep_text.ensures.texts
+    read_alike g.B.Job.answers c.keep_text.new.dispatcher_seat.seat.me.0 c.advance.new.self.seat.me.0 c.keep_text.new.texts c.advance.ensures.same.about (ap (λ d. d.read) c.advance.ensures.told) (ap (λ d. d.slots) c.advance.ensures.told) c.keep_text.ensures.texts
 
 pub returns-clause-some : goal.returns-clause-some
 returns-clause-some g c = ap (λ d. d.read) c.advance.ensures.told ∙ (c.keep_text.ensures.read ∙ ap (λ d. d.read) c.in_ok-read.ensures.read)

@@ -3,11 +3,11 @@ use Rattle.std.proofs.Common.{◌≤◌, List, length, vec_capacity, rules, sym}
 use Rattle.plan_events.specs.declared.event.Event.{Event}
 use Rattle.resource_locks.specs.Plans.{most_events}
 use Rattle.event_history.proofs.EventBound.{legal_few}
-use Rattle.table_rule.specs.Picture.{about_of, replies_of}
+use Rattle.table_rule.specs.Picture.{about_of, given_by, replies_of}
 use Rattle.table_rule.specs.Plays.{dispatcher}
 use Rattle.worker_pool.specs.Telling.{AreTextsRead}
 use Rattle.worker_pool.proofs.Balance.{balance_reported}
-use Rattle.worker_pool.proofs.TextsRead.{texts_reported}
+use Rattle.worker_pool.proofs.TextsRead.{given_reported, texts_reported}
 use Rattle.worker_pool.proofs.Reported.{carried, ended_so, kept_apart, reported}
 use Rattle.worker_pool.proofs.Shares.{fits_all}
 use Rattle.worker_pool.proofs.report.ended.Goals as goal
@@ -33,14 +33,16 @@ returns-clause-report g c =
     let jobs = c.close-plan.result.jobs.items in
     let events = after.events.items in
     let is = reported key replies state jobs events q.noted q.over c.close-plan.ensures.ends in
+    let are = carried (sym q.seat.about) (λ a. AreTextsRead a.plan (replies_of g.B.Job.answers a) state.slots state.read after.texts) q.texts in
     record {
       plan = c.close-plan.ensures.plan;
       right = is;
       apart = kept_apart key replies events q.tree is;
       replied = ended_so key replies state jobs events q.noted q.over q.tree c.close-plan.ensures.ends;
       mine = search rules;
-      texts = texts_reported key.plan replies key.workers state.read events after.texts q.noted is.legal
-          (carried (sym q.seat.about) (λ a. AreTextsRead a.plan (replies_of g.B.Job.answers a) state.read after.texts) q.texts);
+      texts = texts_reported key.plan replies key.workers state.slots state.read events after.texts q.noted is.legal
+          are;
+      given = given_reported (given_by g.B.Job.gives key) key replies state events after.texts q.noted is.legal are c.close-plan.ensures.given;
       left = record { state = state; read = sym q.noted; ended = c.close-plan.ensures.ends };
       balanced = balance_reported key.plan key.jobs jobs state.read events q.noted q.over c.close-plan.ensures.balanced;
     }

@@ -9,6 +9,7 @@ invariant-loop-tried g l = record {
   table : IsSeatOf l.shared.table.table l.seat.seat;
   same : IsOf l.fn.seat.seat l.seat.seat;
   read : (dispatcher l.seat.seat.me.0).read ≡ (dispatcher l.fn.seat.seat.me.0).read;
+  slots : (dispatcher l.seat.seat.me.0).slots ≡ (dispatcher l.fn.seat.seat.me.0).slots;
   none : vec_len l.self.started ≡ 0 → l.seat ≡ l.fn.seat;
   gates : l.self.gates ≡ l.fn.self.gates;
   failed : vec_len l.self.started ≡ 0 → l.failed ≡ l._tried;
