@@ -1,8 +1,10 @@
 -- The jobs of a program's own tests.
-use Rattle.std.specs.Prelude.{ℕ, List, map}
+use Rattle.std.specs.Prelude.{ℕ, List, Result, map}
+use Rattle.plan_events.specs.declared.outcome.Outcome.{Outcome}
 use Rattle.plan_events.specs.declared.outcome.Reply.{Reply}
-use Rattle.test_bodies.specs.Bodies.{is_spent, tests_left}
+use Rattle.test_bodies.specs.Bodies.{is_spent, may_answer, tests_left}
 use Rattle.test_bodies.specs.Replies.{replies_by}
+use Rattle.test_bodies.specs.Stops.{IsTold}
 use Rattle.test_bodies.specs.declared.body.Body.{Body}
 use Rattle.harness.specs.declared.job.TestJob.{TestJob}
 
@@ -10,6 +12,10 @@ module _ {X Y : Type 0} {Z : Y → Type 0} {f : _} {g : _} where
   -- the replies that a job may still give: those of its body
   abbrev pub replies_left : TestJob X Y Z f g → List Reply
   replies_left job = replies_by (is_spent job.body) (tests_left job.body)
+
+  -- what it gives is what is told of an answer of its body's own code
+  abbrev pub gives_left : TestJob X Y Z f g → Reply → Type 0
+  gives_left job reply = (answer : Result (Unit {0}) Outcome) × may_answer job.body answer × IsTold answer reply.outcome
 
   abbrev pub job_by : ℕ × Body X Y Z f g → ℕ × TestJob X Y Z f g
   job_by x = (x.0, record { body = x.1 })

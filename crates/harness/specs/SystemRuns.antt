@@ -10,10 +10,10 @@ use Rattle.suite_text.specs.Reading.Parts.{SuiteParts}
 use Rattle.test_programs.specs.TestRuns.{IsTestMainRun}
 use Rattle.word_files.specs.declared.facts.Facts.{Facts}
 
-module _ {B W E : Type 0} (answers : B → List Reply) (contents : W → Option (List ℕ)) (said : E → Option (List ℕ)) (parts : SuiteParts) (jobs : List (ℕ × B)) where
+module _ {B W E : Type 0} (answers : B → List Reply) (gives : B → Reply → Type 0) (contents : W → Option (List ℕ)) (said : E → Option (List ℕ)) (parts : SuiteParts) (jobs : List (ℕ × B)) where
   -- the words that it gave are run, and there is no account of its files; or it gave none, and that is said
   abbrev pub RunsGiven : (is_terminal : Bool) → Facts → Result (List Text) LaunchFault → (old new : W) → (first last : E) → Ending → Type 0
-  RunsGiven is_terminal facts (Ok words) old new first last ending = IsTestMainRun answers contents said parts jobs (λ (files : Unit {0}). None) is_terminal facts words old new first last tt tt ending
+  RunsGiven is_terminal facts (Ok words) old new first last ending = IsTestMainRun answers gives contents said parts jobs (λ (files : Unit {0}). None) is_terminal facts words old new first last tt tt ending
   RunsGiven is_terminal facts (Err fault) old new first last ending = Closes tests_sentence_of contents said (Err fault) old new first last ending
 
   -- by some words, or a reason why there are none, and by some facts, on a terminal or none

@@ -3,7 +3,7 @@
 ghost use Rattle.std.specs.Prelude.{◌≡◌, ◌⊎◌, IfOk, IfErr, Err, false, map, string_bytes, true};
 ghost use Rattle.std.specs.IoError.{error_kind};
 ghost use Rattle.std.specs.Vec.Iter.{into_iter_items};
-ghost use Rattle.harness.specs.Jobs.{jobs_by, replies_left};
+ghost use Rattle.harness.specs.Jobs.{gives_left, jobs_by, replies_left};
 ghost use Rattle.resource_locks.specs.Spares.{HasBareSpares};
 ghost use Rattle.launch_options.specs.declared.fault.LaunchFault.{LaunchFault};
 ghost use Rattle.launcher.specs.Programs.{program_parts};
@@ -41,7 +41,7 @@ pub fn run_tests_by_words<T: Threads + Wait + Sync, C: Clock + Sync + Drop, W: W
     writer: &mut W,
     errors: &mut E,
 ) -> Result<Ending, BuildFault>
-    ensures run { IfOk result (λ ending. IsTestRun replies_left W.contents E.contents
+    ensures run { IfOk result (λ ending. IsTestRun replies_left gives_left W.contents E.contents
         (program_parts (held tests.value).tree (properties_of tests.value)) (jobs_by (held tests.value).jobs) false
         (map string_bytes words.now) writer.old writer.new errors.old errors.new ending) }
     // No dynamic test holds a key, so a run never gets stuck.
@@ -84,7 +84,7 @@ pub fn run_tests_watched<T: Threads + Wait + Sync + Clock, W: Write, E: Write, V
     watcher: &mut V,
 ) -> Result<Ending, BuildFault>
     ensures run { IfOk result (λ ending. IfOk words (λ given. IsTestRun
-        replies_left W.contents E.contents
+        replies_left gives_left W.contents E.contents
         (program_parts (held tests.value).tree (properties_of tests.value)) (jobs_by (held tests.value).jobs) false
         (map string_bytes (into_iter_items given)) writer.old writer.new errors.old errors.new ending)) }
     ensures refused { IfOk result (λ ending. IfErr words (λ error. (fault : LaunchFault)
@@ -123,7 +123,7 @@ pub fn run_tests<T: Threads + Wait + Sync + Clock, W: Write, E: Write>(
     errors: &mut E,
 ) -> Result<Ending, BuildFault>
     ensures run { IfOk result (λ ending. IfOk words (λ given. IsTestRun
-        replies_left W.contents E.contents
+        replies_left gives_left W.contents E.contents
         (program_parts (held tests.value).tree (properties_of tests.value)) (jobs_by (held tests.value).jobs) false
         (map string_bytes (into_iter_items given)) writer.old writer.new errors.old errors.new ending)) }
     ensures refused { IfOk result (λ ending. IfErr words (λ error. (fault : LaunchFault)
@@ -151,7 +151,7 @@ pub fn run_tests_on_terminal<T: Threads + Wait + Sync, C: Clock + Sync + Drop, W
     errors: &mut E,
 ) -> Result<Ending, BuildFault>
     ensures run { IfOk result (λ ending. IfOk words (λ given. IsTestRun
-        replies_left W.contents E.contents
+        replies_left gives_left W.contents E.contents
         (program_parts (held tests.value).tree (properties_of tests.value)) (jobs_by (held tests.value).jobs) true
         (map string_bytes (into_iter_items given)) writer.old writer.new errors.old errors.new ending)) }
     ensures refused { IfOk result (λ ending. IfErr words (λ error. (fault : LaunchFault)
@@ -211,7 +211,7 @@ pub fn run_tests_by_clock<
     watcher: &mut V,
 ) -> Result<Ending, BuildFault>
     ensures run { IfOk result (λ ending. IfOk words (λ given. IsTestMainRun
-        replies_left W.contents E.contents
+        replies_left gives_left W.contents E.contents
         (program_parts (held tests.value).tree (properties_of tests.value)) (jobs_by (held tests.value).jobs)
         K.deeds is_terminal facts.now (map string_bytes (into_iter_items given)) writer.old writer.new errors.old
         errors.new files.old files.new ending)) }
@@ -270,7 +270,7 @@ pub fn run_tests_main<
     watcher: &mut V,
 ) -> Result<Ending, BuildFault>
     ensures run { IfOk result (λ ending. IfOk words (λ given. IsTestMainRun
-        replies_left W.contents E.contents
+        replies_left gives_left W.contents E.contents
         (program_parts (held tests.value).tree (properties_of tests.value)) (jobs_by (held tests.value).jobs)
         K.deeds is_terminal facts.now (map string_bytes (into_iter_items given)) writer.old writer.new errors.old
         errors.new files.old files.new ending)) }

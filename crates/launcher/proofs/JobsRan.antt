@@ -17,8 +17,8 @@ use Rattle.reports.specs.Expectations.{IsPrintedAsExpected}
 use Rattle.reports.proofs.PrintedAsExpected.{printed_as_expected}
 use Rattle.scheduling.proofs.OnlyHistory.{only_history, as_expected}
 use Rattle.run_table.specs.Balance.{IsBalanced}
-use Rattle.table_rule.specs.Picture.{replies_of}
-use Rattle.worker_pool.specs.Reports.{run_of, AreTexts, IsReport}
+use Rattle.table_rule.specs.Picture.{given_by, replies_of}
+use Rattle.worker_pool.specs.Reports.{run_of, AreTexts, IsReport, IsToldAsGiven}
 use Rattle.worker_pool.specs.Watching.{HasSeenMore}
 use Rattle.launch_options.specs.Asked.{Asked}
 use Rattle.launcher.specs.declared.exit_status.ExitStatus.{ExitStatus}
@@ -36,8 +36,9 @@ use Rattle.launcher.proofs.Reporting.{expected_output, schedule_behind}
 pub moved_behind : {p q : PlanParts} (known : Option (List (ℕ × Reply))) (kind : Details) (asks : Bool) (workers : ℕ) (history : List Event) (texts : TextParts) (behind : List ℕ) → p ≡ q → IsBehindRun kind asks workers p known history texts behind → IsBehindRun kind asks workers q known history texts behind
 moved_behind known kind asks workers history texts behind same is = subst (λ (r : PlanParts). IsBehindRun kind asks workers r known history texts behind) same is
 
-module _ {B : Type 0} (answers : B → List Reply) (asked : Asked) (settings : Settings) (p : PlanParts) (tree : IsTree p.tree) (safe : IsGuarded (declared_of p.tree) p) (jobs : List (ℕ × B)) (history : List Event) (texts : TextParts)
-    (report : IsReport (run_of p settings.workers asked.ring jobs) (replies_of answers (run_of p settings.workers asked.ring jobs)) history) (told : AreTexts p (replies_of answers (run_of p settings.workers asked.ring jobs)) history texts) where
+module _ {B : Type 0} (answers : B → List Reply) (gives : B → Reply → Type 0) (asked : Asked) (settings : Settings) (p : PlanParts) (tree : IsTree p.tree) (safe : IsGuarded (declared_of p.tree) p) (jobs : List (ℕ × B)) (history : List Event) (texts : TextParts)
+    (report : IsReport (run_of p settings.workers asked.ring jobs) (replies_of answers (run_of p settings.workers asked.ring jobs)) history) (told : AreTexts p (replies_of answers (run_of p settings.workers asked.ring jobs)) history texts)
+    (gave : IsToldAsGiven (given_by gives (run_of p settings.workers asked.ring jobs)) p settings.workers history texts) where
   abbrev may : ℕ → List Reply
   may = replies_of answers (run_of p settings.workers asked.ring jobs)
 
@@ -66,7 +67,7 @@ module _ {B : Type 0} (answers : B → List Reply) (asked : Asked) (settings : S
   -- this is what is printed of it
   pub printed_jobs : (known : Option (List (ℕ × Reply))) (left : List (ℕ × B)) → IsBalanced p jobs history left → (times : Times) (behind text : List ℕ) (status : ExitStatus) → IsBehindRun asked.details asked.schedule settings.workers p known history texts behind
       → text ≡ head_of asked.details settings.warnings ++ (details_of asked.details asked.theme p texts (times_asked asked.times times) history ++ behind) → status ≡ status_of_run asked.fail_if_no_tests (tests_found p history) (has_failed p history)
-      → IsPrintedJobs answers known asked settings p jobs history texts times text status
+      → IsPrintedJobs answers gives known asked settings p jobs history texts times text status
   printed_jobs known left balanced times behind text status is_behind printed exits = record {
     may_be = report.legal;
     may_say = told;
@@ -74,6 +75,7 @@ module _ {B : Type 0} (answers : B → List Reply) (asked : Asked) (settings : S
     given = said_given p tree may settings.workers history texts report.legal told;
     published = published;
     are = texts_said p tree may settings.workers history texts report.legal told;
+    gave = gave;
     left = left;
     balanced = balanced;
     behind = behind;
@@ -91,7 +93,7 @@ module _ {B : Type 0} (answers : B → List Reply) (asked : Asked) (settings : S
 
   -- whoever watches has seen a run of which no report was made
   pub jobs_in_vain : {L : Type 0} (saw : PlanParts → L → L → List Telling → Type 0) (first now : L) (times : Times) → HasSeenMore saw p (tellings_of texts history) first now → (left : List (ℕ × B)) → IsBalanced p jobs history left → (known : Option (List (ℕ × Reply)))
-      → SomeOutput (HasSeenPrinted saw (IsPrintedJobs answers known asked settings p jobs) p first now times)
+      → SomeOutput (HasSeenPrinted saw (IsPrintedJobs answers gives known asked settings p jobs) p first now times)
   jobs_in_vain saw first now times seen left balanced known =
       let some_behind = some_line known asked.details asked.schedule in
       let text = head_of asked.details settings.warnings ++ (details_of asked.details asked.theme p texts (times_asked asked.times times) history ++ some_behind.0) in

@@ -41,8 +41,8 @@ no_job_missing asked parts settings p jobs tree ready has =
     all_jobs p jobs (subst (λ (t : Nodes). HasJobs t jobs) (sym same) (selected_jobs parts.tree tree asked.request jobs has))
 
 -- what a run of jobs prints is what is printed of the plan, where this is run
-module _ {B : Type 0} (answers : B → List Reply) (known : Option (List (ℕ × Reply))) (asked : Asked) (settings : Settings) (p : PlanParts) (jobs : List (ℕ × B)) where
-  jobs_ran : (kind : Details) → is_run None kind ≡ true → (text : List ℕ) (status : ExitStatus) → IsJobsOutput answers known asked settings p jobs text status → IsProgramOutput answers known kind asked settings p jobs text status
+module _ {B : Type 0} (answers : B → List Reply) (gives : B → Reply → Type 0) (known : Option (List (ℕ × Reply))) (asked : Asked) (settings : Settings) (p : PlanParts) (jobs : List (ℕ × B)) where
+  jobs_ran : (kind : Details) → is_run None kind ≡ true → (text : List ℕ) (status : ExitStatus) → IsJobsOutput answers gives known asked settings p jobs text status → IsProgramOutput answers gives known kind asked settings p jobs text status
   jobs_ran details.None runs text status output = output
   jobs_ran details.Summary runs text status output = output
   jobs_ran details.Tree runs text status output = output
@@ -52,10 +52,10 @@ module _ {B : Type 0} (answers : B → List Reply) (known : Option (List (ℕ ×
   jobs_ran details.List runs text status output = absurd (true≢false (sym runs))
   jobs_ran details.Plan runs text status output = absurd (true≢false (sym runs))
 
-  pub program_output_of : is_run None asked.details ≡ true → (text : List ℕ) (status : ExitStatus) → IsJobsOutput answers known asked settings p jobs text status → IsProgramOutput answers known asked.details asked settings p jobs text status
+  pub program_output_of : is_run None asked.details ≡ true → (text : List ℕ) (status : ExitStatus) → IsJobsOutput answers gives known asked settings p jobs text status → IsProgramOutput answers gives known asked.details asked settings p jobs text status
   program_output_of runs text status output = jobs_ran asked.details runs text status output
 
-  pub jobs_text_of : (history : List Event) (texts : TextParts) (times : Times) (text : List ℕ) (status : ExitStatus) → IsPrintedJobs answers known asked settings p jobs history texts times text status → IsTextOf asked settings p history texts times text
+  pub jobs_text_of : (history : List Event) (texts : TextParts) (times : Times) (text : List ℕ) (status : ExitStatus) → IsPrintedJobs answers gives known asked settings p jobs history texts times text status → IsTextOf asked settings p history texts times text
   jobs_text_of history texts times text status prints = record { ends = prints.published.ends; behind = prints.behind; printed = prints.printed }
 
 -- a plan whose feed is printed while it goes on is run
@@ -135,19 +135,19 @@ module _ (asked : Asked) (parts : SuiteParts) where
   program_uncut Reading x = refl
   program_uncut (Writing f) x = absurd x
 
-  module _ {B L : Type 0} (answers : B → List Reply) (jobs : List (ℕ × B)) (saw : PlanParts → L → L → List Telling → Type 0) (first now : L) (times : Times) (old new : Option (List ℕ)) where
+  module _ {B L : Type 0} (answers : B → List Reply) (gives : B → Reply → Type 0) (jobs : List (ℕ × B)) (saw : PlanParts → L → L → List Telling → Type 0) (first now : L) (times : Times) (old new : Option (List ℕ)) where
     abbrev Selects : List ℕ → ExitStatus → Type 0
-    Selects = IsSeenSelectedOutput answers asked parts jobs saw first now times
+    Selects = IsSeenSelectedOutput answers gives asked parts jobs saw first now times
 
     abbrev Refuses : LaunchFault → Type 0
     Refuses fault = FailsProgram asked parts fault × SeesRefusal first now Selects fault
 
     -- a refusal of the plan is one of the program
-    pub planned_fails : (fault : LaunchFault) (result : Result ExitStatus LaunchFault) → IsErrAnd result (λ e. e ≡ fault) → now ≡ first → FailsProgram asked parts fault → IsSeenProgramRun answers asked parts jobs saw first now times old new result
+    pub planned_fails : (fault : LaunchFault) (result : Result ExitStatus LaunchFault) → IsErrAnd result (λ e. e ≡ fault) → now ≡ first → FailsProgram asked parts fault → IsSeenProgramRun answers gives asked parts jobs saw first now times old new result
     planned_fails fault (Ok status) is same fails = absurd is
-    planned_fails fault (Err e) is same fails = subst (λ (f : LaunchFault). IsSeenProgramRun answers asked parts jobs saw first now times old new (Err f)) (sym is) (refused asked Selects Refuses old new fault (program_uncut fault fails) (fails, inl same))
+    planned_fails fault (Err e) is same fails = subst (λ (f : LaunchFault). IsSeenProgramRun answers gives asked parts jobs saw first now times old new (Err f)) (sym is) (refused asked Selects Refuses old new fault (program_uncut fault fails) (fails, inl same))
 
-    unseen : (text : List ℕ) (status : ExitStatus) → Selects text status → IsSelectedOutput answers asked parts jobs text status
+    unseen : (text : List ℕ) (status : ExitStatus) → Selects text status → IsSelectedOutput answers gives asked parts jobs text status
     unseen text status shows =
         let told = shows.output in
         record {
@@ -157,17 +157,17 @@ module _ (asked : Asked) (parts : SuiteParts) where
         }
 
     -- a run that somebody watches is a run
-    pub unseen_run : (result : Result ExitStatus LaunchFault) → IsSeenProgramRun answers asked parts jobs saw first now times old new result → IsProgramRun answers asked parts jobs old new result
-    unseen_run result is = answered_as asked Selects (IsSelectedOutput answers asked parts jobs) Refuses (FailsProgram asked parts) unseen (λ fault fails. fails.0) old new result is
+    pub unseen_run : (result : Result ExitStatus LaunchFault) → IsSeenProgramRun answers gives asked parts jobs saw first now times old new result → IsProgramRun answers gives asked parts jobs old new result
+    unseen_run result is = answered_as asked Selects (IsSelectedOutput answers gives asked parts jobs) Refuses (FailsProgram asked parts) unseen (λ fault fails. fails.0) old new result is
 
 pub planned_memory : (asked : Asked) (parts : SuiteParts) (settings : Settings) (p : PlanParts) → IsReady asked parts settings p [] → (result : Result ExitStatus LaunchFault) → IfErr result (λ fault. fault ≡ NoMemory → TakesMemory asked parts)
 planned_memory asked parts settings p ready (Ok status) = tt
 planned_memory asked parts settings p ready (Err fault) = λ same. ready_takes asked parts settings p [] ready
 
-module _ {B L : Type 0} (answers : B → List Reply) (asked : Asked) (parts : SuiteParts) (jobs : List (ℕ × B)) (saw : PlanParts → L → L → List Telling → Type 0) (first now : L) (times : Times) (settings : Settings) (p : PlanParts) (ready : IsReady asked parts settings p [])
+module _ {B L : Type 0} (answers : B → List Reply) (gives : B → Reply → Type 0) (asked : Asked) (parts : SuiteParts) (jobs : List (ℕ × B)) (saw : PlanParts → L → L → List Telling → Type 0) (first now : L) (times : Times) (settings : Settings) (p : PlanParts) (ready : IsReady asked parts settings p [])
     (no_steps : steps_refusal asked.replay asked.drive ≡ None) where
   abbrev Shows : List ℕ → ExitStatus → Type 0
-  Shows = IsSeenProgram answers None saw first now times asked settings p jobs
+  Shows = IsSeenProgram answers gives None saw first now times asked settings p jobs
 
   abbrev Lacks : LaunchFault → Type 0
   Lacks fault = LacksBy (is_run None asked.details) fault × SeesRefusal first now Shows fault
@@ -176,14 +176,14 @@ module _ {B L : Type 0} (answers : B → List Reply) (asked : Asked) (parts : Su
   accepted = same_refusal asked parts no_steps ∙ ready.accepted
 
   abbrev Selected : List ℕ → ExitStatus → Type 0
-  Selected = IsSelectedBy (λ settings p. IsSeenProgram answers None saw first now times asked settings p jobs) asked parts
+  Selected = IsSelectedBy (λ settings p. IsSeenProgram answers gives None saw first now times asked settings p jobs) asked parts
 
   selected : (text : List ℕ) (status : ExitStatus) → Shows text status → Selected text status
   selected text status output = record {
     accepted = accepted;
     settings = settings;
     are = ready.are;
-    output = subst (λ (q : PlanParts). IsSeenProgram answers None saw first now times asked settings q jobs text status) ready.plan_is output;
+    output = subst (λ (q : PlanParts). IsSeenProgram answers gives None saw first now times asked settings q jobs text status) ready.plan_is output;
     never_stuck = λ bare. subst NeverStuck ready.plan_is (ready.never_stuck bare);
   }
 
@@ -201,7 +201,7 @@ module _ {B L : Type 0} (answers : B → List Reply) (asked : Asked) (parts : Su
   )
 
   -- what is shown of the plan is what is answered of the program, of which it is asked whether something is missing
-  pub program_run : (missing : Bool) → missing ≡ is_missing asked parts.tree → (old new : Option (List ℕ)) (result given : Result ExitStatus LaunchFault) → given ≡ answer_unless missing result → IsAnswered asked Shows Lacks old new result → IsSeenProgramRun answers asked parts jobs saw first now times old new given
+  pub program_run : (missing : Bool) → missing ≡ is_missing asked parts.tree → (old new : Option (List ℕ)) (result given : Result ExitStatus LaunchFault) → given ≡ answer_unless missing result → IsAnswered asked Shows Lacks old new result → IsSeenProgramRun answers gives asked parts jobs saw first now times old new given
   program_run missing same old new result given judged_so is =
-      subst (λ (r : Result ExitStatus LaunchFault). IsSeenProgramRun answers asked parts jobs saw first now times old new r) (sym judged_so) (subst (λ (b : Bool). IsAnswered asked (IsJudged b Selected) (λ f. FailsProgram asked parts f × SeesRefusal first now (IsJudged b Selected) f) old new (answer_unless missing result)) same
+      subst (λ (r : Result ExitStatus LaunchFault). IsSeenProgramRun answers gives asked parts jobs saw first now times old new r) (sym judged_so) (subst (λ (b : Bool). IsAnswered asked (IsJudged b Selected) (λ f. FailsProgram asked parts f × SeesRefusal first now (IsJudged b Selected) f) old new (answer_unless missing result)) same
       (judged missing Selected asked (FailsProgram asked parts) first now old new result (answered_as asked Shows Selected Lacks (λ f. FailsProgram asked parts f × SeesRefusal first now Selected f) selected fails old new result is)))

@@ -28,8 +28,8 @@ runs details.Xml some = refl
 runs details.List some = elim some [ inl q ↦ cc | inr a ↦ elim a [ inl q ↦ cc | inr b ↦ elim b [ inl q ↦ cc | inr d ↦ elim d [ inl q ↦ cc | inr e ↦ elim e [ inl q ↦ cc | inr q ↦ cc ] ] ] ] ]
 runs details.Plan some = elim some [ inl q ↦ cc | inr a ↦ elim a [ inl q ↦ cc | inr b ↦ elim b [ inl q ↦ cc | inr d ↦ elim d [ inl q ↦ cc | inr e ↦ elim e [ inl q ↦ cc | inr q ↦ cc ] ] ] ] ]
 
-module _ {B : Type 0} (answers : B → List Reply) (known : Option (List (ℕ × Reply))) (asked : Asked) (settings : Settings) (p : PlanParts) (jobs : List (ℕ × B)) where
-  jobs_shown : (kind : Details) (text : List ℕ) (status : ExitStatus) → Runs kind → IsJobsOutput answers known asked settings p jobs text status → IsProgramOutput answers known kind asked settings p jobs text status
+module _ {B : Type 0} (answers : B → List Reply) (gives : B → Reply → Type 0) (known : Option (List (ℕ × Reply))) (asked : Asked) (settings : Settings) (p : PlanParts) (jobs : List (ℕ × B)) where
+  jobs_shown : (kind : Details) (text : List ℕ) (status : ExitStatus) → Runs kind → IsJobsOutput answers gives known asked settings p jobs text status → IsProgramOutput answers gives known kind asked settings p jobs text status
   jobs_shown details.None text status some is = is
   jobs_shown details.Summary text status some is = is
   jobs_shown details.Tree text status some is = is
@@ -39,7 +39,7 @@ module _ {B : Type 0} (answers : B → List Reply) (known : Option (List (ℕ ×
   jobs_shown details.List text status some is = elim some [ inl q ↦ cc | inr a ↦ elim a [ inl q ↦ cc | inr b ↦ elim b [ inl q ↦ cc | inr d ↦ elim d [ inl q ↦ cc | inr e ↦ elim e [ inl q ↦ cc | inr q ↦ cc ] ] ] ] ]
   jobs_shown details.Plan text status some is = elim some [ inl q ↦ cc | inr a ↦ elim a [ inl q ↦ cc | inr b ↦ elim b [ inl q ↦ cc | inr d ↦ elim d [ inl q ↦ cc | inr e ↦ elim e [ inl q ↦ cc | inr q ↦ cc ] ] ] ] ]
 
-  pub program_shown : (kind : Details) (result : Result Output LaunchFault) → Runs kind → IfOk result (λ report. IsJobsOutput answers known asked settings p jobs (string_bytes report.text) report.status)
-      → IfOk result (λ report. IsProgramOutput answers known kind asked settings p jobs (string_bytes report.text) report.status)
+  pub program_shown : (kind : Details) (result : Result Output LaunchFault) → Runs kind → IfOk result (λ report. IsJobsOutput answers gives known asked settings p jobs (string_bytes report.text) report.status)
+      → IfOk result (λ report. IsProgramOutput answers gives known kind asked settings p jobs (string_bytes report.text) report.status)
   program_shown kind (Ok report) some is = jobs_shown kind (string_bytes report.text) report.status some is
   program_shown kind (Err fault) some is = tt

@@ -21,13 +21,13 @@ use Rattle.launcher.specs.declared.report.Output.{Output}
 use Rattle.launcher.specs.declared.scripted.ScriptedJob.{ScriptedJob}
 use Rattle.launcher.specs.Programs.{IsPrintedJobs}
 use Rattle.launcher.specs.Reports.{HasHistory, IsPrintedRun, IsRunOutput}
-use Rattle.launcher.specs.Scripted.{replies_left, AreScripted}
+use Rattle.launcher.specs.Scripted.{gives_left, replies_left, AreScripted}
 use Rattle.launcher.specs.Watched.{HasSeenPrinted, Watches}
 use Rattle.launcher.proofs.Reporting.{printed_run, told_of}
 
 module _ (asked : Asked) (settings : Settings) (p : PlanParts) (tree : IsTree p.tree) (safe : IsGuarded (declared_of p.tree) p) (answers : List (ℕ × Reply)) (jobs : List (ℕ × ScriptedJob)) (are : AreScripted p answers (slot_count p) jobs) where
   abbrev JobsPrint : List Event → TextParts → Times → List ℕ → ExitStatus → Type 0
-  JobsPrint = IsPrintedJobs replies_left (Some answers) asked settings p jobs
+  JobsPrint = IsPrintedJobs replies_left gives_left (Some answers) asked settings p jobs
 
   suite_prints : (history : List Event) (texts : TextParts) (times : Times) (text : List ℕ) (status : ExitStatus) → JobsPrint history texts times text status → IsPrintedRun asked settings p answers history texts times text status
   suite_prints history texts times text status out =

@@ -22,10 +22,10 @@ use Rattle.scheduling.specs.declared.step.Step.{Step}
 use Rattle.sched_core.specs.Texts.{AreTexts as AreReplayed}
 use Rattle.selectors.specs.Selections.{answer}
 use Rattle.suite_text.specs.Reading.Parts.{SuiteParts}
-use Rattle.table_rule.specs.Picture.{replies_of}
+use Rattle.table_rule.specs.Picture.{given_by, replies_of}
 use Rattle.table_rule.specs.Slots.{job_with}
 use Rattle.run_table.specs.Balance.{IsBalanced, IsUsed}
-use Rattle.worker_pool.specs.Reports.{run_of, AreTexts}
+use Rattle.worker_pool.specs.Reports.{run_of, AreTexts, IsToldAsGiven}
 use Rattle.job_times.specs.Timings.{Times, times_asked}
 use Rattle.listeners.specs.Listeners.{Telling}
 use Rattle.listeners.specs.Results.{tests_found, has_failed}
@@ -91,7 +91,7 @@ IsBehindRun kind asked workers p None history texts behind = IsBehindJobs kind a
 IsBehindRun kind asked workers p (Some known) history texts behind = IsBehindDetails kind asked workers p known history behind
 
 -- of jobs that may answer so, and what is known beforehand of what they do, if it is
-module _ {B : Type 0} (answers : B → List Reply) (known : Option (List (ℕ × Reply))) where
+module _ {B : Type 0} (answers : B → List Reply) (gives : B → Reply → Type 0) (known : Option (List (ℕ × Reply))) where
   -- What is printed of this history of a run of these jobs by the settings' workers, with these texts and times of its nodes. There is
   -- one reply of each job, such that the history is one in which the jobs gave these replies: a line for each warning, then the history
   -- as the options say, with the times if they are asked for, and then what is to stand behind it; its failures make the status.
@@ -104,6 +104,8 @@ module _ {B : Type 0} (answers : B → List Reply) (known : Option (List (ℕ ×
     pub given : (number : ℕ) → IsUsed p history number → (place : ℕ) × (slice_get (replies_of answers (run_of p settings.workers asked.ring jobs) number) place ≡ Some (reply number))
     pub published : IsHistoryBy settings.workers p reply history
     pub are : AreTexts p (one_each reply) history texts
+    -- and each reply was given so: by the very call of the job, but where a factory's job asked for more dynamic tests than there are;
+    pub gave : IsToldAsGiven (given_by gives (run_of p settings.workers asked.ring jobs)) p settings.workers history texts
     -- the jobs that were used are just those of the nodes that have finished, each once; all others are left
     pub left : List (ℕ × B)
     pub balanced : IsBalanced p jobs history left
@@ -131,11 +133,11 @@ module _ {B : Type 0} (answers : B → List Reply) (known : Option (List (ℕ ×
   IsProgramOutput details.List asked settings p jobs text status = IsListing asked.fail_if_no_tests p text status
   IsProgramOutput details.Plan asked settings p jobs text status = IsPlanned asked.fail_if_no_tests settings.warnings p text status
 
-module _ {B : Type 0} (answers : B → List Reply) (known : Option (List (ℕ × Reply))) {L : Type 0} (saw : PlanParts → L → L → List Telling → Type 0) (first now : L) (times : Times) (asked : Asked) (settings : Settings) (p : PlanParts) (jobs : List (ℕ × B)) where
+module _ {B : Type 0} (answers : B → List Reply) (gives : B → Reply → Type 0) (known : Option (List (ℕ × Reply))) {L : Type 0} (saw : PlanParts → L → L → List Telling → Type 0) (first now : L) (times : Times) (asked : Asked) (settings : Settings) (p : PlanParts) (jobs : List (ℕ × B)) where
   -- what is printed of a plan; and whoever watches has seen the very history that is printed, with these times, or, where nothing is run,
   -- nothing
   abbrev pub IsSeenProgram : List ℕ → ExitStatus → Type 0
-  IsSeenProgram text status = IsProgramOutput answers known asked.details asked settings p jobs text status × SeesTextBy saw (IsPrintedJobs answers known asked settings p jobs) p first now times (is_run None asked.details) text status
+  IsSeenProgram text status = IsProgramOutput answers gives known asked.details asked settings p jobs text status × SeesTextBy saw (IsPrintedJobs answers gives known asked settings p jobs) p first now times (is_run None asked.details) text status
 
   -- the answer of a run of this plan that somebody watches
   abbrev pub IsSeenPlanRun : Option (List ℕ) → Option (List ℕ) → Result ExitStatus LaunchFault → Type 0
@@ -176,10 +178,10 @@ pub record IsSelectedBy (Prints : Settings → PlanParts → List ℕ → ExitSt
   -- whatever the workers of this plan do first, it can still be brought to its end
   pub never_stuck : HasBareSpares parts.tree → NeverStuck (plan_of asked.fail_fast asked.tolerated settings (answer parts.tree asked.request))
 
-module _ {B : Type 0} (answers : B → List Reply) (asked : Asked) (parts : SuiteParts) (jobs : List (ℕ × B)) where
+module _ {B : Type 0} (answers : B → List Reply) (gives : B → Reply → Type 0) (asked : Asked) (parts : SuiteParts) (jobs : List (ℕ × B)) where
   -- what is printed of a program's jobs, and the status, which of a shard says too that nothing is selected
   abbrev pub IsSelectedOutput : List ℕ → ExitStatus → Type 0
-  IsSelectedOutput = IsJudged (is_missing asked parts.tree) (IsSelectedBy (λ settings p. IsProgramOutput answers None asked.details asked settings p jobs) asked parts)
+  IsSelectedOutput = IsJudged (is_missing asked parts.tree) (IsSelectedBy (λ settings p. IsProgramOutput answers gives None asked.details asked settings p jobs) asked parts)
 
   -- the answer of a run of a program's jobs, and what the writer held before and holds after
   abbrev pub IsProgramRun : Option (List ℕ) → Option (List ℕ) → Result ExitStatus LaunchFault → Type 0
@@ -188,7 +190,7 @@ module _ {B : Type 0} (answers : B → List Reply) (asked : Asked) (parts : Suit
   module _ {L : Type 0} (saw : PlanParts → L → L → List Telling → Type 0) (first now : L) (times : Times) where
     -- the same; and whoever watches has seen the very history that is printed, with these times, or, where nothing is run, nothing
     abbrev pub IsSeenSelectedOutput : List ℕ → ExitStatus → Type 0
-    IsSeenSelectedOutput = IsJudged (is_missing asked parts.tree) (IsSelectedBy (λ settings p. IsSeenProgram answers None saw first now times asked settings p jobs) asked parts)
+    IsSeenSelectedOutput = IsJudged (is_missing asked parts.tree) (IsSelectedBy (λ settings p. IsSeenProgram answers gives None saw first now times asked settings p jobs) asked parts)
 
     -- the answer of a run that somebody watches, who was like this at first and is like this in the end, with these times in the end
     abbrev pub IsSeenProgramRun : Option (List ℕ) → Option (List ℕ) → Result ExitStatus LaunchFault → Type 0

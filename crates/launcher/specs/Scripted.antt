@@ -1,5 +1,5 @@
 -- The jobs that the scripts of a suite give a plan.
-use Rattle.std.specs.Prelude.{◌≡◌, ℕ, ◌<◌, ◌==◌, ◌&&◌, Bool, true, false, if◌then◌else◌, List, [], ◌∷◌, Option, Some, None}
+use Rattle.std.specs.Prelude.{◌≡◌, ℕ, ◌<◌, ◌==◌, ◌&&◌, Bool, true, false, if◌then◌else◌, List, [], ◌∷◌, Option, Some, None, IfSome}
 use Rattle.std.specs.List.{All}
 use Rattle.plan_events.specs.declared.outcome.Reply.{Reply}
 use Rattle.resource_locks.specs.Plans.{PlanParts}
@@ -16,6 +16,10 @@ reply_left (Some reply) = reply ∷ []
 
 abbrev pub replies_left : ScriptedJob → List Reply
 replies_left job = reply_left job.reply
+
+-- what it gives is what it is to say
+abbrev pub gives_left : ScriptedJob → Reply → Type 0
+gives_left job reply = IfSome job.reply (λ said. reply.outcome ≡ said.outcome)
 
 -- what is asked of a job: of a factory's body its whole reply; no other job is asked for dynamic tests
 abbrev pub asked_reply : Bool → Reply → Reply

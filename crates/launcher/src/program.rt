@@ -138,16 +138,16 @@ fn shown_program<
     ensures same { live.new.feed.writer.ghost_name ≡ live.old.feed.writer.ghost_name }
     ensures same_timings { live.new.feed.timings.ghost_name ≡ live.old.feed.timings.ghost_name }
     ensures same_watcher { live.new.watcher.ghost_name ≡ live.old.watcher.ghost_name }
-    ensures output { IfOk result (λ report. IsSeenProgram B.answers None V.saw live.old.watcher.now live.new.watcher.now
+    ensures output { IfOk result (λ report. IsSeenProgram B.answers B.gives None V.saw live.old.watcher.now live.new.watcher.now
         (times_of live.new.feed.timings.now) (asked_by options.now) settings.now plan jobs.items (string_bytes report.text) report.status) }
     ensures front { IfOk result (λ report. IsFront (W.contents live.old.feed.writer.now) (W.contents live.new.feed.writer.now)
         live.new.feed.outlet live.new.feed.sent (string_bytes report.text)) }
     ensures refused { IfErr result (LacksBy (is_run None options.now.details)) }
-    ensures seen { IfErr result (SeesRefusal live.old.watcher.now live.new.watcher.now (IsSeenProgram B.answers
+    ensures seen { IfErr result (SeesRefusal live.old.watcher.now live.new.watcher.now (IsSeenProgram B.answers B.gives
         None V.saw live.old.watcher.now live.new.watcher.now (times_of live.new.feed.timings.now)
         (asked_by options.now) settings.now plan jobs.items)) }
     ensures broken_off { IfErr result
-        (λ _. IsBrokenOff (asked_by options.now) (IsSeenProgram B.answers None V.saw live.old.watcher.now live.new.watcher.now
+        (λ _. IsBrokenOff (asked_by options.now) (IsSeenProgram B.answers B.gives None V.saw live.old.watcher.now live.new.watcher.now
         (times_of live.new.feed.timings.now) (asked_by options.now) settings.now plan jobs.items) live.new.feed.outlet (W.contents live.old.feed.writer.now) (W.contents live.new.feed.writer.now)
         live.new.feed.sent) }
 {
@@ -174,7 +174,7 @@ fn run_planned<B: Job + Send, T: Threads + Wait + Sync, W: Write, V: Watcher, S:
     requires jobs { JobsMayAnswer B.answers (run_of plan settings.now.workers options.now.ring jobs.items) }
     requires all { HasAllJobs plan jobs.items }
     requires head { head.now ≡ head_of options.now.details settings.now.warnings }
-    ensures exact { IsSeenPlanRun B.answers None V.saw
+    ensures exact { IsSeenPlanRun B.answers B.gives None V.saw
         watcher.old watcher.new (times_of times.new.timings) (asked_by options.now) settings.now plan jobs.items
         (W.contents writer.old) (W.contents writer.new) result }
     ensures quiet { IfErr result (λ fault. is_writing fault ≡ false →
@@ -224,13 +224,13 @@ pub fn run_jobs_watched<
     requires jobs { (plan : PlanParts) (workers ring : ℕ) → JobsMayAnswer B.answers
         (run_of plan workers ring program.jobs.items) }
     requires all { HasJobs program.tree program.jobs.items }
-    ensures exact { IsProgramRun B.answers (asked_by options.now) (program_parts program.tree program.properties)
+    ensures exact { IsProgramRun B.answers B.gives (asked_by options.now) (program_parts program.tree program.properties)
         program.jobs.items (W.contents writer.old) (W.contents writer.new) result }
     ensures no_memory { IfErr result (λ fault. fault ≡ LaunchFault.NoMemory →
         TakesMemory (asked_by options.now) (program_parts program.tree program.properties)) }
     ensures quiet { IfErr result (λ fault. is_writing fault ≡ false →
         Keeps (W.contents writer.old) (W.contents writer.new)) }
-    ensures watched { IsSeenProgramRun B.answers (asked_by options.now) (program_parts program.tree
+    ensures watched { IsSeenProgramRun B.answers B.gives (asked_by options.now) (program_parts program.tree
         program.properties) program.jobs.items V.saw watcher.old watcher.new (times_of times.new.timings)
         (W.contents writer.old) (W.contents writer.new) result }
 {
@@ -279,7 +279,7 @@ pub fn run_jobs<B: Job + Send, T: Threads + Wait + Sync, W: Write>(
     requires jobs { (plan : PlanParts) (workers ring : ℕ) → JobsMayAnswer B.answers
         (run_of plan workers ring program.jobs.items) }
     requires all { HasJobs program.tree program.jobs.items }
-    ensures exact { IsProgramRun B.answers (asked_by options.now) (program_parts program.tree program.properties)
+    ensures exact { IsProgramRun B.answers B.gives (asked_by options.now) (program_parts program.tree program.properties)
         program.jobs.items (W.contents writer.old) (W.contents writer.new) result }
     ensures no_memory { IfErr result (λ fault. fault ≡ LaunchFault.NoMemory →
         TakesMemory (asked_by options.now) (program_parts program.tree program.properties)) }

@@ -288,9 +288,9 @@ fn ran_report<
     requires tree { IsTree plan.tree }
     requires jobs { JobsMayAnswer B.answers (run_of plan settings.now.workers options.now.ring jobs.items) }
     requires all { HasAllJobs plan jobs.items }
-    ensures output { IfOk result (λ report. IsJobsOutput B.answers (option_map (λ a. a.now) known.entry) (asked_by options.now) settings.now plan jobs.items
+    ensures output { IfOk result (λ report. IsJobsOutput B.answers B.gives (option_map (λ a. a.now) known.entry) (asked_by options.now) settings.now plan jobs.items
         (string_bytes report.text) report.status) }
-    ensures watched { Watches V.saw (IsPrintedJobs B.answers (option_map (λ a. a.now) known.entry) (asked_by options.now) settings.now plan jobs.items) plan watcher.old watcher.new
+    ensures watched { Watches V.saw (IsPrintedJobs B.answers B.gives (option_map (λ a. a.now) known.entry) (asked_by options.now) settings.now plan jobs.items) plan watcher.old watcher.new
         (V.noted watcher.new) result }
     ensures refused { IfErr result LacksMeans }
 {
@@ -529,9 +529,9 @@ pub(crate) fn program_report<
     requires tree { IsTree plan.tree }
     requires jobs { JobsMayAnswer B.answers (run_of plan settings.now.workers options.now.ring jobs.items) }
     requires all { HasAllJobs plan jobs.items }
-    ensures output { IfOk result (λ report. IsProgramOutput B.answers None options.now.details (asked_by options.now) settings.now plan jobs.items
+    ensures output { IfOk result (λ report. IsProgramOutput B.answers B.gives None options.now.details (asked_by options.now) settings.now plan jobs.items
         (string_bytes report.text) report.status) }
-    ensures watched { WatchesBy V.saw (IsPrintedJobs B.answers None (asked_by options.now) settings.now plan jobs.items) plan watcher.old watcher.new
+    ensures watched { WatchesBy V.saw (IsPrintedJobs B.answers B.gives None (asked_by options.now) settings.now plan jobs.items) plan watcher.old watcher.new
         (V.noted watcher.new) (is_run None options.now.details) result }
     ensures refused { IfErr result (LacksBy (is_run None options.now.details)) }
 {

@@ -90,8 +90,10 @@ impl Body {
 
     /// Whether it registers one dynamic test more.
     pub fn next_test(&mut self) -> Pull
-        ensures { IsPull (replies_by (is_spent self.old) (tests_left self.old)) result
+        ensures pull { IsPull (replies_by (is_spent self.old) (tests_left self.old)) result
             (replies_by (is_spent self.new) (tests_left self.new)) }
+        // Its code is not touched.
+        ensures same { (answer : Result (Unit {0}) Told) → may_answer self.new answer → may_answer self.old answer }
     {
         if self.tests == 0 {
             return Pull::End;

@@ -35,35 +35,35 @@ module _ {L : Type 0} (saw : PlanParts → L → L → List Telling → Type 0) 
   unseen_text Prints p true text status is sees = cc
   unseen_text Prints p false text status is sees = sees
 
-  module _ {B : Type 0} (answers : B → List Reply) (asked : Asked) (parts : SuiteParts) (jobs : List (ℕ × B)) (old new : Option (List ℕ)) where
+  module _ {B : Type 0} (answers : B → List Reply) (gives : B → Reply → Type 0) (asked : Asked) (parts : SuiteParts) (jobs : List (ℕ × B)) (old new : Option (List ℕ)) where
     -- whoever watched has seen something, or nothing
-    pub some_watched : (result : Result ExitStatus LaunchFault) → IsSeenProgramRun answers asked parts jobs saw first now times old new result → HasSeenSome saw first now
+    pub some_watched : (result : Result ExitStatus LaunchFault) → IsSeenProgramRun answers gives asked parts jobs saw first now times old new result → HasSeenSome saw first now
     some_watched result is =
-        let Output = IsSeenSelectedOutput answers asked parts jobs saw first now times in
+        let Output = IsSeenSelectedOutput answers gives asked parts jobs saw first now times in
         let Holds = HasSeenSome saw first now in
         let same : now ≡ first → Holds = λ is. inl is in
         let seen : (p : PlanParts) (ts : List Telling) → HasSeenMore saw p ts first now → Holds = λ p ts more. inr (p, ts, more) in
         let output : (text : List ℕ) (status : ExitStatus) → Output text status → Holds =
         λ text status out. let p = plan_of asked.fail_fast asked.tolerated out.output.settings (answer parts.tree asked.request) in
-        of_text saw first now times Holds same seen (IsPrintedJobs answers None asked out.output.settings p jobs) p (is_run None asked.details) text out.told out.output.output.1 in
+        of_text saw first now times Holds same seen (IsPrintedJobs answers gives None asked out.output.settings p jobs) p (is_run None asked.details) text out.told out.output.output.1 in
         of_answer saw first now times Holds same seen Output output asked (λ fault. FailsProgram asked parts fault × SeesRefusal first now Output fault) old new result (λ fault fails. of_fault saw first now times Holds same seen Output output fault fails.1) is
 
     -- where nothing is run nothing was seen
-    pub unseen_jobs : is_run None asked.details ≡ false → (result : Result ExitStatus LaunchFault) → IsSeenProgramRun answers asked parts jobs saw first now times old new result → IfOk result (λ status. now ≡ first)
+    pub unseen_jobs : is_run None asked.details ≡ false → (result : Result ExitStatus LaunchFault) → IsSeenProgramRun answers gives asked parts jobs saw first now times old new result → IfOk result (λ status. now ≡ first)
     unseen_jobs unrun (Ok status) is =
         let out = is.output in
         let p = plan_of asked.fail_fast asked.tolerated out.output.settings (answer parts.tree asked.request) in
-        unseen_text (IsPrintedJobs answers None asked out.output.settings p jobs) p (is_run None asked.details) is.text out.told unrun out.output.output.1
+        unseen_text (IsPrintedJobs answers gives None asked out.output.settings p jobs) p (is_run None asked.details) is.text out.told unrun out.output.output.1
     unseen_jobs unrun (Err fault) is = tt
 
     -- what holds of all that was seen holds of what is printed
     pub of_jobs : (Holds : PlanParts → List Event → TextParts → Type 0) → ((p : PlanParts) (history : List Event) (texts : TextParts) → HasSeenMore saw p (tellings_of texts history) first now → Holds p history texts) → is_run None asked.details ≡ true → (result : Result ExitStatus LaunchFault)
-        → IsSeenProgramRun answers asked parts jobs saw first now times old new result → IfOk result (λ status. IsJobsRunWith answers asked parts jobs Holds times old new status)
+        → IsSeenProgramRun answers gives asked parts jobs saw first now times old new result → IfOk result (λ status. IsJobsRunWith answers gives asked parts jobs Holds times old new status)
     of_jobs Holds always runs (Ok status) is =
         let out = is.output in
         let settings = out.output.settings in
         let p = plan_of asked.fail_fast asked.tolerated settings (answer parts.tree asked.request) in
-        let seen = printed_seen (IsPrintedJobs answers None asked settings p jobs) p (is_run None asked.details) is.text out.told runs out.output.output.1 in
+        let seen = printed_seen (IsPrintedJobs answers gives None asked settings p jobs) p (is_run None asked.details) is.text out.told runs out.output.output.1 in
         record {
           settings = settings;
           are = out.output.are;
@@ -79,9 +79,9 @@ module _ {L : Type 0} (saw : PlanParts → L → L → List Telling → Type 0) 
     of_jobs Holds always runs (Err fault) is = tt
 
 -- of one history that is printed something else holds too
-pub jobs_with : {B : Type 0} {P Q : PlanParts → List Event → TextParts → Type 0} (answers : B → List Reply) (asked : Asked) (parts : SuiteParts) (jobs : List (ℕ × B)) (times : Times) (old new : Option (List ℕ)) (status : ExitStatus)
-    → ((p : PlanParts) (history : List Event) (texts : TextParts) → P p history texts → Q p history texts) → IsJobsRunWith answers asked parts jobs P times old new status → IsJobsRunWith answers asked parts jobs Q times old new status
-jobs_with answers asked parts jobs times old new status gives is = record {
+pub jobs_with : {B : Type 0} {P Q : PlanParts → List Event → TextParts → Type 0} (answers : B → List Reply) (gives : B → Reply → Type 0) (asked : Asked) (parts : SuiteParts) (jobs : List (ℕ × B)) (times : Times) (old new : Option (List ℕ)) (status : ExitStatus)
+    → ((p : PlanParts) (history : List Event) (texts : TextParts) → P p history texts → Q p history texts) → IsJobsRunWith answers gives asked parts jobs P times old new status → IsJobsRunWith answers gives asked parts jobs Q times old new status
+jobs_with answers gives asked parts jobs times old new status keeps is = record {
   settings = is.settings;
   are = is.are;
   history = is.history;
@@ -91,7 +91,7 @@ jobs_with answers asked parts jobs times old new status gives is = record {
   printed = is.printed;
   exits = is.exits;
   written = is.written;
-  holds = gives (plan_of asked.fail_fast asked.tolerated is.settings (answer parts.tree asked.request)) is.history is.texts is.holds;
+  holds = keeps (plan_of asked.fail_fast asked.tolerated is.settings (answer parts.tree asked.request)) is.history is.texts is.holds;
 }
 
 module _ {V O : Type 0} (saw : PlanParts → V → V → List Telling → Type 0) (beside : PlanParts → O → O → List Telling → Type 0) (first now : Beside V O) where

@@ -25,21 +25,21 @@ pub record IsUnopenedJobs (wanted : List Wanted) (old new : Option (List ℕ)) (
   pub unopened : IsUnopened wanted was now fault
   pub unwritten : new ≡ old
 
-module _ {B : Type 0} (answers : B → List Reply) (asked : Asked) (parts : SuiteParts) (jobs : List (ℕ × B)) where
+module _ {B : Type 0} (answers : B → List Reply) (gives : B → Reply → Type 0) (asked : Asked) (parts : SuiteParts) (jobs : List (ℕ × B)) where
   -- the history that is printed is recorded, each event with its text
   abbrev pub IsRecordedJobs : Times → (old new : Option (List ℕ)) → ExitStatus → Recorded → Type 0
-  IsRecordedJobs times old new status recorded = IsJobsRunWith answers asked parts jobs (λ p history texts. IsRecorded p (tellings_of texts history) recorded) times old new status
+  IsRecordedJobs times old new status recorded = IsJobsRunWith answers gives asked parts jobs (λ p history texts. IsRecorded p (tellings_of texts history) recorded) times old new status
 
   -- one history is printed, and each report is written of it
   abbrev pub IsReportedJobs : {F : Type 0} → (F → Option (List ℕ)) → Times → (old new : Option (List ℕ)) → ExitStatus → (was now : List (Report F)) → Type 0
   IsReportedJobs contents times old new status was now =
-      IsJobsRunWith answers asked parts jobs (λ p history texts. AreReportsOf contents asked.theme p history texts (times_asked asked.times times) was now) times old new status
+      IsJobsRunWith answers gives asked parts jobs (λ p history texts. AreReportsOf contents asked.theme p history texts (times_asked asked.times times) was now) times old new status
 
   -- one history is printed with these times, and each report that is kept is its form of it, with the same, if times are asked for, and
   -- else with none
   abbrev pub IsFiledJobs : List Wanted → Times → (old new : Option (List ℕ)) → ExitStatus → List Deed → Type 0
   IsFiledJobs wanted times old new status ends =
-      IsJobsRunWith answers asked parts jobs (λ p history texts. AreFiledOf asked.theme p history texts (times_asked asked.times times) wanted ends) times old new status
+      IsJobsRunWith answers gives asked parts jobs (λ p history texts. AreFiledOf asked.theme p history texts (times_asked asked.times times) wanted ends) times old new status
 
   -- in the end each report is filed of the history that is printed, if a plan is run
   abbrev pub FilesJobs : List Wanted → Times → (old new : Option (List ℕ)) → Result ExitStatus LaunchFault → List Deed → Type 0
@@ -47,18 +47,18 @@ module _ {B : Type 0} (answers : B → List Reply) (asked : Asked) (parts : Suit
 
   -- the files of these reports were opened, and what is asked for is run
   abbrev pub IsOpenedJobs : List Wanted → Times → (old new : Option (List ℕ)) → (was now : Option (List Deed)) → Result ExitStatus LaunchFault → Type 0
-  IsOpenedJobs wanted times old new = IsOpenedWith (RunsJobs answers asked parts jobs old new) (FilesJobs wanted times old new) wanted
+  IsOpenedJobs wanted times old new = IsOpenedWith (RunsJobs answers gives asked parts jobs old new) (FilesJobs wanted times old new) wanted
 
   -- a run with reports that are kept in files; what is printed has these times. Where none is asked for it is a run as any, and no file is
   -- touched.
   abbrev pub JobsFiled : List Wanted → Times → (old new : Option (List ℕ)) → (was now : Option (List Deed)) → Result ExitStatus LaunchFault → Type 0
-  JobsFiled [] times old new was now answer = RunsJobs answers asked parts jobs old new answer × Does was now []
+  JobsFiled [] times old new was now answer = RunsJobs answers gives asked parts jobs old new answer × Does was now []
   JobsFiled (w ∷ wanted) times old new was now answer = IsUnopenedJobs (w ∷ wanted) old new was now answer ⊎ IsOpenedJobs (w ∷ wanted) times old new was now answer
 
   -- of a run that was printed to its end, with these times: a list, if one is made, is of the plan that was run, and by the same times; and
   -- none is made where nothing is run
   pub record IsSlowestOfJobs (times : Times) (old new : Option (List ℕ)) (status : ExitStatus) (slowest : Option (List ℕ)) : Type 0 where
-    pub listed : is_run None asked.details ≡ true → IsJobsRunWith answers asked parts jobs (λ p history texts. IsSlowestIn asked.times times p slowest) times old new status
+    pub listed : is_run None asked.details ≡ true → IsJobsRunWith answers gives asked parts jobs (λ p history texts. IsSlowestIn asked.times times p slowest) times old new status
     pub unrun : is_run None asked.details ≡ false → slowest ≡ None
 
   -- What is asked for is run with these reports, and of a run that was not refused this list of the slowest tests is made: what is printed,

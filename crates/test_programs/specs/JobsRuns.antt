@@ -17,10 +17,10 @@ use Rattle.launcher.specs.Runs.{is_writing, plan_of, settings_in}
 use Rattle.launcher.specs.declared.exit_status.ExitStatus.{ExitStatus}
 
 -- of a program's tree and what it says of the configuration, and of its jobs, which may answer so
-module _ {B : Type 0} (answers : B → List Reply) (asked : Asked) (parts : SuiteParts) (jobs : List (ℕ × B)) where
+module _ {B : Type 0} (answers : B → List Reply) (gives : B → Reply → Type 0) (asked : Asked) (parts : SuiteParts) (jobs : List (ℕ × B)) where
   -- what is asked for is run with these jobs; and nothing is written on a refusal but that the writer failed
   pub record RunsJobs (old new : Option (List ℕ)) (result : Result ExitStatus LaunchFault) : Type 0 where
-    pub exact : IsProgramRun answers asked parts jobs old new result
+    pub exact : IsProgramRun answers gives asked parts jobs old new result
     pub quiet : IfErr result (λ fault. is_writing fault ≡ false → Keeps old new)
 
   -- What was selected was run, and all of this output, with these times, was written; and this holds of its plan, of the history of which
@@ -32,7 +32,7 @@ module _ {B : Type 0} (answers : B → List Reply) (asked : Asked) (parts : Suit
     pub texts : TextParts
     pub text : List ℕ
     pub told : ExitStatus
-    pub printed : IsPrintedJobs answers None asked settings (plan_of asked.fail_fast asked.tolerated settings (answer parts.tree asked.request)) jobs history texts times text told
+    pub printed : IsPrintedJobs answers gives None asked settings (plan_of asked.fail_fast asked.tolerated settings (answer parts.tree asked.request)) jobs history texts times text told
     pub exits : status ≡ status_unless (is_missing asked parts.tree) told
     pub written : Appends old new text
     pub holds : Holds (plan_of asked.fail_fast asked.tolerated settings (answer parts.tree asked.request)) history texts

@@ -18,7 +18,7 @@ use Rattle.word_files.specs.declared.facts.Facts.{Facts}
 use Rattle.test_programs.specs.FiledJobs.{IsTimedJobs}
 use Rattle.test_programs.specs.UnreportedWords.{ReadsUnreported}
 
-module _ {B W E : Type 0} (answers : B → List Reply) (contents : W → Option (List ℕ)) (said : E → Option (List ℕ)) (parts : SuiteParts) (jobs : List (ℕ × B)) where
+module _ {B W E : Type 0} (answers : B → List Reply) (gives : B → Reply → Type 0) (contents : W → Option (List ℕ)) (said : E → Option (List ℕ)) (parts : SuiteParts) (jobs : List (ℕ × B)) where
   -- What is asked for is run with these reports; what is told on the other writer meanwhile, which may be a terminal; and behind that what is
   -- said of the answer, as of that of a suite, and the list of the slowest tests, if times are asked for.
   pub record IsRunOfTests (is_terminal : Bool) (asked : Asked) (wanted : List Wanted) (old new : W) (first last : E) (was now : Option (List Deed)) (ending : Ending) : Type 0 where
@@ -26,7 +26,7 @@ module _ {B W E : Type 0} (answers : B → List Reply) (contents : W → Option 
     pub between : W
     pub slowest : Option (List ℕ)
     pub during : E
-    pub run : IsTimedJobs answers asked parts jobs wanted (contents old) (contents between) was now answer slowest
+    pub run : IsTimedJobs answers gives asked parts jobs wanted (contents old) (contents between) was now answer slowest
     pub tells : IsToldMeanwhile is_terminal (said first) (said during)
     pub closed : ClosesRun tests_sentence_of contents said answer slowest between new during last ending
 

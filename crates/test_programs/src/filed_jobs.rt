@@ -53,10 +53,10 @@ fn run_jobs_recorded<
     requires fresh { beside.old.other.now.recorded ≡ Recorded.Nothing }
     ensures same { beside.new.watcher.ghost_name ≡ beside.old.watcher.ghost_name }
     ensures watched { HasSeenSome V.saw beside.old.watcher.now beside.new.watcher.now }
-    ensures runs { RunsJobs B.answers (asked_by options.now) (program_parts program.tree program.properties)
+    ensures runs { RunsJobs B.answers B.gives (asked_by options.now) (program_parts program.tree program.properties)
         program.jobs.items (W.contents writer.old) (W.contents writer.new) result }
     ensures recorded { is_run None (asked_by options.now).details ≡ true → IfOk result
-        (λ status. IsRecordedJobs B.answers (asked_by options.now) (program_parts program.tree program.properties)
+        (λ status. IsRecordedJobs B.answers B.gives (asked_by options.now) (program_parts program.tree program.properties)
         program.jobs.items (times_of times.new.timings) (W.contents writer.old) (W.contents writer.new) status
         beside.new.other.now.recorded) }
     ensures unrecorded { is_run None (asked_by options.now).details ≡ false → IfOk result
@@ -89,16 +89,16 @@ fn run_jobs_reported<
     requires fresh { beside.old.other.now.recorded ≡ Recorded.Nothing }
     ensures same { beside.new.watcher.ghost_name ≡ beside.old.watcher.ghost_name }
     ensures watched { HasSeenSome V.saw beside.old.watcher.now beside.new.watcher.now }
-    ensures runs { RunsJobs B.answers (asked_by options.now) (program_parts program.tree program.properties)
+    ensures runs { RunsJobs B.answers B.gives (asked_by options.now) (program_parts program.tree program.properties)
         program.jobs.items (W.contents writer.old) (W.contents writer.new) result }
     ensures reported { is_run None (asked_by options.now).details ≡ true → IfOk result
-        (λ status. IsReportedJobs B.answers (asked_by options.now) (program_parts program.tree program.properties)
+        (λ status. IsReportedJobs B.answers B.gives (asked_by options.now) (program_parts program.tree program.properties)
         program.jobs.items F.contents (times_of times.new.timings) (W.contents writer.old) (W.contents writer.new)
         status reports.old reports.new) }
     ensures refused { IfErr result (λ _. reports.new ≡ reports.old) }
     ensures many { length reports.new ≡ length reports.old }
     ensures recorded { is_run None (asked_by options.now).details ≡ true → IfOk result
-        (λ status. IsRecordedJobs B.answers (asked_by options.now) (program_parts program.tree program.properties)
+        (λ status. IsRecordedJobs B.answers B.gives (asked_by options.now) (program_parts program.tree program.properties)
         program.jobs.items (times_of times.new.timings) (W.contents writer.old) (W.contents writer.new) status
         beside.new.other.now.recorded) }
     ensures unrecorded { is_run None (asked_by options.now).details ≡ false → IfOk result
@@ -152,15 +152,15 @@ fn run_jobs_listed<
     requires fresh { beside.old.other.now.recorded ≡ Recorded.Nothing }
     ensures same { beside.new.watcher.ghost_name ≡ beside.old.watcher.ghost_name }
     ensures watched { HasSeenSome V.saw beside.old.watcher.now beside.new.watcher.now }
-    ensures runs { RunsJobs B.answers (asked_by options.now) (program_parts program.tree program.properties)
+    ensures runs { RunsJobs B.answers B.gives (asked_by options.now) (program_parts program.tree program.properties)
         program.jobs.items (W.contents writer.old) (W.contents writer.new) result }
     ensures reported { is_run None (asked_by options.now).details ≡ true → IfOk result
-        (λ status. IsReportedJobs B.answers (asked_by options.now) (program_parts program.tree program.properties)
+        (λ status. IsReportedJobs B.answers B.gives (asked_by options.now) (program_parts program.tree program.properties)
         program.jobs.items F.contents (times_of times.new.timings) (W.contents writer.old) (W.contents writer.new)
         status reports.old reports.new) }
     ensures refused { IfErr result (λ _. reports.new ≡ reports.old) }
     ensures many { length reports.new ≡ length reports.old }
-    ensures slowest { IfOk result (λ status. IsSlowestOfJobs B.answers (asked_by options.now)
+    ensures slowest { IfOk result (λ status. IsSlowestOfJobs B.answers B.gives (asked_by options.now)
         (program_parts program.tree program.properties) program.jobs.items (times_of times.new.timings)
         (W.contents writer.old) (W.contents writer.new) status (option_map string_bytes slowest.new)) }
 {
@@ -201,15 +201,15 @@ fn run_jobs_beside<
         (run_of plan workers ring program.jobs.items) }
     requires all { HasJobs program.tree program.jobs.items }
     ensures watched { HasSeenSome V.saw watcher.old watcher.new }
-    ensures runs { RunsJobs B.answers (asked_by options.now) (program_parts program.tree program.properties)
+    ensures runs { RunsJobs B.answers B.gives (asked_by options.now) (program_parts program.tree program.properties)
         program.jobs.items (W.contents writer.old) (W.contents writer.new) result }
     ensures reported { is_run None (asked_by options.now).details ≡ true → IfOk result
-        (λ status. IsReportedJobs B.answers (asked_by options.now) (program_parts program.tree program.properties)
+        (λ status. IsReportedJobs B.answers B.gives (asked_by options.now) (program_parts program.tree program.properties)
         program.jobs.items F.contents (times_of times.new.timings) (W.contents writer.old) (W.contents writer.new)
         status reports.old reports.new) }
     ensures refused { IfErr result (λ _. reports.new ≡ reports.old) }
     ensures many { length reports.new ≡ length reports.old }
-    ensures slowest { IfOk result (λ status. IsSlowestOfJobs B.answers (asked_by options.now)
+    ensures slowest { IfOk result (λ status. IsSlowestOfJobs B.answers B.gives (asked_by options.now)
         (program_parts program.tree program.properties) program.jobs.items (times_of times.new.timings)
         (W.contents writer.old) (W.contents writer.new) status (option_map string_bytes slowest.new)) }
 {
@@ -257,11 +257,11 @@ fn run_jobs_opened<
     requires all { length reports.old ≡ length wanted.now }
     ensures filed { (before : Option (List Deed)) →
         Does before (K.deeds files.old) (openings (map parts_of wanted.now)) →
-        JobsFiled B.answers (asked_by options.now) (program_parts program.tree program.properties) program.jobs.items
+        JobsFiled B.answers B.gives (asked_by options.now) (program_parts program.tree program.properties) program.jobs.items
         (map parts_of wanted.now) (times_of times.new.timings) (W.contents writer.old) (W.contents writer.new) before
         (K.deeds files.new) result }
     ensures watched { HasSeenSome V.saw watcher.old watcher.new }
-    ensures slowest { IfOk result (λ status. IsSlowestOfJobs B.answers (asked_by options.now)
+    ensures slowest { IfOk result (λ status. IsSlowestOfJobs B.answers B.gives (asked_by options.now)
         (program_parts program.tree program.properties) program.jobs.items (times_of times.new.timings)
         (W.contents writer.old) (W.contents writer.new) status (option_map string_bytes slowest.new)) }
 {
@@ -337,12 +337,12 @@ pub(crate) fn run_jobs_filed<
     requires jobs { (plan : PlanParts) (workers ring : ℕ) → JobsMayAnswer B.answers
         (run_of plan workers ring program.jobs.items) }
     requires all { HasJobs program.tree program.jobs.items }
-    ensures filed { JobsFiled B.answers (asked_by options.now) (program_parts program.tree program.properties)
+    ensures filed { JobsFiled B.answers B.gives (asked_by options.now) (program_parts program.tree program.properties)
         program.jobs.items (map parts_of wanted.now) (times_of times.new.timings) (W.contents writer.old)
         (W.contents writer.new) (K.deeds files.old) (K.deeds files.new) result }
     ensures watched { HasSeenSome V.saw watcher.old watcher.new }
     // The list is of the plan that was run, by the same times.
-    ensures slowest { IfOk result (λ status. IsSlowestOfJobs B.answers (asked_by options.now)
+    ensures slowest { IfOk result (λ status. IsSlowestOfJobs B.answers B.gives (asked_by options.now)
         (program_parts program.tree program.properties) program.jobs.items (times_of times.new.timings)
         (W.contents writer.old) (W.contents writer.new) status (option_map string_bytes slowest.new)) }
 {

@@ -56,7 +56,7 @@ fn run_jobs_named<
     requires all { HasJobs program.tree program.jobs.items }
     ensures same { lines.new.errors.ghost_name ≡ lines.old.errors.ghost_name }
     ensures names { AreNamedBehind (E.contents lines.old.errors.now) (E.contents lines.new.errors.now) }
-    ensures runs { IsTimedJobs B.answers (asked_by launch.now.options) (program_parts program.tree program.properties)
+    ensures runs { IsTimedJobs B.answers B.gives (asked_by launch.now.options) (program_parts program.tree program.properties)
         program.jobs.items (map parts_of launch.now.reports.items) (W.contents writer.old) (W.contents writer.new)
         (K.deeds files.old) (K.deeds files.new) result (option_map string_bytes slowest.new) }
 {
@@ -93,7 +93,7 @@ fn run_jobs_quiet<
         (run_of plan workers ring program.jobs.items) }
     requires all { HasJobs program.tree program.jobs.items }
     ensures names { AreNamedBehind (E.contents errors.old) (E.contents errors.new) }
-    ensures runs { IsTimedJobs B.answers (asked_by launch.now.options) (program_parts program.tree program.properties)
+    ensures runs { IsTimedJobs B.answers B.gives (asked_by launch.now.options) (program_parts program.tree program.properties)
         program.jobs.items (map parts_of launch.now.reports.items) (W.contents writer.old) (W.contents writer.new)
         (K.deeds files.old) (K.deeds files.new) result (option_map string_bytes slowest.new) }
 {
@@ -133,7 +133,7 @@ fn run_jobs_followed<
     requires all { HasJobs program.tree program.jobs.items }
     ensures same { progress.new.terminal.ghost_name ≡ progress.old.terminal.ghost_name }
     ensures draws { IsDrawnBehind (E.contents progress.old.terminal.now) (E.contents progress.new.terminal.now) }
-    ensures runs { IsTimedJobs B.answers (asked_by launch.now.options) (program_parts program.tree program.properties)
+    ensures runs { IsTimedJobs B.answers B.gives (asked_by launch.now.options) (program_parts program.tree program.properties)
         program.jobs.items (map parts_of launch.now.reports.items) (W.contents writer.old) (W.contents writer.new)
         (K.deeds files.old) (K.deeds files.new) result (option_map string_bytes slowest.new) }
 {
@@ -170,7 +170,7 @@ fn run_jobs_drawn<
         (run_of plan workers ring program.jobs.items) }
     requires all { HasJobs program.tree program.jobs.items }
     ensures draws { IsDrawnBehind (E.contents errors.old) (E.contents errors.new) }
-    ensures runs { IsTimedJobs B.answers (asked_by launch.now.options) (program_parts program.tree program.properties)
+    ensures runs { IsTimedJobs B.answers B.gives (asked_by launch.now.options) (program_parts program.tree program.properties)
         program.jobs.items (map parts_of launch.now.reports.items) (W.contents writer.old) (W.contents writer.new)
         (K.deeds files.old) (K.deeds files.new) result (option_map string_bytes slowest.new) }
 {
@@ -233,7 +233,7 @@ pub(crate) fn run_jobs_meanwhile<
         (run_of plan workers ring program.jobs.items) }
     requires all { HasJobs program.tree program.jobs.items }
     ensures tells { IsToldMeanwhile is_terminal (E.contents errors.old) (E.contents errors.new) }
-    ensures runs { IsTimedJobs B.answers (asked_by launch.now.options) (program_parts program.tree program.properties)
+    ensures runs { IsTimedJobs B.answers B.gives (asked_by launch.now.options) (program_parts program.tree program.properties)
         program.jobs.items (map parts_of launch.now.reports.items) (W.contents writer.old) (W.contents writer.new)
         (K.deeds files.old) (K.deeds files.new) result (option_map string_bytes slowest.new) }
 {

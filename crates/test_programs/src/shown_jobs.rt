@@ -47,7 +47,7 @@ fn run_jobs_paired<
     requires all { HasJobs program.tree program.jobs.items }
     ensures same { pair.new.watcher.ghost_name ≡ pair.old.watcher.ghost_name }
     ensures watched { HasSeenSome D.saw pair.old.watcher.now pair.new.watcher.now }
-    ensures runs { IsTimedJobs B.answers (asked_by launch.now.options) (program_parts program.tree program.properties)
+    ensures runs { IsTimedJobs B.answers B.gives (asked_by launch.now.options) (program_parts program.tree program.properties)
         program.jobs.items (map parts_of launch.now.reports.items) (W.contents writer.old) (W.contents writer.new)
         (K.deeds files.old) (K.deeds files.new) result (option_map string_bytes slowest.new) }
 {
@@ -91,7 +91,7 @@ pub(crate) fn run_jobs_shown<
         (run_of plan workers ring program.jobs.items) }
     requires all { HasJobs program.tree program.jobs.items }
     ensures watched { HasSeenSome D.saw watcher.old watcher.new }
-    ensures runs { IsTimedJobs B.answers (asked_by launch.now.options) (program_parts program.tree program.properties)
+    ensures runs { IsTimedJobs B.answers B.gives (asked_by launch.now.options) (program_parts program.tree program.properties)
         program.jobs.items (map parts_of launch.now.reports.items) (W.contents writer.old) (W.contents writer.new)
         (K.deeds files.old) (K.deeds files.new) result (option_map string_bytes slowest.new) }
 {

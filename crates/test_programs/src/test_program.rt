@@ -60,7 +60,7 @@ fn run_launch<
     requires jobs { (plan : PlanParts) (workers ring : ℕ) → JobsMayAnswer B.answers
         (run_of plan workers ring program.jobs.items) }
     requires all { HasJobs program.tree program.jobs.items }
-    ensures { IsRunOfTests B.answers W.contents E.contents (program_parts program.tree program.properties)
+    ensures { IsRunOfTests B.answers B.gives W.contents E.contents (program_parts program.tree program.properties)
         program.jobs.items is_terminal (asked_by launch.entry.options) (map parts_of launch.entry.reports.items)
         writer.old writer.new errors.old errors.new (K.deeds files.old) (K.deeds files.new) result }
 {
@@ -120,7 +120,7 @@ pub fn run_test_words<
     requires jobs { (plan : PlanParts) (workers ring : ℕ) → JobsMayAnswer B.answers
         (run_of plan workers ring program.jobs.items) }
     requires all { HasJobs program.tree program.jobs.items }
-    ensures { IsTestRun B.answers W.contents E.contents (program_parts program.tree program.properties)
+    ensures { IsTestRun B.answers B.gives W.contents E.contents (program_parts program.tree program.properties)
         program.jobs.items is_terminal (map string_bytes words.now) writer.old writer.new errors.old errors.new
         result }
 {
@@ -169,7 +169,7 @@ pub fn run_test_program<
     requires jobs { (plan : PlanParts) (workers ring : ℕ) → JobsMayAnswer B.answers
         (run_of plan workers ring program.jobs.items) }
     requires all { HasJobs program.tree program.jobs.items }
-    ensures run { IfOk words (λ given. IsTestRun B.answers W.contents E.contents (program_parts program.tree
+    ensures run { IfOk words (λ given. IsTestRun B.answers B.gives W.contents E.contents (program_parts program.tree
         program.properties) program.jobs.items is_terminal (map string_bytes (into_iter_items given)) writer.old
         writer.new errors.old errors.new result) }
     ensures refused { IfErr words (λ error. (fault : LaunchFault) × IsGivenFault (error_kind error) fault
@@ -220,7 +220,7 @@ fn run_filed_words<
     requires jobs { (plan : PlanParts) (workers ring : ℕ) → JobsMayAnswer B.answers
         (run_of plan workers ring program.jobs.items) }
     requires all { HasJobs program.tree program.jobs.items }
-    ensures { IsFiledTestRun B.answers W.contents E.contents (program_parts program.tree program.properties)
+    ensures { IsFiledTestRun B.answers B.gives W.contents E.contents (program_parts program.tree program.properties)
         program.jobs.items K.deeds is_terminal (map string_bytes words.now) writer.old writer.new errors.old errors.new
         files.old files.new result }
 {
@@ -274,7 +274,7 @@ fn run_given_tests<
     requires jobs { (plan : PlanParts) (workers ring : ℕ) → JobsMayAnswer B.answers
         (run_of plan workers ring program.jobs.items) }
     requires all { HasJobs program.tree program.jobs.items }
-    ensures { IsTestMainRun B.answers W.contents E.contents (program_parts program.tree program.properties)
+    ensures { IsTestMainRun B.answers B.gives W.contents E.contents (program_parts program.tree program.properties)
         program.jobs.items K.deeds is_terminal facts.now (map string_bytes words.now) writer.old writer.new errors.old
         errors.new files.old files.new result }
 {
@@ -329,7 +329,7 @@ pub fn run_test_main<
     requires jobs { (plan : PlanParts) (workers ring : ℕ) → JobsMayAnswer B.answers
         (run_of plan workers ring program.jobs.items) }
     requires all { HasJobs program.tree program.jobs.items }
-    ensures run { IfOk words (λ given. IsTestMainRun B.answers W.contents E.contents (program_parts program.tree
+    ensures run { IfOk words (λ given. IsTestMainRun B.answers B.gives W.contents E.contents (program_parts program.tree
         program.properties) program.jobs.items K.deeds is_terminal facts.now (map string_bytes (into_iter_items given))
         writer.old writer.new errors.old errors.new files.old files.new result) }
     ensures refused { IfErr words (λ error. (fault : LaunchFault) × IsGivenFault (error_kind error) fault

@@ -17,6 +17,10 @@ fails_by false = failing ∷ []
 abbrev pub fails : Failing → List Reply
 fails job = fails_by job.is_done
 
+-- what it gives is that it fails
+abbrev pub gives_failing : Failing → Reply → Type 0
+gives_failing job reply = reply.outcome ≡ failing.outcome
+
 module _ {B : Type 0} (answers : B → List Reply) where
   -- each of these jobs, with the number of its body, may still pass, or may still fail
   abbrev pub AllEnd : List (ℕ × B) → Type 0

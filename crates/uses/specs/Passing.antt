@@ -16,6 +16,10 @@ replies_by false = passing ∷ []
 abbrev pub passes : Passing → List Reply
 passes job = replies_by job.is_done
 
+-- what it gives is that it passes
+abbrev pub gives_passing : Passing → Reply → Type 0
+gives_passing job reply = reply.outcome ≡ passing.outcome
+
 -- each of these jobs, with the number of its body, may still pass
 abbrev pub AllPass : List (ℕ × Passing) → Type 0
 AllPass [] = Unit {0}

@@ -21,14 +21,14 @@ returns-in_err-finish-in-Ok-clause-exact g c =
     let seen = c.shown_program.new.live.watcher.now in
     let noted = times_of c.shown_program.new.live.feed.timings.now in
     let settings = c.args.settings.now in
-    let Prints = IsSeenProgram g.B.Job.answers None saw first seen noted asked settings c.args.plan c.args.jobs.items in
+    let Prints = IsSeenProgram g.B.Job.answers g.B.Job.gives None saw first seen noted asked settings c.args.plan c.args.jobs.items in
     let Fails = λ (fault : LaunchFault). LacksBy (is_run None asked.details) fault × SeesRefusal first seen Prints fault in
     let report = c.in-Ok.report in
     let new = contents c.finish.new.self.feed.writer.now in
     let part = subst (λ w. Appends (contents w) (contents c.shown_program.new.live.feed.writer.now) (take c.shown_program.new.live.feed.sent c.as_bytes.result.now)) c.new-feed.ensures.writer
     (subst (λ (xs : List ℕ). Appends (contents c.new-feed.result.writer.now) (contents c.shown_program.new.live.feed.writer.now) (take c.shown_program.new.live.feed.sent xs)) (sym c.as_bytes.ensures.value) c.in-Ok.ensures.front.printed) in
     let sent = c.in_err-finish-in-Ok.ensures.whole old part in
-    all_carried {a = new} {c = seen} {e = noted} (search rules) (search rules) (search rules) (λ new now times. IsSeenPlanRun g.B.Job.answers None saw first now times asked settings c.args.plan c.args.jobs.items old new c.from_residual.result)
+    all_carried {a = new} {c = seen} {e = noted} (search rules) (search rules) (search rules) (λ new now times. IsSeenPlanRun g.B.Job.answers g.B.Job.gives None saw first now times asked settings c.args.plan c.args.jobs.items old new c.from_residual.result)
     (cut_short asked Prints Fails old new c.as_bytes.result.now report.status c.in_err-finish-in-Ok.field-0.0 c.from_residual.result c.from_residual.ensures.1 (subst (λ (xs : List ℕ). Prints xs report.status) (sym c.as_bytes.ensures.value) c.in-Ok.ensures.output) sent)
 
 pub returns-in_ok-finish-in-Ok-clause-exact : goal.returns-in_ok-finish-in-Ok-clause-exact
@@ -41,14 +41,14 @@ returns-in_ok-finish-in-Ok-clause-exact g c =
     let seen = c.shown_program.new.live.watcher.now in
     let noted = times_of c.shown_program.new.live.feed.timings.now in
     let settings = c.args.settings.now in
-    let Prints = IsSeenProgram g.B.Job.answers None saw first seen noted asked settings c.args.plan c.args.jobs.items in
+    let Prints = IsSeenProgram g.B.Job.answers g.B.Job.gives None saw first seen noted asked settings c.args.plan c.args.jobs.items in
     let Fails = λ (fault : LaunchFault). LacksBy (is_run None asked.details) fault × SeesRefusal first seen Prints fault in
     let report = c.in-Ok.report in
     let new = contents c.finish.new.self.feed.writer.now in
     let part = subst (λ w. Appends (contents w) (contents c.shown_program.new.live.feed.writer.now) (take c.shown_program.new.live.feed.sent c.as_bytes.result.now)) c.new-feed.ensures.writer
     (subst (λ (xs : List ℕ). Appends (contents c.new-feed.result.writer.now) (contents c.shown_program.new.live.feed.writer.now) (take c.shown_program.new.live.feed.sent xs)) (sym c.as_bytes.ensures.value) c.in-Ok.ensures.front.printed) in
     let sent = c.in_ok-finish-in-Ok.ensures.whole old part in
-    all_carried {a = new} {c = seen} {e = noted} (search rules) (search rules) (search rules) (λ new now times. IsAllOf (IsSeenProgram g.B.Job.answers None saw first now times asked settings c.args.plan c.args.jobs.items) old new report.status)
+    all_carried {a = new} {c = seen} {e = noted} (search rules) (search rules) (search rules) (λ new now times. IsAllOf (IsSeenProgram g.B.Job.answers g.B.Job.gives None saw first now times asked settings c.args.plan c.args.jobs.items) old new report.status)
     (whole asked Prints Fails old new c.as_bytes.result.now report.status (subst (λ (xs : List ℕ). Prints xs report.status) (sym c.as_bytes.ensures.value) c.in-Ok.ensures.output) sent)
 
 pub returns-in-Err-clause-exact : goal.returns-in-Err-clause-exact
@@ -61,12 +61,12 @@ returns-in-Err-clause-exact g c =
     let seen = c.shown_program.new.live.watcher.now in
     let noted = times_of c.shown_program.new.live.feed.timings.now in
     let settings = c.args.settings.now in
-    let Prints = IsSeenProgram g.B.Job.answers None saw first seen noted asked settings c.args.plan c.args.jobs.items in
+    let Prints = IsSeenProgram g.B.Job.answers g.B.Job.gives None saw first seen noted asked settings c.args.plan c.args.jobs.items in
     let Fails = λ (fault : LaunchFault). LacksBy (is_run None asked.details) fault × SeesRefusal first seen Prints fault in
     let new = contents c.shown_program.new.live.feed.writer.now in
     let off = subst (λ w. IsBrokenOff asked Prints c.shown_program.new.live.feed.outlet (contents w) new c.shown_program.new.live.feed.sent) c.new-feed.ensures.writer c.in-Err.ensures.broken_off in
     let at = subst (λ (o : Outlet). IsBrokenOff asked Prints o old new c.sent.result) (sym c.outlet.ensures) (subst (λ (n : ℕ). IsBrokenOff asked Prints c.shown_program.new.live.feed.outlet old new n) (sym c.sent.ensures) off) in
-    all_carried {a = new} {c = seen} {e = noted} (search rules) (search rules) (search rules) (λ new now times. IsSeenPlanRun g.B.Job.answers None saw first now times asked settings c.args.plan c.args.jobs.items old new (Err c.broken_off.result))
+    all_carried {a = new} {c = seen} {e = noted} (search rules) (search rules) (search rules) (λ new now times. IsSeenPlanRun g.B.Job.answers g.B.Job.gives None saw first now times asked settings c.args.plan c.args.jobs.items old new (Err c.broken_off.result))
     (broken asked Prints Fails old new c.in-Err.fault c.broken_off.result (uncut_by (is_run None asked.details) c.in-Err.fault c.in-Err.ensures.refused) (c.in-Err.ensures.refused, c.in-Err.ensures.seen) c.outlet.result c.sent.result at c.broken_off.ensures.failed c.broken_off.ensures.some
     c.broken_off.ensures.none)
 
@@ -80,7 +80,7 @@ returns-in-Err-clause-quiet g c other =
     let seen = c.shown_program.new.live.watcher.now in
     let noted = times_of c.shown_program.new.live.feed.timings.now in
     let settings = c.args.settings.now in
-    let Prints = IsSeenProgram g.B.Job.answers None saw first seen noted asked settings c.args.plan c.args.jobs.items in
+    let Prints = IsSeenProgram g.B.Job.answers g.B.Job.gives None saw first seen noted asked settings c.args.plan c.args.jobs.items in
     let Fails = λ (fault : LaunchFault). LacksBy (is_run None asked.details) fault × SeesRefusal first seen Prints fault in
     let new = contents c.shown_program.new.live.feed.writer.now in
     let off = subst (λ w. IsBrokenOff asked Prints c.shown_program.new.live.feed.outlet (contents w) new c.shown_program.new.live.feed.sent) c.new-feed.ensures.writer c.in-Err.ensures.broken_off in

@@ -14,8 +14,9 @@ returns-clause-same g c =
     let p = c.args.plan in
     let jobs = c.args.jobs.items in
     let answers = g.B.Job.answers in
-    still_same g.W.Write.contents g.V.Watcher.saw asked settings p (IsPrintedJobs answers None asked settings p jobs) (IsProgramOutput answers None asked.details asked settings p jobs) (is_run None asked.details) (program_output_of answers None asked settings p jobs)
-    (jobs_text_of answers None asked settings p jobs) (jobs_feed_runs asked) c.args.live.now c.program_report.new.watcher c.requires.head c.requires.form c.requires.outlet c.requires.timed c.requires.none c.program_report.result c.program_report.ensures.watched
+    let gives = g.B.Job.gives in
+    still_same g.W.Write.contents g.V.Watcher.saw asked settings p (IsPrintedJobs answers gives None asked settings p jobs) (IsProgramOutput answers gives None asked.details asked settings p jobs) (is_run None asked.details) (program_output_of answers gives None asked settings p jobs)
+    (jobs_text_of answers gives None asked settings p jobs) (jobs_feed_runs asked) c.args.live.now c.program_report.new.watcher c.requires.head c.requires.form c.requires.outlet c.requires.timed c.requires.none c.program_report.result c.program_report.ensures.watched
 
 pub returns-clause-same_timings : goal.returns-clause-same_timings
 returns-clause-same_timings g c =
@@ -24,8 +25,9 @@ returns-clause-same_timings g c =
     let p = c.args.plan in
     let jobs = c.args.jobs.items in
     let answers = g.B.Job.answers in
-    same_timings g.W.Write.contents g.V.Watcher.saw asked settings p (IsPrintedJobs answers None asked settings p jobs) (IsProgramOutput answers None asked.details asked settings p jobs) (is_run None asked.details) (program_output_of answers None asked settings p jobs)
-    (jobs_text_of answers None asked settings p jobs) (jobs_feed_runs asked) c.args.live.now c.program_report.new.watcher c.requires.head c.requires.form c.requires.outlet c.requires.timed c.requires.none c.program_report.result c.program_report.ensures.watched
+    let gives = g.B.Job.gives in
+    same_timings g.W.Write.contents g.V.Watcher.saw asked settings p (IsPrintedJobs answers gives None asked settings p jobs) (IsProgramOutput answers gives None asked.details asked settings p jobs) (is_run None asked.details) (program_output_of answers gives None asked settings p jobs)
+    (jobs_text_of answers gives None asked settings p jobs) (jobs_feed_runs asked) c.args.live.now c.program_report.new.watcher c.requires.head c.requires.form c.requires.outlet c.requires.timed c.requires.none c.program_report.result c.program_report.ensures.watched
 
 pub returns-clause-same_watcher : goal.returns-clause-same_watcher
 returns-clause-same_watcher g c =
@@ -34,8 +36,9 @@ returns-clause-same_watcher g c =
     let p = c.args.plan in
     let jobs = c.args.jobs.items in
     let answers = g.B.Job.answers in
-    same_watcher g.W.Write.contents g.V.Watcher.saw asked settings p (IsPrintedJobs answers None asked settings p jobs) (IsProgramOutput answers None asked.details asked settings p jobs) (is_run None asked.details) (program_output_of answers None asked settings p jobs)
-    (jobs_text_of answers None asked settings p jobs) (jobs_feed_runs asked) c.args.live.now c.program_report.new.watcher c.requires.head c.requires.form c.requires.outlet c.requires.timed c.requires.none c.program_report.result c.program_report.ensures.watched
+    let gives = g.B.Job.gives in
+    same_watcher g.W.Write.contents g.V.Watcher.saw asked settings p (IsPrintedJobs answers gives None asked settings p jobs) (IsProgramOutput answers gives None asked.details asked settings p jobs) (is_run None asked.details) (program_output_of answers gives None asked settings p jobs)
+    (jobs_text_of answers gives None asked settings p jobs) (jobs_feed_runs asked) c.args.live.now c.program_report.new.watcher c.requires.head c.requires.form c.requires.outlet c.requires.timed c.requires.none c.program_report.result c.program_report.ensures.watched
 
 pub returns-clause-output : goal.returns-clause-output
 returns-clause-output g c =
@@ -44,8 +47,9 @@ returns-clause-output g c =
     let p = c.args.plan in
     let jobs = c.args.jobs.items in
     let answers = g.B.Job.answers in
-    shown_output g.W.Write.contents g.V.Watcher.saw asked settings p (IsPrintedJobs answers None asked settings p jobs) (IsProgramOutput answers None asked.details asked settings p jobs) (is_run None asked.details) (program_output_of answers None asked settings p jobs)
-    (jobs_text_of answers None asked settings p jobs) (jobs_feed_runs asked) c.args.live.now c.program_report.new.watcher c.requires.head c.requires.form c.requires.outlet c.requires.timed c.requires.none c.program_report.result c.program_report.ensures.watched c.program_report.ensures.output
+    let gives = g.B.Job.gives in
+    shown_output g.W.Write.contents g.V.Watcher.saw asked settings p (IsPrintedJobs answers gives None asked settings p jobs) (IsProgramOutput answers gives None asked.details asked settings p jobs) (is_run None asked.details) (program_output_of answers gives None asked settings p jobs)
+    (jobs_text_of answers gives None asked settings p jobs) (jobs_feed_runs asked) c.args.live.now c.program_report.new.watcher c.requires.head c.requires.form c.requires.outlet c.requires.timed c.requires.none c.program_report.result c.program_report.ensures.watched c.program_report.ensures.output
 
 pub returns-clause-front : goal.returns-clause-front
 returns-clause-front g c =
@@ -54,8 +58,9 @@ returns-clause-front g c =
     let p = c.args.plan in
     let jobs = c.args.jobs.items in
     let answers = g.B.Job.answers in
-    shown_front g.W.Write.contents g.V.Watcher.saw asked settings p (IsPrintedJobs answers None asked settings p jobs) (IsProgramOutput answers None asked.details asked settings p jobs) (is_run None asked.details) (program_output_of answers None asked settings p jobs)
-    (jobs_text_of answers None asked settings p jobs) (jobs_feed_runs asked) c.args.live.now c.program_report.new.watcher c.requires.head c.requires.form c.requires.outlet c.requires.timed c.requires.none c.program_report.result c.program_report.ensures.watched
+    let gives = g.B.Job.gives in
+    shown_front g.W.Write.contents g.V.Watcher.saw asked settings p (IsPrintedJobs answers gives None asked settings p jobs) (IsProgramOutput answers gives None asked.details asked settings p jobs) (is_run None asked.details) (program_output_of answers gives None asked settings p jobs)
+    (jobs_text_of answers gives None asked settings p jobs) (jobs_feed_runs asked) c.args.live.now c.program_report.new.watcher c.requires.head c.requires.form c.requires.outlet c.requires.timed c.requires.none c.program_report.result c.program_report.ensures.watched
 
 pub returns-clause-seen : goal.returns-clause-seen
 returns-clause-seen g c =
@@ -64,8 +69,9 @@ returns-clause-seen g c =
     let p = c.args.plan in
     let jobs = c.args.jobs.items in
     let answers = g.B.Job.answers in
-    shown_refusal g.W.Write.contents g.V.Watcher.saw asked settings p (IsPrintedJobs answers None asked settings p jobs) (IsProgramOutput answers None asked.details asked settings p jobs) (is_run None asked.details) (program_output_of answers None asked settings p jobs)
-    (jobs_text_of answers None asked settings p jobs) (jobs_feed_runs asked) c.args.live.now c.program_report.new.watcher c.requires.head c.requires.form c.requires.outlet c.requires.timed c.requires.none c.program_report.result c.program_report.ensures.watched
+    let gives = g.B.Job.gives in
+    shown_refusal g.W.Write.contents g.V.Watcher.saw asked settings p (IsPrintedJobs answers gives None asked settings p jobs) (IsProgramOutput answers gives None asked.details asked settings p jobs) (is_run None asked.details) (program_output_of answers gives None asked settings p jobs)
+    (jobs_text_of answers gives None asked settings p jobs) (jobs_feed_runs asked) c.args.live.now c.program_report.new.watcher c.requires.head c.requires.form c.requires.outlet c.requires.timed c.requires.none c.program_report.result c.program_report.ensures.watched
 
 pub returns-clause-broken_off : goal.returns-clause-broken_off
 returns-clause-broken_off g c =
@@ -74,5 +80,6 @@ returns-clause-broken_off g c =
     let p = c.args.plan in
     let jobs = c.args.jobs.items in
     let answers = g.B.Job.answers in
-    shown_broken g.W.Write.contents g.V.Watcher.saw asked settings p (IsPrintedJobs answers None asked settings p jobs) (IsProgramOutput answers None asked.details asked settings p jobs) (is_run None asked.details) (program_output_of answers None asked settings p jobs)
-    (jobs_text_of answers None asked settings p jobs) (jobs_feed_runs asked) c.args.live.now c.program_report.new.watcher c.requires.head c.requires.form c.requires.outlet c.requires.timed c.requires.none c.program_report.result c.program_report.ensures.watched
+    let gives = g.B.Job.gives in
+    shown_broken g.W.Write.contents g.V.Watcher.saw asked settings p (IsPrintedJobs answers gives None asked settings p jobs) (IsProgramOutput answers gives None asked.details asked settings p jobs) (is_run None asked.details) (program_output_of answers gives None asked settings p jobs)
+    (jobs_text_of answers gives None asked settings p jobs) (jobs_feed_runs asked) c.args.live.now c.program_report.new.watcher c.requires.head c.requires.form c.requires.outlet c.requires.timed c.requires.none c.program_report.result c.program_report.ensures.watched

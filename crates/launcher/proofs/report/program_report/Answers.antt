@@ -13,10 +13,11 @@ returns-in-None g c =
     let plan = c.args.plan in
     let asked = asked_by options in
     let answers = g.B.Job.answers in
+    let gives = g.B.Job.gives in
     let run : is_run None options.details ≡ true = runs options.details c.in-None.is in
-    let Prints = IsPrintedJobs answers None asked settings plan c.args.jobs.items in
+    let Prints = IsPrintedJobs answers gives None asked settings plan c.args.jobs.items in
     record {
-      output = program_shown answers None asked settings plan c.args.jobs.items options.details c.ran_report.result c.in-None.is c.ran_report.ensures.output;
+      output = program_shown answers gives None asked settings plan c.args.jobs.items options.details c.ran_report.result c.in-None.is c.ran_report.ensures.output;
       watched = subst (λ (b : Bool). WatchesBy g.V.Watcher.saw Prints plan c.args.watcher.now c.ran_report.new.watcher (g.V.NotesTimes.noted c.ran_report.new.watcher) b c.ran_report.result) (sym run) c.ran_report.ensures.watched;
       refused = subst (λ (b : Bool). IfErr c.ran_report.result (LacksBy b)) (sym run) c.ran_report.ensures.refused;
     }

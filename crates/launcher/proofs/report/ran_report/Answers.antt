@@ -27,7 +27,7 @@ returns-in-Ok-run_timed-clause-output g c =
       history = events;
       texts = over.texts;
       times = times;
-      prints = printed_jobs g.B.Job.answers asked settings c.args.plan c.requires.tree c.requires.guarded c.args.jobs.items events over.texts q.report q.texts _ over.unused_jobs.items q.balanced times made.text.0
+      prints = printed_jobs g.B.Job.answers g.B.Job.gives asked settings c.args.plan c.requires.tree c.requires.guarded c.args.jobs.items events over.texts q.report q.texts q.given _ over.unused_jobs.items q.balanced times made.text.0
           (string_bytes report.text) report.status (moved_behind _ asked.details asked.schedule settings.workers events over.texts made.text.0 q.plan made.text.1)
           (subst (λ (p : PlanParts). string_bytes report.text ≡ head_of asked.details settings.warnings ++ (details_of asked.details asked.theme p over.texts (times_asked asked.times times) events ++ made.text.0)) q.plan made.text.2)
           (subst (λ (p : PlanParts). report.status ≡ status_of_run asked.fail_if_no_tests (tests_found p events) (has_failed p events)) q.plan made.status);
@@ -46,7 +46,7 @@ returns-in-Ok-run_timed-clause-watched g c =
     record {
       history = events;
       texts = over.texts;
-      prints = printed_jobs g.B.Job.answers asked settings c.args.plan c.requires.tree c.requires.guarded c.args.jobs.items events over.texts q.report q.texts _ over.unused_jobs.items q.balanced times made.text.0
+      prints = printed_jobs g.B.Job.answers g.B.Job.gives asked settings c.args.plan c.requires.tree c.requires.guarded c.args.jobs.items events over.texts q.report q.texts q.given _ over.unused_jobs.items q.balanced times made.text.0
           (string_bytes report.text) report.status (moved_behind _ asked.details asked.schedule settings.workers events over.texts made.text.0 q.plan made.text.1)
           (subst (λ (p : PlanParts). string_bytes report.text ≡ head_of asked.details settings.warnings ++ (details_of asked.details asked.theme p over.texts (times_asked asked.times times) events ++ made.text.0)) q.plan made.text.2)
           (subst (λ (p : PlanParts). report.status ≡ status_of_run asked.fail_if_no_tests (tests_found p events) (has_failed p events)) q.plan made.status);
@@ -61,8 +61,8 @@ returns-in_err-output_of-in-Ok-run_timed-clause-watched g c =
     let events = over.events.items in
     let times = g.V.NotesTimes.noted c.run_timed.new.watcher in
     let q = c.in-Ok-run_timed.ensures in
-    watches_in_vain g.V.Watcher.saw c.args.watcher.now c.run_timed.new.watcher times (IsPrintedJobs g.B.Job.answers _ asked settings c.args.plan c.args.jobs.items) c.args.plan _ c.from_residual.ensures.1
-    (jobs_in_vain g.B.Job.answers asked settings c.args.plan c.requires.tree c.requires.guarded c.args.jobs.items events over.texts q.report q.texts g.V.Watcher.saw c.args.watcher.now c.run_timed.new.watcher times q.seen over.unused_jobs.items q.balanced _)
+    watches_in_vain g.V.Watcher.saw c.args.watcher.now c.run_timed.new.watcher times (IsPrintedJobs g.B.Job.answers g.B.Job.gives _ asked settings c.args.plan c.args.jobs.items) c.args.plan _ c.from_residual.ensures.1
+    (jobs_in_vain g.B.Job.answers g.B.Job.gives asked settings c.args.plan c.requires.tree c.requires.guarded c.args.jobs.items events over.texts q.report q.texts q.given g.V.Watcher.saw c.args.watcher.now c.run_timed.new.watcher times q.seen over.unused_jobs.items q.balanced _)
 
 pub unrun-requires : goal.unrun-requires
 unrun-requires g c =

@@ -10,5 +10,5 @@ use Rattle.test_programs.proofs.filed_jobs.run_jobs_listed.Goals as goal
 pub returns-clause-slowest : goal.returns-clause-slowest
 returns-clause-slowest g c =
     let run = c.run_jobs_reported-answer in
-    jobs_listed g.B.Job.answers (asked_by c.args.options.now) (program_parts c.args.program.tree c.args.program.properties) c.args.program.jobs.items (times_of run.new.times.timings) (g.W.Write.contents c.args.writer.now) (g.W.Write.contents run.new.writer) run.new.beside.other.now.recorded (option_map string_bytes c.slowest_in.result)
+    jobs_listed g.B.Job.answers g.B.Job.gives (asked_by c.args.options.now) (program_parts c.args.program.tree c.args.program.properties) c.args.program.jobs.items (times_of run.new.times.timings) (g.W.Write.contents c.args.writer.now) (g.W.Write.contents run.new.writer) run.new.beside.other.now.recorded (option_map string_bytes c.slowest_in.result)
     run.result run.ensures.recorded run.ensures.unrecorded c.slowest_in.ensures

@@ -8,5 +8,5 @@ use Rattle.test_programs.proofs.filed_jobs.run_jobs_reported.Goals as goal
 pub returns-in-Ok-clause-reported : goal.returns-in-Ok-clause-reported
 returns-in-Ok-clause-reported g c runs =
     let run = c.run_jobs_recorded.new in
-    jobs_reported g.B.Job.answers (asked_by c.args.options.now) (program_parts c.args.program.tree c.args.program.properties) c.args.program.jobs.items (times_of run.times.timings) (g.W.Write.contents c.args.writer.now) (g.W.Write.contents run.writer) g.F.Write.contents c.in-Ok.status run.beside.other.now.recorded c.args.reports.now
+    jobs_reported g.B.Job.answers g.B.Job.gives (asked_by c.args.options.now) (program_parts c.args.program.tree c.args.program.properties) c.args.program.jobs.items (times_of run.times.timings) (g.W.Write.contents c.args.writer.now) (g.W.Write.contents run.writer) g.F.Write.contents c.in-Ok.status run.beside.other.now.recorded c.args.reports.now
     c.write_reports.new.reports c.write_reports.ensures.recorded (c.in-Ok.ensures.recorded runs)

@@ -20,7 +20,7 @@ returns-clause-runs g c =
     record {
       times = times_of run.new.times.timings;
       filed =
-          subst (λ reports. JobsFiled g.B.Job.answers (asked_by c.args.launch.now.options) (program_parts c.args.program.tree c.args.program.properties) c.args.program.jobs.items (map parts_of reports) (times_of run.new.times.timings) (g.W.Write.contents c.args.writer.now) (g.W.Write.contents run.new.writer)
+          subst (λ reports. JobsFiled g.B.Job.answers g.B.Job.gives (asked_by c.args.launch.now.options) (program_parts c.args.program.tree c.args.program.properties) c.args.program.jobs.items (map parts_of reports) (times_of run.new.times.timings) (g.W.Write.contents c.args.writer.now) (g.W.Write.contents run.new.writer)
           (g.K.ReportFiles.deeds c.args.files.now) (g.K.ReportFiles.deeds run.new.files) run.result)
           c.as_slice-wanted.ensures.value run.ensures.filed;
       listed = run.ensures.slowest;

@@ -10,7 +10,7 @@ returns-in-Ok g c = record {
   options = Ok c.in-Ok.launch.options;
   reads = c.in-Ok.ensures.read;
   runs =
-      subst (λ wanted. IsRunOfTests (g.B.Job.answers) (g.W.Write.contents) (g.E.Write.contents) (program_parts c.args.program.tree c.args.program.properties) c.args.program.jobs.items c.args.is_terminal (asked_by c.in-Ok.launch.options) wanted c.args.writer.now c.run_launch.new.writer c.args.errors.now c.run_launch.new.errors
+      subst (λ wanted. IsRunOfTests (g.B.Job.answers) (g.B.Job.gives) (g.W.Write.contents) (g.E.Write.contents) (program_parts c.args.program.tree c.args.program.properties) c.args.program.jobs.items c.args.is_terminal (asked_by c.in-Ok.launch.options) wanted c.args.writer.now c.run_launch.new.writer c.args.errors.now c.run_launch.new.errors
       (g.K.ReportFiles.deeds c.args.files.now) (g.K.ReportFiles.deeds c.run_launch.new.files) c.run_launch.result)
       c.in-Ok.ensures.reports c.run_launch.ensures;
 }

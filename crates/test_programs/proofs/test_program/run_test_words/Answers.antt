@@ -11,7 +11,7 @@ returns-in-Ok g c = record {
   options = Ok c.in-Ok.launch.options;
   reads = c.in-Ok.ensures.read;
   runs =
-      subst (λ reports. IsRunOfTests (g.B.Job.answers) (g.W.Write.contents) (g.E.Write.contents) (program_parts c.args.program.tree c.args.program.properties) c.args.program.jobs.items c.args.is_terminal (asked_by c.in-Ok.launch.options) (map parts_of reports) c.args.writer.now c.run_launch.new.writer c.args.errors.now
+      subst (λ reports. IsRunOfTests (g.B.Job.answers) (g.B.Job.gives) (g.W.Write.contents) (g.E.Write.contents) (program_parts c.args.program.tree c.args.program.properties) c.args.program.jobs.items c.args.is_terminal (asked_by c.in-Ok.launch.options) (map parts_of reports) c.args.writer.now c.run_launch.new.writer c.args.errors.now
       c.run_launch.new.errors None None c.run_launch.result)
       c.in-Ok.ensures.none c.run_launch.ensures;
 }
