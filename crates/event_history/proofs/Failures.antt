@@ -7,10 +7,14 @@ use Rattle.event_history.specs.Places.{is_failure, has_event}
 use Rattle.event_history.specs.Failures.{failures, has_worker, known, up_to}
 use Rattle.event_history.specs.Inside.Failing.{followed, fails_last}
 
--- Truth values as numbers.
-and_false : (f : Bool) → (f && false) ≡ false
+-- Truth values, and these as numbers.
+pub and_false : (f : Bool) → (f && false) ≡ false
 and_false true = refl
 and_false false = refl
+
+pub and_true : (f : Bool) → (f && true) ≡ f
+and_true true = refl
+and_true false = refl
 
 pub bit_le : (a b : Bool) → (a ≡ true → b ≡ true) → bit a ≤ bit b
 bit_le true b all = (let same : bit b ≡ 1 = ap bit (all refl) in omega (arith, same))
@@ -61,10 +65,6 @@ failures_added (x ∷ h) e = (let ih : failures (h ++ e ∷ []) ≡ failures h +
 
 pub last_own : (w : ℕ) (h : List Event) (e : Event) → (e.worker == w) ≡ true → fails_last w (h ++ e ∷ []) ≡ is_failure e
 last_own w [] e own = ap (λ (a : Bool). is_failure e && a) own ∙ and_true (is_failure e)
-  where
-    and_true : (f : Bool) → (f && true) ≡ f
-    and_true true = refl
-    and_true false = refl
 last_own w (x ∷ h) e own = ap (λ (a : Bool). cond a (fails_last w (h ++ e ∷ [])) (is_failure x && (x.worker == w))) (own_added w h e own) ∙ last_own w h e own
 
 pub last_other : (w : ℕ) (h : List Event) (e : Event) → (e.worker == w) ≡ false → fails_last w (h ++ e ∷ []) ≡ fails_last w h
@@ -194,7 +194,3 @@ alone_knows w (x ∷ h) each =
     let whole : up_to w (x ∷ h) ≡ x ∷ up_to w h = ap (λ (a : Bool). cond a (x ∷ up_to w h) []) (or_left (x.worker == w) (has_worker w h) own) in
     let here : bit (is_failure x && ((x.worker == w) || has_worker x.worker (up_to w h))) ≡ bit (is_failure x) = ap bit (ap (λ (a : Bool). is_failure x && a) (or_left (x.worker == w) (has_worker x.worker (up_to w h)) own) ∙ and_true (is_failure x)) in
     ap (known w) whole ∙ omega (arith, ih, here)
-  where
-    and_true : (f : Bool) → (f && true) ≡ f
-    and_true true = refl
-    and_true false = refl

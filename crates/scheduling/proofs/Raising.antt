@@ -9,7 +9,7 @@ use Rattle.resource_locks.specs.Plans.{PlanParts}
 use Rattle.event_history.specs.Places.{is_failure}
 use Rattle.event_history.specs.Failures.{failures, has_worker, known, up_to}
 use Rattle.event_history.specs.Inside.Failing.{followed, fails_last}
-use Rattle.event_history.proofs.Failures.{bit_le, none_last, known_is, known_up_to}
+use Rattle.event_history.proofs.Failures.{and_false, and_true, bit_le, none_last, known_is, known_up_to}
 use Rattle.event_history.proofs.Lawful.{lawful_worker}
 use Rattle.scheduling.specs.declared.seat.Seat.{Seat}
 use Rattle.scheduling.specs.State.{State}
@@ -31,14 +31,6 @@ raising_change seats w seat seat2 is =
 nothing : (n : ℕ) → sum_below (λ v. bit (fails_last (v + 1) [])) n ≡ 0
 nothing zero = refl
 nothing (suc n) = (let ih = nothing n in omega (arith, ih))
-
-and_false : (f : Bool) → (f && false) ≡ false
-and_false true = refl
-and_false false = refl
-
-and_true : (f : Bool) → (f && true) ≡ f
-and_true true = refl
-and_true false = refl
 
 before_other : (w : ℕ) (x : Event) (h : List Event) → (x.worker == w) ≡ false → fails_last w (x ∷ h) ≡ fails_last w h
 before_other w x h other =
