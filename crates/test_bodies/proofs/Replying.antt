@@ -8,13 +8,13 @@ use Rattle.std.proofs.lemmas.Bool.Decides.{nat_tests}
 use Rattle.std.proofs.lemmas.List.Elements.{filter-append}
 use Rattle.std.proofs.lemmas.Str.{IsUtf8-nil, length-encode, len_utf8_bounds}
 use lib.Utf8.{scalar, scalar_cases}
-use Rattle.plan_events.specs.Jobs.{has_pulls, one_pull_less, pulled, unpulled, IsPull, IsRun}
+use Rattle.plan_events.specs.Jobs.{one_pull_more, without_pulls, has_pulls, one_pull_less, pulled, unpulled, IsPull, IsRun}
 use Rattle.plan_events.specs.declared.job.Pull.TheVariants.{More, End}
 use Rattle.plan_events.specs.declared.outcome.Outcome.{Outcome}
 use Rattle.plan_events.specs.declared.outcome.Reply.{Reply}
 use Rattle.plan_events.specs.declared.status.Status.{Status}
 use Rattle.plan_events.specs.declared.status.Status.TheVariants.{Successful, Aborted, Failed}
-use Rattle.test_bodies.specs.Replies.{numbers_below, texts_up_to, statuses, ended, outcomes, IsSayable, without_pulls, one_pull_more, ends, replies_up_to, replies_by}
+use Rattle.test_bodies.specs.Replies.{numbers_below, texts_up_to, statuses, ended, outcomes, IsSayable, ends, replies_up_to, replies_by}
 use Rattle.test_bodies.proofs.Standing.{Has, later, in_front, mapped, joined, some_there, number_there}
 
 first_true : (a b : Bool) → (a && b) ≡ true → a ≡ true

@@ -1,9 +1,10 @@
 -- The replies that a body may give of which nobody knows beforehand how it ends: any number of pulls that is left to it, any
 -- status, and any text of at most 512 bytes.
-use Rattle.std.specs.Prelude.{ℕ, zero, suc, ◌+◌, ◌≤◌, Bool, true, false, List, [], ◌∷◌, ◌++◌, length, map}
+use Rattle.std.specs.Prelude.{ℕ, zero, suc, ◌≤◌, Bool, true, false, List, [], ◌∷◌, ◌++◌, length, map}
 use Rattle.std.specs.List.{flat_map}
 use Rattle.std.specs.Char.{encode_utf8}
 use Rattle.std.specs.Str.{IsUtf8}
+use Rattle.plan_events.specs.Jobs.{one_pull_more, without_pulls}
 use Rattle.plan_events.specs.declared.outcome.Outcome.{Outcome}
 use Rattle.plan_events.specs.declared.outcome.Reply.{Reply}
 use Rattle.plan_events.specs.declared.status.Status.{Status}
@@ -32,12 +33,6 @@ outcomes = flat_map (λ status. map (ended status) (texts_up_to 512)) statuses
 -- an outcome that a body may have
 abbrev pub IsSayable : Outcome → Type 0
 IsSayable o = IsUtf8 o.text × (length o.text ≤ 512)
-
-abbrev pub without_pulls : Outcome → Reply
-without_pulls o = record { pulls = 0; outcome = o }
-
-abbrev pub one_pull_more : Reply → Reply
-one_pull_more reply = record { pulls = reply.pulls + 1; outcome = reply.outcome }
 
 -- all replies without pulls
 unfoldable pub ends : List Reply
