@@ -1,6 +1,7 @@
 -- How a text grows piece by piece.
-use Rattle.std.proofs.Common.{◌≡◌, ℕ, zero, suc, ◌+◌, ◌<◌, List, [], ◌∷◌, ◌++◌, length, take, get_or, ap, sym, ◌∙◌, arith, append_assoc, append-nil}
-use Rattle.std.specs.List.{flat_map, range_with_len}
+use Rattle.std.proofs.Common.{◌≡◌, ℕ, zero, suc, ◌+◌, ◌<◌, ◌==◌, Bool, cond, List, [], ◌∷◌, ◌++◌, length, take, get_or, ap, sym, ◌∙◌, arith, append_assoc, append-nil}
+use Rattle.std.specs.List.{flat_map, join_by, range_with_len}
+use Rattle.std.proofs.lemmas.Bool.{ne_eqb}
 use Rattle.std.proofs.lemmas.Grind.{flat_map-append}
 use Rattle.std.proofs.lemmas.List.{take_more}
 
@@ -31,6 +32,20 @@ element_more {X} {A} f xs i d old inside before grown =
 
 longer : (n : ℕ) → suc n + 1 ≡ suc (n + 1)
 longer n = omega arith
+
+-- what one element more gives where another list stands between each two
+pub joined_more : {X A : Type 0} (f : X → List A) (between : List A) (xs : List X) (i : ℕ) (d : X) (old : List A) {text mid new : List A} → i < length xs → text ≡ old ++ join_by f between (take i xs) → mid ≡ text ++ cond (i == 0) [] between → new ≡ mid ++ f (get_or xs i d)
+    → new ≡ old ++ join_by f between (take (i + 1) xs)
+joined_more f between [] i d old inside before next grown = absurd (omega arith)
+joined_more {X} {A} f between (x ∷ xs) zero d old {text} inside before next grown =
+    then text [] (f x) next grown
+    ∙ ap (λ (l : List A). l ++ f x) (before ∙ append-nil old)
+    ∙ ap (λ (l : List A). old ++ l) (sym (append-nil (f x)))
+joined_more {X} {A} f between (x ∷ xs) (suc i) d old {text} inside before next grown =
+    element_more (λ y. between ++ f y) xs i d (old ++ f x) (omega arith) (before ∙ sym (append_assoc old (f x) _))
+    (then text between (f (get_or xs i d)) (next ∙ ap (λ (b : Bool). text ++ cond b [] between) (ne_eqb (suc i) 0 (λ e. omega arith))) grown)
+    ∙ append_assoc old (f x) _
+    ∙ ap (λ (k : ℕ). old ++ join_by f between (take k (x ∷ xs))) (sym (longer i))
 
 -- of numbers from a on, what one number more gives
 number_more : {A : Type 0} (f : ℕ → List A) (a n m : ℕ) → a + n ≡ m → flat_map f (range_with_len a (n + 1)) ≡ flat_map f (range_with_len a n) ++ f m

@@ -48,7 +48,8 @@ of_ending Skipped status text took small = text_more _ _ no_members of_none
 of_ending Finished None text took small = of_none
 of_ending Finished (Some status) text took small = of_status status text took small
 
-of_either : (b : Bool) (ms more : Members) → AreFlat ms → AreFlat more → AreFlat (cond b ms more)
+-- either of two
+pub of_either : (b : Bool) (ms more : Members) → AreFlat ms → AreFlat more → AreFlat (cond b ms more)
 of_either true ms more h k = h
 of_either false ms more h k = k
 

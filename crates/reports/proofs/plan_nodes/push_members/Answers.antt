@@ -10,8 +10,8 @@ use Rattle.reports.specs.PlanNodes.{way_members}
 use Rattle.reports.proofs.Growing.{then}
 use Rattle.reports.proofs.plan_nodes.push_members.Goals as goal
 
-pub returns : goal.returns
-returns c =
+pub returns-clause-text : goal.returns-clause-text
+returns-clause-text c =
     let p = c.args.plan.now in
     let n = c.args.node in
     let old = string_bytes c.args.json.now in
@@ -27,4 +27,4 @@ returns c =
     then old (named (codes "id") (id_at p n)) (named (codes "parent") (id_at p (parent_of p.tree n)) ++ (named (codes "name") (name_at p.tree n) ++ ways)) id
     (then one (named (codes "parent") (id_at p (parent_of p.tree n))) (named (codes "name") (name_at p.tree n) ++ ways) parent
     (then two (named (codes "name") (name_at p.tree n)) ways name last)))
-    c.push_ways.ensures
+    c.push_ways.ensures.text

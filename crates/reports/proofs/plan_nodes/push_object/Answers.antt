@@ -12,15 +12,15 @@ use Rattle.reports.proofs.JsonWritten.{line_written}
 use Rattle.reports.proofs.Pushing.{pushed}
 use Rattle.reports.proofs.plan_nodes.push_object.Goals as goal
 
-pub returns : goal.returns
-returns c =
+pub returns-clause-text : goal.returns-clause-text
+returns-clause-text c =
     let old = string_bytes c.args.json.now in
     let opened = string_bytes c.push_str.new.self in
     let kind = type_word (kind_of c.args.plan.now.tree c.args.node) in
     let word = quoted (codes "type") ++ (codes ":" ++ quoted kind) in
     let more = plan_members c.args.plan.now c.args.node in
     let typed = c.in_ok-push_member.ensures ∙ ap (λ (word : List ℕ). opened ++ (quoted (codes "type") ++ (codes ":" ++ quoted word))) (c.type_word.ensures ∙ ap type_word (c.kind_of.ensures ∙ ap (λ tree. kind_of tree c.args.node) c.tree.ensures.same)) in
-    let members = then opened word (members_behind more) typed c.in_ok-push_members.ensures in
+    let members = then opened word (members_behind more) typed c.in_ok-push_members.ensures.text in
     on_ok_weaker c.push_str-2.result
     (λ last. line_written old (codes "type") (string kind) more refl
     (then old (codes "{") ((word ++ members_behind more) ++ codes "}\n") c.in_ok-push_str.ensures.bytes (then opened (word ++ members_behind more) (codes "}\n") members last)))
