@@ -17,6 +17,21 @@ const UNEXPECTED: &str = "error: unexpected argument '";
 const OF_SAVED_RUN: &str =
     "--rerun-failed names a file that --details testfeed or json has printed.\n";
 
+/// What clap says before the options, where help is asked for.
+const USAGE: &str = "Usage: ";
+
+/// What help says after the options: the keys of the configuration, and the version, which is the latest date of
+/// CHANGELOG.md.
+const KEYS_AND_VERSION: &str = "
+Keys of --config and --system that begin with junit.jupiter.execution.parallel.
+  enabled, mode.default, mode.classes.default, config.strategy,
+  config.fixed.parallelism, config.dynamic.factor
+and whole keys
+  nelborugy.slow.default, nelborugy.lock.LOCK.holders
+
+Nelborugy 2026-11-28
+";
+
 /// Whether clap says of a word that is no option that it does not expect it: a file's name, for one.
 fn is_of_no_option(said: &str) -> bool {
     match said.strip_prefix(UNEXPECTED) {
@@ -45,6 +60,9 @@ fn said_by_clap(
         Ok(_) => Ok(String::new(alloc)),
         Err(error) => {
             let mut said = format!(in alloc; "{error}")?;
+            if said.as_str().starts_with(USAGE) {
+                said.push_str(KEYS_AND_VERSION)?;
+            }
             if is_of_no_option(said.as_str()) {
                 said.push_str(said_of_no_option(subject))?;
             }

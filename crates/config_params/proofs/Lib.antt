@@ -9,3 +9,6 @@ pub mod Lists
 pub mod NearestModes
 pub mod GivenModes
 pub mod Worked
+pub mod LockKeys
+pub mod NamedLocks
+pub mod LockLimits

@@ -1,5 +1,5 @@
 -- The execution mode that a run gives each node of its tree, before any lock is looked at.
-use Rattle.std.specs.Prelude.{◌≡◌, ◌<◌, ◌↔◌, ◌==◌, ◌||◌, ℕ, Bool, true, false, not, List, map, if◌then◌else◌, Some, unwrap_or, slice_get}
+use Rattle.std.specs.Prelude.{◌≡◌, ◌<◌, ◌↔◌, ◌==◌, ◌||◌, ℕ, true, false, not, List, map, if◌then◌else◌, Some, unwrap_or, slice_get}
 use Rattle.std.specs.List.{range_with_len}
 use Rattle.config_params.specs.declared.settings.Settings.{Settings}
 use Rattle.descriptor.specs.declared.mode.Mode.{Mode}

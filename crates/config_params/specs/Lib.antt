@@ -6,6 +6,8 @@ pub mod Parameters
 pub mod Properties
 pub mod Settings
 pub mod SettingsFaults
+pub mod LockKeys
+pub mod LockLimits
 pub mod Tables
 pub mod Nearest
 pub mod GivenModes

@@ -24,6 +24,10 @@ from_one most n = if n == 0 || nat_lt most n then None else Some n
 abbrev pub limit_in : List ℕ → Option ℕ
 limit_in text = if is_number 8 text then from_one 86400000 (digits_value 10 text) else None
 
+-- how many holders of a lock a text allows: 1 or 2 digits, not zero, at most 64
+abbrev pub holders_in : List ℕ → Option ℕ
+holders_in text = if is_number 2 text then from_one 64 (digits_value 10 text) else None
+
 abbrev pub is_point : ℕ → Bool
 is_point byte = byte == 46
 

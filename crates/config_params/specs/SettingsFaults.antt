@@ -1,7 +1,7 @@
 -- The numbers of the refusals of settings.
 use Rattle.std.specs.Prelude.{ℕ}
 use Rattle.config_params.specs.declared.settings_fault.SettingsFault.{SettingsFault}
-use Rattle.config_params.specs.declared.settings_fault.SettingsFault.TheVariants.{BadStrategy, BadParallelism, BadFactor, BadSlow}
+use Rattle.config_params.specs.declared.settings_fault.SettingsFault.TheVariants.{BadStrategy, BadParallelism, BadFactor, BadSlow, BadHolders, UnknownLock}
 
 -- the number of a refusal
 abbrev pub number : SettingsFault → ℕ
@@ -9,3 +9,5 @@ number BadStrategy = 34
 number BadParallelism = 32
 number BadFactor = 33
 number BadSlow = 37
+number BadHolders = 35
+number UnknownLock = 36

@@ -4,10 +4,13 @@ ghost use Rattle.std.specs.Prelude.{◌≡◌, ◌≤◌, ◌<◌, ◌*◌, ◌^
 ghost use Rattle.std.specs.Char.{is_ascii_digit};
 ghost use Rattle.std.specs.List.{list_all};
 ghost use Rattle.std.specs.Str.Parse.{digits_value};
-ghost use Rattle.config_params.specs.Numbers.{is_number, parallelism_in, limit_in, factor_in};
+ghost use Rattle.config_params.specs.Numbers.{is_number, parallelism_in, limit_in, holders_in, factor_in};
 
 /// The most milliseconds from which on a test is slow, which are a day.
 const LONGEST_LIMIT: u32 = 86_400_000;
+
+/// How many nodes may hold a lock at once at most, if that is limited: as many as there are workers.
+const MOST_HOLDERS: u32 = 64;
 
 /// Whether each byte is a digit.
 fn are_digits(bytes: &[u8]) -> bool
@@ -45,6 +48,17 @@ pub(crate) fn limit_in(text: &str) -> Option<u32>
         return None;
     }
     Some(limit)
+}
+
+/// How many holders of a lock a text allows: 1 or 2 digits, not zero, at most 64.
+pub(crate) fn holders_in(text: &str) -> Option<u8>
+    ensures { result ≡ holders_in text.now }
+{
+    let holders = number_in(2, text)?;
+    if holders == 0 || holders > MOST_HOLDERS {
+        return None;
+    }
+    Some(holders as u8)
 }
 
 /// The ten-thousandths that some decimals are.

@@ -1,15 +1,17 @@
 //! The parameters of three sources.
 
-ghost use Rattle.std.specs.Prelude.{◌≡◌, ◌≢◌, List, ℕ, None, Some, IfErr, OnOk, OnErr};
+ghost use Rattle.std.specs.Prelude.{◌≡◌, ◌≢◌, ◌++◌, ◌∷◌, [], List, ℕ, None, Some, cond, is_some, map, IfOk, IfErr, OnOk, OnErr};
 ghost use Rattle.std.specs.Option.{option_map, option_or};
 ghost use Rattle.std.specs.Str.Lines.{lines};
 ghost use Rattle.config_params.specs.Parameters.{nothing_said, with_value, with_table, answer, answer_before};
 ghost use Rattle.config_params.specs.Parameters.{answer_over};
+ghost use Rattle.config_params.specs.LockKeys.{limiting, limiting_keys, lock_limited};
 ghost use Rattle.config_params.specs.Properties.{refusal_of, pairs_of};
-ghost use Rattle.config_params.specs.Tables.{table_of, value_in, last_value};
+ghost use Rattle.config_params.specs.Tables.{table_of, value_in, last_value, pairs_in};
 ghost use Rattle.config_params.specs.declared.source.Source.TheVariants.{File};
 
 use crate::fault::ParamsFault;
+use crate::lock_key::lock_limited;
 use crate::properties::{refusal_of, table_of};
 use crate::source::Source;
 use crate::table::{Table, new_table, put, value_of};
@@ -104,6 +106,16 @@ impl Params {
         Ok(())
     }
 
+    /// Appends the keys that limit a lock, first those of the request, then of the system and of the file.
+    fn push_limiting_keys<'a>(&'a self, keys: &mut Vec<&'a str>) -> Result<(), AllocError>
+        ensures { OnOk result (map (λ key. key.now) keys.new.items ≡ map (λ key. key.now) keys.old.items
+            ++ limiting_keys self.now) }
+    {
+        push_limiting(keys, &self.request)?;
+        push_limiting(keys, &self.system)?;
+        push_limiting(keys, &self.file)
+    }
+
     /// The value of a key: that of the first source that has the key.
     pub fn get(&self, key: &str) -> Option<&str>
         ensures { option_map (λ value. value.now) result ≡ answer self.now key.now }
@@ -118,8 +130,46 @@ impl Params {
     }
 }
 
+/// Appends a key, if it limits a lock.
+fn push_if_limiting<'a>(keys: &mut Vec<&'a str>, key: &'a str) -> Result<(), AllocError>
+    ensures { OnOk result (map (λ key. key.now) keys.new.items ≡ map (λ key. key.now) keys.old.items
+        ++ cond (is_some (lock_limited key.now)) (key.now ∷ []) []) }
+{
+    if lock_limited(key).is_some() {
+        keys.push(key)?;
+    }
+    Ok(())
+}
+
+/// Appends the keys of a table that limit a lock.
+fn push_limiting<'a>(keys: &mut Vec<&'a str>, table: &'a Table) -> Result<(), AllocError>
+    ensures { OnOk result (map (λ key. key.now) keys.new.items ≡ map (λ key. key.now) keys.old.items
+        ++ limiting (pairs_in table.now)) }
+{
+    for place in 0..table.len() {
+        if let Some((key, _)) = table.get_index(place) {
+            push_if_limiting(keys, key.as_str())?;
+        }
+    }
+    Ok(())
+}
+
+/// The keys that limit a lock, of parameters that stand over others, and then of the others.
+pub fn limiting_keys<'a>(
+    alloc: Global,
+    over: &'a Params,
+    under: &'a Params,
+) -> Result<Vec<&'a str>, AllocError>
+    ensures { IfOk result (λ keys. map (λ key. key.now) keys.items ≡ limiting_keys over.now ++ limiting_keys under.now) }
+{
+    let mut keys = Vec::new(alloc);
+    over.push_limiting_keys(&mut keys)?;
+    under.push_limiting_keys(&mut keys)?;
+    Ok(keys)
+}
+
 /// The value of a key where some parameters stand over others: theirs, or else that of the others.
-pub(crate) fn get_over<'a>(over: &'a Params, under: &'a Params, key: &str) -> Option<&'a str>
+pub fn get_over<'a>(over: &'a Params, under: &'a Params, key: &str) -> Option<&'a str>
     ensures { option_map (λ value. value.now) result ≡ answer_over over.now under.now key.now }
 {
     match over.get(key) {

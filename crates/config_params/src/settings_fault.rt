@@ -20,6 +20,12 @@ pub enum SettingsFault {
     /// The milliseconds from which on a test is slow are none (refusal 37).
     #[error("unreadable milliseconds of slow tests")]
     BadSlow,
+    /// How many nodes may hold a lock at once is no number from 1 to 64 (refusal 35).
+    #[error("an unreadable number of holders of a lock")]
+    BadHolders,
+    /// A lock is limited that no node names, or that can have no limit (refusal 36).
+    #[error("a limit of a lock that no node names")]
+    UnknownLock,
 }
 
 impl SettingsFault {
@@ -32,6 +38,8 @@ impl SettingsFault {
             SettingsFault::BadParallelism => 32,
             SettingsFault::BadFactor => 33,
             SettingsFault::BadSlow => 37,
+            SettingsFault::BadHolders => 35,
+            SettingsFault::UnknownLock => 36,
         }
     }
 }

@@ -3,6 +3,8 @@ use Rattle.std.specs.Prelude.{◌≡◌, ℕ, List, [], ◌++◌, codes, Option,
 use Rattle.std.specs.Fmt.{decimal}
 use Rattle.config_params.specs.Faults as params_faults
 use Rattle.config_params.specs.SettingsFaults as settings_faults
+use Rattle.config_params.specs.declared.limits_fault.LimitsFault.{LimitsFault}
+use Rattle.config_params.specs.declared.limits_fault.LimitsFault.TheVariants as limits
 use Rattle.resource_locks.specs.declared.fault.PlanFault.{PlanFault}
 use Rattle.resource_locks.specs.declared.fault.PlanFault.TheVariants as plans
 use Rattle.selectors.specs.Faults.{selector_number}
@@ -80,6 +82,11 @@ IsStepsFault (steps.BadStep number) fault = fault ≡ BadStep number
 abbrev pub IsTagFault : TagFault → LaunchFault → Type 0
 IsTagFault tags.NoMemory fault = fault ≡ NoMemory
 IsTagFault cause fault = fault ≡ BadTags cause
+
+-- want of memory is the launch's own, and limits that are none are settings that are none
+abbrev pub IsLimitsFault : LimitsFault → LaunchFault → Type 0
+IsLimitsFault limits.NoMemory fault = fault ≡ NoMemory
+IsLimitsFault (limits.Refused cause) fault = fault ≡ BadSettings cause
 
 -- want of memory is the launch's own, and so are too many keys
 abbrev pub IsPlanFault : PlanFault → LaunchFault → Type 0

@@ -2,10 +2,10 @@
 
 ghost use Rattle.std.specs.Prelude.{◌≡◌};
 ghost use Rattle.launch_options.specs.Faults.{number_of, place_of, IsPlanFault, IsSelectFault, IsStepsFault};
-ghost use Rattle.launch_options.specs.Faults.{IsSuiteFault, IsTagFault, cut_by_writer};
+ghost use Rattle.launch_options.specs.Faults.{IsLimitsFault, IsSuiteFault, IsTagFault, cut_by_writer};
 ghost use Rattle.launch_options.specs.declared.fault.LaunchFault.TheVariants.{NoMemory, BadSettings, Writing};
 
-use config_params::{ParamsFault, SettingsFault};
+use config_params::{LimitsFault, ParamsFault, SettingsFault};
 use listeners::WriteFault;
 use resource_locks::PlanFault;
 use selectors::{SelectFault, SelectorFault};
@@ -58,7 +58,7 @@ pub enum LaunchFault {
     /// Refusals 30 and 31: the word of this number, from 1, among those of `--config` and then of
     /// `--system`, says no pair.
     BadPair(ParamsFault),
-    /// Refusals 32 to 34 and 37: what the configuration asks for is none.
+    /// Refusals 32 to 37: what the configuration asks for is none.
     BadSettings(SettingsFault),
     /// Refusal 41: the selector or the included name of this number, from 1, covers nothing of the suite.
     NothingMatches(usize),
@@ -143,6 +143,17 @@ impl From<SettingsFault> for LaunchFault {
 
     fn from(cause: SettingsFault) -> LaunchFault {
         LaunchFault::BadSettings(cause)
+    }
+}
+
+impl From<LimitsFault> for LaunchFault {
+    ghost from_gives = { IsLimitsFault };
+
+    fn from(fault: LimitsFault) -> LaunchFault {
+        match fault {
+            LimitsFault::NoMemory => LaunchFault::NoMemory,
+            LimitsFault::Refused(cause) => LaunchFault::BadSettings(cause),
+        }
     }
 }
 

@@ -2,6 +2,7 @@
 
 ghost use Rattle.std.specs.Prelude.{◌≡◌, ℕ, List};
 ghost use Rattle.std.specs.List.{list_any};
+ghost use Rattle.std.specs.Option.{option_map};
 ghost use Rattle.std.specs.Result.{is_ok};
 ghost use Rattle.unique_id.specs.Answers.{texts};
 ghost use Rattle.config_params.specs.Settings.{strategy_spelled, is_spelled};
@@ -27,15 +28,16 @@ const FACTOR: &str = "junit.jupiter.execution.parallel.config.dynamic.factor";
 /// From when on a test is slow whose own line does not say it.
 const SLOW: &str = "nelborugy.slow.default";
 
-/// The key whose value this refusal is about.
-pub fn key_judged(fault: SettingsFault) -> &'static str
-    ensures { result.now ≡ key_judged fault }
+/// The key whose value this refusal is about, where that is one of all runs: not the key of a lock.
+pub fn key_judged(fault: SettingsFault) -> Option<&'static str>
+    ensures { option_map (λ key. key.now) result ≡ key_judged fault }
 {
     match fault {
-        SettingsFault::BadStrategy => STRATEGY,
-        SettingsFault::BadParallelism => PARALLELISM,
-        SettingsFault::BadFactor => FACTOR,
-        SettingsFault::BadSlow => SLOW,
+        SettingsFault::BadStrategy => Some(STRATEGY),
+        SettingsFault::BadParallelism => Some(PARALLELISM),
+        SettingsFault::BadFactor => Some(FACTOR),
+        SettingsFault::BadSlow => Some(SLOW),
+        SettingsFault::BadHolders | SettingsFault::UnknownLock => None,
     }
 }
 

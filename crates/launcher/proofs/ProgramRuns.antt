@@ -100,7 +100,7 @@ module _ (asked : Asked) (parts : SuiteParts) (no_steps : steps_refusal asked.re
   pub settings_fail : {X : Type 0} (cause : SettingsFault) (result : Result X LaunchFault) → IsErrAnd result (λ e. e ≡ BadSettings cause) → Err cause ≡ settings_in asked parts → IfErr result (FailsProgram asked parts)
   settings_fail cause (Ok x) is same = absurd is
   settings_fail cause (Err e) is same =
-      rw is (same_refusal ∙ ap (λ r. option_or (settings_refusal r) (option_or (plan_refusal parts.tree asked.request) (crowd_refusal r))) (sym same))
+      rw is (same_refusal ∙ ap (λ r. option_or (settings_refusal r) (option_or (plan_refusal asked parts.tree parts.properties) (crowd_refusal r))) (sym same))
 
 module _ (asked : Asked) (parts : SuiteParts) where
   -- steps are asked for

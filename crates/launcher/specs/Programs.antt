@@ -20,7 +20,6 @@ use Rattle.event_history.specs.Plans.{is_same}
 use Rattle.never_stuck.specs.Reaching.{NeverStuck}
 use Rattle.scheduling.specs.declared.step.Step.{Step}
 use Rattle.sched_core.specs.Texts.{AreTexts as AreReplayed}
-use Rattle.selectors.specs.Selections.{answer}
 use Rattle.suite_text.specs.Reading.Parts.{SuiteParts}
 use Rattle.table_rule.specs.Picture.{given_by, replies_of}
 use Rattle.table_rule.specs.Slots.{job_with}
@@ -38,7 +37,7 @@ use Rattle.launcher.specs.declared.exit_status.ExitStatus.{ExitStatus}
 use Rattle.launcher.specs.ExitStatuses.{status_of_run}
 use Rattle.launcher.specs.Missing.{IsJudged, is_missing}
 use Rattle.launcher.specs.Reports.{details_of, HasHistory, IsBehindDetails, IsExpectedOutput, IsListing, IsPlanned, IsScheduleLine}
-use Rattle.launcher.specs.Runs.{TakesMemory, plan_of, run_refusal, settings_in}
+use Rattle.launcher.specs.Runs.{TakesMemory, plan_in, run_refusal, settings_in}
 use Rattle.launcher.specs.WarningTexts.{head_of}
 use Rattle.launcher.specs.Watched.{IsAnswered, LacksBy, SeesRefusal, SeesTextBy, is_run}
 
@@ -174,9 +173,9 @@ pub record IsSelectedBy (Prints : Settings → PlanParts → List ℕ → ExitSt
   pub accepted : program_refusal asked parts ≡ None
   pub settings : Settings
   pub are : settings_in asked parts ≡ Ok settings
-  pub output : Prints settings (plan_of asked.fail_fast asked.tolerated settings (answer parts.tree asked.request)) text status
+  pub output : Prints settings (plan_in asked parts.tree parts.properties settings) text status
   -- whatever the workers of this plan do first, it can still be brought to its end
-  pub never_stuck : HasBareSpares parts.tree → NeverStuck (plan_of asked.fail_fast asked.tolerated settings (answer parts.tree asked.request))
+  pub never_stuck : HasBareSpares parts.tree → NeverStuck (plan_in asked parts.tree parts.properties settings)
 
 module _ {B : Type 0} (answers : B → List Reply) (gives : B → Reply → Type 0) (asked : Asked) (parts : SuiteParts) (jobs : List (ℕ × B)) where
   -- what is printed of a program's jobs, and the status, which of a shard says too that nothing is selected

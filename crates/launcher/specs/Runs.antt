@@ -3,6 +3,8 @@ use Rattle.std.specs.Prelude.{◌≡◌, ℕ, ◌<◌, ◌≤◌, nat_lt, List, 
 use Rattle.std.specs.Option.{option_or}
 use Rattle.std.specs.Io.KnownBytes.{Consumes, IsAtEnd}
 use Rattle.config_params.specs.Settings.{settings_of}
+use Rattle.config_params.specs.LockLimits.{limited_as_said, limits_refusal}
+use Rattle.config_params.specs.Parameters.{Parameters, answer_over}
 use Rattle.config_params.specs.declared.settings.Settings.{Settings}
 use Rattle.config_params.specs.declared.settings_fault.SettingsFault.{SettingsFault}
 use Rattle.descriptor.specs.Nodes.{Nodes}
@@ -55,6 +57,11 @@ settings_in asked suite = driven_by asked.drive (settings_of (answer_with asked.
 abbrev pub plan_of : (fail_fast : Bool) (tolerated : ℕ) → Settings → Nodes → PlanParts
 plan_of fail_fast tolerated settings tree = record (hoisted.plan_of tree (given_modes tree settings)) { fail_fast = fail_fast; tolerated = tolerated }
 
+-- the plan of what is run of a tree where the properties are these: the plan of what the request selects, in which as many nodes hold a
+-- lock at once as the options say, and as the properties say of what these leave open
+abbrev pub plan_in : Asked → (tree : Nodes) (properties : Parameters) → Settings → PlanParts
+plan_in asked tree properties settings = limited_as_said (answer_over asked.params properties) (plan_of asked.fail_fast asked.tolerated settings (answer tree asked.request))
+
 -- what its bodies answer
 abbrev pub answers_of : List Script → List (ℕ × Reply)
 answers_of scripts = map (λ script. (script.body, script.reply)) scripts
@@ -77,9 +84,13 @@ selection_refusal tree request = option_map selection_fault (refusal tree reques
 abbrev pub keys_refusal : Nodes → Option LaunchFault
 keys_refusal tree = if nat_lt 256 (length (keys_of (declared_of tree))) then Some TooManyKeys else None
 
--- why there is no plan of what a request selects of a tree
-abbrev pub plan_refusal : Nodes → Request → Option LaunchFault
-plan_refusal tree request = option_or (selection_refusal tree request) (keys_refusal (answer tree request))
+-- why limits of locks are refused, which are judged by the whole tree
+abbrev pub limits_refused : Asked → Nodes → Parameters → Option LaunchFault
+limits_refused asked tree properties = option_map BadSettings (limits_refusal asked.params properties tree)
+
+-- why there is no plan of what a request selects of a tree where the properties are these
+abbrev pub plan_refusal : Asked → Nodes → Parameters → Option LaunchFault
+plan_refusal asked tree properties = option_or (selection_refusal tree asked.request) (option_or (limits_refused asked tree properties) (keys_refusal (answer tree asked.request)))
 
 -- why a number of workers is refused: there are too many
 abbrev pub workers_refusal : ℕ → Option LaunchFault
@@ -90,12 +101,12 @@ abbrev pub crowd_refusal : Result Settings SettingsFault → Option LaunchFault
 crowd_refusal (Ok settings) = workers_refusal settings.workers
 crowd_refusal (Err fault) = None
 
--- why a suite is not run: what its settings are refused for, a selector that covers nothing of it, too many keys of what is
--- selected, and too many workers
+-- why a suite is not run: what its settings are refused for, a selector that covers nothing of it, limits of locks that are none, too
+-- many keys of what is selected, and too many workers
 abbrev pub run_refusal : Asked → SuiteParts → Option LaunchFault
 run_refusal asked suite =
     option_or (settings_refusal (settings_in asked suite)) (
-    option_or (plan_refusal suite.tree asked.request) (
+    option_or (plan_refusal asked suite.tree suite.properties) (
     crowd_refusal (settings_in asked suite)))
 
 -- nothing refuses the suite that is judged before memory is taken: neither its settings nor a selector
@@ -108,9 +119,9 @@ pub record IsSuiteOutputBy (Prints : Settings → PlanParts → List (ℕ × Rep
   pub accepted : run_refusal asked suite ≡ None
   pub settings : Settings
   pub are : settings_in asked suite ≡ Ok settings
-  pub output : Prints settings (plan_of asked.fail_fast asked.tolerated settings (answer suite.tree asked.request)) (answers_of suite.scripts) text status
+  pub output : Prints settings (plan_in asked suite.tree suite.properties settings) (answers_of suite.scripts) text status
   -- whatever the workers of this plan do first, it can still be brought to its end
-  pub never_stuck : HasBareSpares suite.tree → NeverStuck (plan_of asked.fail_fast asked.tolerated settings (answer suite.tree asked.request))
+  pub never_stuck : HasBareSpares suite.tree → NeverStuck (plan_in asked suite.tree suite.properties settings)
 
 -- what is printed of a suite, and the status, which of a shard says too that nothing is selected
 abbrev pub IsSuiteOutput : Asked → SuiteParts → List ℕ → ExitStatus → Type 0
@@ -131,7 +142,7 @@ FailsSuite asked suite _ = ⊥
 pub record IsReady (asked : Asked) (suite : SuiteParts) (settings : Settings) (plan : PlanParts) (answers : List (ℕ × Reply)) : Type 0 where
   pub accepted : run_refusal asked suite ≡ None
   pub are : settings_in asked suite ≡ Ok settings
-  pub plan_is : plan ≡ plan_of asked.fail_fast asked.tolerated settings (answer suite.tree asked.request)
+  pub plan_is : plan ≡ plan_in asked suite.tree suite.properties settings
   pub replies_are : answers ≡ answers_of suite.scripts
   pub some : 1 ≤ settings.workers
   pub few : settings.workers ≤ 64

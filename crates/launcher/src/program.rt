@@ -94,8 +94,9 @@ fn planned_program<S: Stopwatch>(
     ensures refused { IfErr result (FailsProgram (asked_by options.now) (program_parts tree properties)) }
 {
     refuse_steps(options)?;
-    let settings = settings_over(options, properties)?;
-    let selected = crewed_plan(alloc, options, &settings, tree)?;
+    let settings = settings_over(options, &properties)?;
+    let selected = crewed_plan(alloc, options, &settings, tree, &properties)?;
+    drop(properties);
     let head = head_of_run(alloc, options, settings.warnings, &selected.plan, times)?;
     let SelectedPlan { plan, is_missing } = selected;
     Ok(PlannedProgram {
@@ -203,7 +204,8 @@ fn run_planned<B: Job + Send, T: Threads + Wait + Sync, W: Write, V: Watcher, S:
 /// are to be replayed, or that they are to be those of the fixed schedule (105): nobody knows
 /// beforehand what the jobs answer. Then what a suite is refused for: what gives no settings
 /// (37, 34, 32, 33) and a selector that covers nothing (41), which are judged before any memory is
-/// taken; more than 256 keys (50), more than 64 workers (61), that no thread could be started (90),
+/// taken; limits of locks that are none (35, 36), more than 256 keys (50), more than 64 workers (61), that no thread could
+/// be started (90),
 /// and an output of which the writer has only the first bytes (81). On any refusal but 81 nothing
 /// is written.
 pub fn run_jobs_watched<

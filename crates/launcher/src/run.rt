@@ -1,6 +1,6 @@
 //! A run: from the bytes of a reader to the bytes of a writer.
 
-ghost use Rattle.std.specs.Prelude.{◌≡◌, ◌≢◌, ◌<◌, ◌≤◌, None, Some, IfOk, IfErr, IfSome, false, take, string_bytes};
+ghost use Rattle.std.specs.Prelude.{◌≡◌, ◌≢◌, ◌<◌, ◌≤◌, None, Some, IfOk, IfErr, OnOk, IfSome, false, take, string_bytes};
 ghost use Rattle.std.specs.Io.KnownBytes.{Keeps};
 ghost use Rattle.std.specs.Option.{option_or};
 ghost use Rattle.config_params.specs.Settings.{settings_of};
@@ -14,10 +14,11 @@ ghost use Rattle.launcher.specs.Runs.{IsReady, IsRun, IsSuiteRun, IsUnrun, Fails
 ghost use Rattle.launcher.specs.Missing.{is_missing as is_missing_in};
 ghost use Rattle.launcher.specs.Runs.{IsSeenOutput, IsSeenReadyRun, IsSeenRun, IsSeenSuiteRun};
 ghost use Rattle.launcher.specs.Runs.{TakesMemory, answers_of as answers_in, fault_in, is_writing};
-ghost use Rattle.launcher.specs.Runs.{driven_by, plan_of as plan_in, plan_refusal, selection_refusal, workers_refusal};
+ghost use Rattle.launcher.specs.Runs.{driven_by, keys_refusal, plan_in, plan_of, plan_refusal, selection_refusal};
+ghost use Rattle.launcher.specs.Runs.{workers_refusal};
 ghost use Rattle.resource_locks.specs.Declarations.{declared_of};
 ghost use Rattle.resource_locks.specs.Hoisted.{IsGuarded};
-ghost use Rattle.selectors.specs.Selections.{answer};
+ghost use Rattle.resource_locks.specs.Limits.{with_limits};
 ghost use Rattle.launch_options.specs.Asked.{asked_by};
 ghost use Rattle.launch_options.specs.Faults.{cut_by_memory, cut_by_writer};
 ghost use Rattle.launch_options.specs.Workers.{answer_with};
@@ -33,13 +34,13 @@ use crate::report::{Output, report_of};
 use crate::scripted::spins_of;
 use crate::slow_limits::{set_default_limits, set_script_limits};
 use crate::watched_feed::WatchedFeed;
-use config_params::{Params, Settings, SettingsFault, modes};
+use config_params::{Params, Settings, SettingsFault, lock_limits, modes};
 use descriptor::Tree;
 use job_times::{NoStopwatch, RunTimes, Stopwatch, Timings};
 use launch_options::{CutCause, CutOutput, Details, LaunchFault, Options};
 use live::{LineForm, LiveFeed, Outlet};
 use plan_events::MOST_WORKERS;
-use resource_locks::Plan;
+use resource_locks::{KeyLimit, Plan};
 use sched_core::Answers;
 use selectors::{Found, discover};
 use std::alloc::{AllocError, Global};
@@ -83,22 +84,50 @@ pub(crate) struct SelectedPlan {
     pub(crate) is_missing: bool,
 }
 
-/// The plan of what the request selects of a tree: modes by the settings, locks hoisted, failing fast
-/// where the options say so, after as many failures as they say. Refused are a selector that covers nothing (41), which is judged before
-/// any memory is taken, and more than 256 keys (50).
+/// The plan of a tree: modes by the settings, locks hoisted, failing fast where the options say so, after as many
+/// failures as they say, and in which keys have these limits. Refused are more than 256 keys (50).
+fn limited_plan(
+    alloc: Global,
+    options: &Options,
+    settings: &Settings,
+    tree: Tree,
+    limits: &[KeyLimit],
+) -> Result<Plan, LaunchFault>
+    ensures plan { IfOk result (λ plan. plan ≡ with_limits (plan_of options.now.fail_fast options.now.tolerated
+        settings.now tree) limits.now) }
+    ensures guarded { IfOk result (λ plan. IsGuarded (declared_of plan.tree) plan) }
+    ensures accepted { OnOk result (keys_refusal tree ≡ None) }
+    ensures refused { IfErr result (λ fault. fault ≢ LaunchFault.NoMemory → keys_refusal tree ≡ Some fault) }
+    // Whatever its workers do first, it can still be brought to its end.
+    ensures never_stuck { IfOk result (λ plan. HasBareSpares tree → NeverStuck plan) }
+{
+    let modes = modes(alloc, &tree, settings)?;
+    let plan = Plan::of(alloc, tree, modes)?;
+    let plan = plan.with_fail_fast(options.fail_fast);
+    let plan = plan.with_tolerated(options.tolerated);
+    let plan = plan.with_limits(alloc, limits)?;
+    // the contract of `tree` tells that this is a plan
+    let _ = plan.tree();
+    Ok(plan)
+}
+
+/// The plan of what the request selects of a tree, whose keys have the limits that the options say, and these properties
+/// below them. Refused are a selector that covers nothing (41), which is judged before
+/// any memory is taken, limits that are none (35, 36), by the whole tree, and more than 256 keys (50).
 fn plan_of(
     alloc: Global,
     options: &Options,
     settings: &Settings,
     tree: Tree,
+    properties: &Params,
 ) -> Result<SelectedPlan, LaunchFault>
-    ensures plan { IfOk result (λ selected. selected.plan ≡ plan_in options.now.fail_fast options.now.tolerated
-        settings.now (answer tree options.now.request)) }
+    ensures plan { IfOk result (λ selected. selected.plan ≡ plan_in (asked_by options.now) tree properties.now
+        settings.now) }
     ensures missing { IfOk result (λ selected. selected.is_missing ≡ is_missing_in (asked_by options.now) tree) }
     ensures guarded { IfOk result (λ selected. IsGuarded (declared_of selected.plan.tree) selected.plan) }
-    ensures accepted { IfOk result (λ _. plan_refusal tree options.now.request ≡ None) }
+    ensures accepted { IfOk result (λ _. plan_refusal (asked_by options.now) tree properties.now ≡ None) }
     ensures refused { IfErr result (λ fault. fault ≢ LaunchFault.NoMemory →
-        plan_refusal tree options.now.request ≡ Some fault) }
+        plan_refusal (asked_by options.now) tree properties.now ≡ Some fault) }
     ensures no_memory { IfErr result
         (λ fault. fault ≡ LaunchFault.NoMemory → selection_refusal tree options.now.request ≡ None) }
     // Whatever its workers do first, it can still be brought to its end.
@@ -106,14 +135,12 @@ fn plan_of(
 {
     // the contract of `len` tells that it is a tree
     let _ = tree.len();
+    // asked for before the tree is cut, and judged after the selection
+    let limits = lock_limits(alloc, &options.params, properties, &tree);
     let Found { tree, is_nothing } = discover(alloc, tree, &options.request)?;
+    let limits = limits?;
+    let plan = limited_plan(alloc, options, settings, tree, &limits)?;
     let is_missing = is_missing(options, is_nothing);
-    let modes = modes(alloc, &tree, settings)?;
-    let plan = Plan::of(alloc, tree, modes)?;
-    let plan = plan.with_fail_fast(options.fail_fast);
-    let plan = plan.with_tolerated(options.tolerated);
-    // and that of `tree`, that this is a plan
-    let _ = plan.tree();
     Ok(SelectedPlan { plan, is_missing })
 }
 
@@ -142,23 +169,23 @@ struct ReadyRun {
 }
 
 /// The settings of the configuration where a suite, or a program, has these properties.
-fn settings_read(options: &Options, properties: Params) -> Result<Settings, SettingsFault>
-    ensures exact { result ≡ settings_of (answer_with options.now.workers options.now.params properties)
+fn settings_read(options: &Options, properties: &Params) -> Result<Settings, SettingsFault>
+    ensures exact { result ≡ settings_of (answer_with options.now.workers options.now.params properties.now)
         options.now.processors }
     ensures some { IfOk result (λ settings. 1 ≤ settings.workers) }
 {
-    let over = options.params_over(&properties);
-    Settings::read_over(over, &properties, options.processors)
+    let over = options.params_over(properties);
+    Settings::read_over(over, properties, options.processors)
 }
 
 /// The settings of a run whose suite, or whose program, has these properties; with `--drive` as many
 /// workers count as it asks for.
 pub(crate) fn settings_over(
     options: &Options,
-    properties: Params,
+    properties: &Params,
 ) -> Result<Settings, SettingsFault>
     ensures exact { result ≡ driven_by options.now.drive
-        (settings_of (answer_with options.now.workers options.now.params properties) options.now.processors) }
+        (settings_of (answer_with options.now.workers options.now.params properties.now) options.now.processors) }
     ensures some { IfOk result (λ settings. 1 ≤ settings.workers) }
 {
     let settings = settings_read(options, properties)?;
@@ -177,21 +204,22 @@ pub(crate) fn crewed_plan(
     options: &Options,
     settings: &Settings,
     tree: Tree,
+    properties: &Params,
 ) -> Result<SelectedPlan, LaunchFault>
-    ensures plan { IfOk result (λ selected. selected.plan ≡ plan_in options.now.fail_fast options.now.tolerated
-        settings.now (answer tree options.now.request)) }
+    ensures plan { IfOk result (λ selected. selected.plan ≡ plan_in (asked_by options.now) tree properties.now
+        settings.now) }
     ensures missing { IfOk result (λ selected. selected.is_missing ≡ is_missing_in (asked_by options.now) tree) }
     ensures guarded { IfOk result (λ selected. IsGuarded (declared_of selected.plan.tree) selected.plan) }
-    ensures accepted { IfOk result (λ _. plan_refusal tree options.now.request ≡ None) }
+    ensures accepted { IfOk result (λ _. plan_refusal (asked_by options.now) tree properties.now ≡ None) }
     ensures count { IfOk result (λ _. workers_refusal settings.now.workers ≡ None) }
     ensures few { IfOk result (λ _. settings.now.workers ≤ 64) }
     ensures refused { IfErr result (λ fault. fault ≢ LaunchFault.NoMemory →
-        option_or (plan_refusal tree options.now.request) (workers_refusal settings.now.workers) ≡ Some fault) }
+        option_or (plan_refusal (asked_by options.now) tree properties.now) (workers_refusal settings.now.workers) ≡ Some fault) }
     ensures no_memory { IfErr result
         (λ fault. fault ≡ LaunchFault.NoMemory → selection_refusal tree options.now.request ≡ None) }
     ensures never_stuck { IfOk result (λ selected. HasBareSpares tree → NeverStuck selected.plan) }
 {
-    let selected = plan_of(alloc, options, settings, tree)?;
+    let selected = plan_of(alloc, options, settings, tree, properties)?;
     judge_workers(settings.workers)?;
     Ok(selected)
 }
@@ -233,8 +261,9 @@ fn ready_run(alloc: Global, options: &Options, suite: Suite) -> Result<ReadyRun,
         scripts,
         properties,
     } = suite;
-    let settings = settings_over(options, properties)?;
-    let selected = crewed_plan(alloc, options, &settings, tree)?;
+    let settings = settings_over(options, &properties)?;
+    let selected = crewed_plan(alloc, options, &settings, tree, &properties)?;
+    drop(properties);
     Ok(with_scripts(alloc, settings, selected, scripts)?)
 }
 
@@ -399,7 +428,7 @@ fn run_ready<T: Threads + Wait + Sync, W: Write, V: Watcher, S: Stopwatch + Sync
 /// and writes what the options ask for: the lines of events
 /// while the run goes on, and all else when it is over. Refused are, in this order, what gives no
 /// settings (37, 34, 32, 33) and a selector that covers nothing (41), which are judged before any
-/// memory is taken; more than 256 keys (50), more than 64 workers (61), that no thread could be
+/// memory is taken; limits of locks that are none (35, 36), more than 256 keys (50), more than 64 workers (61), that no thread could be
 /// started (90), and an output of which the writer has only the first bytes (81), since it failed or
 /// since there was no memory for the rest of a feed. On any refusal but 81 nothing is written. Each event of a
 /// run is shown to the watcher, before its line is written if it has one; what is written when the

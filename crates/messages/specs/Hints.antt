@@ -1,8 +1,10 @@
 -- What is said of a configuration, or of a suite, that has another effect than it seems to have.
-use Rattle.std.specs.Prelude.{◌≡◌, ℕ, ◌+◌, ◌==◌, ◌||◌, Bool, true, cond, List, [], ◌++◌, codes, length, if◌then◌else◌, Option, Some, None, option_map}
+use Rattle.std.specs.Prelude.{◌≡◌, ℕ, ◌+◌, ◌==◌, ◌||◌, Bool, true, cond, List, [], ◌++◌, codes, length, if◌then◌else◌, Option, Some, None, is_some, option_map}
 use Rattle.std.specs.Fmt.{decimal}
 use Rattle.std.specs.List.{flat_map}
 use Rattle.std.specs.Str.{bytes_eq}
+use Rattle.config_params.specs.LockKeys.{lock_limited}
+use Rattle.config_params.specs.LockLimits.{limited_as_said}
 use Rattle.config_params.specs.Settings.{Answers, classes_mode_key, enabled_key, factor_key, mode_key, parallelism_key, settings_of, slow_key, strategy_key}
 use Rattle.messages.specs.Marks.{shown}
 use Rattle.messages.specs.declared.hint.Cause.{Cause}
@@ -11,20 +13,22 @@ use Rattle.messages.specs.declared.hint.Hint.{Hint}
 use Rattle.messages.specs.declared.hint.Hints.{Hints}
 use Rattle.messages.specs.declared.hint.Place.{Place}
 use Rattle.messages.specs.declared.hint.Place.TheVariants.{Config, System, Line}
+use Rattle.resource_locks.specs.Plans.{PlanParts}
 
 -- the keys that say how nodes run in parallel, where that is enabled
 abbrev pub is_setting : List ℕ → Bool
-is_setting key = bytes_eq key mode_key || (bytes_eq key classes_mode_key || (bytes_eq key strategy_key || (bytes_eq key parallelism_key || bytes_eq key factor_key)))
+is_setting key = bytes_eq key mode_key || (bytes_eq key classes_mode_key || (bytes_eq key strategy_key || (bytes_eq key parallelism_key || (bytes_eq key factor_key || is_some (lock_limited key)))))
 
 -- the keys that are read
 abbrev pub is_read : List ℕ → Bool
 is_read key = bytes_eq key enabled_key || (bytes_eq key slow_key || is_setting key)
 
--- whatever other keys have for values, the settings of a run are the same
+-- whatever other keys have for values, the settings of a run are the same, and so is each plan with the limits of its locks
 abbrev pub ReadsNoOther : Type 0
-ReadsNoOther = (answers others : Answers) (processors : ℕ) → ((key : List ℕ) → is_read key ≡ true → answers key ≡ others key) → settings_of answers processors ≡ settings_of others processors
+ReadsNoOther = (answers others : Answers) (processors : ℕ) → ((key : List ℕ) → is_read key ≡ true → answers key ≡ others key)
+    → (settings_of answers processors ≡ settings_of others processors) × ((p : PlanParts) → limited_as_said answers p ≡ limited_as_said others p)
 
--- why a key is worth a hint: nobody reads it; or it is one of those that are read where parallel execution is enabled, and that is off
+-- why a key is worth a hint: nobody reads it; or it is one of those that change nothing but where parallel execution is enabled, and that is off
 abbrev pub cause_of_key : (is_off : Bool) → List ℕ → Option Cause
 cause_of_key is_off key = if is_read key then cond is_off (cond (is_setting key) (Some IdleSetting) None) None else Some UnreadKey
 

@@ -71,6 +71,8 @@ of_settings settings.BadStrategy = codes "the strategy of parallel execution is 
 of_settings settings.BadParallelism = codes "the number of workers is missing, or is none"
 of_settings settings.BadFactor = codes "the factor of workers for a processor is none"
 of_settings settings.BadSlow = codes "the milliseconds from which on a test is slow are none"
+of_settings settings.BadHolders = codes "the number of holders of a lock is none"
+of_settings settings.UnknownLock = codes "a lock is limited that no node names, or that can have no limit"
 
 -- of an output that was cut short
 abbrev pub of_cut : CutCause → List ℕ

@@ -26,7 +26,7 @@ pub enum Place {
 pub enum Cause {
     /// Nobody reads the key.
     UnreadKey,
-    /// The key is read only where parallel execution is enabled.
+    /// The key changes nothing but where parallel execution is enabled.
     IdleSetting,
     /// The key of a lock ends in a part behind a colon that is no mode.
     LockKey,

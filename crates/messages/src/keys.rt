@@ -4,6 +4,7 @@ ghost use Rattle.std.specs.Prelude.{◌≡◌};
 ghost use Rattle.messages.specs.Hints.{cause_of_key, is_read, is_setting, ReadsNoOther};
 
 use crate::hint::Cause;
+use config_params::lock_limited;
 
 /// Whether parallel execution is enabled.
 pub(crate) const ENABLED: &str = "junit.jupiter.execution.parallel.enabled";
@@ -21,8 +22,11 @@ const FACTOR: &str = "junit.jupiter.execution.parallel.config.dynamic.factor";
 /// From when on a test is slow whose own line does not say it.
 const SLOW: &str = "nelborugy.slow.default";
 
-/// The keys that are read.
-pub(crate) fn read_keys() -> [&'static str; 7] {
+/// How a key is written that limits a lock, whose own key stands in place of `LOCK`.
+const HOLDERS: &str = "nelborugy.lock.LOCK.holders";
+
+/// The keys that are read, as they are named to who misspelled one.
+pub(crate) fn read_keys() -> [&'static str; 8] {
     [
         ENABLED,
         MODE,
@@ -31,6 +35,7 @@ pub(crate) fn read_keys() -> [&'static str; 7] {
         PARALLELISM,
         FACTOR,
         SLOW,
+        HOLDERS,
     ]
 }
 
@@ -38,14 +43,18 @@ pub(crate) fn read_keys() -> [&'static str; 7] {
 pub(crate) fn is_setting(key: &str) -> bool
     ensures { result ≡ is_setting key.now }
 {
-    key == MODE || key == CLASSES_MODE || key == STRATEGY || key == PARALLELISM || key == FACTOR
+    key == MODE
+        || key == CLASSES_MODE
+        || key == STRATEGY
+        || key == PARALLELISM
+        || key == FACTOR
+        || lock_limited(key).is_some()
 }
 
-/// Whether a key of the configuration is read: one of seven.
-#[tactic(auto, using(crate::proofs::Settled::reads_no_other))]
+/// Whether a key of the configuration is read: one of seven, or one that limits a lock.
 pub fn is_read(key: &str) -> bool
     ensures exact { result ≡ is_read key.now }
-    // Whatever the other keys have for values, the settings of a run are the same.
+    // Whatever the other keys have for values, the settings of a run are the same, and so are the limits of locks.
     ensures no_other { ReadsNoOther }
 {
     key == ENABLED || key == SLOW || is_setting(key)

@@ -9,6 +9,7 @@ mod finding;
 mod hint;
 mod hint_lines;
 mod keys;
+mod limits;
 mod line;
 mod lines;
 mod marked;

@@ -77,6 +77,9 @@ fn of_settings(fault: SettingsFault) -> &'static str
         SettingsFault::BadParallelism => "the number of workers is missing, or is none",
         SettingsFault::BadFactor => "the factor of workers for a processor is none",
         SettingsFault::BadSlow => "the milliseconds from which on a test is slow are none",
+        SettingsFault::BadHolders => "the number of holders of a lock is none",
+        SettingsFault::UnknownLock =>
+            "a lock is limited that no node names, or that can have no limit",
     }
 }
 

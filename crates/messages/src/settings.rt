@@ -1,13 +1,15 @@
 //! What is wrong with what the configuration asks for.
 
+use crate::limits::push_limit;
 use crate::nearest::push_nearest;
-use config_params::{Params, Settings, SettingsFault};
+use config_params::{LimitsFault, Params, Settings, SettingsFault, get_over, lock_limits};
+use descriptor::Tree;
 use launch_options::{Given, Options, key_judged, strategy_names};
 use plan_events::MOST_WORKERS;
 use std::alloc::{AllocError, Global};
 use suite_text::Suite;
 
-/// Appends what the value that a refusal is about may be.
+/// Appends what the value of a key that this refusal is about may be.
 fn push_allowed(text: &mut String, fault: SettingsFault) -> Result<(), AllocError> {
     match fault {
         SettingsFault::BadStrategy => {
@@ -23,17 +25,18 @@ fn push_allowed(text: &mut String, fault: SettingsFault) -> Result<(), AllocErro
         SettingsFault::BadSlow => {
             text.push_str("it is a number from 1 to 86,400,000, with 1 to 8 digits")
         }
+        SettingsFault::BadHolders | SettingsFault::UnknownLock => Ok(()),
     }
 }
 
-/// Appends the value that the refusal is about, where there is one, and what it may be.
+/// Appends the value of the key that the refusal is about, where there is one, and what it may be.
 fn push_value(
     alloc: Global,
     text: &mut String,
     fault: SettingsFault,
+    key: &str,
     value: Option<&str>,
 ) -> Result<(), AllocError> {
-    let key = key_judged(fault);
     match value {
         Some(value) => write!(text, "{key} is {value:?}: ")?,
         None => write!(text, "{key} has no value: ")?,
@@ -45,14 +48,6 @@ fn push_value(
     text.push_str("\n")
 }
 
-/// The value that a key has: the options' before that of the suite's properties.
-fn value_of<'a>(options: &'a Options, properties: &'a Params, key: &str) -> Option<&'a str> {
-    match options.params.get(key) {
-        Some(value) => Some(value),
-        None => properties.get(key),
-    }
-}
-
 /// Appends how many workers these values and a suite of these properties ask for.
 fn push_workers(
     text: &mut String,
@@ -62,39 +57,34 @@ fn push_workers(
     let over = options.params_over(properties);
     if let Ok(settings) = Settings::read_over(over, properties, options.processors) {
         let workers = settings.workers;
+        let key = key_judged(SettingsFault::BadParallelism).unwrap_or("");
         write!(
             text,
-            "It asks for {workers}, and there are 64 at most: lower"
+            "It asks for {workers}, and there are 64 at most: lower {key}.\n"
         )?;
-        let key = key_judged(SettingsFault::BadParallelism);
-        write!(text, " {key}.\n")?;
     }
     Ok(())
 }
 
-/// The properties of the suite of these bytes, if they are one.
-fn properties_in(alloc: Global, suite: &[u8]) -> Option<Params> {
-    match Suite::read(alloc, suite) {
-        Ok(suite) => Some(suite.properties),
-        Err(_) => None,
-    }
-}
-
 /// Appends what the options and these properties ask for that is none: the value that a fault is
-/// about, and without one the number of workers.
+/// about, or the limit of a lock of this tree, and without a fault the number of workers.
 fn push_asked(
     alloc: Global,
     text: &mut String,
     fault: Option<SettingsFault>,
     options: &Options,
     properties: &Params,
+    tree: &Tree,
 ) -> Result<(), AllocError> {
-    match fault {
-        Some(fault) => {
-            let value = value_of(options, properties, key_judged(fault));
-            push_value(alloc, text, fault, value)
+    let Some(fault) = fault else {
+        return push_workers(text, options, properties);
+    };
+    match key_judged(fault) {
+        Some(key) => {
+            let value = get_over(&options.params, properties, key);
+            push_value(alloc, text, fault, key, value)
         }
-        None => push_workers(text, options, properties),
+        None => push_limit(alloc, text, fault, &options.params, properties, tree),
     }
 }
 
@@ -106,9 +96,9 @@ fn push_over(
     options: &Options,
     suite: &[u8],
 ) -> Result<(), AllocError> {
-    match properties_in(alloc, suite) {
-        Some(properties) => push_asked(alloc, text, fault, options, &properties),
-        None => Ok(()),
+    match Suite::read(alloc, suite) {
+        Ok(suite) => push_asked(alloc, text, fault, options, &suite.properties, &suite.tree),
+        Err(_) => Ok(()),
     }
 }
 
@@ -126,26 +116,48 @@ pub(crate) fn push_settings(
     }
 }
 
-/// Appends what a run by these options and properties would be refused for, of its settings.
+/// How many workers these options and properties ask for, if neither the settings are refused nor the
+/// limits of locks of this tree.
+fn workers_asked(
+    alloc: Global,
+    options: &Options,
+    properties: &Params,
+    tree: &Tree,
+) -> Result<u32, LimitsFault> {
+    let over = options.params_over(properties);
+    let settings = Settings::read_over(over, properties, options.processors)?;
+    drop(lock_limits(alloc, over, properties, tree)?);
+    Ok(settings.workers)
+}
+
+/// Appends what a run by these options and properties, of this tree, would be refused for, of its
+/// settings and of the limits of locks.
 fn push_refused(
     alloc: Global,
     text: &mut String,
     options: &Options,
     properties: &Params,
+    tree: &Tree,
 ) -> Result<(), AllocError> {
-    let over = options.params_over(properties);
-    match Settings::read_over(over, properties, options.processors) {
-        Ok(settings) if settings.workers <= u32::from(MOST_WORKERS) => Ok(()),
-        Ok(_) => push_asked(alloc, text, None, options, properties),
-        Err(fault) => push_asked(alloc, text, Some(fault), options, properties),
-    }
+    let fault = match workers_asked(alloc, options, properties, tree) {
+        Ok(workers) if workers <= u32::from(MOST_WORKERS) => return Ok(()),
+        Ok(_) => None,
+        Err(LimitsFault::Refused(fault)) => Some(fault),
+        Err(LimitsFault::NoMemory) => return Err(AllocError),
+    };
+    push_asked(alloc, text, fault, options, properties, tree)
 }
 
-/// What is said of the settings of a program's own tests, whose configuration has these properties,
-/// where a run by these options is refused for them (32 to 34, 37, 61): which value is wrong, and what
-/// it may be. Nothing where they are right; as much as there was memory for.
-pub fn said_of_settings(alloc: Global, options: &Options, properties: &Params) -> String {
+/// What is said of the settings of a program's own tests, whose configuration has these properties and
+/// whose nodes this tree, where a run by these options is refused for them (32 to 37, 61): which value
+/// is wrong, and what it may be. Nothing where they are right; as much as there was memory for.
+pub fn said_of_settings(
+    alloc: Global,
+    options: &Options,
+    properties: &Params,
+    tree: &Tree,
+) -> String {
     let mut said = String::new(alloc);
-    let _ = push_refused(alloc, &mut said, options, properties);
+    let _ = push_refused(alloc, &mut said, options, properties, tree);
     said
 }

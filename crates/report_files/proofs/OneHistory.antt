@@ -5,7 +5,6 @@ use Rattle.job_times.specs.Timings.{Times, times_asked}
 use Rattle.plan_events.specs.declared.event.Event.{Event}
 use Rattle.plan_events.specs.Texts.{TextParts}
 use Rattle.resource_locks.specs.Plans.{PlanParts}
-use Rattle.selectors.specs.Selections.{answer}
 use Rattle.suite_text.specs.Reading.Bytes.{suite_read}
 use Rattle.suite_text.specs.Reading.Parts.{SuiteParts}
 use Rattle.suite_text.specs.Suites.{suite_parts}
@@ -15,7 +14,7 @@ use Rattle.launch_options.specs.Asked.{Asked}
 use Rattle.launch_options.specs.declared.fault.LaunchFault.{LaunchFault}
 use Rattle.launcher.specs.declared.exit_status.ExitStatus.{ExitStatus}
 use Rattle.launcher.specs.Reports.{IsPrintedRun}
-use Rattle.launcher.specs.Runs.{IsSeenRun, IsSeenSuiteRun, ReadsSuite, IsSeenSuiteOutput, RunsLoaded, TakesFrom, answers_of, fault_in, plan_of}
+use Rattle.launcher.specs.Runs.{IsSeenRun, IsSeenSuiteRun, ReadsSuite, IsSeenSuiteOutput, RunsLoaded, TakesFrom, answers_of, fault_in, plan_in}
 use Rattle.launcher.specs.Watched.{SeesTextBy, HasSeenPrinted, is_run}
 use Rattle.listeners.specs.Listeners.{Telling, tellings_of}
 use Rattle.listeners.specs.declared.theme.Theme.{Theme}
@@ -48,7 +47,7 @@ module _ {L : Type 0} (saw : PlanParts → L → L → List Telling → Type 0) 
   module _ (asked : Asked) (old new : Option (List ℕ)) (unrun : is_run asked.replay asked.details ≡ false) where
     unseen_suite : (suite : SuiteParts) (result : Result ExitStatus LaunchFault) → IsSeenSuiteRun saw first now times asked suite old new result → IfOk result (λ status. now ≡ first)
     unseen_suite suite (Ok status) run =
-        let p = plan_of asked.fail_fast asked.tolerated run.output.output.settings (answer suite.tree asked.request) in
+        let p = plan_in asked suite.tree suite.properties run.output.output.settings in
         unseen_text (IsPrintedRun asked run.output.output.settings p (answers_of suite.scripts)) p (is_run asked.replay asked.details) run.text run.output.told unrun run.output.output.output.1
     unseen_suite suite (Err fault) run = tt
 
@@ -57,7 +56,7 @@ module _ {L : Type 0} (saw : PlanParts → L → L → List Telling → Type 0) 
     unseen_loaded (Err fault) result is = subst (λ (r : Result ExitStatus LaunchFault). IfOk r (λ status. now ≡ first)) (sym is) tt
 
   module _ (Holds : PlanParts → List Event → TextParts → Type 0) (always : (p : PlanParts) (history : List Event) (texts : TextParts) → HasSeenMore saw p (tellings_of texts history) first now → Holds p history texts) (asked : Asked) (read : Result SuiteParts SuiteFault) (old new : Option (List ℕ)) (runs : is_run asked.replay asked.details ≡ true) where
-    of_output : (status : ExitStatus) (suite : SuiteParts) → read ≡ Ok suite → (text : List ℕ) → Appends old new text → (out : IsSeenSuiteOutput saw first now times asked suite text status) → HasSeenPrinted saw (IsPrintedRun asked out.output.settings (plan_of asked.fail_fast asked.tolerated out.output.settings (answer suite.tree asked.request)) (answers_of suite.scripts)) (plan_of asked.fail_fast asked.tolerated out.output.settings (answer suite.tree asked.request)) first now times text out.told
+    of_output : (status : ExitStatus) (suite : SuiteParts) → read ≡ Ok suite → (text : List ℕ) → Appends old new text → (out : IsSeenSuiteOutput saw first now times asked suite text status) → HasSeenPrinted saw (IsPrintedRun asked out.output.settings (plan_in asked suite.tree suite.properties out.output.settings) (answers_of suite.scripts)) (plan_in asked suite.tree suite.properties out.output.settings) first now times text out.told
         → IsRunWith Holds asked times read old new status
     of_output status suite is text written out seen = record {
       suite = suite;
@@ -71,12 +70,12 @@ module _ {L : Type 0} (saw : PlanParts → L → L → List Telling → Type 0) 
       printed = seen.prints;
       exits = out.exits;
       written = written;
-      holds = always (plan_of asked.fail_fast asked.tolerated out.output.settings (answer suite.tree asked.request)) seen.history seen.texts seen.seen;
+      holds = always (plan_in asked suite.tree suite.properties out.output.settings) seen.history seen.texts seen.seen;
     }
 
     of_suite_run : (suite : SuiteParts) → read ≡ Ok suite → (result : Result ExitStatus LaunchFault) → IsSeenSuiteRun saw first now times asked suite old new result → IfOk result (λ status. IsRunWith Holds asked times read old new status)
     of_suite_run suite is (Ok status) run =
-        let p = plan_of asked.fail_fast asked.tolerated run.output.output.settings (answer suite.tree asked.request) in
+        let p = plan_in asked suite.tree suite.properties run.output.output.settings in
         of_output status suite is run.text run.written run.output (printed_seen (IsPrintedRun asked run.output.output.settings p (answers_of suite.scripts)) p (is_run asked.replay asked.details) run.text run.output.told runs run.output.output.output.1)
     of_suite_run suite is (Err fault) run = tt
 
@@ -99,7 +98,7 @@ run_with asked times read old new status gives is = record {
   printed = is.printed;
   exits = is.exits;
   written = is.written;
-  holds = gives (plan_of asked.fail_fast asked.tolerated is.settings (answer is.suite.tree asked.request)) is.history is.texts is.holds;
+  holds = gives (plan_in asked is.suite.tree is.suite.properties is.settings) is.history is.texts is.holds;
 }
 
 -- of what was read something else is judged too

@@ -10,13 +10,12 @@ use Rattle.suite_text.specs.Reading.Parts.{SuiteParts}
 use Rattle.suite_text.specs.Suites.{suite_parts}
 use Rattle.suite_text.specs.declared.suite.Suite as suites
 use Rattle.suite_text.specs.declared.suite.fault.SuiteFault.{SuiteFault}
-use Rattle.selectors.specs.Selections.{answer}
 use Rattle.launch_options.specs.Asked.{Asked}
 use Rattle.launch_options.specs.declared.fault.CutOutput.{CutOutput}
 use Rattle.launch_options.specs.declared.fault.LaunchFault.{LaunchFault}
 use Rattle.launcher.specs.declared.exit_status.ExitStatus.{ExitStatus}
 use Rattle.launcher.specs.Reports.{IsPrintedRun}
-use Rattle.launcher.specs.Runs.{FailsSuite, IsSeenRun, IsSeenSuiteOutput, IsSeenSuiteRun, RunsLoaded, answers_of, plan_of}
+use Rattle.launcher.specs.Runs.{FailsSuite, IsSeenRun, IsSeenSuiteOutput, IsSeenSuiteRun, RunsLoaded, answers_of, plan_in}
 use Rattle.launcher.specs.Watched.{IsAnswered, IsRefusedBy, SeesRefusal, SeesTextBy, cut_in, is_run}
 
 module _ {L : Type 0} (saw : PlanParts → L → L → List Telling → Type 0) (first now : L) (times : Times) (Holds : Type 0) (same : now ≡ first → Holds) (seen : (p : PlanParts) (ts : List Telling) → HasSeenMore saw p ts first now → Holds) where
@@ -42,7 +41,7 @@ module _ {L : Type 0} (saw : PlanParts → L → L → List Telling → Type 0) 
   of_suite asked suite old new result is =
       let Output = IsSeenSuiteOutput saw first now times asked suite in
       let output : (text : List ℕ) (status : ExitStatus) → Output text status → Holds =
-      λ text status out. let p = plan_of asked.fail_fast asked.tolerated out.output.settings (answer suite.tree asked.request) in
+      λ text status out. let p = plan_in asked suite.tree suite.properties out.output.settings in
       of_text (IsPrintedRun asked out.output.settings p (answers_of suite.scripts)) p (is_run asked.replay asked.details) text out.told out.output.output.1 in
       of_answer Output output asked (λ fault. FailsSuite asked suite fault × SeesRefusal first now Output fault) old new result (λ fault fails. of_fault Output output fault fails.1) is
 

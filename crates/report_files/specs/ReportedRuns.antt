@@ -6,14 +6,13 @@ use Rattle.job_times.specs.Timings.{Times, times_asked}
 use Rattle.plan_events.specs.declared.event.Event.{Event}
 use Rattle.plan_events.specs.Texts.{TextParts, text_at}
 use Rattle.resource_locks.specs.Plans.{PlanParts}
-use Rattle.selectors.specs.Selections.{answer}
 use Rattle.suite_text.specs.Reading.Parts.{SuiteParts}
 use Rattle.suite_text.specs.declared.suite.fault.SuiteFault.{SuiteFault}
 use Rattle.launch_options.specs.Asked.{Asked}
 use Rattle.launcher.specs.declared.exit_status.ExitStatus.{ExitStatus}
 use Rattle.launcher.specs.Missing.{is_missing, status_unless}
 use Rattle.launcher.specs.Reports.{IsPrintedRun}
-use Rattle.launcher.specs.Runs.{answers_of, plan_of, settings_in}
+use Rattle.launcher.specs.Runs.{answers_of, plan_in, settings_in}
 use Rattle.listeners.specs.Listeners.{EachPlace, Telling, tellings_of}
 use Rattle.listeners.specs.declared.theme.Theme.{Theme}
 use Rattle.report_files.specs.Recordings.{IsRecorded, text_in}
@@ -38,10 +37,10 @@ pub record IsRunWith (Holds : PlanParts → List Event → TextParts → Type 0)
   pub texts : TextParts
   pub text : List ℕ
   pub told : ExitStatus
-  pub printed : IsPrintedRun asked settings (plan_of asked.fail_fast asked.tolerated settings (answer suite.tree asked.request)) (answers_of suite.scripts) history texts times text told
+  pub printed : IsPrintedRun asked settings (plan_in asked suite.tree suite.properties settings) (answers_of suite.scripts) history texts times text told
   pub exits : status ≡ status_unless (is_missing asked suite.tree) told
   pub written : Appends old new text
-  pub holds : Holds (plan_of asked.fail_fast asked.tolerated settings (answer suite.tree asked.request)) history texts
+  pub holds : Holds (plan_in asked suite.tree suite.properties settings) history texts
 
 -- the history that is printed is recorded, each event with its text
 abbrev pub IsRecordedRun : Asked → Times → Result SuiteParts SuiteFault → Option (List ℕ) → Option (List ℕ) → ExitStatus → Recorded → Type 0

@@ -8,12 +8,11 @@ use Rattle.resource_locks.specs.Plans.{PlanParts}
 use Rattle.listeners.specs.Listeners.{Telling, tellings_of}
 use Rattle.worker_pool.specs.Watching.{HasSeenMore}
 use Rattle.suite_text.specs.Reading.Parts.{SuiteParts}
-use Rattle.selectors.specs.Selections.{answer}
 use Rattle.launch_options.specs.Asked.{Asked}
 use Rattle.launch_options.specs.declared.fault.LaunchFault.{LaunchFault}
 use Rattle.launcher.specs.declared.exit_status.ExitStatus.{ExitStatus}
 use Rattle.launcher.specs.Programs.{FailsProgram, IsPrintedJobs, IsSeenProgramRun, IsSeenSelectedOutput}
-use Rattle.launcher.specs.Runs.{plan_of}
+use Rattle.launcher.specs.Runs.{plan_in}
 use Rattle.launcher.specs.Watched.{HasSeenPrinted, SeesRefusal, SeesTextBy, is_run}
 use Rattle.report_files.proofs.Watched.{of_answer, of_fault, of_text}
 use Rattle.report_files.specs.Besides.{BothSaw}
@@ -44,7 +43,7 @@ module _ {L : Type 0} (saw : PlanParts → L → L → List Telling → Type 0) 
         let same : now ≡ first → Holds = λ is. inl is in
         let seen : (p : PlanParts) (ts : List Telling) → HasSeenMore saw p ts first now → Holds = λ p ts more. inr (p, ts, more) in
         let output : (text : List ℕ) (status : ExitStatus) → Output text status → Holds =
-        λ text status out. let p = plan_of asked.fail_fast asked.tolerated out.output.settings (answer parts.tree asked.request) in
+        λ text status out. let p = plan_in asked parts.tree parts.properties out.output.settings in
         of_text saw first now times Holds same seen (IsPrintedJobs answers gives None asked out.output.settings p jobs) p (is_run None asked.details) text out.told out.output.output.1 in
         of_answer saw first now times Holds same seen Output output asked (λ fault. FailsProgram asked parts fault × SeesRefusal first now Output fault) old new result (λ fault fails. of_fault saw first now times Holds same seen Output output fault fails.1) is
 
@@ -52,7 +51,7 @@ module _ {L : Type 0} (saw : PlanParts → L → L → List Telling → Type 0) 
     pub unseen_jobs : is_run None asked.details ≡ false → (result : Result ExitStatus LaunchFault) → IsSeenProgramRun answers gives asked parts jobs saw first now times old new result → IfOk result (λ status. now ≡ first)
     unseen_jobs unrun (Ok status) is =
         let out = is.output in
-        let p = plan_of asked.fail_fast asked.tolerated out.output.settings (answer parts.tree asked.request) in
+        let p = plan_in asked parts.tree parts.properties out.output.settings in
         unseen_text (IsPrintedJobs answers gives None asked out.output.settings p jobs) p (is_run None asked.details) is.text out.told unrun out.output.output.1
     unseen_jobs unrun (Err fault) is = tt
 
@@ -62,7 +61,7 @@ module _ {L : Type 0} (saw : PlanParts → L → L → List Telling → Type 0) 
     of_jobs Holds always runs (Ok status) is =
         let out = is.output in
         let settings = out.output.settings in
-        let p = plan_of asked.fail_fast asked.tolerated settings (answer parts.tree asked.request) in
+        let p = plan_in asked parts.tree parts.properties settings in
         let seen = printed_seen (IsPrintedJobs answers gives None asked settings p jobs) p (is_run None asked.details) is.text out.told runs out.output.output.1 in
         record {
           settings = settings;
@@ -91,7 +90,7 @@ jobs_with answers gives asked parts jobs times old new status keeps is = record 
   printed = is.printed;
   exits = is.exits;
   written = is.written;
-  holds = keeps (plan_of asked.fail_fast asked.tolerated is.settings (answer parts.tree asked.request)) is.history is.texts is.holds;
+  holds = keeps (plan_in asked parts.tree parts.properties is.settings) is.history is.texts is.holds;
 }
 
 module _ {V O : Type 0} (saw : PlanParts → V → V → List Telling → Type 0) (beside : PlanParts → O → O → List Telling → Type 0) (first now : Beside V O) where

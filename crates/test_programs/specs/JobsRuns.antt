@@ -7,13 +7,12 @@ use Rattle.plan_events.specs.declared.event.Event.{Event}
 use Rattle.plan_events.specs.declared.outcome.Reply.{Reply}
 use Rattle.plan_events.specs.Texts.{TextParts}
 use Rattle.resource_locks.specs.Plans.{PlanParts}
-use Rattle.selectors.specs.Selections.{answer}
 use Rattle.suite_text.specs.Reading.Parts.{SuiteParts}
 use Rattle.launch_options.specs.Asked.{Asked}
 use Rattle.launch_options.specs.declared.fault.LaunchFault.{LaunchFault}
 use Rattle.launcher.specs.Missing.{is_missing, status_unless}
 use Rattle.launcher.specs.Programs.{IsPrintedJobs, IsProgramRun}
-use Rattle.launcher.specs.Runs.{is_writing, plan_of, settings_in}
+use Rattle.launcher.specs.Runs.{is_writing, plan_in, settings_in}
 use Rattle.launcher.specs.declared.exit_status.ExitStatus.{ExitStatus}
 
 -- of a program's tree and what it says of the configuration, and of its jobs, which may answer so
@@ -32,7 +31,7 @@ module _ {B : Type 0} (answers : B → List Reply) (gives : B → Reply → Type
     pub texts : TextParts
     pub text : List ℕ
     pub told : ExitStatus
-    pub printed : IsPrintedJobs answers gives None asked settings (plan_of asked.fail_fast asked.tolerated settings (answer parts.tree asked.request)) jobs history texts times text told
+    pub printed : IsPrintedJobs answers gives None asked settings (plan_in asked parts.tree parts.properties settings) jobs history texts times text told
     pub exits : status ≡ status_unless (is_missing asked parts.tree) told
     pub written : Appends old new text
-    pub holds : Holds (plan_of asked.fail_fast asked.tolerated settings (answer parts.tree asked.request)) history texts
+    pub holds : Holds (plan_in asked parts.tree parts.properties settings) history texts

@@ -64,7 +64,7 @@ fn run_launch<
         program.jobs.items is_terminal (asked_by launch.entry.options) (map parts_of launch.entry.reports.items)
         writer.old writer.new errors.old errors.new (K.deeds files.old) (K.deeds files.new) result }
 {
-    let said = said_of_settings(alloc, &launch.options, &program.properties);
+    let said = said_of_settings(alloc, &launch.options, &program.properties, &program.tree);
     let mut failures = Failures::new(alloc);
     let mut slowest = None;
     let answer = run_jobs_meanwhile(

@@ -1,0 +1,20 @@
+-- One place more.
+use Rattle.std.proofs.Common.{◌∙◌, ◌++◌, ◌∷◌, [], List, ℕ, ap, map, cond}
+use Rattle.std.specs.Prelude.{is_some}
+use Rattle.config_params.specs.LockKeys.{lock_limited}
+use Rattle.config_params.proofs.LockKeys.{none_more, one_more}
+use Rattle.config_params.proofs.params.push_limiting.Goals.{in-Some+in_ok-push_if_limiting, in_default}
+use Rattle.config_params.proofs.params.push_limiting.Goals as goal
+
+pub loop-place-preserved : goal.loop-place-preserved
+loop-place-preserved c =
+    let first : List (List ℕ) = map (λ key. key.now) c.args.keys.now.items in
+    let before : List (List ℕ) = map (λ key. key.now) c.loop-place.keys.items in
+    elim c.match-get_index.branch [
+      | in-Some+in_ok-push_if_limiting w ↦
+          one_more c.args.table.now.entries c.loop-place.place (w.in-Some.key.now, w.in-Some.field-0-1.now) first before (map (λ key. key.now) c.match-get_index.keys.items) w.in-Some.ensures.entry c.loop-place.invariant
+          (ap (λ k. map (λ key. key.now) k.items) w.keys-is ∙ w.in_ok-push_if_limiting.ensures ∙ ap (λ (k : List ℕ). before ++ cond (is_some (lock_limited k)) (k ∷ []) []) w.as_str.ensures.value)
+      | in_default w ↦
+          ap (λ k. map (λ key. key.now) k.items) w.keys-is
+          ∙ none_more c.args.table.now.entries c.loop-place.place first before w.in_default.ensures.entry c.loop-place.invariant
+    ]
