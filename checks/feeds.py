@@ -73,6 +73,8 @@ class Reader:
         self.run = run
         self.seen = {}
         self.running = {}
+        # how many nodes hold each limited lock
+        self.holders = Counter()
         # how many nodes failed; of how many of them the worker told more after; of each worker whether its last event is a
         # failure, and of how many it knew at that event
         self.failures = self.passed_failures = 0
@@ -195,6 +197,13 @@ class Reader:
                 raise Refused(f"locks: {node.id} starts while {other.id} runs")
         self.running[node] = True
 
+    def limits(self, event):
+        """No more nodes hold a lock at once than its limit says."""
+        for key in self.plan.root.limits.keys() & self.plan.held[event.node].keys():
+            self.holders[key] += {"started": 1, "finished": -1}.get(event.kind, 0)
+            if self.holders[key] > self.plan.root.limits[key]:
+                raise Refused(f"limits: {event.node.id} is one holder of {key} too many")
+
     def excludes(self, one, other):
         """Whether two nodes, neither above the other, may not overlap."""
         if conflict(self.plan.declared[one], self.plan.declared[other]):
@@ -227,6 +236,7 @@ class Reader:
             self.finishes,
             self.registers_all,
             self.locks,
+            self.limits,
             self.ends,
         ):
             rule(event)

@@ -79,9 +79,14 @@ class Plan:
             held = joined([*held.items(), *self.locks_below[node].items()])
         return held
 
+    def limit_of(self, key):
+        """How many nodes may hold a lock at once; 0 if that is not limited."""
+        return self.root.limits.get(key, 0)
+
     def mode_of(self, node):
-        """The mode in which a node runs: below a node that writes all runs in one thread."""
-        if any("rw" in self.held[above].values() for above in node.ancestors()):
+        """The mode in which a node runs: below a node that writes, or that holds a limited lock, all runs in one thread."""
+        locks = [lock for above in node.ancestors() for lock in self.held[above].items()]
+        if any(mode == "rw" or self.limit_of(key) for key, mode in locks):
             return "same_thread"
         return self.given_mode(node)
 

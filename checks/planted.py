@@ -68,6 +68,20 @@ w1 finished {ENGINE} SUCCESSFUL
 w1 plan finished
 """
 
+LIMITED = f"""w2 plan started
+w2 started {ENGINE}
+w2 started {A}
+w2 started {T}
+w2 finished {T} SUCCESSFUL
+w2 finished {A} SUCCESSFUL
+w1 started {B}
+w1 started {V}
+w1 finished {V} FAILED
+w1 finished {B} SUCCESSFUL
+w2 finished {ENGINE} SUCCESSFUL
+w2 plan finished
+"""
+
 
 def suite():
     """Two classes that write one key, a third that its before-body ends, and one with a factory that leaves a spare."""
@@ -85,6 +99,15 @@ def suite():
     factory.add("dyn", "one", verdict=Verdict("disabled", "later"))
     factory.add("dyn", "two", verdict=Verdict("pass"))
     factory.add("dyn", "three", verdict=Verdict("fail"))
+    return plan
+
+
+def limited_suite():
+    """Two classes that read one lock, which one node may hold at once."""
+    plan = Node("plan", "", limits={"db": 1})
+    engine = plan.add("engine", "e")
+    engine.add("class", "A", locks=[("db", "r")]).add("test", "t", verdict=Verdict("pass"))
+    engine.add("class", "B", locks=[("db", "r")]).add("test", "v", verdict=Verdict("fail"))
     return plan
 
 
@@ -178,6 +201,12 @@ TOLERATED_MISTAKES = [
     ("a test that is cancelled behind one failure", "skips", put_for(f"w1 started {T}", f"w1 skipped {T} cancelled")),
 ]
 
+# The same where one node at most may hold a lock.
+LIMITED_MISTAKES = [
+    ("a holder too many", "limits", moved(f"w1 started {B}", f"w2 started {A}")),
+    ("a test below a holder that another worker runs", "thread", put_for(f"w2 started {T}", f"w1 started {T}")),
+]
+
 
 def changed(feed, change):
     """A feed with a change of its lines."""
@@ -209,6 +238,10 @@ def cases():
     yield "a lawful feed of a run that tolerates a failure", free, tolerant, TOLERATED, ""
     yield "the same where none is tolerated", free, fast, TOLERATED, "skips"
     yield "the same where two are tolerated", free, Run(2, True, 2), TOLERATED, "skips"
+    limited = Plan(limited_suite(), True, "concurrent", "concurrent")
+    yield "a lawful feed of two holders of a limited lock", limited, two, LIMITED, ""
+    for what, rule, change in LIMITED_MISTAKES:
+        yield what, limited, two, changed(LIMITED, change), rule
     for what, rule, change in MISTAKES:
         yield what, free, two, changed(LAWFUL, change), rule
     for what, rule, change in THREAD_MISTAKES:

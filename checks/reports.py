@@ -238,12 +238,18 @@ def judge_list(plan, text):
     same("the list", text, list_of(units_of(plan)))
 
 
+def lock_object(plan, key, mode):
+    """What is said of a lock that a node holds, with how many nodes may hold it at once, if that is limited."""
+    limit = plan.limit_of(key)
+    return {"key": key, "mode": LOCK_MODES[mode]} | ({"holders": limit} if limit else {})
+
+
 def node_object(plan, node):
     """What is said of a node before it is run."""
     held = sorted(plan.held[node].items(), key=lambda lock: lock[0].encode())
     said = {"type": TYPES[node.word], "id": node.id, "parent": node.parent.id if node.parent.parent else ""}
     said |= {"name": node.name, "mode": plan.modes[node].upper()}
-    said["held"] = [{"key": key, "mode": LOCK_MODES[mode]} for key, mode in held]
+    said["held"] = [lock_object(plan, key, mode) for key, mode in held]
     return said | ({"disabled": node.verdict.text} if node.disabled else {})
 
 
@@ -313,7 +319,9 @@ class Reports:
     def suite(self, seed, number):
         """Makes the suite of this number, and judges its reports."""
         random = Random(f"{seed}/{number}")
-        root = OddMaker(random).plan()
+        maker = OddMaker(random)
+        root = maker.plan()
+        maker.limit(root)
         wrong = [f"property {key}=parallel\n" for key in KEYS if random.random() < 0.4]
         suite, plan = "".join(wrong) + text_of(root), Plan(root, False, "same_thread", "same_thread")
         words = ["--schedule"] * (random.random() < 0.3)

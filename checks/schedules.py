@@ -115,7 +115,10 @@ class Schedules:
     def suite(self, seed, number):
         """Makes the suite of this number, and judges a run of it by each number of workers."""
         random = Random(f"{seed}/{number}")
-        suite = text_of(Maker(random).plan()).encode()
+        maker = Maker(random)
+        root = maker.plan()
+        maker.limit(root)
+        suite = text_of(root).encode()
         for workers in WORKERS:
             words = settings(random, workers)
             what = f"suite {number} of seed {seed}, {workers} workers"

@@ -1,7 +1,7 @@
 """Suites made at random: nodes with what they declare, and the text that says them."""
 
 from dataclasses import dataclass, field
-from typing import List, Optional, Tuple
+from typing import Dict, List, Optional, Tuple
 
 ESCAPED = "%+[]:/"
 SEGMENTS = {"engine": "engine", "test": "method", "factory": "test-factory", "dyn": "dynamic-test"}
@@ -37,6 +37,8 @@ class Node:
     after: Optional[Verdict] = None
     # Behind how many of its children a class's line `after` stands.
     after_at: int = 0
+    # Of the plan: how many nodes may hold a lock at once, for each lock for which its properties say it.
+    limits: Dict[str, int] = field(default_factory=dict)
 
     def add(self, word, name, **declared):
         """A new node at the end of this one's children."""
@@ -114,7 +116,8 @@ def lines_of(node, level):
 
 def text_of(plan):
     """The text of a suite."""
-    lines = [line for engine in plan.children for line in lines_of(engine, 0)]
+    lines = [f"property nelborugy.lock.{key}.holders={most}" for key, most in plan.limits.items()]
+    lines += [line for engine in plan.children for line in lines_of(engine, 0)]
     return "".join(f"{line}\n" for line in lines)
 
 
@@ -199,6 +202,14 @@ class Maker:
             self.add_factory(parent)
         else:
             self.add_test(parent)
+
+    def limit(self, plan):
+        """Limits some of the locks that a suite's nodes name; the global one can have no limit."""
+        named = sorted({key for node in plan.below() for key, _ in node.locks} - {"GLOBAL"})
+        for key in named:
+            # of a property the first '=' ends the key
+            if "=" not in key and self.random.random() < 0.5:
+                plan.limits[key] = self.random.choice([1, 2, 2, 3, 5, 64])
 
     def plan(self):
         """A suite of some engines, as node 0 of its tree."""

@@ -126,6 +126,14 @@ def full_locks(part):
     return "".join(lines)
 
 
+def limited(part):
+    """A limit for each of the locks of tests that have four each."""
+    made = nodes(part)
+    limits = "".join(f"property nelborugy.lock.k{number:05d}.holders=2\n" for number in range(4 * made))
+    line = "    test t{0:04d}() lock=k{1:05d} lock=k{2:05d} lock=k{3:05d} lock=k{4:05d} pass\n"
+    return limits + "engine e\n  class a.B\n" + "".join(line.format(at, *range(4 * at, 4 * at + 4)) for at in range(made))
+
+
 def tagged(part):
     """Tests with a tag each, in nested classes with tags."""
     return tests(nodes(part), "#a #b ", "engine e #c\n  class a.B #d\n")
@@ -243,6 +251,7 @@ CASES = [
     Case("255 keys on 4,093 tests, run", run(keyed), 0),
     Case("sixteen locks on each test, run", run(full_locks), 0),
     Case("255 keys, concurrent", run(keyed, *PARALLEL), 0),
+    Case("limits of 16,372 locks, of which one test is run", run(limited, "--select-method", "a.B#t0000()"), 0),
     Case("4,095 tests, skipped", lambda part: (["--details", "tree"], tests(nodes(part)).replace(" pass", " disabled x")), 0),
     # what is to run
     Case("32 ids over all nodes", by_count("--select-unique-id", "[engine:e]/[class:a.B]/[method:t{0:04d}()]"), 0),
