@@ -44,6 +44,8 @@ mod slow_names;
 #[cfg(test)]
 mod stepping;
 #[cfg(test)]
+mod suite_listeners;
+#[cfg(test)]
 mod summaries;
 #[cfg(test)]
 mod texts;

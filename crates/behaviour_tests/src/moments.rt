@@ -7,7 +7,7 @@ ghost use Rattle.worker_pool.specs.Reports.{run_of};
 
 use crate::running::{WIDE, push_events, staged};
 use crate::watching::board_of;
-use listeners::Audience;
+use listeners::Observer;
 use plan_events::{Event, Texts};
 use resource_locks::Plan;
 use run_table::Jobs;
@@ -15,7 +15,7 @@ use std::alloc::Global;
 use std::sync::{Arc, Wait};
 use std::thread::Threads;
 use test_jobs::{Act, Actor, Board, cast};
-use worker_pool::{Watcher, run_watched};
+use worker_pool::run_watched;
 
 /// A test, node 3, that ends once it is seen to.
 const ONE: &str = "engine e
@@ -37,10 +37,10 @@ struct Patient {
     moments: u32,
 }
 
-impl Watcher for Patient {
+impl Observer for Patient {
     ghost saw = { λ _ _ _ _. Unit {0} };
 
-    fn watch(&mut self, _plan: &Plan, _texts: &Texts, event: Event) {
+    fn see(&mut self, _plan: &Plan, _texts: &Texts, event: Event) {
         self.has_started = self.has_started || event.node.index() == TEST;
     }
 
@@ -55,39 +55,33 @@ impl Watcher for Patient {
     }
 }
 
-/// The events of a run of these jobs before this watcher alone.
+/// The events of a run of these jobs before this observer alone.
 fn run_before<R: Threads + Wait + Sync>(
     rt: &R,
     alloc: Global,
     plan: Plan,
     jobs: Jobs<Actor>,
-    watcher: &mut Patient,
+    observer: &mut Patient,
 ) -> Option<Vec<Event>>
     requires { (workers ring : ℕ) → JobsMayAnswer replies_left (run_of plan workers ring jobs.items) }
 {
-    let Ok(mut audience) = Audience::new(Vec::new(alloc)) else {
-        return None;
-    };
-    if !audience.fresh() {
-        return None;
-    }
-    match run_watched(rt, alloc, plan, jobs, 1, WIDE, &mut audience, watcher) {
+    match run_watched(rt, alloc, plan, jobs, 1, WIDE, observer) {
         Ok(report) => Some(report.events),
         Err(_) => None,
     }
 }
 
-/// What is said of the events of a run whose test ends well once its watcher was left moments.
+/// What is said of the events of a run whose test ends well once its observer was left moments.
 fn events_of_patience<R: Threads + Wait + Sync>(rt: &R, alloc: Global) -> Option<String> {
     let board = board_of(alloc)?;
     let (plan, scripts) = staged(alloc, ONE)?;
     let jobs = cast(alloc, &plan, scripts.as_slice(), Act::Waits, &board).ok()?;
-    let mut watcher = Patient {
+    let mut observer = Patient {
         board,
         has_started: false,
         moments: 0,
     };
-    let events = run_before(rt, alloc, plan, jobs, &mut watcher)?;
+    let events = run_before(rt, alloc, plan, jobs, &mut observer)?;
     let mut text = String::new(alloc);
     push_events(&mut text, events.as_slice());
     Some(text)

@@ -11,7 +11,7 @@ use std::sync::Wait;
 use std::thread::Threads;
 
 /// A suite of one passing test.
-const SUITE: &str = "engine e\n  class a.B\n    test t() pass\n";
+pub(crate) const SUITE: &str = "engine e\n  class a.B\n    test t() pass\n";
 
 /// Its feed.
 const FEED: &str = "w1 plan started
@@ -46,7 +46,7 @@ impl Read for Broken<'_> {
 }
 
 /// The feed of all tests.
-fn feed_options(alloc: Global) -> Options {
+pub(crate) fn feed_options(alloc: Global) -> Options {
     Options {
         request: Request {
             selectors: Vec::new(alloc),

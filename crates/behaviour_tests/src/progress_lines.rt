@@ -2,13 +2,12 @@
 
 use crate::failing::{Failing, Full};
 use job_times::JobTimes;
-use listeners::Summary;
+use listeners::{Observer, Summary};
 use live::{Failures, Progress, Running, SlowTests};
 use std::alloc::Global;
 use std::cell::Cell;
 use std::io::{Result as IoResult, Write};
 use std::time::{Clock, Duration};
-use worker_pool::Watcher;
 
 /// The line before anything has happened.
 const LINE: &str = "\r\x1b[K\x1b[?7l0 found, 0 running, 0 done, 0 failed, 0 s\x1b[?7h";
@@ -40,7 +39,7 @@ impl Clock for Ticking {
     }
 }
 
-/// Leaves a watcher with this terminal six moments, between which so many milliseconds pass.
+/// Leaves a observer with this terminal six moments, between which so many milliseconds pass.
 fn leave_moments<E: Write>(alloc: Global, terminal: &mut E, step: u64) {
     let clock = Ticking::by(step);
     let mut summary = Summary::new(alloc);

@@ -4,10 +4,10 @@ use crate::plans::{finished, plan_of, started};
 use crate::progress_lines::Ticking;
 use descriptor::BodyId;
 use job_times::{JobTimes, Stopwatch};
+use listeners::Observer;
 use live::{SlowLines, SlowTests};
 use plan_events::{Event, Status, Texts};
 use std::alloc::Global;
-use worker_pool::{Nobody, Watcher};
 
 /// A suite whose nodes 3 and 4 are tests.
 const SUITE: &str = "engine e\n  class a.B\n    test t() pass\n    test u() pass\n";
@@ -24,10 +24,10 @@ fn written(alloc: Global, events: &[Event]) -> Option<Vec<u8>> {
     times.begin(body);
     let mut taken = Vec::new(alloc);
     let mut tests = SlowTests::new(alloc);
-    let mut nobody = Nobody;
+    let mut nobody = ();
     let mut lines = SlowLines::new(&mut taken, &times, &mut tests, &mut nobody);
     for event in events {
-        lines.watch(&plan, &texts, *event);
+        lines.see(&plan, &texts, *event);
     }
     for _ in 0..4 {
         lines.idle();

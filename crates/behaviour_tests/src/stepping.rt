@@ -1,16 +1,15 @@
 //! One worker and the dispatcher, both on the calling thread: when an event is told.
 
-ghost use Rattle.std.specs.Prelude.{◌≡◌, ◌≤◌, ℕ, List, [], None, IfOk};
-ghost use Rattle.std.specs.List.{All};
+ghost use Rattle.std.specs.Prelude.{◌≡◌, ℕ, List, [], None, IfOk};
 ghost use Rattle.descriptor.specs.Nodes.{IsTree};
 ghost use Rattle.plan_events.specs.declared.outcome.Reply.{Reply};
 ghost use Rattle.scheduling.specs.declared.task.Task.TheVariants.{Free};
-ghost use Rattle.run_table.specs.Handles.{about_in, dispatcher_at, view_at};
+ghost use Rattle.run_table.specs.Handles.{about_in, view_at};
 ghost use Rattle.run_table.specs.Seats.{IsSeatOf};
 ghost use Rattle.test_jobs.specs.Acting.{replies_left};
 ghost use Rattle.worker_pool.specs.Premises.{JobsMayAnswer, MayAnswer};
 ghost use Rattle.worker_pool.specs.Reports.{run_of};
-ghost use Rattle.worker_pool.specs.Telling.{AreTextsRead, KeepsTexts, left_to_read};
+ghost use Rattle.worker_pool.specs.Telling.{AreTextsRead, KeepsTexts};
 
 use crate::running::{WIDE, push_events, staged};
 use crate::watching::{audience_of_one, board_of, one_watcher};
@@ -86,10 +85,6 @@ fn starts_are_told_when_shown(
 ) -> bool
     requires worker { IsSeatOf table.now.table worker.old.seat }
     requires dispatcher_seat { IsSeatOf table.now.table dispatcher_seat.old.seat }
-    requires told { All (λ l. got (l.vtable, l.value) ≡ (dispatcher_at dispatcher_seat.old.seat).read)
-        audience.old.listeners.items }
-    requires room { All (λ l. left_to_read (view_at dispatcher_seat.old.seat) ≤ room (l.vtable, l.value))
-        audience.old.listeners.items }
     requires texts { KeepsTexts replies_left (view_at dispatcher_seat.old.seat) texts.old }
 {
     let is_drawn = worker.claim(table, NodeId::ROOT).is_ok() && worker.draw(table).is_ok();
@@ -119,10 +114,6 @@ fn tells_at_last(
     calls: usize,
 ) -> bool
     requires dispatcher_seat { IsSeatOf table.now.table dispatcher_seat.old.seat }
-    requires told { All (λ l. got (l.vtable, l.value) ≡ (dispatcher_at dispatcher_seat.old.seat).read)
-        audience.old.listeners.items }
-    requires room { All (λ l. left_to_read (view_at dispatcher_seat.old.seat) ≤ room (l.vtable, l.value))
-        audience.old.listeners.items }
     requires texts { KeepsTexts replies_left (view_at dispatcher_seat.old.seat) texts.old }
 {
     let mut is_told = false;
@@ -174,10 +165,6 @@ fn is_told_at<R: Wait>(
     requires free { worker.old.task ≡ Free }
     requires empty { worker.old.hand ≡ None }
     requires dispatcher_seat { IsSeatOf table.now.table dispatcher_seat.old.seat }
-    requires told { All (λ l. got (l.vtable, l.value) ≡ (dispatcher_at dispatcher_seat.old.seat).read)
-        audience.old.listeners.items }
-    requires room { All (λ l. left_to_read (view_at dispatcher_seat.old.seat) ≤ room (l.vtable, l.value))
-        audience.old.listeners.items }
     requires texts { KeepsTexts replies_left (view_at dispatcher_seat.old.seat) texts.old }
 {
     match course {

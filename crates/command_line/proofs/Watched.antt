@@ -2,7 +2,7 @@
 use Rattle.std.proofs.Common.{◌≡◌, ℕ, Bool, true, false, List, [], Option, inl, inr, refl, sym, subst}
 use Rattle.resource_locks.specs.Plans.{PlanParts}
 use Rattle.listeners.specs.Listeners.{Telling}
-use Rattle.worker_pool.specs.Watching.{HasSeenMore}
+use Rattle.listeners.specs.Observing.{HasSeenMore}
 use Rattle.live.proofs.Drawing.{begun, drawn_still, left, none_drawn}
 use Rattle.live.specs.Terminals.{HasFollowed, IsDrawnBehind, IsDrawnOn, is_done}
 use Rattle.live.proofs.SlowWriting.{untouched}

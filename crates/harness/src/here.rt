@@ -11,6 +11,7 @@ ghost use Rattle.test_tree.specs.declared.cause.BuildCause.TheVariants.{NoMemory
 
 use crate::run::run_tests_main;
 use command_line::{Ending, is_drawn_on};
+use listeners::Observer;
 use report_files::SystemFiles;
 use std::env::{Env, args};
 use std::fs::Files;
@@ -20,7 +21,6 @@ use std::thread::Threads;
 use std::time::Clock;
 use system_facts::{SystemFacts, SystemTexts};
 use test_tree::{BuildFault, Tests};
-use worker_pool::Watcher;
 
 /// What a program of tests asks of the system: `main` has it.
 pub trait System: Threads + Wait + Sync + Clock + Env + Files + AllocGlobal {}
@@ -30,12 +30,12 @@ impl<S: Threads + Wait + Sync + Clock + Env + Files + AllocGlobal> System for S 
 /// What `run_tests_main` does with what this system gives and tells: the words of the command line, the files that they
 /// name, how many processors there are, a build server's shard, and whether the other writer is a terminal that can be
 /// drawn on.
-pub fn run_tests_here<S: System, W: Write, E: Write + IsTerminal, V: Watcher>(
+pub fn run_tests_here<S: System, W: Write, E: Write + IsTerminal, V: Observer>(
     system: &S,
     tests: Box<Tests>,
     writer: &mut W,
     errors: &mut E,
-    watcher: &mut V,
+    observer: &mut V,
 ) -> Result<Ending, BuildFault>
     // By some words, or for some reason by none: no clause can say what a system gives.
     ensures run { IfOk result (λ ending. IsRunHere replies_left gives_left W.contents E.contents
@@ -43,7 +43,7 @@ pub fn run_tests_here<S: System, W: Write, E: Write + IsTerminal, V: Watcher>(
         writer.old writer.new errors.old errors.new ending) }
     ensures bare { IfOk result (λ _. HasBareSpares (held tests.value).tree) }
     ensures unbuilt { IfErr result (λ fault. (IsPending (held tests.value) fault.cause ⊎ (fault.cause ≡ NoMemory)) × (writer.new ≡ writer.old)
-        × (errors.new ≡ errors.old) × (watcher.new ≡ watcher.old)) }
+        × (errors.new ≡ errors.old) × (observer.new ≡ observer.old)) }
 {
     let words = args(system);
     let told = SystemFacts::of(system);
@@ -62,6 +62,6 @@ pub fn run_tests_here<S: System, W: Write, E: Write + IsTerminal, V: Watcher>(
         writer,
         errors,
         &mut files,
-        watcher,
+        observer,
     )
 }

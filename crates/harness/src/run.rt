@@ -18,6 +18,7 @@ ghost use Rattle.test_tree.specs.declared.cause.BuildCause.TheVariants.{NoMemory
 use crate::job::jobs_of;
 use command_line::Ending;
 use launcher::Program;
+use listeners::Observer;
 use report_files::ReportFiles;
 use std::alloc::Global;
 use std::env::Args;
@@ -28,7 +29,6 @@ use std::time::Clock;
 use test_programs::{run_test_main, run_test_program, run_test_words};
 use test_tree::{BuildFault, Tests};
 use word_files::{Facts, TextFiles};
-use worker_pool::{Nobody, Watcher};
 
 /// Runs of these tests what the words ask for; the first word is the program's name. By this clock is told how long
 /// they took, if that is asked for. All else is as `run_tests` says.
@@ -57,7 +57,7 @@ pub fn run_tests_by_words<T: Threads + Wait + Sync, C: Clock + Sync + Drop, W: W
         jobs,
         slow,
     };
-    let mut nobody = Nobody;
+    let mut nobody = ();
     Ok(run_test_words(
         rt,
         clock,
@@ -74,14 +74,14 @@ pub fn run_tests_by_words<T: Threads + Wait + Sync, C: Clock + Sync + Drop, W: W
 /// Does what `run_tests` does, and shows the run to one who watches it: each event of its history in order, with its
 /// text, as it is told; or nothing, where nothing is run. So a program has a listener of its own: it may be any type
 /// with `watch`, and may borrow what it fills. No clause says what it saw.
-pub fn run_tests_watched<T: Threads + Wait + Sync + Clock, W: Write, E: Write, V: Watcher>(
+pub fn run_tests_watched<T: Threads + Wait + Sync + Clock, W: Write, E: Write, V: Observer>(
     rt: &T,
     alloc: Global,
     words: io::Result<Args>,
     tests: Box<Tests>,
     writer: &mut W,
     errors: &mut E,
-    watcher: &mut V,
+    observer: &mut V,
 ) -> Result<Ending, BuildFault>
     ensures run { IfOk result (λ ending. IfOk words (λ given. IsTestRun
         replies_left gives_left W.contents E.contents
@@ -93,7 +93,7 @@ pub fn run_tests_watched<T: Threads + Wait + Sync + Clock, W: Write, E: Write, V
     // No dynamic test holds a key, so a run never gets stuck.
     ensures bare { IfOk result (λ _. HasBareSpares (held tests.value).tree) }
     ensures unbuilt { IfErr result (λ fault. (IsPending (held tests.value) fault.cause ⊎ (fault.cause ≡ NoMemory)) × (writer.new ≡ writer.old)
-        × (errors.new ≡ errors.old) × (watcher.new ≡ watcher.old)) }
+        × (errors.new ≡ errors.old) × (observer.new ≡ observer.old)) }
 {
     let (tree, properties, bodies, slow) = Box::into_inner(tests).into_parts()?;
     let jobs = jobs_of(alloc, bodies)?;
@@ -104,7 +104,7 @@ pub fn run_tests_watched<T: Threads + Wait + Sync + Clock, W: Write, E: Write, V
         slow,
     };
     Ok(run_test_program(
-        rt, rt, alloc, words, false, program, writer, errors, watcher,
+        rt, rt, alloc, words, false, program, writer, errors, observer,
     ))
 }
 
@@ -134,7 +134,7 @@ pub fn run_tests<T: Threads + Wait + Sync + Clock, W: Write, E: Write>(
     ensures unbuilt { IfErr result (λ fault. (IsPending (held tests.value) fault.cause ⊎ (fault.cause ≡ NoMemory)) × (writer.new ≡ writer.old)
         × (errors.new ≡ errors.old)) }
 {
-    let mut nobody = Nobody;
+    let mut nobody = ();
     run_tests_watched(rt, alloc, words, tests, writer, errors, &mut nobody)
 }
 
@@ -169,7 +169,7 @@ pub fn run_tests_on_terminal<T: Threads + Wait + Sync, C: Clock + Sync + Drop, W
         jobs,
         slow,
     };
-    let mut nobody = Nobody;
+    let mut nobody = ();
     Ok(run_test_program(
         rt,
         clock,
@@ -195,7 +195,7 @@ pub fn run_tests_by_clock<
     W: Write,
     E: Write,
     K: ReportFiles,
-    V: Watcher,
+    V: Observer,
 >(
     rt: &T,
     clock: C,
@@ -208,7 +208,7 @@ pub fn run_tests_by_clock<
     writer: &mut W,
     errors: &mut E,
     files: &mut K,
-    watcher: &mut V,
+    observer: &mut V,
 ) -> Result<Ending, BuildFault>
     ensures run { IfOk result (λ ending. IfOk words (λ given. IsTestMainRun
         replies_left gives_left W.contents E.contents
@@ -221,7 +221,7 @@ pub fn run_tests_by_clock<
     // No dynamic test holds a key, so a run never gets stuck.
     ensures bare { IfOk result (λ _. HasBareSpares (held tests.value).tree) }
     ensures unbuilt { IfErr result (λ fault. (IsPending (held tests.value) fault.cause ⊎ (fault.cause ≡ NoMemory)) × (writer.new ≡ writer.old)
-        × (errors.new ≡ errors.old) × (files.new ≡ files.old) × (watcher.new ≡ watcher.old)) }
+        × (errors.new ≡ errors.old) × (files.new ≡ files.old) × (observer.new ≡ observer.old)) }
 {
     let (tree, properties, bodies, slow) = Box::into_inner(tests).into_parts()?;
     let jobs = jobs_of(alloc, bodies)?;
@@ -243,7 +243,7 @@ pub fn run_tests_by_clock<
         writer,
         errors,
         files,
-        watcher,
+        observer,
     ))
 }
 
@@ -255,7 +255,7 @@ pub fn run_tests_main<
     W: Write,
     E: Write,
     K: ReportFiles,
-    V: Watcher,
+    V: Observer,
 >(
     rt: &T,
     alloc: Global,
@@ -267,7 +267,7 @@ pub fn run_tests_main<
     writer: &mut W,
     errors: &mut E,
     files: &mut K,
-    watcher: &mut V,
+    observer: &mut V,
 ) -> Result<Ending, BuildFault>
     ensures run { IfOk result (λ ending. IfOk words (λ given. IsTestMainRun
         replies_left gives_left W.contents E.contents
@@ -279,7 +279,7 @@ pub fn run_tests_main<
         E.contents (Err fault) writer.old writer.new errors.old errors.new ending)) }
     ensures bare { IfOk result (λ _. HasBareSpares (held tests.value).tree) }
     ensures unbuilt { IfErr result (λ fault. (IsPending (held tests.value) fault.cause ⊎ (fault.cause ≡ NoMemory)) × (writer.new ≡ writer.old)
-        × (errors.new ≡ errors.old) × (files.new ≡ files.old) × (watcher.new ≡ watcher.old)) }
+        × (errors.new ≡ errors.old) × (files.new ≡ files.old) × (observer.new ≡ observer.old)) }
 {
     run_tests_by_clock(
         rt,
@@ -293,6 +293,6 @@ pub fn run_tests_main<
         writer,
         errors,
         files,
-        watcher,
+        observer,
     )
 }

@@ -17,7 +17,7 @@ use Rattle.sched_core.specs.Traces.{IsRightTrace, KeepsApart, HasExpected}
 use Rattle.sched_core.specs.declared.trace.Trace.{Trace}
 use Rattle.listeners.specs.Listeners.{Telling, telling, tellings_of}
 use Rattle.listeners.proofs.Stepping.{nothing_more}
-use Rattle.worker_pool.specs.Watching.{HasSeenMore}
+use Rattle.listeners.specs.Observing.{HasSeenMore}
 use Rattle.launcher.specs.Reports.{IsHistory}
 
 -- the fixed schedule of a plan in which no spare holds a key leaves a history of the plan

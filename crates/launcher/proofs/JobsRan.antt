@@ -19,7 +19,7 @@ use Rattle.scheduling.proofs.OnlyHistory.{only_history, as_expected}
 use Rattle.run_table.specs.Balance.{IsBalanced}
 use Rattle.table_rule.specs.Picture.{given_by, replies_of}
 use Rattle.worker_pool.specs.Reports.{run_of, AreTexts, IsReport, IsToldAsGiven}
-use Rattle.worker_pool.specs.Watching.{HasSeenMore}
+use Rattle.listeners.specs.Observing.{HasSeenMore}
 use Rattle.launch_options.specs.Asked.{Asked}
 use Rattle.launcher.specs.declared.exit_status.ExitStatus.{ExitStatus}
 use Rattle.launcher.specs.ExitStatuses.{status_of_run}

@@ -43,7 +43,7 @@ use Rattle.launch_options.specs.declared.fault.LaunchFault.{LaunchFault}
 use Rattle.launch_options.specs.declared.fault.LaunchFault.TheVariants as launches
 use Rattle.launcher.specs.declared.report.Output.{Output}
 use Rattle.listeners.specs.Listeners.{Telling, tellings_of}
-use Rattle.worker_pool.specs.Watching.{HasSeenMore}
+use Rattle.listeners.specs.Observing.{HasSeenMore}
 use Rattle.std.specs.Result.{IsErrAnd}
 use Rattle.launcher.proofs.Scripting.{legal_as_said, text_as_said}
 

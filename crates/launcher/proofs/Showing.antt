@@ -138,16 +138,16 @@ module _ {W V S : Type 0} (contents : W → Option (List ℕ)) (saw : PlanParts 
   BothSee = HasSeenPrinted (SeesBeside contents saw) Prints p at_first_both both noted
 
   abbrev OtherSees : List ℕ → ExitStatus → Type 0
-  OtherSees = HasSeenPrinted saw Prints p at_first_both.watcher.now both.watcher.now noted
+  OtherSees = HasSeenPrinted saw Prints p at_first_both.observer.now both.observer.now noted
 
   -- what was printed, and what was seen of it
   abbrev Shown : List ℕ → ExitStatus → Type 0
-  Shown text status = Printed text status × SeesTextBy saw Prints p at_first_both.watcher.now both.watcher.now noted runs text status
+  Shown text status = Printed text status × SeesTextBy saw Prints p at_first_both.observer.now both.observer.now noted runs text status
 
   -- a history that was seen is printed so
   seen_output : runs ≡ true → (text : List ℕ) (status : ExitStatus) → OtherSees text status → Shown text status
   seen_output is text status sees =
-      (as_output is text status (record { history = sees.history; texts = sees.texts; times = noted; prints = sees.prints }), subst (λ (b : Bool). SeesTextBy saw Prints p at_first_both.watcher.now both.watcher.now noted b text status) (sym is) sees)
+      (as_output is text status (record { history = sees.history; texts = sees.texts; times = noted; prints = sees.prints }), subst (λ (b : Bool). SeesTextBy saw Prints p at_first_both.observer.now both.observer.now noted b text status) (sym is) sees)
 
   either : (first.outlet ≡ Waiting) ⊎ (first.outlet ≡ Closed)
   either = elim (open_or_closed asked.details asked.replay asked.drive) [ inl opens ↦ inl (outlet ∙ opens) | inr shut ↦ inr (outlet ∙ shut) ]
@@ -169,7 +169,7 @@ module _ {W V S : Type 0} (contents : W → Option (List ℕ)) (saw : PlanParts 
   }
 
   beside_nothing : SeesBeside contents saw p at_first_both at_first_both []
-  beside_nothing = record { printed = nothing_yet; same = refl; seen = λ who before seen. subst (saw p who at_first_both.watcher.now) (sym (append-nil before)) seen }
+  beside_nothing = record { printed = nothing_yet; same = refl; seen = λ who before seen. subst (saw p who at_first_both.observer.now) (sym (append-nil before)) seen }
 
   shut_unsent : first.outlet ≡ Closed → (ts : List Telling) → IsPrinted contents p first now ts → IsUnsent contents first now
   shut_unsent shut ts is =
@@ -256,20 +256,20 @@ module _ {W V S : Type 0} (contents : W → Option (List ℕ)) (saw : PlanParts 
   times_by : (both ≡ at_first_both) ⊎ SomeOutput BothSee → now.timings.ghost_name ≡ first.timings.ghost_name
   times_by is = elim is [ inl same ↦ ap (λ (w : WatchedFeed W V S). w.feed.timings.ghost_name) same | inr some ↦ (seen some.text some.status some.output).same_timings ]
 
-  watcher_by : (both ≡ at_first_both) ⊎ SomeOutput BothSee → both.watcher.ghost_name ≡ at_first_both.watcher.ghost_name
-  watcher_by is = elim is [ inl same ↦ ap (λ (w : WatchedFeed W V S). w.watcher.ghost_name) same | inr some ↦ (seen_both some.text some.status some.output).same ]
+  watcher_by : (both ≡ at_first_both) ⊎ SomeOutput BothSee → both.observer.ghost_name ≡ at_first_both.observer.ghost_name
+  watcher_by is = elim is [ inl same ↦ ap (λ (w : WatchedFeed W V S). w.observer.ghost_name) same | inr some ↦ (seen_both some.text some.status some.output).same ]
 
-  same_other : both ≡ at_first_both → both.watcher.now ≡ at_first_both.watcher.now
-  same_other is = ap (λ (w : WatchedFeed W V S). w.watcher.now) is
+  same_other : both ≡ at_first_both → both.observer.now ≡ at_first_both.observer.now
+  same_other is = ap (λ (w : WatchedFeed W V S). w.observer.now) is
 
   shown_by : (b : Bool) → runs ≡ b → (result : Result Output LaunchFault) → IfOk result (λ report. Printed (string_bytes report.text) report.status) → WatchesBy (SeesBeside contents saw) Prints p at_first_both both noted b result
       → IfOk result (λ report. Shown (string_bytes report.text) report.status)
   shown_by true same (Ok report) printed is = seen_output same (string_bytes report.text) report.status (other_sees (string_bytes report.text) report.status is)
   shown_by false same (Ok report) printed is =
-      (printed, subst (λ (b : Bool). SeesTextBy saw Prints p at_first_both.watcher.now both.watcher.now noted b (string_bytes report.text) report.status) (sym same) (same_other is))
+      (printed, subst (λ (b : Bool). SeesTextBy saw Prints p at_first_both.observer.now both.observer.now noted b (string_bytes report.text) report.status) (sym same) (same_other is))
   shown_by b same (Err fault) printed is = tt
 
-  refused_by : (b : Bool) → runs ≡ b → (result : Result Output LaunchFault) → WatchesBy (SeesBeside contents saw) Prints p at_first_both both noted b result → IfErr result (SeesRefusal at_first_both.watcher.now both.watcher.now Shown)
+  refused_by : (b : Bool) → runs ≡ b → (result : Result Output LaunchFault) → WatchesBy (SeesBeside contents saw) Prints p at_first_both both noted b result → IfErr result (SeesRefusal at_first_both.observer.now both.observer.now Shown)
   refused_by b same (Ok report) is = tt
   refused_by true same (Err fault) is = elim is [
     | inl as_it_was ↦ inl (same_other as_it_was)
@@ -296,14 +296,14 @@ module _ {W V S : Type 0} (contents : W → Option (List ℕ)) (saw : PlanParts 
     pub same_timings : now.timings.ghost_name ≡ first.timings.ghost_name
     same_timings = times_by (sees_some runs result is)
 
-    pub same_watcher : both.watcher.ghost_name ≡ at_first_both.watcher.ghost_name
-    same_watcher = watcher_by (sees_some runs result is)
+    pub same_observer : both.observer.ghost_name ≡ at_first_both.observer.ghost_name
+    same_observer = watcher_by (sees_some runs result is)
 
     -- what is printed, and what was seen of it by who watches beside the feed
     pub shown_output : IfOk result (λ report. Printed (string_bytes report.text) report.status) → IfOk result (λ report. Shown (string_bytes report.text) report.status)
     shown_output printed = shown_by runs refl result printed is
 
-    pub shown_refusal : IfErr result (SeesRefusal at_first_both.watcher.now both.watcher.now Shown)
+    pub shown_refusal : IfErr result (SeesRefusal at_first_both.observer.now both.observer.now Shown)
     shown_refusal = refused_by runs refl result is
 
     pub shown_front : IfOk result (λ report. IsFront was is_now now.outlet now.sent (string_bytes report.text))

@@ -6,7 +6,7 @@ ghost use Rattle.listeners.specs.Listeners.{tellings_of};
 ghost use Rattle.resource_locks.specs.Declarations.{declared_of};
 ghost use Rattle.resource_locks.specs.Hoisted.{IsGuarded};
 ghost use Rattle.resource_locks.specs.Spares.{HasFreeSpares};
-ghost use Rattle.worker_pool.specs.Watching.{HasSeenMore};
+ghost use Rattle.listeners.specs.Observing.{HasSeenMore};
 ghost use Rattle.launch_options.specs.Asked.{asked_by};
 ghost use Rattle.launcher.specs.Reports.{IsHistory, IsPrintedRun, IsRunOutput};
 ghost use Rattle.launcher.specs.Watched.{LacksMeans, Watches};
@@ -15,11 +15,11 @@ use crate::report::{Output, told_report};
 use crate::watched_feed::{NotesTimes, show};
 use config_params::Settings;
 use launch_options::{LaunchFault, Options};
+use listeners::Observer;
 use plan_events::{Event, Texts};
 use resource_locks::Plan;
 use sched_core::{Answers, Trace, drive_with, texts_of};
 use std::alloc::{AllocError, Global};
-use worker_pool::Watcher;
 
 /// The trace of the fixed schedule with so many workers, which were judged before.
 fn fixed_trace(
@@ -41,38 +41,38 @@ fn fixed_trace(
     }
 }
 
-/// Shows a watcher these events of the plan, each with its text.
-fn show_all<V: Watcher>(watcher: &mut V, plan: &Plan, texts: &Texts, events: &[Event])
-    ensures { HasSeenMore V.saw plan.now (tellings_of texts.now events.now) watcher.old watcher.new }
+/// Shows a observer these events of the plan, each with its text.
+fn show_all<V: Observer>(observer: &mut V, plan: &Plan, texts: &Texts, events: &[Event])
+    ensures { HasSeenMore V.saw plan.now (tellings_of texts.now events.now) observer.old observer.new }
 {
     for event in events {
-        show(&mut *watcher, plan, texts, *event);
+        show(&mut *observer, plan, texts, *event);
     }
 }
 
 /// The report of a run of what the suite says, by the fixed schedule of the settings' workers. Whoever watches is shown
 /// its events first, since what is noted of the times then is what the report tells: it runs no job, so no time is known
 /// of any node.
-pub(crate) fn drive_report<V: Watcher + NotesTimes>(
+pub(crate) fn drive_report<V: Observer + NotesTimes>(
     alloc: Global,
     options: &Options,
     settings: &Settings,
     plan: &Plan,
     answers: &Answers,
-    watcher: &mut V,
+    observer: &mut V,
 ) -> Result<Output, LaunchFault>
     requires guarded { IsGuarded (declared_of plan.now.tree) plan.now }
     requires free { HasFreeSpares plan.now }
     ensures output { IfOk result (λ report. IsRunOutput (asked_by options.now) settings.now plan.now answers.now
         (string_bytes report.text) report.status) }
     ensures watched { Watches V.saw (IsPrintedRun (asked_by options.now) settings.now plan.now answers.now) plan.now
-        watcher.old watcher.new (V.noted watcher.new) result }
+        observer.old observer.new (V.noted observer.new) result }
     ensures refused { IfErr result LacksMeans }
 {
     let trace = fixed_trace(alloc, plan, answers, settings.workers)?;
     let history = trace.published.as_slice();
     let texts = texts_of(alloc, plan, answers, history)?;
-    show_all(&mut *watcher, plan, &texts, history);
+    show_all(&mut *observer, plan, &texts, history);
     let report = told_report(
         alloc,
         options,
@@ -81,7 +81,7 @@ pub(crate) fn drive_report<V: Watcher + NotesTimes>(
         Some(answers),
         history,
         &texts,
-        watcher.timings(),
+        observer.timings(),
     )?;
     Ok(report)
 }

@@ -31,6 +31,7 @@ use config_params::{Params, Settings};
 use descriptor::{BodyId, Tree};
 use job_times::{NoStopwatch, RunTimes, Stopwatch, Timings};
 use launch_options::{LaunchFault, Options};
+use listeners::Observer;
 use live::LiveFeed;
 use plan_events::Job;
 use resource_locks::Plan;
@@ -39,7 +40,6 @@ use std::alloc::Global;
 use std::io::Write;
 use std::sync::Wait;
 use std::thread::Threads;
-use worker_pool::{Nobody, Watcher};
 
 /// What a program has to be run: a tree, what it says of the configuration below the options, a job
 /// for each body and each after-body of the tree, and from how many milliseconds on bodies of these
@@ -112,7 +112,7 @@ fn shown_program<
     B: Job + Send,
     T: Threads + Wait + Sync,
     W: Write,
-    V: Watcher,
+    V: Observer,
     S: Stopwatch + Sync,
 >(
     rt: &T,
@@ -138,17 +138,17 @@ fn shown_program<
     requires none { live.old.feed.sent ≡ 0 }
     ensures same { live.new.feed.writer.ghost_name ≡ live.old.feed.writer.ghost_name }
     ensures same_timings { live.new.feed.timings.ghost_name ≡ live.old.feed.timings.ghost_name }
-    ensures same_watcher { live.new.watcher.ghost_name ≡ live.old.watcher.ghost_name }
-    ensures output { IfOk result (λ report. IsSeenProgram B.answers B.gives None V.saw live.old.watcher.now live.new.watcher.now
+    ensures same_observer { live.new.observer.ghost_name ≡ live.old.observer.ghost_name }
+    ensures output { IfOk result (λ report. IsSeenProgram B.answers B.gives None V.saw live.old.observer.now live.new.observer.now
         (times_of live.new.feed.timings.now) (asked_by options.now) settings.now plan jobs.items (string_bytes report.text) report.status) }
     ensures front { IfOk result (λ report. IsFront (W.contents live.old.feed.writer.now) (W.contents live.new.feed.writer.now)
         live.new.feed.outlet live.new.feed.sent (string_bytes report.text)) }
     ensures refused { IfErr result (LacksBy (is_run None options.now.details)) }
-    ensures seen { IfErr result (SeesRefusal live.old.watcher.now live.new.watcher.now (IsSeenProgram B.answers B.gives
-        None V.saw live.old.watcher.now live.new.watcher.now (times_of live.new.feed.timings.now)
+    ensures seen { IfErr result (SeesRefusal live.old.observer.now live.new.observer.now (IsSeenProgram B.answers B.gives
+        None V.saw live.old.observer.now live.new.observer.now (times_of live.new.feed.timings.now)
         (asked_by options.now) settings.now plan jobs.items)) }
     ensures broken_off { IfErr result
-        (λ _. IsBrokenOff (asked_by options.now) (IsSeenProgram B.answers B.gives None V.saw live.old.watcher.now live.new.watcher.now
+        (λ _. IsBrokenOff (asked_by options.now) (IsSeenProgram B.answers B.gives None V.saw live.old.observer.now live.new.observer.now
         (times_of live.new.feed.timings.now) (asked_by options.now) settings.now plan jobs.items) live.new.feed.outlet (W.contents live.old.feed.writer.now) (W.contents live.new.feed.writer.now)
         live.new.feed.sent) }
 {
@@ -156,7 +156,7 @@ fn shown_program<
 }
 
 /// Runs these jobs on a plan, and writes what the options print of that, behind this text.
-fn run_planned<B: Job + Send, T: Threads + Wait + Sync, W: Write, V: Watcher, S: Stopwatch + Sync>(
+fn run_planned<B: Job + Send, T: Threads + Wait + Sync, W: Write, V: Observer, S: Stopwatch + Sync>(
     rt: &T,
     alloc: Global,
     options: &Options,
@@ -165,7 +165,7 @@ fn run_planned<B: Job + Send, T: Threads + Wait + Sync, W: Write, V: Watcher, S:
     jobs: Jobs<B>,
     head: &str,
     writer: &mut W,
-    watcher: &mut V,
+    observer: &mut V,
     times: &mut RunTimes<'_, S>,
 ) -> Result<ExitStatus, LaunchFault>
     requires some { 1 ≤ settings.now.workers }
@@ -176,7 +176,7 @@ fn run_planned<B: Job + Send, T: Threads + Wait + Sync, W: Write, V: Watcher, S:
     requires all { HasAllJobs plan jobs.items }
     requires head { head.now ≡ head_of options.now.details settings.now.warnings }
     ensures exact { IsSeenPlanRun B.answers B.gives None V.saw
-        watcher.old watcher.new (times_of times.new.timings) (asked_by options.now) settings.now plan jobs.items
+        observer.old observer.new (times_of times.new.timings) (asked_by options.now) settings.now plan jobs.items
         (W.contents writer.old) (W.contents writer.new) result }
     ensures quiet { IfErr result (λ fault. is_writing fault ≡ false →
         Keeps (W.contents writer.old) (W.contents writer.new)) }
@@ -187,7 +187,7 @@ fn run_planned<B: Job + Send, T: Threads + Wait + Sync, W: Write, V: Watcher, S:
     let timings = &mut times.timings;
     let timed = options.times;
     let feed = LiveFeed::new(alloc, writer, head, form, outlet, timings, stopwatch, timed);
-    let mut live = WatchedFeed { feed, watcher };
+    let mut live = WatchedFeed { feed, observer };
     match shown_program(
         rt, alloc, options, settings, plan, jobs, &mut live, stopwatch,
     ) {
@@ -212,7 +212,7 @@ pub fn run_jobs_watched<
     B: Job + Send,
     T: Threads + Wait + Sync,
     W: Write,
-    V: Watcher,
+    V: Observer,
     S: Stopwatch + Sync,
 >(
     rt: &T,
@@ -220,7 +220,7 @@ pub fn run_jobs_watched<
     options: &Options,
     program: Program<B>,
     writer: &mut W,
-    watcher: &mut V,
+    observer: &mut V,
     times: &mut RunTimes<'_, S>,
 ) -> Result<ExitStatus, LaunchFault>
     requires jobs { (plan : PlanParts) (workers ring : ℕ) → JobsMayAnswer B.answers
@@ -233,7 +233,7 @@ pub fn run_jobs_watched<
     ensures quiet { IfErr result (λ fault. is_writing fault ≡ false →
         Keeps (W.contents writer.old) (W.contents writer.new)) }
     ensures watched { IsSeenProgramRun B.answers B.gives (asked_by options.now) (program_parts program.tree
-        program.properties) program.jobs.items V.saw watcher.old watcher.new (times_of times.new.timings)
+        program.properties) program.jobs.items V.saw observer.old observer.new (times_of times.new.timings)
         (W.contents writer.old) (W.contents writer.new) result }
 {
     let Program {
@@ -264,7 +264,7 @@ pub fn run_jobs_watched<
         jobs,
         head.as_str(),
         writer,
-        watcher,
+        observer,
         times,
     );
     answer_unless(is_missing, answer)
@@ -288,7 +288,7 @@ pub fn run_jobs<B: Job + Send, T: Threads + Wait + Sync, W: Write>(
     ensures quiet { IfErr result (λ fault. is_writing fault ≡ false →
         Keeps (W.contents writer.old) (W.contents writer.new)) }
 {
-    let mut nobody = Nobody;
+    let mut nobody = ();
     let stopwatch = NoStopwatch;
     let mut times = RunTimes::new(&stopwatch, Timings::none(alloc));
     run_jobs_watched(rt, alloc, options, program, writer, &mut nobody, &mut times)

@@ -33,7 +33,7 @@ use crate::watched_feed::NotesTimes;
 use config_params::{Settings, Warnings};
 use job_times::{Stopwatch, Timings};
 use launch_options::{Details, LaunchFault, Options};
-use listeners::{Audience, Results, Theme, feed_text};
+use listeners::{Observer, Results, Theme, feed_text};
 use plan_events::{Event, Job, Texts};
 use reports::{list_text, plan_text, timed_json_text, timed_junit_text};
 use resource_locks::Plan;
@@ -44,7 +44,7 @@ use std::alloc::{AllocError, Global};
 use std::sync::Wait;
 use std::thread::Threads;
 use timed_runs::run_timed;
-use worker_pool::{Report, RunCause, Watcher};
+use worker_pool::{Report, RunCause};
 
 /// What is printed, and the status.
 #[derive(Debug, Drop)]
@@ -250,17 +250,17 @@ fn output_of<B: Job, V: NotesTimes>(
     settings: &Settings,
     known: Option<&Answers>,
     ran: Report<B>,
-    watcher: &V,
+    observer: &V,
 ) -> Result<Output, AllocError>
     ensures text { IfOk result (λ report. (schedule : List ℕ) × IsBehindRun options.now.details options.now.schedule
         settings.now.workers ran.plan (option_map (λ a. a.now) known.entry) ran.events.items ran.texts schedule
         × (string_bytes report.text ≡ head_of options.now.details settings.now.warnings
         ++ (details_of options.now.details options.now.theme ran.plan ran.texts
-        (times_asked options.now.times (V.noted watcher.now)) ran.events.items ++ schedule))) }
+        (times_asked options.now.times (V.noted observer.now)) ran.events.items ++ schedule))) }
     ensures status { IfOk result (λ report. report.status ≡ status_of_run options.now.fail_if_no_tests
         (tests_found ran.plan ran.events.items) (has_failed ran.plan ran.events.items)) }
 {
-    ended_report(alloc, options, settings, known, &ran, watcher.timings())
+    ended_report(alloc, options, settings, known, &ran, observer.timings())
 }
 
 /// The report of a run of these jobs by the settings' workers, on threads of their own, which is shown to
@@ -269,7 +269,7 @@ fn output_of<B: Job, V: NotesTimes>(
 fn ran_report<
     B: Job + Send,
     T: Threads + Wait + Sync,
-    V: Watcher + NotesTimes,
+    V: Observer + NotesTimes,
     S: Stopwatch + Sync,
 >(
     rt: &T,
@@ -279,7 +279,7 @@ fn ran_report<
     plan: Plan,
     jobs: Jobs<B>,
     known: Option<&Answers>,
-    watcher: &mut V,
+    observer: &mut V,
     stopwatch: &S,
 ) -> Result<Output, LaunchFault>
     requires some { 1 ≤ settings.now.workers }
@@ -290,13 +290,10 @@ fn ran_report<
     requires all { HasAllJobs plan jobs.items }
     ensures output { IfOk result (λ report. IsJobsOutput B.answers B.gives (option_map (λ a. a.now) known.entry) (asked_by options.now) settings.now plan jobs.items
         (string_bytes report.text) report.status) }
-    ensures watched { Watches V.saw (IsPrintedJobs B.answers B.gives (option_map (λ a. a.now) known.entry) (asked_by options.now) settings.now plan jobs.items) plan watcher.old watcher.new
-        (V.noted watcher.new) result }
+    ensures watched { Watches V.saw (IsPrintedJobs B.answers B.gives (option_map (λ a. a.now) known.entry) (asked_by options.now) settings.now plan jobs.items) plan observer.old observer.new
+        (V.noted observer.new) result }
     ensures refused { IfErr result LacksMeans }
 {
-    let Ok(mut nobody) = Audience::new(Vec::new(alloc)) else {
-        unreachable!()
-    };
     match run_timed(
         rt,
         alloc,
@@ -304,17 +301,16 @@ fn ran_report<
         jobs,
         settings.workers,
         options.ring,
-        &mut nobody,
-        watcher,
+        observer,
         stopwatch,
     ) {
-        Ok(ran) => Ok(output_of(alloc, options, settings, known, ran, &*watcher)?),
+        Ok(ran) => Ok(output_of(alloc, options, settings, known, ran, &*observer)?),
         Err(fault) => Err(unrun(fault.cause)),
     }
 }
 
 /// The report of a run by the settings' workers of the jobs that the suite says.
-fn run_report<T: Threads + Wait + Sync, V: Watcher + NotesTimes, S: Stopwatch + Sync>(
+fn run_report<T: Threads + Wait + Sync, V: Observer + NotesTimes, S: Stopwatch + Sync>(
     rt: &T,
     alloc: Global,
     options: &Options,
@@ -322,7 +318,7 @@ fn run_report<T: Threads + Wait + Sync, V: Watcher + NotesTimes, S: Stopwatch + 
     plan: Plan,
     answers: &Answers,
     spins: &[u32],
-    watcher: &mut V,
+    observer: &mut V,
     stopwatch: &S,
 ) -> Result<Output, LaunchFault>
     requires some { 1 ≤ settings.now.workers }
@@ -331,7 +327,7 @@ fn run_report<T: Threads + Wait + Sync, V: Watcher + NotesTimes, S: Stopwatch + 
     ensures output { IfOk result (λ report. IsRunOutput (asked_by options.now) settings.now plan answers.now
         (string_bytes report.text) report.status) }
     ensures watched { Watches V.saw (IsPrintedRun (asked_by options.now) settings.now plan answers.now) plan
-        watcher.old watcher.new (V.noted watcher.new) result }
+        observer.old observer.new (V.noted observer.new) result }
     ensures refused { IfErr result LacksMeans }
 {
     let jobs = scripted_jobs(alloc, &plan, answers, spins)?;
@@ -343,14 +339,14 @@ fn run_report<T: Threads + Wait + Sync, V: Watcher + NotesTimes, S: Stopwatch + 
         plan,
         jobs,
         Some(answers),
-        watcher,
+        observer,
         stopwatch,
     )
 }
 
 /// The report of a run of what the suite says: with `--drive` by the fixed schedule, and else on threads; on threads
 /// also where a dynamic test holds a key, which none of a suite's text does, since no schedule is known to end that.
-fn suite_report<T: Threads + Wait + Sync, V: Watcher + NotesTimes, S: Stopwatch + Sync>(
+fn suite_report<T: Threads + Wait + Sync, V: Observer + NotesTimes, S: Stopwatch + Sync>(
     rt: &T,
     alloc: Global,
     options: &Options,
@@ -358,7 +354,7 @@ fn suite_report<T: Threads + Wait + Sync, V: Watcher + NotesTimes, S: Stopwatch 
     plan: Plan,
     answers: &Answers,
     spins: &[u32],
-    watcher: &mut V,
+    observer: &mut V,
     stopwatch: &S,
 ) -> Result<Output, LaunchFault>
     requires some { 1 ≤ settings.now.workers }
@@ -367,14 +363,14 @@ fn suite_report<T: Threads + Wait + Sync, V: Watcher + NotesTimes, S: Stopwatch 
     ensures output { IfOk result (λ report. IsRunOutput (asked_by options.now) settings.now plan answers.now
         (string_bytes report.text) report.status) }
     ensures watched { Watches V.saw (IsPrintedRun (asked_by options.now) settings.now plan answers.now) plan
-        watcher.old watcher.new (V.noted watcher.new) result }
+        observer.old observer.new (V.noted observer.new) result }
     ensures refused { IfErr result LacksMeans }
 {
     if options.drive.is_some() && plan.has_free_spares() {
-        drive_report(alloc, options, settings, &plan, answers, watcher)
+        drive_report(alloc, options, settings, &plan, answers, observer)
     } else {
         run_report(
-            rt, alloc, options, settings, plan, answers, spins, watcher, stopwatch,
+            rt, alloc, options, settings, plan, answers, spins, observer, stopwatch,
         )
     }
 }
@@ -438,7 +434,7 @@ fn planned(
 
 /// What the options print of a plan where there are no steps to be replayed: it is run, unless its list or its nodes
 /// are asked for.
-fn plan_report<T: Threads + Wait + Sync, V: Watcher + NotesTimes, S: Stopwatch + Sync>(
+fn plan_report<T: Threads + Wait + Sync, V: Observer + NotesTimes, S: Stopwatch + Sync>(
     rt: &T,
     alloc: Global,
     options: &Options,
@@ -446,7 +442,7 @@ fn plan_report<T: Threads + Wait + Sync, V: Watcher + NotesTimes, S: Stopwatch +
     plan: Plan,
     answers: &Answers,
     spins: &[u32],
-    watcher: &mut V,
+    observer: &mut V,
     stopwatch: &S,
 ) -> Result<Output, LaunchFault>
     requires some { 1 ≤ settings.now.workers }
@@ -455,7 +451,7 @@ fn plan_report<T: Threads + Wait + Sync, V: Watcher + NotesTimes, S: Stopwatch +
     ensures output { IfOk result (λ report. IsPlanOutput options.now.details (asked_by options.now) settings.now plan
         answers.now (string_bytes report.text) report.status) }
     ensures watched { WatchesBy V.saw (IsPrintedRun (asked_by options.now) settings.now plan answers.now) plan
-        watcher.old watcher.new (V.noted watcher.new) (is_run None options.now.details) result }
+        observer.old observer.new (V.noted observer.new) (is_run None options.now.details) result }
     ensures refused { IfErr result (LacksBy (is_run None options.now.details)) }
 {
     match options.details {
@@ -467,7 +463,7 @@ fn plan_report<T: Threads + Wait + Sync, V: Watcher + NotesTimes, S: Stopwatch +
         | Details::Testfeed
         | Details::Json
         | Details::Xml => suite_report(
-            rt, alloc, options, settings, plan, answers, spins, watcher, stopwatch,
+            rt, alloc, options, settings, plan, answers, spins, observer, stopwatch,
         ),
     }
 }
@@ -475,7 +471,7 @@ fn plan_report<T: Threads + Wait + Sync, V: Watcher + NotesTimes, S: Stopwatch +
 /// What these options print of a plan with these answers under these settings, and the status. Want
 /// of memory is refused, and where there are no steps to be replayed that no thread could be
 /// started.
-pub(crate) fn report_of<T: Threads + Wait + Sync, V: Watcher + NotesTimes, S: Stopwatch + Sync>(
+pub(crate) fn report_of<T: Threads + Wait + Sync, V: Observer + NotesTimes, S: Stopwatch + Sync>(
     rt: &T,
     alloc: Global,
     options: &Options,
@@ -483,7 +479,7 @@ pub(crate) fn report_of<T: Threads + Wait + Sync, V: Watcher + NotesTimes, S: St
     plan: Plan,
     answers: &Answers,
     spins: &[u32],
-    watcher: &mut V,
+    observer: &mut V,
     stopwatch: &S,
 ) -> Result<Output, LaunchFault>
     requires some { 1 ≤ settings.now.workers }
@@ -492,7 +488,7 @@ pub(crate) fn report_of<T: Threads + Wait + Sync, V: Watcher + NotesTimes, S: St
     ensures output { IfOk result (λ report. IsOutput (asked_by options.now) settings.now plan answers.now
         (string_bytes report.text) report.status) }
     ensures watched { WatchesBy V.saw (IsPrintedRun (asked_by options.now) settings.now plan answers.now) plan
-        watcher.old watcher.new (V.noted watcher.new) (is_run (asked_by options.now).replay options.now.details) result }
+        observer.old observer.new (V.noted observer.new) (is_run (asked_by options.now).replay options.now.details) result }
     ensures refused { IfErr result (IsUnrun (asked_by options.now)) }
 {
     match &options.replay {
@@ -501,7 +497,7 @@ pub(crate) fn report_of<T: Threads + Wait + Sync, V: Watcher + NotesTimes, S: St
             Ok(report)
         }
         None => plan_report(
-            rt, alloc, options, settings, plan, answers, spins, watcher, stopwatch,
+            rt, alloc, options, settings, plan, answers, spins, observer, stopwatch,
         ),
     }
 }
@@ -511,7 +507,7 @@ pub(crate) fn report_of<T: Threads + Wait + Sync, V: Watcher + NotesTimes, S: St
 pub(crate) fn program_report<
     B: Job + Send,
     T: Threads + Wait + Sync,
-    V: Watcher + NotesTimes,
+    V: Observer + NotesTimes,
     S: Stopwatch + Sync,
 >(
     rt: &T,
@@ -520,7 +516,7 @@ pub(crate) fn program_report<
     settings: &Settings,
     plan: Plan,
     jobs: Jobs<B>,
-    watcher: &mut V,
+    observer: &mut V,
     stopwatch: &S,
 ) -> Result<Output, LaunchFault>
     requires some { 1 ≤ settings.now.workers }
@@ -531,8 +527,8 @@ pub(crate) fn program_report<
     requires all { HasAllJobs plan jobs.items }
     ensures output { IfOk result (λ report. IsProgramOutput B.answers B.gives None options.now.details (asked_by options.now) settings.now plan jobs.items
         (string_bytes report.text) report.status) }
-    ensures watched { WatchesBy V.saw (IsPrintedJobs B.answers B.gives None (asked_by options.now) settings.now plan jobs.items) plan watcher.old watcher.new
-        (V.noted watcher.new) (is_run None options.now.details) result }
+    ensures watched { WatchesBy V.saw (IsPrintedJobs B.answers B.gives None (asked_by options.now) settings.now plan jobs.items) plan observer.old observer.new
+        (V.noted observer.new) (is_run None options.now.details) result }
     ensures refused { IfErr result (LacksBy (is_run None options.now.details)) }
 {
     match options.details {
@@ -544,7 +540,7 @@ pub(crate) fn program_report<
         | Details::Testfeed
         | Details::Json
         | Details::Xml => ran_report(
-            rt, alloc, options, settings, plan, jobs, None, watcher, stopwatch,
+            rt, alloc, options, settings, plan, jobs, None, observer, stopwatch,
         ),
     }
 }

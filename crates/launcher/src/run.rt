@@ -38,6 +38,7 @@ use config_params::{Params, Settings, SettingsFault, lock_limits, modes};
 use descriptor::Tree;
 use job_times::{NoStopwatch, RunTimes, Stopwatch, Timings};
 use launch_options::{CutCause, CutOutput, Details, LaunchFault, Options};
+use listeners::Observer;
 use live::{LineForm, LiveFeed, Outlet};
 use plan_events::MOST_WORKERS;
 use resource_locks::{KeyLimit, Plan};
@@ -48,7 +49,6 @@ use std::io::{Read, Write};
 use std::sync::Wait;
 use std::thread::Threads;
 use suite_text::{LONGEST_SUITE, Script, Suite};
-use worker_pool::{Nobody, Watcher};
 
 /// How many bytes are read at most: one more than a suite may have tells that there are too many.
 const MOST_READ: usize = LONGEST_SUITE + 1;
@@ -308,7 +308,7 @@ pub(crate) fn form_for(details: Details) -> LineForm
 }
 
 /// What the options print of a suite, and the program's status, of which a part may be printed before.
-fn shown_report<T: Threads + Wait + Sync, W: Write, V: Watcher, S: Stopwatch + Sync>(
+fn shown_report<T: Threads + Wait + Sync, W: Write, V: Observer, S: Stopwatch + Sync>(
     rt: &T,
     alloc: Global,
     options: &Options,
@@ -327,17 +327,17 @@ fn shown_report<T: Threads + Wait + Sync, W: Write, V: Watcher, S: Stopwatch + S
     requires none { live.old.feed.sent ≡ 0 }
     ensures same { live.new.feed.writer.ghost_name ≡ live.old.feed.writer.ghost_name }
     ensures same_timings { live.new.feed.timings.ghost_name ≡ live.old.feed.timings.ghost_name }
-    ensures same_watcher { live.new.watcher.ghost_name ≡ live.old.watcher.ghost_name }
-    ensures output { IfOk result (λ report. IsSeenOutput V.saw live.old.watcher.now live.new.watcher.now
+    ensures same_observer { live.new.observer.ghost_name ≡ live.old.observer.ghost_name }
+    ensures output { IfOk result (λ report. IsSeenOutput V.saw live.old.observer.now live.new.observer.now
         (times_of live.new.feed.timings.now) (asked_by options.now) ready.settings ready.plan ready.answers (string_bytes report.text) report.status) }
     ensures front { IfOk result (λ report. IsFront (W.contents live.old.feed.writer.now) (W.contents live.new.feed.writer.now)
         live.new.feed.outlet live.new.feed.sent (string_bytes report.text)) }
     ensures refused { IfErr result (IsUnrun (asked_by options.now)) }
-    ensures seen { IfErr result (SeesRefusal live.old.watcher.now live.new.watcher.now (IsSeenOutput V.saw
-        live.old.watcher.now live.new.watcher.now (times_of live.new.feed.timings.now) (asked_by options.now)
+    ensures seen { IfErr result (SeesRefusal live.old.observer.now live.new.observer.now (IsSeenOutput V.saw
+        live.old.observer.now live.new.observer.now (times_of live.new.feed.timings.now) (asked_by options.now)
         ready.settings ready.plan ready.answers)) }
     ensures broken_off { IfErr result
-        (λ _. IsBrokenOff (asked_by options.now) (IsSeenOutput V.saw live.old.watcher.now live.new.watcher.now
+        (λ _. IsBrokenOff (asked_by options.now) (IsSeenOutput V.saw live.old.observer.now live.new.observer.now
         (times_of live.new.feed.timings.now) (asked_by options.now) ready.settings ready.plan ready.answers) live.new.feed.outlet (W.contents live.old.feed.writer.now)
         (W.contents live.new.feed.writer.now) live.new.feed.sent) }
 {
@@ -387,14 +387,14 @@ pub(crate) fn broken_off(fault: LaunchFault, outlet: Outlet, sent: usize) -> Lau
 }
 
 /// Runs what is ready to be run, and writes what the options print of it, behind this text.
-fn run_ready<T: Threads + Wait + Sync, W: Write, V: Watcher, S: Stopwatch + Sync>(
+fn run_ready<T: Threads + Wait + Sync, W: Write, V: Observer, S: Stopwatch + Sync>(
     rt: &T,
     alloc: Global,
     options: &Options,
     ready: ReadyRun,
     head: &str,
     writer: &mut W,
-    watcher: &mut V,
+    observer: &mut V,
     times: &mut RunTimes<'_, S>,
 ) -> Result<ExitStatus, LaunchFault>
     requires some { 1 ≤ ready.settings.workers }
@@ -402,7 +402,7 @@ fn run_ready<T: Threads + Wait + Sync, W: Write, V: Watcher, S: Stopwatch + Sync
     requires guarded { IsGuarded (declared_of ready.plan.tree) ready.plan }
     requires head { head.now ≡ head_of options.now.details ready.settings.warnings }
     ensures exact { (suite : SuiteParts) → IsReady (asked_by options.now) suite ready.settings ready.plan ready.answers
-        → IsSeenReadyRun V.saw watcher.old watcher.new (times_of times.new.timings) (asked_by options.now) suite
+        → IsSeenReadyRun V.saw observer.old observer.new (times_of times.new.timings) (asked_by options.now) suite
         (W.contents writer.old) (W.contents writer.new) result }
     ensures quiet { IfErr result (λ fault. is_writing fault ≡ false →
         Keeps (W.contents writer.old) (W.contents writer.new)) }
@@ -413,7 +413,7 @@ fn run_ready<T: Threads + Wait + Sync, W: Write, V: Watcher, S: Stopwatch + Sync
     let timings = &mut times.timings;
     let timed = options.times;
     let feed = LiveFeed::new(alloc, writer, head, form, outlet, timings, stopwatch, timed);
-    let mut live = WatchedFeed { feed, watcher };
+    let mut live = WatchedFeed { feed, observer };
     match shown_report(rt, alloc, options, ready, &mut live, stopwatch) {
         Ok(report) => {
             live.finish(report.text.as_bytes())?;
@@ -431,18 +431,18 @@ fn run_ready<T: Threads + Wait + Sync, W: Write, V: Watcher, S: Stopwatch + Sync
 /// memory is taken; limits of locks that are none (35, 36), more than 256 keys (50), more than 64 workers (61), that no thread could be
 /// started (90), and an output of which the writer has only the first bytes (81), since it failed or
 /// since there was no memory for the rest of a feed. On any refusal but 81 nothing is written. Each event of a
-/// run is shown to the watcher, before its line is written if it has one; what is written when the
-/// run is over is written when the watcher has seen all. Of a replay and of a list it sees nothing.
+/// run is shown to the observer, before its line is written if it has one; what is written when the
+/// run is over is written when the observer has seen all. Of a replay and of a list it sees nothing.
 /// If it is to be told how long tests took, the time of each node is noted once, when its finish is
 /// told, as the stopwatch has it then; what is printed tells these times, and they are left to the caller.
 /// No clause says what they are. Of a run by the fixed schedule nothing is known, nor when or where it was.
-pub fn run_suite_watched<T: Threads + Wait + Sync, W: Write, V: Watcher, S: Stopwatch + Sync>(
+pub fn run_suite_watched<T: Threads + Wait + Sync, W: Write, V: Observer, S: Stopwatch + Sync>(
     rt: &T,
     alloc: Global,
     options: &Options,
     suite: Suite,
     writer: &mut W,
-    watcher: &mut V,
+    observer: &mut V,
     times: &mut RunTimes<'_, S>,
 ) -> Result<ExitStatus, LaunchFault>
     ensures exact { IsSuiteRun (asked_by options.now) (suite_parts suite) (W.contents writer.old)
@@ -451,7 +451,7 @@ pub fn run_suite_watched<T: Threads + Wait + Sync, W: Write, V: Watcher, S: Stop
         (λ fault. fault ≡ LaunchFault.NoMemory → TakesMemory (asked_by options.now) (suite_parts suite)) }
     ensures quiet { IfErr result (λ fault. is_writing fault ≡ false →
         Keeps (W.contents writer.old) (W.contents writer.new)) }
-    ensures watched { IsSeenSuiteRun V.saw watcher.old watcher.new (times_of times.new.timings) (asked_by options.now)
+    ensures watched { IsSeenSuiteRun V.saw observer.old observer.new (times_of times.new.timings) (asked_by options.now)
         (suite_parts suite) (W.contents writer.old) (W.contents writer.new) result }
 {
     set_script_limits(times.stopwatch, suite.scripts.as_slice());
@@ -467,7 +467,7 @@ pub fn run_suite_watched<T: Threads + Wait + Sync, W: Write, V: Watcher, S: Stop
         ready,
         head.as_str(),
         writer,
-        watcher,
+        observer,
         times,
     );
     answer_unless(is_missing, answer)
@@ -488,7 +488,7 @@ pub fn run_suite<T: Threads + Wait + Sync, W: Write>(
     ensures quiet { IfErr result (λ fault. is_writing fault ≡ false →
         Keeps (W.contents writer.old) (W.contents writer.new)) }
 {
-    let mut nobody = Nobody;
+    let mut nobody = ();
     let stopwatch = NoStopwatch;
     let mut times = RunTimes::new(&stopwatch, Timings::none(alloc));
     run_suite_watched(rt, alloc, options, suite, writer, &mut nobody, &mut times)
@@ -502,7 +502,7 @@ pub fn run_options_watched<
     T: Threads + Wait + Sync,
     R: Read,
     W: Write,
-    V: Watcher,
+    V: Observer,
     S: Stopwatch + Sync,
 >(
     rt: &T,
@@ -510,7 +510,7 @@ pub fn run_options_watched<
     options: &Options,
     reader: &mut R,
     writer: &mut W,
-    watcher: &mut V,
+    observer: &mut V,
     times: &mut RunTimes<'_, S>,
 ) -> Result<ExitStatus, LaunchFault>
     ensures exact { IfSome (R.remaining reader.old)
@@ -523,11 +523,11 @@ pub fn run_options_watched<
     ensures quiet { IfErr result (λ fault. is_writing fault ≡ false →
         Keeps (W.contents writer.old) (W.contents writer.new)) }
     ensures watched { TakesFrom (R.remaining reader.old) (R.remaining reader.new) (fault_in result)
-        (λ bytes. IsSeenRun V.saw watcher.old watcher.new (times_of times.new.timings) (asked_by options.now)
+        (λ bytes. IsSeenRun V.saw observer.old observer.new (times_of times.new.timings) (asked_by options.now)
         (suite_read bytes) (W.contents writer.old) (W.contents writer.new) result) }
 {
     let suite = read_suite(alloc, reader)?;
-    run_suite_watched(rt, alloc, options, suite, writer, watcher, times)
+    run_suite_watched(rt, alloc, options, suite, writer, observer, times)
 }
 
 /// Reads a suite and runs it as `run_options_watched` does, where nobody watches and no time is known.
@@ -548,7 +548,7 @@ pub fn run_options<T: Threads + Wait + Sync, R: Read, W: Write>(
     ensures quiet { IfErr result (λ fault. is_writing fault ≡ false →
         Keeps (W.contents writer.old) (W.contents writer.new)) }
 {
-    let mut nobody = Nobody;
+    let mut nobody = ();
     let stopwatch = NoStopwatch;
     let mut times = RunTimes::new(&stopwatch, Timings::none(alloc));
     run_options_watched(rt, alloc, options, reader, writer, &mut nobody, &mut times)

@@ -5,15 +5,14 @@ ghost use Rattle.std.specs.Io.KnownBytes.{Appends};
 ghost use Rattle.job_times.specs.Timings.{times_of};
 ghost use Rattle.listeners.specs.Listeners.{telling};
 ghost use Rattle.listeners.specs.Sending.{SendsExactly};
-ghost use Rattle.worker_pool.specs.Watching.{HasSeenMore};
+ghost use Rattle.listeners.specs.Observing.{HasSeenMore};
 
 use job_times::{Stopwatch, Timings};
-use listeners::WriteFault;
+use listeners::{Observer, WriteFault};
 use live::{LiveFeed, Outlet};
 use plan_events::{Event, Texts};
 use resource_locks::Plan;
 use std::io::Write;
-use worker_pool::Watcher;
 
 /// Knows what was noted of how long the nodes of a run took.
 pub(crate) trait NotesTimes {
@@ -30,12 +29,12 @@ pub(crate) trait NotesTimes {
 /// A feed that is printed while the run goes on and notes its times, and one who watches the run. It is shown each
 /// event before its line is printed.
 #[derive(Drop)]
-pub(crate) struct WatchedFeed<'w, 't, 's, 'v, W: Write, V: Watcher, S: Stopwatch> {
+pub(crate) struct WatchedFeed<'w, 't, 's, 'v, W: Write, V: Observer, S: Stopwatch> {
     pub(crate) feed: LiveFeed<'w, 't, 's, W, S>,
-    pub(crate) watcher: &'v mut V,
+    pub(crate) observer: &'v mut V,
 }
 
-impl<'w, 't, 's, 'v, W: Write, V: Watcher, S: Stopwatch> WatchedFeed<'w, 't, 's, 'v, W, V, S> {
+impl<'w, 't, 's, 'v, W: Write, V: Observer, S: Stopwatch> WatchedFeed<'w, 't, 's, 'v, W, V, S> {
     /// How many bytes the feed's writer took.
     pub(crate) fn sent(&self) -> usize
         ensures { result ≡ self.now.feed.sent }
@@ -56,7 +55,7 @@ impl<'w, 't, 's, 'v, W: Write, V: Watcher, S: Stopwatch> WatchedFeed<'w, 't, 's,
         requires short { self.old.feed.outlet ≡ Outlet.Failed → self.old.feed.sent < length whole.now }
         ensures same { self.new.feed.writer.ghost_name ≡ self.old.feed.writer.ghost_name }
         ensures timings { self.new.feed.timings ≡ self.old.feed.timings }
-        ensures watcher { self.new.watcher ≡ self.old.watcher }
+        ensures observer { self.new.observer ≡ self.old.observer }
         ensures whole { (first : Option (List ℕ)) → Appends first (W.contents self.old.feed.writer.now)
             (take self.old.feed.sent whole.now) → SendsExactly first (W.contents self.new.feed.writer.now) whole.now
             result }
@@ -65,14 +64,14 @@ impl<'w, 't, 's, 'v, W: Write, V: Watcher, S: Stopwatch> WatchedFeed<'w, 't, 's,
     }
 }
 
-/// Shows a watcher this event of the plan.
-pub(crate) fn show<V: Watcher>(watcher: &mut V, plan: &Plan, texts: &Texts, event: Event)
-    ensures { HasSeenMore V.saw plan.now (telling texts.now event ∷ []) watcher.old watcher.new }
+/// Shows a observer this event of the plan.
+pub(crate) fn show<V: Observer>(observer: &mut V, plan: &Plan, texts: &Texts, event: Event)
+    ensures { HasSeenMore V.saw plan.now (telling texts.now event ∷ []) observer.old observer.new }
 {
-    watcher.watch(plan, texts, event);
+    observer.see(plan, texts, event);
 }
 
-impl<'w, 't, 's, 'v, W: Write, V: Watcher, S: Stopwatch> NotesTimes
+impl<'w, 't, 's, 'v, W: Write, V: Observer, S: Stopwatch> NotesTimes
     for WatchedFeed<'w, 't, 's, 'v, W, V, S> {
     ghost noted = { λ watched. times_of watched.feed.timings.now };
 
@@ -81,20 +80,20 @@ impl<'w, 't, 's, 'v, W: Write, V: Watcher, S: Stopwatch> NotesTimes
     }
 }
 
-impl<'w, 't, 's, 'v, W: Write, V: Watcher, S: Stopwatch> Watcher
+impl<'w, 't, 's, 'v, W: Write, V: Observer, S: Stopwatch> Observer
     for WatchedFeed<'w, 't, 's, 'v, W, V, S> {
     ghost use Rattle.launcher.specs.Beside.{SeesBeside};
 
     ghost saw = { SeesBeside W.contents V.saw };
 
-    fn watch(&mut self, plan: &Plan, texts: &Texts, event: Event) {
+    fn see(&mut self, plan: &Plan, texts: &Texts, event: Event) {
         let event = &event;
-        show(&mut *self.watcher, plan, texts, *event);
+        show(&mut *self.observer, plan, texts, *event);
         show(&mut self.feed, plan, texts, *event);
     }
 
     fn idle(&mut self) {
-        self.watcher.idle();
+        self.observer.idle();
         self.feed.idle();
     }
 }

@@ -2,6 +2,7 @@
 pub mod Cleaning
 pub mod Counting
 pub mod Hearing
+pub mod Observing
 pub mod Places
 pub mod Printing
 mod Pushing

@@ -7,18 +7,18 @@ use Rattle.std.proofs.lemmas.List.{get_or-map, length-map, take_more}
 abbrev pub AreTold : {L E : Type 0} → (L → List E) → List E → ℕ → List L → List L → Type 0
 AreTold got events i old items = map got items ≡ map (λ heard. heard ++ take i events) (map got old)
 
-longer_twice : {E : Type 0} (lists : List (List E)) (front : List E) (e : E) → map (λ (heard : List E). heard ++ e ∷ []) (map (λ (heard : List E). heard ++ front) lists) ≡ map (λ (heard : List E). heard ++ (front ++ e ∷ [])) lists
+pub longer_twice : {E : Type 0} (lists : List (List E)) (front : List E) (e : E) → map (λ (heard : List E). heard ++ e ∷ []) (map (λ (heard : List E). heard ++ front) lists) ≡ map (λ (heard : List E). heard ++ (front ++ e ∷ [])) lists
 longer_twice [] front e = refl
 longer_twice (x ∷ lists) front e = ap (λ y. y ∷ map (λ heard. heard ++ e ∷ []) (map (λ heard. heard ++ front) lists)) (append_assoc x front (e ∷ [])) ∙ ap (λ ys. (x ++ (front ++ e ∷ [])) ∷ ys) (longer_twice lists front e)
+
+pub longer_none : {E : Type 0} (lists : List (List E)) → lists ≡ map (λ (heard : List E). heard ++ []) lists
+longer_none [] = refl
+longer_none (x ∷ lists) = ap (λ y. y ∷ lists) (sym (append-nil x)) ∙ ap (λ ys. (x ++ []) ∷ ys) (longer_none lists)
 
 module _ {L E : Type 0} (got : L → List E) (events : List E) where
   -- before the first
   pub told_none : (items : List L) → AreTold got events 0 items items
-  told_none items = go (map got items)
-    where
-      go : (lists : List (List E)) → lists ≡ map (λ (heard : List E). heard ++ []) lists
-      go [] = refl
-      go (x ∷ lists) = ap (λ y. y ∷ lists) (sym (append-nil x)) ∙ ap (λ ys. (x ++ []) ∷ ys) (go lists)
+  told_none items = longer_none (map got items)
 
   -- one more
   pub told_more : (i : ℕ) (e : E) (old items next : List L) → AreTold got events i old items → i < length events → e ≡ get_or events i e
@@ -48,11 +48,11 @@ module _ {L : Type 0} (room : L → ℕ) (n : ℕ) where
 abbrev pub AreSmaller : {L : Type 0} → (L → ℕ) → ℕ → List L → List L → Type 0
 AreSmaller room i old items = map room items ≡ map (λ n. n - i) (map room old)
 
-less_none : (rooms : List ℕ) → rooms ≡ map (λ n. n - 0) rooms
+pub less_none : (rooms : List ℕ) → rooms ≡ map (λ n. n - 0) rooms
 less_none [] = refl
 less_none (r ∷ rooms) = rw (← less_none rooms) (ap (λ n. n ∷ rooms) (omega arith))
 
-less_more : (rooms : List ℕ) (i : ℕ) → map (λ n. n - 1) (map (λ n. n - i) rooms) ≡ map (λ n. n - (i + 1)) rooms
+pub less_more : (rooms : List ℕ) (i : ℕ) → map (λ n. n - 1) (map (λ n. n - i) rooms) ≡ map (λ n. n - (i + 1)) rooms
 less_more [] i = refl
 less_more (r ∷ rooms) i = ap (λ n. n ∷ map (λ n. n - 1) (map (λ n. n - i) rooms)) (omega arith) ∙ ap (λ ns. (r - (i + 1)) ∷ ns) (less_more rooms i)
 

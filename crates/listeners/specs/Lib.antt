@@ -1,7 +1,9 @@
 -- The definitions that contracts cite.
 pub mod Counts
+pub mod Endings
 pub mod Feed
 pub mod Listeners
+pub mod Observing
 pub mod Printed
 pub mod Results
 pub mod Sending

@@ -46,3 +46,27 @@ pub trait Listener: Drop {
     fn room(&self) -> usize
         ensures { result ≡ room self.now };
 }
+
+impl Listener for Box<dyn Listener> {
+    ghost got = { λ b. (Listener-box b).got b.value };
+
+    ghost room = { λ b. (Listener-box b).room b.value };
+
+    ghost heard = { λ b. (Listener-box b).heard b.value };
+
+    fn prepare(&mut self, plan: &Plan) -> Result<(), AllocError> {
+        (**self).prepare(plan)
+    }
+
+    fn told(&mut self, event: Event, text: Option<&str>) {
+        (**self).told(event, text)
+    }
+
+    fn got(&self) -> &[Event] {
+        (**self).got()
+    }
+
+    fn room(&self) -> usize {
+        (**self).room()
+    }
+}

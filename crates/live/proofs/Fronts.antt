@@ -11,7 +11,7 @@ use Rattle.plan_events.specs.Texts.{TextParts}
 use Rattle.resource_locks.specs.Plans.{PlanParts}
 use Rattle.event_history.specs.Parts.{EndsInPlan}
 use Rattle.listeners.specs.Listeners.{tellings_of}
-use Rattle.worker_pool.specs.Endings.{ends_plan, is_finish}
+use Rattle.listeners.specs.Endings.{ends_plan, is_finish}
 use Rattle.live.specs.LiveFeeds.{lines_of, telling_line, output_of, has_end, IsSoFar, IsPrinted, IsFront, is_stopped, shown_times}
 use Rattle.live.specs.declared.live_feed.LiveFeed.{LiveFeed}
 use Rattle.live.specs.declared.live_feed.Outlet.{Outlet}

@@ -11,7 +11,7 @@ use Rattle.std.proofs.lemmas.List.Elements.{All-push}
 use Rattle.resource_locks.specs.Plans.{PlanParts}
 use Rattle.job_times.specs.Timings.{Times, times_asked, times_of}
 use Rattle.listeners.specs.Listeners.{Telling}
-use Rattle.worker_pool.specs.Endings.{ends_plan}
+use Rattle.listeners.specs.Endings.{ends_plan}
 use Rattle.live.specs.LiveFeeds.{telling_line, output_of, has_end, front_of, IsNotedIn, IsSoFar, IsPrinted, IsHandedOn, is_stopped, shown_times}
 use Rattle.live.specs.declared.line_form.LineForm.{LineForm}
 use Rattle.live.specs.declared.live_feed.LiveFeed.{LiveFeed}

@@ -15,7 +15,7 @@ use Rattle.job_times.specs.Timings.{took_of, Times}
 use Rattle.json.specs.Json.{Members, no_members, object}
 use Rattle.reports.specs.Json.{event_json, number_member, text_member, timed_ending_members, timed_json_of, type_word, written}
 use Rattle.descriptor.specs.Nodes.{kind_of}
-use Rattle.worker_pool.specs.Endings.{ends_plan}
+use Rattle.listeners.specs.Endings.{ends_plan}
 use Rattle.live.specs.LiveFeeds.{lines_of, telling_line, has_end}
 use Rattle.live.specs.declared.line_form.LineForm.{LineForm}
 use Rattle.live.specs.declared.line_form.LineForm.TheVariants.{Feed, Json}

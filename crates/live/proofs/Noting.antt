@@ -14,7 +14,7 @@ use Rattle.job_times.specs.declared.timings.Noted.TheVariants.{NotYet}
 use Rattle.listeners.specs.Feed.{text_or}
 use Rattle.listeners.specs.Listeners.{Telling}
 use Rattle.reports.specs.Json.{timed_ending_members}
-use Rattle.worker_pool.specs.Endings.{is_finish}
+use Rattle.listeners.specs.Endings.{is_finish}
 use Rattle.live.specs.LiveFeeds.{IsNotedIn, IsPrinted, IsSoFar, NotesIf, output_of, shown_times, telling_line}
 use Rattle.live.specs.declared.line_form.LineForm.{LineForm}
 use Rattle.live.specs.declared.line_form.LineForm.TheVariants.{Feed, Json}

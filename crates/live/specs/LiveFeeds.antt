@@ -9,7 +9,7 @@ use Rattle.listeners.specs.Feed.{event_line, feed_of, id_at, text_or}
 use Rattle.listeners.specs.Listeners.{Telling}
 use Rattle.job_times.specs.Timings.{Took, took_of, is_noted, IsNotedWith, Times, times_of, times_asked}
 use Rattle.reports.specs.Json.{event_json, timed_json_of, written}
-use Rattle.worker_pool.specs.Endings.{ends_plan, is_finish}
+use Rattle.listeners.specs.Endings.{ends_plan, is_finish}
 use Rattle.live.specs.declared.line_form.LineForm.{LineForm}
 use Rattle.live.specs.declared.line_form.LineForm.TheVariants.{Feed, Json}
 use Rattle.live.specs.declared.live_feed.LiveFeed.{LiveFeed}

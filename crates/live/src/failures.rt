@@ -10,10 +10,10 @@ ghost use Rattle.live.specs.Failing.{Keeps, KeepsNode, Misses, tells_failure};
 
 use crate::failure::{Failure, Naming};
 use descriptor::NodeId;
+use listeners::Observer;
 use plan_events::{Event, EventKind, Status, Texts};
 use resource_locks::Plan;
 use std::alloc::Global;
-use worker_pool::Watcher;
 
 /// How many failures are kept.
 const MOST_KEPT: usize = 20;
@@ -46,7 +46,7 @@ fn any_left_out(failures: &[Failure]) -> bool
 }
 
 /// The nodes that failed, in the order in which they ended: the first are kept, all are counted. As a
-/// watcher of a run it takes note of each that fails.
+/// observer of a run it takes note of each that fails.
 #[derive(Drop)]
 pub struct Failures {
     alloc: Global,
@@ -148,12 +148,12 @@ impl Failures {
     }
 }
 
-impl Watcher for Failures {
+impl Observer for Failures {
     ghost use Rattle.live.specs.Failing.{HasKept};
 
     ghost saw = { HasKept };
 
-    fn watch(&mut self, plan: &Plan, texts: &Texts, event: Event) {
+    fn see(&mut self, plan: &Plan, texts: &Texts, event: Event) {
         let event = &event;
         if tells_failure(*event) {
             self.note(plan, texts, event.node);

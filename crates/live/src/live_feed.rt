@@ -6,17 +6,16 @@ ghost use Rattle.listeners.specs.Listeners.{telling};
 ghost use Rattle.listeners.specs.Sending.{SendsExactly};
 ghost use Rattle.live.specs.LiveFeeds.{NotesIf, front_of, is_stopped, lines_of, telling_line};
 ghost use Rattle.reports.specs.Json.{timed_json_of};
-ghost use Rattle.worker_pool.specs.Endings.{is_finish};
+ghost use Rattle.listeners.specs.Endings.{is_finish};
 
 use crate::line_form::LineForm;
 use job_times::{Stopwatch, Timings};
-use listeners::{WriteFault, feed_text, print_to};
+use listeners::{Observer, WriteFault, ends_plan, feed_text, print_to};
 use plan_events::{Event, EventKind, Texts};
 use reports::{json_text, timed_json_text};
 use resource_locks::Plan;
 use std::alloc::{AllocError, Global};
 use std::io::Write;
-use worker_pool::{Watcher, ends_plan};
 
 /// How the printing goes.
 #[derive(Clone, Copy, PartialEq, Eq, Debug)]
@@ -215,12 +214,12 @@ impl<'w, 't, 's, W: Write, S: Stopwatch> LiveFeed<'w, 't, 's, W, S> {
     }
 }
 
-impl<'w, 't, 's, W: Write, S: Stopwatch> Watcher for LiveFeed<'w, 't, 's, W, S> {
+impl<'w, 't, 's, W: Write, S: Stopwatch> Observer for LiveFeed<'w, 't, 's, W, S> {
     ghost use Rattle.live.specs.LiveFeeds.{IsPrinted};
 
     ghost saw = { IsPrinted W.contents };
 
-    fn watch(&mut self, plan: &Plan, texts: &Texts, event: Event) {
+    fn see(&mut self, plan: &Plan, texts: &Texts, event: Event) {
         let event = &event;
         self.note(plan, *event);
         match self.outlet {

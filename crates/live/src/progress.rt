@@ -1,9 +1,9 @@
-//! A watcher that draws how far a run has come.
+//! A observer that draws how far a run has come.
 
 ghost use Rattle.std.specs.Prelude.{◌≡◌, ◌∷◌, [], true, false, IfOk, IfSome, string_bytes};
 ghost use Rattle.std.specs.Time.{instant_nanos};
 ghost use Rattle.listeners.specs.Listeners.{telling};
-ghost use Rattle.worker_pool.specs.Watching.{HasSeenMore};
+ghost use Rattle.listeners.specs.Observing.{HasSeenMore};
 ghost use Rattle.live.specs.Failing.{HasKept};
 ghost use Rattle.live.specs.RunningTests.{Follows, IsSaid};
 ghost use Rattle.live.specs.Terminals.{Drawing, Drawn, IsDrawnOn, Line, drawing_of, is_done};
@@ -14,13 +14,12 @@ use crate::running::Running;
 use crate::slow_tests::SlowTests;
 use crate::test_counts::{TestCounts, progress_line};
 use job_times::JobTimes;
-use listeners::{Listener, Summary};
+use listeners::{Listener, Observer, Summary, ends_plan};
 use plan_events::{Event, Texts};
 use resource_locks::Plan;
 use std::alloc::{AllocError, Global};
 use std::io::Write;
 use std::time::{Clock, Duration, Instant};
-use worker_pool::{Watcher, ends_plan};
 
 /// How long a line stands at least before it is drawn anew, in milliseconds.
 const SHORTEST: u64 = 100;
@@ -233,19 +232,19 @@ impl<'e, 'c, 's, 'f, E: Write, C: Clock> Progress<'e, 'c, 's, 'f, E, C> {
         ensures running { Follows plan.now.tree event self.old.running.now self.new.running.now }
     {
         let event = &event;
-        self.failures.watch(plan, texts, *event);
+        self.failures.see(plan, texts, *event);
         self.slow.note(plan, *event, self.times);
         let now = Instant::now(self.clock).ok();
         self.running.note(plan, *event, now);
     }
 }
 
-impl<'e, 'c, 's, 'f, E: Write, C: Clock> Watcher for Progress<'e, 'c, 's, 'f, E, C> {
+impl<'e, 'c, 's, 'f, E: Write, C: Clock> Observer for Progress<'e, 'c, 's, 'f, E, C> {
     ghost use Rattle.live.specs.Terminals.{HasFollowed};
 
     ghost saw = { HasFollowed E.contents };
 
-    fn watch(&mut self, plan: &Plan, texts: &Texts, event: Event) {
+    fn see(&mut self, plan: &Plan, texts: &Texts, event: Event) {
         let event = &event;
         self.count(plan, *event);
         self.note(plan, texts, *event);

@@ -1,4 +1,4 @@
-//! A watcher that names the tests that run longer than their limit.
+//! A observer that names the tests that run longer than their limit.
 
 ghost use Rattle.std.specs.Prelude.{◌≡◌};
 ghost use Rattle.live.specs.SlowNames.{NamesNext};
@@ -7,17 +7,17 @@ ghost use Rattle.live.specs.SlowNaming.{NotesBy};
 use crate::handing::hand_on;
 use crate::slow_tests::SlowTests;
 use job_times::JobTimes;
+use listeners::Observer;
 use plan_events::{Event, Texts};
 use resource_locks::Plan;
 use std::io::Write;
 use std::time::Clock;
-use worker_pool::Watcher;
 
 /// Writes a line for each test that runs longer than its limit, one at each moment, and shows the run to
 /// another. A writer that fails is left alone from then on. The tests are noted in a list that it was lent.
 /// No clause says what the other saw.
 #[derive(Drop)]
-pub struct SlowLines<'e, 'c, 's, 'o, E: Write, C: Clock, V: Watcher> {
+pub struct SlowLines<'e, 'c, 's, 'o, E: Write, C: Clock, V: Observer> {
     errors: &'e mut E,
     // whether nothing more is written
     is_over: bool,
@@ -26,7 +26,7 @@ pub struct SlowLines<'e, 'c, 's, 'o, E: Write, C: Clock, V: Watcher> {
     other: &'o mut V,
 }
 
-impl<'e, 'c, 's, 'o, E: Write, C: Clock, V: Watcher> SlowLines<'e, 'c, 's, 'o, E, C, V> {
+impl<'e, 'c, 's, 'o, E: Write, C: Clock, V: Observer> SlowLines<'e, 'c, 's, 'o, E, C, V> {
     /// Nothing has happened yet, and nothing is written. It is lent an empty list for what runs.
     pub fn new(
         errors: &'e mut E,
@@ -54,7 +54,7 @@ impl<'e, 'c, 's, 'o, E: Write, C: Clock, V: Watcher> SlowLines<'e, 'c, 's, 'o, E
             self.new.tests.now.tests.items }
     {
         let event = &event;
-        self.other.watch(plan, texts, *event);
+        self.other.see(plan, texts, *event);
         self.tests.note(plan, *event, self.times);
     }
 
@@ -71,13 +71,13 @@ impl<'e, 'c, 's, 'o, E: Write, C: Clock, V: Watcher> SlowLines<'e, 'c, 's, 'o, E
     }
 }
 
-impl<'e, 'c, 's, 'o, E: Write, C: Clock, V: Watcher> Watcher
+impl<'e, 'c, 's, 'o, E: Write, C: Clock, V: Observer> Observer
     for SlowLines<'e, 'c, 's, 'o, E, C, V> {
     ghost use Rattle.live.specs.SlowNames.{HasNamed};
 
     ghost saw = { HasNamed E.contents };
 
-    fn watch(&mut self, plan: &Plan, texts: &Texts, event: Event) {
+    fn see(&mut self, plan: &Plan, texts: &Texts, event: Event) {
         self.note(plan, texts, event);
         self.name_next();
     }

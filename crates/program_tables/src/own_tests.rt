@@ -5,7 +5,7 @@ use crate::output::Output;
 use crate::table_clock::TableClock;
 use crate::texts::{RowFiles, Texts};
 use harness::{
-    BuildFault, Checked, Ending, LockMode, Mode, Nobody, TestBox, Tests, assume, check_same,
+    BuildFault, Checked, Ending, LockMode, Mode, TestBox, Tests, assume, check_same,
     run_tests_by_clock,
 };
 use std::alloc::Global;
@@ -70,6 +70,6 @@ pub(crate) fn run_own_tests<T: Threads + Wait + Sync>(
         answers,
         errors,
         files,
-        &mut Nobody,
+        &mut (),
     )
 }

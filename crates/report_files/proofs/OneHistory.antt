@@ -24,7 +24,7 @@ use Rattle.report_files.specs.declared.beside.Beside.{Beside}
 use Rattle.report_files.specs.declared.recording.Recorded.{Recorded}
 use Rattle.report_files.specs.declared.recording.Recorded.TheVariants.{Nothing, Told, Lacking}
 use Rattle.report_files.specs.declared.recording.Recording.{Recording}
-use Rattle.worker_pool.specs.Watching.{HasSeenMore}
+use Rattle.listeners.specs.Observing.{HasSeenMore}
 use Rattle.report_files.specs.Reports.{IsRecordedIn}
 use Rattle.report_files.specs.ReportedRuns.{AreReportsOf, HasSeenSome, IsRecordedRun, IsReportedRun, IsRunWith}
 use Rattle.report_files.specs.declared.report.Report.{Report}
@@ -114,16 +114,16 @@ module _ {V : Type 0} (saw : PlanParts → V → V → List Telling → Type 0) 
   Both = BothSaw saw HasRecorded
 
   both_begun : (p : PlanParts) → Both p first first []
-  both_begun p = record { same = refl; seen = nothing_seen saw p first.watcher.now; other = nothing_seen HasRecorded p first.other.now }
+  both_begun p = record { same = refl; seen = nothing_seen saw p first.observer.now; other = nothing_seen HasRecorded p first.other.now }
 
   both_seen : (p : PlanParts) (ts : List Telling) → HasSeenMore Both p ts first now → Both p first now ts
   both_seen p ts more = more first [] (both_begun p)
 
   -- who watched has seen what both saw, and it is recorded
-  pub watcher_seen : (p : PlanParts) (ts : List Telling) → HasSeenMore Both p ts first now → HasSeenMore saw p ts first.watcher.now now.watcher.now
+  pub watcher_seen : (p : PlanParts) (ts : List Telling) → HasSeenMore Both p ts first now → HasSeenMore saw p ts first.observer.now now.observer.now
   watcher_seen p ts more = (both_seen p ts more).seen
 
-  pub watcher_same : (p : PlanParts) (ts : List Telling) → HasSeenMore Both p ts first now → now.watcher.ghost_name ≡ first.watcher.ghost_name
+  pub watcher_same : (p : PlanParts) (ts : List Telling) → HasSeenMore Both p ts first now → now.observer.ghost_name ≡ first.observer.ghost_name
   watcher_same p ts more = (both_seen p ts more).same
 
   pub recorded_by : (p : PlanParts) (ts : List Telling) → IsRecorded p [] first.other.now.recorded → HasSeenMore Both p ts first now → IsRecorded p ts now.other.now.recorded
@@ -136,11 +136,11 @@ module _ {V : Type 0} (saw : PlanParts → V → V → List Telling → Type 0) 
     of_both : (Holds : Type 0) → (now ≡ first → Holds) → ((p : PlanParts) (ts : List Telling) → Both p first now ts → Holds) → Holds
     of_both Holds same seen = of_run Both first now times Holds same (λ p ts more. seen p ts (both_seen p ts more)) asked (suite_read took.bytes) old new result took.judged
 
-    pub still_same : now.watcher.ghost_name ≡ first.watcher.ghost_name
-    still_same = of_both (now.watcher.ghost_name ≡ first.watcher.ghost_name) (λ same. ap (λ (b : Beside V Recording). b.watcher.ghost_name) same) (λ p ts both. both.same)
+    pub still_same : now.observer.ghost_name ≡ first.observer.ghost_name
+    still_same = of_both (now.observer.ghost_name ≡ first.observer.ghost_name) (λ same. ap (λ (b : Beside V Recording). b.observer.ghost_name) same) (λ p ts both. both.same)
 
-    pub some_seen : HasSeenSome saw first.watcher.now now.watcher.now
-    some_seen = of_both (HasSeenSome saw first.watcher.now now.watcher.now) (λ same. inl (ap (λ (b : Beside V Recording). b.watcher.now) same)) (λ p ts both. inr (p, ts, both.seen))
+    pub some_seen : HasSeenSome saw first.observer.now now.observer.now
+    some_seen = of_both (HasSeenSome saw first.observer.now now.observer.now) (λ same. inl (ap (λ (b : Beside V Recording). b.observer.now) same)) (λ p ts both. inr (p, ts, both.seen))
 
     module _ (fresh : first.other.now.recorded ≡ Nothing) where
       pub run_recorded : is_run asked.replay asked.details ≡ true → TakesFrom before left (fault_in result) (λ bytes. IfOk result (λ status. IsRecordedRun asked times (suite_read bytes) old new status now.other.now.recorded))

@@ -18,7 +18,7 @@ use Rattle.listeners.specs.declared.theme.Theme.{Theme}
 use Rattle.report_files.specs.Recordings.{IsRecorded, text_in}
 use Rattle.report_files.specs.Told.{ToldParts}
 use Rattle.report_files.specs.declared.recording.Recorded.{Recorded}
-use Rattle.worker_pool.specs.Watching.{HasSeenMore}
+use Rattle.listeners.specs.Observing.{HasSeenMore}
 use Rattle.report_files.specs.Reports.{IsLacking, IsReported}
 use Rattle.report_files.specs.declared.report.Report.{Report}
 

@@ -2,50 +2,50 @@
 
 ghost use Rattle.std.specs.Prelude.{◌≡◌, ◌∷◌, []};
 ghost use Rattle.listeners.specs.Listeners.{telling};
-ghost use Rattle.worker_pool.specs.Watching.{HasSeenMore};
+ghost use Rattle.listeners.specs.Observing.{HasSeenMore};
 
+use listeners::Observer;
 use plan_events::{Event, Texts};
 use resource_locks::Plan;
-use worker_pool::Watcher;
 
 /// One who watches a run and another, both of whom were lent: each event is shown to the first, and then to the other.
 #[derive(Drop)]
-pub struct Beside<'v, 'b, V: Watcher, B: Watcher> {
-    pub watcher: &'v mut V,
+pub struct Beside<'v, 'b, V: Observer, B: Observer> {
+    pub observer: &'v mut V,
     pub other: &'b mut B,
 }
 
-impl<'v, 'b, V: Watcher, B: Watcher> Beside<'v, 'b, V, B> {
+impl<'v, 'b, V: Observer, B: Observer> Beside<'v, 'b, V, B> {
     /// These two watch.
-    pub fn new(watcher: &'v mut V, other: &'b mut B) -> Beside<'v, 'b, V, B>
-        ensures same { result.watcher.ghost_name ≡ watcher.entry.ghost_name }
-        ensures lent { result.watcher.now ≡ watcher.old }
+    pub fn new(observer: &'v mut V, other: &'b mut B) -> Beside<'v, 'b, V, B>
+        ensures same { result.observer.ghost_name ≡ observer.entry.ghost_name }
+        ensures lent { result.observer.now ≡ observer.old }
         ensures other { result.other.now ≡ other.old }
     {
-        Beside { watcher, other }
+        Beside { observer, other }
     }
 }
 
-/// Shows a watcher this event of the plan.
-fn show<V: Watcher>(watcher: &mut V, plan: &Plan, texts: &Texts, event: Event)
-    ensures { HasSeenMore V.saw plan.now (telling texts.now event ∷ []) watcher.old watcher.new }
+/// Shows a observer this event of the plan.
+fn show<V: Observer>(observer: &mut V, plan: &Plan, texts: &Texts, event: Event)
+    ensures { HasSeenMore V.saw plan.now (telling texts.now event ∷ []) observer.old observer.new }
 {
-    watcher.watch(plan, texts, event);
+    observer.see(plan, texts, event);
 }
 
-impl<'v, 'b, V: Watcher, B: Watcher> Watcher for Beside<'v, 'b, V, B> {
+impl<'v, 'b, V: Observer, B: Observer> Observer for Beside<'v, 'b, V, B> {
     ghost use Rattle.report_files.specs.Besides.{BothSaw};
 
     ghost saw = { BothSaw V.saw B.saw };
 
-    fn watch(&mut self, plan: &Plan, texts: &Texts, event: Event) {
+    fn see(&mut self, plan: &Plan, texts: &Texts, event: Event) {
         let event = &event;
-        show(&mut *self.watcher, plan, texts, *event);
+        show(&mut *self.observer, plan, texts, *event);
         show(&mut *self.other, plan, texts, *event);
     }
 
     fn idle(&mut self) {
-        self.watcher.idle();
+        self.observer.idle();
         self.other.idle();
     }
 }

@@ -24,11 +24,11 @@ use crate::slowest_tests::slowest_in;
 use job_times::{RunTimes, Stopwatch};
 use launch_options::{LaunchFault, Options, ReportAsked};
 use launcher::{ExitStatus, run_options_watched};
+use listeners::Observer;
 use std::alloc::Global;
 use std::io::{Read, Write};
 use std::sync::Wait;
 use std::thread::Threads;
-use worker_pool::Watcher;
 
 /// Runs what these options ask for, and writes each report when the run is over; then it makes the list of the slowest
 /// tests, if times are asked for.
@@ -36,7 +36,7 @@ fn run_listed<
     T: Threads + Wait + Sync,
     R: Read,
     W: Write,
-    V: Watcher,
+    V: Observer,
     F: Write + Drop,
     S: Stopwatch + Sync,
 >(
@@ -51,10 +51,10 @@ fn run_listed<
     times: &mut RunTimes<'_, S>,
 ) -> Result<ExitStatus, LaunchFault>
     requires fresh { beside.old.other.now.recorded ≡ Recorded.Nothing }
-    ensures same { beside.new.watcher.ghost_name ≡ beside.old.watcher.ghost_name }
+    ensures same { beside.new.observer.ghost_name ≡ beside.old.observer.ghost_name }
     ensures runs { RunsAsked (asked_by options.now) (R.remaining reader.old) (R.remaining reader.new)
         (W.contents writer.old) (W.contents writer.new) result }
-    ensures watched { HasSeenSome V.saw beside.old.watcher.now beside.new.watcher.now }
+    ensures watched { HasSeenSome V.saw beside.old.observer.now beside.new.observer.now }
     ensures reported { is_run (asked_by options.now).replay (asked_by options.now).details ≡ true →
         TakesFrom (R.remaining reader.old) (R.remaining reader.new) (fault_in result)
         (λ bytes. IfOk result (λ status. IsReportedRun F.contents (asked_by options.now) (times_of times.new.timings)
@@ -84,7 +84,7 @@ fn run_beside<
     T: Threads + Wait + Sync,
     R: Read,
     W: Write,
-    V: Watcher,
+    V: Observer,
     F: Write + Drop,
     S: Stopwatch + Sync,
 >(
@@ -94,13 +94,13 @@ fn run_beside<
     reports: &mut [Report<F>],
     reader: &mut R,
     writer: &mut W,
-    watcher: &mut V,
+    observer: &mut V,
     slowest: &mut Option<String>,
     times: &mut RunTimes<'_, S>,
 ) -> Result<ExitStatus, LaunchFault>
     ensures runs { RunsAsked (asked_by options.now) (R.remaining reader.old) (R.remaining reader.new)
         (W.contents writer.old) (W.contents writer.new) result }
-    ensures watched { HasSeenSome V.saw watcher.old watcher.new }
+    ensures watched { HasSeenSome V.saw observer.old observer.new }
     ensures reported { is_run (asked_by options.now).replay (asked_by options.now).details ≡ true →
         TakesFrom (R.remaining reader.old) (R.remaining reader.new) (fault_in result)
         (λ bytes. IfOk result (λ status. IsReportedRun F.contents (asked_by options.now) (times_of times.new.timings)
@@ -113,7 +113,7 @@ fn run_beside<
 {
     let mut recording = Recording::new(alloc);
     let other = &mut recording;
-    let mut beside = Beside { watcher, other };
+    let mut beside = Beside { observer, other };
     run_listed(
         rt,
         alloc,
@@ -132,7 +132,7 @@ fn run_opened<
     T: Threads + Wait + Sync,
     R: Read,
     W: Write,
-    V: Watcher,
+    V: Observer,
     K: ReportFiles,
     S: Stopwatch + Sync,
 >(
@@ -144,7 +144,7 @@ fn run_opened<
     reports: &mut [Report<K::File>],
     reader: &mut R,
     writer: &mut W,
-    watcher: &mut V,
+    observer: &mut V,
     slowest: &mut Option<String>,
     times: &mut RunTimes<'_, S>,
 ) -> Result<ExitStatus, LaunchFault>
@@ -155,7 +155,7 @@ fn run_opened<
         IsOpenedRun (asked_by options.now) (map parts_of wanted.now) (times_of times.new.timings)
         (R.remaining reader.old) (R.remaining reader.new) (W.contents writer.old) (W.contents writer.new) before
         (K.deeds files.new) result }
-    ensures watched { HasSeenSome V.saw watcher.old watcher.new }
+    ensures watched { HasSeenSome V.saw observer.old observer.new }
     ensures slowest { IfOk result (λ status. IsSlowestRun (asked_by options.now) (times_of times.new.timings)
         (R.remaining reader.old) (R.remaining reader.new) (W.contents writer.old) (W.contents writer.new) status
         (option_map string_bytes slowest.new)) }
@@ -167,7 +167,7 @@ fn run_opened<
         &mut *reports,
         reader,
         writer,
-        watcher,
+        observer,
         slowest,
         times,
     );
@@ -194,7 +194,7 @@ pub fn run_filed<
     T: Threads + Wait + Sync,
     R: Read,
     W: Write,
-    V: Watcher,
+    V: Observer,
     K: ReportFiles,
     S: Stopwatch + Sync,
 >(
@@ -205,14 +205,14 @@ pub fn run_filed<
     files: &mut K,
     reader: &mut R,
     writer: &mut W,
-    watcher: &mut V,
+    observer: &mut V,
     slowest: &mut Option<String>,
     times: &mut RunTimes<'_, S>,
 ) -> Result<ExitStatus, LaunchFault>
     ensures filed { RunsFiled (asked_by options.now) (map parts_of wanted.now) (times_of times.new.timings)
         (R.remaining reader.old) (R.remaining reader.new) (W.contents writer.old) (W.contents writer.new)
         (K.deeds files.old) (K.deeds files.new) result }
-    ensures watched { HasSeenSome V.saw watcher.old watcher.new }
+    ensures watched { HasSeenSome V.saw observer.old observer.new }
     // The list is of the plan that was run, by the same times.
     ensures slowest { IfOk result (λ status. IsSlowestRun (asked_by options.now) (times_of times.new.timings)
         (R.remaining reader.old) (R.remaining reader.new) (W.contents writer.old) (W.contents writer.new) status
@@ -220,7 +220,7 @@ pub fn run_filed<
 {
     *slowest = None;
     if asks_no_more(options, wanted) {
-        return run_options_watched(rt, alloc, options, reader, writer, watcher, times);
+        return run_options_watched(rt, alloc, options, reader, writer, observer, times);
     }
     let mut reports = open_all(alloc, &mut *files, wanted)?;
     run_opened(
@@ -232,7 +232,7 @@ pub fn run_filed<
         reports.as_mut_slice(),
         reader,
         writer,
-        watcher,
+        observer,
         slowest,
         times,
     )

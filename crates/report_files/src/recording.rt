@@ -1,4 +1,4 @@
-//! A watcher that keeps what is told of a run, so that reports of it can be made when it is over.
+//! A observer that keeps what is told of a run, so that reports of it can be made when it is over.
 
 ghost use Rattle.std.specs.Prelude.{◌≡◌, ◌∷◌, ◌++◌, [], ℕ, List, None, Some, IfOk, IsTrue};
 ghost use Rattle.listeners.specs.Listeners.{Telling, telling};
@@ -7,13 +7,12 @@ ghost use Rattle.resource_locks.specs.Plans.{PlanParts};
 ghost use Rattle.report_files.specs.Recordings.{IsRecorded, IsToldWith, KeepsText, SetsText, is_over, maybe_now};
 
 use descriptor::NodeId;
-use listeners::text_with;
+use listeners::{Observer, text_with};
 use plan_events::{Event, EventKind, Note, Texts};
 use resource_locks::Plan;
 use std::alloc::{AllocError, Global};
 use std::marker::Model;
 use unique_id::Text;
-use worker_pool::Watcher;
 
 /// Whether an event of this kind says that its node is over.
 fn is_over(kind: EventKind) -> bool
@@ -178,7 +177,7 @@ fn tell_more(alloc: Global, recorded: &mut Recorded, texts: &Texts, event: Event
     }
 }
 
-/// Keeps what is told of a run: as a watcher it takes note of each event and of its text.
+/// Keeps what is told of a run: as a observer it takes note of each event and of its text.
 #[derive(Drop)]
 pub struct Recording {
     alloc: Global,
@@ -216,12 +215,12 @@ impl Recording {
     }
 }
 
-impl Watcher for Recording {
+impl Observer for Recording {
     ghost use Rattle.report_files.specs.Recordings.{HasRecorded};
 
     ghost saw = { HasRecorded };
 
-    fn watch(&mut self, plan: &Plan, texts: &Texts, event: Event) {
+    fn see(&mut self, plan: &Plan, texts: &Texts, event: Event) {
         let event = &event;
         self.begin(plan);
         self.go_on(texts, *event);

@@ -15,14 +15,14 @@ use crate::report::{Report, write_reports};
 use job_times::{RunTimes, Stopwatch};
 use launch_options::{LaunchFault, Options};
 use launcher::{ExitStatus, run_options_watched};
+use listeners::Observer;
 use std::alloc::Global;
 use std::io::{Read, Write};
 use std::sync::Wait;
 use std::thread::Threads;
-use worker_pool::Watcher;
 
 /// Runs what these options ask for, and records what is told of it.
-fn run_recorded<T: Threads + Wait + Sync, R: Read, W: Write, V: Watcher, S: Stopwatch + Sync>(
+fn run_recorded<T: Threads + Wait + Sync, R: Read, W: Write, V: Observer, S: Stopwatch + Sync>(
     rt: &T,
     alloc: Global,
     options: &Options,
@@ -32,7 +32,7 @@ fn run_recorded<T: Threads + Wait + Sync, R: Read, W: Write, V: Watcher, S: Stop
     times: &mut RunTimes<'_, S>,
 ) -> Result<ExitStatus, LaunchFault>
     requires fresh { beside.old.other.now.recorded ≡ Recorded.Nothing }
-    ensures same { beside.new.watcher.ghost_name ≡ beside.old.watcher.ghost_name }
+    ensures same { beside.new.observer.ghost_name ≡ beside.old.observer.ghost_name }
     ensures exact { IfSome (R.remaining reader.old)
         (λ bytes. IsRun (asked_by options.now) (suite_read (take 1048577 bytes)) (W.contents writer.old)
         (W.contents writer.new) result) }
@@ -41,7 +41,7 @@ fn run_recorded<T: Threads + Wait + Sync, R: Read, W: Write, V: Watcher, S: Stop
         result) }
     ensures quiet { IfErr result (λ fault. is_writing fault ≡ false →
         Keeps (W.contents writer.old) (W.contents writer.new)) }
-    ensures seen { HasSeenSome V.saw beside.old.watcher.now beside.new.watcher.now }
+    ensures seen { HasSeenSome V.saw beside.old.observer.now beside.new.observer.now }
     ensures recorded { is_run (asked_by options.now).replay (asked_by options.now).details ≡ true →
         TakesFrom (R.remaining reader.old) (R.remaining reader.new) (fault_in result)
         (λ bytes. IfOk result (λ status. IsRecordedRun (asked_by options.now) (times_of times.new.timings)
@@ -60,7 +60,7 @@ pub fn run_reported<
     T: Threads + Wait + Sync,
     R: Read,
     W: Write,
-    V: Watcher,
+    V: Observer,
     F: Write + Drop,
     S: Stopwatch + Sync,
 >(
@@ -74,7 +74,7 @@ pub fn run_reported<
     times: &mut RunTimes<'_, S>,
 ) -> Result<ExitStatus, LaunchFault>
     requires fresh { beside.old.other.now.recorded ≡ Recorded.Nothing }
-    ensures same { beside.new.watcher.ghost_name ≡ beside.old.watcher.ghost_name }
+    ensures same { beside.new.observer.ghost_name ≡ beside.old.observer.ghost_name }
     ensures exact { IfSome (R.remaining reader.old)
         (λ bytes. IsRun (asked_by options.now) (suite_read (take 1048577 bytes)) (W.contents writer.old)
         (W.contents writer.new) result) }
@@ -83,7 +83,7 @@ pub fn run_reported<
         result) }
     ensures quiet { IfErr result (λ fault. is_writing fault ≡ false →
         Keeps (W.contents writer.old) (W.contents writer.new)) }
-    ensures watched { HasSeenSome V.saw beside.old.watcher.now beside.new.watcher.now }
+    ensures watched { HasSeenSome V.saw beside.old.observer.now beside.new.observer.now }
     // One history witnesses what is printed and every report, and so do these times.
     ensures reported { is_run (asked_by options.now).replay (asked_by options.now).details ≡ true →
         TakesFrom (R.remaining reader.old) (R.remaining reader.new) (fault_in result)

@@ -1,6 +1,6 @@
 //! A listener of one's own: how many tests of each class failed.
 
-use harness::{Event, NodeId, Plan, Status, Texts, Watcher};
+use harness::{Event, NodeId, Observer, Plan, Status, Texts};
 use std::alloc::{AllocError, Global};
 use std::io::Write;
 
@@ -47,10 +47,10 @@ impl FailuresByClass {
     }
 }
 
-impl Watcher for FailuresByClass {
+impl Observer for FailuresByClass {
     ghost saw = { λ _ _ _ _. Unit {0} };
 
-    fn watch(&mut self, plan: &Plan, _texts: &Texts, event: Event) {
+    fn see(&mut self, plan: &Plan, _texts: &Texts, event: Event) {
         let event = &event;
         if event.status != Some(Status::Failed) || event.node.index() >= plan.tree().len() {
             return;

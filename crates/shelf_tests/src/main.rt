@@ -5,8 +5,8 @@ mod shelf;
 
 use crate::shelf::Shelf;
 use harness::{
-    BuildFault, Checked, Ending, LockMode, Nobody, System, TestBox, Tests, check, check_same,
-    exit_code, run_tests_here,
+    BuildFault, Checked, Ending, LockMode, System, TestBox, Tests, check, check_same, exit_code,
+    run_tests_here,
 };
 use std::alloc::Global;
 use std::io::{self, IsTerminal, Write};
@@ -36,7 +36,7 @@ fn run<S: System, W: Write, E: Write + IsTerminal>(
     let factory = tests.factory(class, "fits()", fits)?;
     let three: TestBox = Box::new(alloc, move |alloc: Global| fits(alloc))?;
     tests.dynamic(factory, "three", three)?;
-    run_tests_here(system, tests, writer, errors, &mut Nobody)
+    run_tests_here(system, tests, writer, errors, &mut ())
 }
 
 fn main(rt: HostRuntime) -> ExitCode {

@@ -40,11 +40,11 @@ module _ {B : Type 0} (answers : B → List Reply) (gives : B → Reply → Type
     both_watched : HasSeenSome (BothSaw saw HasRecorded) first now
     both_watched = some_watched (BothSaw saw HasRecorded) first now times answers gives asked parts jobs old new result is
 
-    pub still_same : now.watcher.ghost_name ≡ first.watcher.ghost_name
+    pub still_same : now.observer.ghost_name ≡ first.observer.ghost_name
     still_same = pair_same saw HasRecorded first now both_watched
 
     -- has seen the run
-    pub some_seen : HasSeenSome saw first.watcher.now now.watcher.now
+    pub some_seen : HasSeenSome saw first.observer.now now.observer.now
     some_seen = pair_watched saw HasRecorded first now both_watched
 
     -- which is recorded

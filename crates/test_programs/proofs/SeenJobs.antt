@@ -6,7 +6,7 @@ use Rattle.plan_events.specs.declared.outcome.Reply.{Reply}
 use Rattle.plan_events.specs.Texts.{TextParts}
 use Rattle.resource_locks.specs.Plans.{PlanParts}
 use Rattle.listeners.specs.Listeners.{Telling, tellings_of}
-use Rattle.worker_pool.specs.Watching.{HasSeenMore}
+use Rattle.listeners.specs.Observing.{HasSeenMore}
 use Rattle.suite_text.specs.Reading.Parts.{SuiteParts}
 use Rattle.launch_options.specs.Asked.{Asked}
 use Rattle.launch_options.specs.declared.fault.LaunchFault.{LaunchFault}
@@ -95,14 +95,14 @@ jobs_with answers gives asked parts jobs times old new status keeps is = record 
 
 module _ {V O : Type 0} (saw : PlanParts → V → V → List Telling → Type 0) (beside : PlanParts → O → O → List Telling → Type 0) (first now : Beside V O) where
   both_seen : (p : PlanParts) (ts : List Telling) → HasSeenMore (BothSaw saw beside) p ts first now → BothSaw saw beside p first now ts
-  both_seen p ts more = more first [] (record { same = refl; seen = nothing_seen saw p first.watcher.now; other = nothing_seen beside p first.other.now })
+  both_seen p ts more = more first [] (record { same = refl; seen = nothing_seen saw p first.observer.now; other = nothing_seen beside p first.other.now })
 
   -- of two who watched the first is still the same
-  pub pair_same : HasSeenSome (BothSaw saw beside) first now → now.watcher.ghost_name ≡ first.watcher.ghost_name
-  pair_same (inl same) = ap (λ (b : Beside V O). b.watcher.ghost_name) same
+  pub pair_same : HasSeenSome (BothSaw saw beside) first now → now.observer.ghost_name ≡ first.observer.ghost_name
+  pair_same (inl same) = ap (λ (b : Beside V O). b.observer.ghost_name) same
   pair_same (inr seen) = (both_seen seen.0 seen.1 seen.2).same
 
   -- and has seen what both saw
-  pub pair_watched : HasSeenSome (BothSaw saw beside) first now → HasSeenSome saw first.watcher.now now.watcher.now
-  pair_watched (inl same) = inl (ap (λ (b : Beside V O). b.watcher.now) same)
+  pub pair_watched : HasSeenSome (BothSaw saw beside) first now → HasSeenSome saw first.observer.now now.observer.now
+  pair_watched (inl same) = inl (ap (λ (b : Beside V O). b.observer.now) same)
   pair_watched (inr seen) = inr (seen.0, seen.1, (both_seen seen.0 seen.1 seen.2).seen)

@@ -20,6 +20,7 @@ ghost use Rattle.test_programs.specs.JobsRuns.{RunsJobs};
 use job_times::{RunTimes, Stopwatch};
 use launch_options::ReportAsked;
 use launcher::{ExitStatus, LaunchFault, Options, Program, run_jobs_watched};
+use listeners::Observer;
 use plan_events::Job;
 use report_files::{
     Beside, Recorded, Recording, Report, ReportFiles, answer_with, end_all, open_all, slowest_in,
@@ -29,14 +30,13 @@ use std::alloc::Global;
 use std::io::Write;
 use std::sync::Wait;
 use std::thread::Threads;
-use worker_pool::Watcher;
 
 /// Runs these jobs as the options say, and records what is told of that.
 fn run_jobs_recorded<
     B: Job + Send,
     T: Threads + Wait + Sync,
     W: Write,
-    V: Watcher,
+    V: Observer,
     S: Stopwatch + Sync,
 >(
     rt: &T,
@@ -51,8 +51,8 @@ fn run_jobs_recorded<
         (run_of plan workers ring program.jobs.items) }
     requires all { HasJobs program.tree program.jobs.items }
     requires fresh { beside.old.other.now.recorded ≡ Recorded.Nothing }
-    ensures same { beside.new.watcher.ghost_name ≡ beside.old.watcher.ghost_name }
-    ensures watched { HasSeenSome V.saw beside.old.watcher.now beside.new.watcher.now }
+    ensures same { beside.new.observer.ghost_name ≡ beside.old.observer.ghost_name }
+    ensures watched { HasSeenSome V.saw beside.old.observer.now beside.new.observer.now }
     ensures runs { RunsJobs B.answers B.gives (asked_by options.now) (program_parts program.tree program.properties)
         program.jobs.items (W.contents writer.old) (W.contents writer.new) result }
     ensures recorded { is_run None (asked_by options.now).details ≡ true → IfOk result
@@ -70,7 +70,7 @@ fn run_jobs_reported<
     B: Job + Send,
     T: Threads + Wait + Sync,
     W: Write,
-    V: Watcher,
+    V: Observer,
     F: Write + Drop,
     S: Stopwatch + Sync,
 >(
@@ -87,8 +87,8 @@ fn run_jobs_reported<
         (run_of plan workers ring program.jobs.items) }
     requires all { HasJobs program.tree program.jobs.items }
     requires fresh { beside.old.other.now.recorded ≡ Recorded.Nothing }
-    ensures same { beside.new.watcher.ghost_name ≡ beside.old.watcher.ghost_name }
-    ensures watched { HasSeenSome V.saw beside.old.watcher.now beside.new.watcher.now }
+    ensures same { beside.new.observer.ghost_name ≡ beside.old.observer.ghost_name }
+    ensures watched { HasSeenSome V.saw beside.old.observer.now beside.new.observer.now }
     ensures runs { RunsJobs B.answers B.gives (asked_by options.now) (program_parts program.tree program.properties)
         program.jobs.items (W.contents writer.old) (W.contents writer.new) result }
     ensures reported { is_run None (asked_by options.now).details ≡ true → IfOk result
@@ -132,7 +132,7 @@ fn run_jobs_listed<
     B: Job + Send,
     T: Threads + Wait + Sync,
     W: Write,
-    V: Watcher,
+    V: Observer,
     F: Write + Drop,
     S: Stopwatch + Sync,
 >(
@@ -150,8 +150,8 @@ fn run_jobs_listed<
         (run_of plan workers ring program.jobs.items) }
     requires all { HasJobs program.tree program.jobs.items }
     requires fresh { beside.old.other.now.recorded ≡ Recorded.Nothing }
-    ensures same { beside.new.watcher.ghost_name ≡ beside.old.watcher.ghost_name }
-    ensures watched { HasSeenSome V.saw beside.old.watcher.now beside.new.watcher.now }
+    ensures same { beside.new.observer.ghost_name ≡ beside.old.observer.ghost_name }
+    ensures watched { HasSeenSome V.saw beside.old.observer.now beside.new.observer.now }
     ensures runs { RunsJobs B.answers B.gives (asked_by options.now) (program_parts program.tree program.properties)
         program.jobs.items (W.contents writer.old) (W.contents writer.new) result }
     ensures reported { is_run None (asked_by options.now).details ≡ true → IfOk result
@@ -183,7 +183,7 @@ fn run_jobs_beside<
     B: Job + Send,
     T: Threads + Wait + Sync,
     W: Write,
-    V: Watcher,
+    V: Observer,
     F: Write + Drop,
     S: Stopwatch + Sync,
 >(
@@ -193,14 +193,14 @@ fn run_jobs_beside<
     reports: &mut [Report<F>],
     program: Program<B>,
     writer: &mut W,
-    watcher: &mut V,
+    observer: &mut V,
     slowest: &mut Option<String>,
     times: &mut RunTimes<'_, S>,
 ) -> Result<ExitStatus, LaunchFault>
     requires jobs { (plan : PlanParts) (workers ring : ℕ) → JobsMayAnswer B.answers
         (run_of plan workers ring program.jobs.items) }
     requires all { HasJobs program.tree program.jobs.items }
-    ensures watched { HasSeenSome V.saw watcher.old watcher.new }
+    ensures watched { HasSeenSome V.saw observer.old observer.new }
     ensures runs { RunsJobs B.answers B.gives (asked_by options.now) (program_parts program.tree program.properties)
         program.jobs.items (W.contents writer.old) (W.contents writer.new) result }
     ensures reported { is_run None (asked_by options.now).details ≡ true → IfOk result
@@ -215,7 +215,7 @@ fn run_jobs_beside<
 {
     let mut recording = Recording::new(alloc);
     let other = &mut recording;
-    let mut beside = Beside { watcher, other };
+    let mut beside = Beside { observer, other };
     run_jobs_listed(
         rt,
         alloc,
@@ -234,7 +234,7 @@ fn run_jobs_opened<
     B: Job + Send,
     T: Threads + Wait + Sync,
     W: Write,
-    V: Watcher,
+    V: Observer,
     K: ReportFiles,
     S: Stopwatch + Sync,
 >(
@@ -246,7 +246,7 @@ fn run_jobs_opened<
     reports: &mut [Report<K::File>],
     program: Program<B>,
     writer: &mut W,
-    watcher: &mut V,
+    observer: &mut V,
     slowest: &mut Option<String>,
     times: &mut RunTimes<'_, S>,
 ) -> Result<ExitStatus, LaunchFault>
@@ -260,7 +260,7 @@ fn run_jobs_opened<
         JobsFiled B.answers B.gives (asked_by options.now) (program_parts program.tree program.properties) program.jobs.items
         (map parts_of wanted.now) (times_of times.new.timings) (W.contents writer.old) (W.contents writer.new) before
         (K.deeds files.new) result }
-    ensures watched { HasSeenSome V.saw watcher.old watcher.new }
+    ensures watched { HasSeenSome V.saw observer.old observer.new }
     ensures slowest { IfOk result (λ status. IsSlowestOfJobs B.answers B.gives (asked_by options.now)
         (program_parts program.tree program.properties) program.jobs.items (times_of times.new.timings)
         (W.contents writer.old) (W.contents writer.new) status (option_map string_bytes slowest.new)) }
@@ -272,7 +272,7 @@ fn run_jobs_opened<
         &mut *reports,
         program,
         writer,
-        watcher,
+        observer,
         slowest,
         times,
     );
@@ -319,7 +319,7 @@ pub(crate) fn run_jobs_filed<
     B: Job + Send,
     T: Threads + Wait + Sync,
     W: Write,
-    V: Watcher,
+    V: Observer,
     K: ReportFiles,
     S: Stopwatch + Sync,
 >(
@@ -330,7 +330,7 @@ pub(crate) fn run_jobs_filed<
     files: &mut K,
     program: Program<B>,
     writer: &mut W,
-    watcher: &mut V,
+    observer: &mut V,
     slowest: &mut Option<String>,
     times: &mut RunTimes<'_, S>,
 ) -> Result<ExitStatus, LaunchFault>
@@ -340,7 +340,7 @@ pub(crate) fn run_jobs_filed<
     ensures filed { JobsFiled B.answers B.gives (asked_by options.now) (program_parts program.tree program.properties)
         program.jobs.items (map parts_of wanted.now) (times_of times.new.timings) (W.contents writer.old)
         (W.contents writer.new) (K.deeds files.old) (K.deeds files.new) result }
-    ensures watched { HasSeenSome V.saw watcher.old watcher.new }
+    ensures watched { HasSeenSome V.saw observer.old observer.new }
     // The list is of the plan that was run, by the same times.
     ensures slowest { IfOk result (λ status. IsSlowestOfJobs B.answers B.gives (asked_by options.now)
         (program_parts program.tree program.properties) program.jobs.items (times_of times.new.timings)
@@ -348,7 +348,7 @@ pub(crate) fn run_jobs_filed<
 {
     *slowest = None;
     if asks_no_more(options, wanted) {
-        return run_jobs_watched(rt, alloc, options, program, writer, watcher, times);
+        return run_jobs_watched(rt, alloc, options, program, writer, observer, times);
     }
     let mut reports = open_wanted(alloc, &mut *files, wanted)?;
     run_jobs_opened(
@@ -360,7 +360,7 @@ pub(crate) fn run_jobs_filed<
         reports.as_mut_slice(),
         program,
         writer,
-        watcher,
+        observer,
         slowest,
         times,
     )

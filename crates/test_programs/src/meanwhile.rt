@@ -18,7 +18,7 @@ use command_line::{prints_lines, times_by, times_for};
 use command_words::Launch;
 use job_times::{RunTimes, Stopwatch};
 use launcher::{ExitStatus, LaunchFault, Program};
-use listeners::Summary;
+use listeners::{Observer, Summary};
 use live::{Failures, Progress, Running, SlowLines, SlowTests};
 use plan_events::Job;
 use report_files::ReportFiles;
@@ -27,7 +27,6 @@ use std::io::Write;
 use std::sync::Wait;
 use std::thread::Threads;
 use std::time::Clock;
-use worker_pool::Watcher;
 
 /// Runs what is asked for with these jobs; this one names the tests that run longer than their limit.
 fn run_jobs_named<
@@ -36,7 +35,7 @@ fn run_jobs_named<
     C: Clock + Sync + Drop,
     W: Write,
     E: Write,
-    V: Watcher,
+    V: Observer,
     K: ReportFiles,
     S: Stopwatch + Sync,
 >(
@@ -47,7 +46,7 @@ fn run_jobs_named<
     writer: &mut W,
     files: &mut K,
     lines: &mut SlowLines<'_, '_, '_, '_, E, C, Failures>,
-    watcher: &mut V,
+    observer: &mut V,
     slowest: &mut Option<String>,
     times: &mut RunTimes<'_, S>,
 ) -> Result<ExitStatus, LaunchFault>
@@ -61,7 +60,7 @@ fn run_jobs_named<
         (K.deeds files.old) (K.deeds files.new) result (option_map string_bytes slowest.new) }
 {
     run_jobs_shown(
-        rt, alloc, launch, program, writer, files, lines, watcher, slowest, times,
+        rt, alloc, launch, program, writer, files, lines, observer, slowest, times,
     )
 }
 
@@ -73,7 +72,7 @@ fn run_jobs_quiet<
     C: Clock + Sync + Drop,
     W: Write,
     E: Write,
-    V: Watcher,
+    V: Observer,
     K: ReportFiles,
 >(
     rt: &T,
@@ -86,7 +85,7 @@ fn run_jobs_quiet<
     errors: &mut E,
     files: &mut K,
     failures: &mut Failures,
-    watcher: &mut V,
+    observer: &mut V,
     slowest: &mut Option<String>,
 ) -> Result<ExitStatus, LaunchFault>
     requires jobs { (plan : PlanParts) (workers ring : ℕ) → JobsMayAnswer B.answers
@@ -102,7 +101,7 @@ fn run_jobs_quiet<
     let mut tests = SlowTests::new(alloc);
     let mut lines = SlowLines::new(errors, &stopwatch, &mut tests, failures);
     run_jobs_named(
-        rt, alloc, launch, program, writer, files, &mut lines, watcher, slowest, &mut times,
+        rt, alloc, launch, program, writer, files, &mut lines, observer, slowest, &mut times,
     )
 }
 
@@ -113,7 +112,7 @@ fn run_jobs_followed<
     C: Clock + Sync + Drop,
     W: Write,
     E: Write,
-    V: Watcher,
+    V: Observer,
     K: ReportFiles,
     S: Stopwatch + Sync,
 >(
@@ -124,7 +123,7 @@ fn run_jobs_followed<
     writer: &mut W,
     files: &mut K,
     progress: &mut Progress<'_, '_, '_, '_, E, C>,
-    watcher: &mut V,
+    observer: &mut V,
     slowest: &mut Option<String>,
     times: &mut RunTimes<'_, S>,
 ) -> Result<ExitStatus, LaunchFault>
@@ -138,7 +137,7 @@ fn run_jobs_followed<
         (K.deeds files.old) (K.deeds files.new) result (option_map string_bytes slowest.new) }
 {
     run_jobs_shown(
-        rt, alloc, launch, program, writer, files, progress, watcher, slowest, times,
+        rt, alloc, launch, program, writer, files, progress, observer, slowest, times,
     )
 }
 
@@ -150,7 +149,7 @@ fn run_jobs_drawn<
     C: Clock + Sync + Drop,
     W: Write,
     E: Write,
-    V: Watcher,
+    V: Observer,
     K: ReportFiles,
 >(
     rt: &T,
@@ -163,7 +162,7 @@ fn run_jobs_drawn<
     errors: &mut E,
     files: &mut K,
     failures: &mut Failures,
-    watcher: &mut V,
+    observer: &mut V,
     slowest: &mut Option<String>,
 ) -> Result<ExitStatus, LaunchFault>
     requires jobs { (plan : PlanParts) (workers ring : ℕ) → JobsMayAnswer B.answers
@@ -198,7 +197,7 @@ fn run_jobs_drawn<
         writer,
         files,
         &mut progress,
-        watcher,
+        observer,
         slowest,
         &mut times,
     )
@@ -212,7 +211,7 @@ pub(crate) fn run_jobs_meanwhile<
     C: Clock + Sync + Drop,
     W: Write,
     E: Write,
-    V: Watcher,
+    V: Observer,
     K: ReportFiles,
 >(
     rt: &T,
@@ -226,7 +225,7 @@ pub(crate) fn run_jobs_meanwhile<
     errors: &mut E,
     files: &mut K,
     failures: &mut Failures,
-    watcher: &mut V,
+    observer: &mut V,
     slowest: &mut Option<String>,
 ) -> Result<ExitStatus, LaunchFault>
     requires jobs { (plan : PlanParts) (workers ring : ℕ) → JobsMayAnswer B.answers
@@ -239,12 +238,12 @@ pub(crate) fn run_jobs_meanwhile<
 {
     if is_terminal {
         run_jobs_drawn(
-            rt, clock, alloc, launch, host, program, writer, errors, files, failures, watcher,
+            rt, clock, alloc, launch, host, program, writer, errors, files, failures, observer,
             slowest,
         )
     } else {
         run_jobs_quiet(
-            rt, clock, alloc, launch, host, program, writer, errors, files, failures, watcher,
+            rt, clock, alloc, launch, host, program, writer, errors, files, failures, observer,
             slowest,
         )
     }

@@ -14,21 +14,21 @@ use crate::filed_jobs::run_jobs_filed;
 use command_words::Launch;
 use job_times::{RunTimes, Stopwatch};
 use launcher::{ExitStatus, LaunchFault, Program};
+use listeners::Observer;
 use plan_events::Job;
 use report_files::{Beside, ReportFiles};
 use std::alloc::Global;
 use std::io::Write;
 use std::sync::Wait;
 use std::thread::Threads;
-use worker_pool::Watcher;
 
 /// Runs what is asked for with these jobs, and keeps its reports; both who watch are shown the run.
 fn run_jobs_paired<
     B: Job + Send,
     T: Threads + Wait + Sync,
     W: Write,
-    D: Watcher,
-    V: Watcher,
+    D: Observer,
+    V: Observer,
     K: ReportFiles,
     S: Stopwatch + Sync,
 >(
@@ -45,8 +45,8 @@ fn run_jobs_paired<
     requires jobs { (plan : PlanParts) (workers ring : ℕ) → JobsMayAnswer B.answers
         (run_of plan workers ring program.jobs.items) }
     requires all { HasJobs program.tree program.jobs.items }
-    ensures same { pair.new.watcher.ghost_name ≡ pair.old.watcher.ghost_name }
-    ensures watched { HasSeenSome D.saw pair.old.watcher.now pair.new.watcher.now }
+    ensures same { pair.new.observer.ghost_name ≡ pair.old.observer.ghost_name }
+    ensures watched { HasSeenSome D.saw pair.old.observer.now pair.new.observer.now }
     ensures runs { IsTimedJobs B.answers B.gives (asked_by launch.now.options) (program_parts program.tree program.properties)
         program.jobs.items (map parts_of launch.now.reports.items) (W.contents writer.old) (W.contents writer.new)
         (K.deeds files.old) (K.deeds files.new) result (option_map string_bytes slowest.new) }
@@ -71,8 +71,8 @@ pub(crate) fn run_jobs_shown<
     B: Job + Send,
     T: Threads + Wait + Sync,
     W: Write,
-    D: Watcher,
-    V: Watcher,
+    D: Observer,
+    V: Observer,
     K: ReportFiles,
     S: Stopwatch + Sync,
 >(
@@ -82,7 +82,7 @@ pub(crate) fn run_jobs_shown<
     program: Program<B>,
     writer: &mut W,
     files: &mut K,
-    watcher: &mut D,
+    observer: &mut D,
     other: &mut V,
     slowest: &mut Option<String>,
     times: &mut RunTimes<'_, S>,
@@ -90,12 +90,12 @@ pub(crate) fn run_jobs_shown<
     requires jobs { (plan : PlanParts) (workers ring : ℕ) → JobsMayAnswer B.answers
         (run_of plan workers ring program.jobs.items) }
     requires all { HasJobs program.tree program.jobs.items }
-    ensures watched { HasSeenSome D.saw watcher.old watcher.new }
+    ensures watched { HasSeenSome D.saw observer.old observer.new }
     ensures runs { IsTimedJobs B.answers B.gives (asked_by launch.now.options) (program_parts program.tree program.properties)
         program.jobs.items (map parts_of launch.now.reports.items) (W.contents writer.old) (W.contents writer.new)
         (K.deeds files.old) (K.deeds files.new) result (option_map string_bytes slowest.new) }
 {
-    let mut pair = Beside { watcher, other };
+    let mut pair = Beside { observer, other };
     run_jobs_paired(
         rt, alloc, launch, program, writer, files, &mut pair, slowest, times,
     )

@@ -20,6 +20,7 @@ use crate::unreported::read_unreported;
 use command_line::{Ending, close_run, close_with_failures, refuse};
 use command_words::{Launch, given_words, read_launch};
 use launcher::{LaunchFault, Program};
+use listeners::Observer;
 use live::Failures;
 use messages::{Subject, said_of_settings};
 use plan_events::Job;
@@ -32,7 +33,6 @@ use std::sync::Wait;
 use std::thread::Threads;
 use std::time::Clock;
 use word_files::{Facts, TextFiles};
-use worker_pool::Watcher;
 
 /// Runs what these words asked for, and says what there is to say of the answer and of what failed.
 fn run_launch<
@@ -42,7 +42,7 @@ fn run_launch<
     W: Write,
     E: Write,
     K: ReportFiles,
-    V: Watcher,
+    V: Observer,
 >(
     rt: &T,
     clock: C,
@@ -55,7 +55,7 @@ fn run_launch<
     writer: &mut W,
     errors: &mut E,
     files: &mut K,
-    watcher: &mut V,
+    observer: &mut V,
 ) -> Ending
     requires jobs { (plan : PlanParts) (workers ring : ℕ) → JobsMayAnswer B.answers
         (run_of plan workers ring program.jobs.items) }
@@ -79,7 +79,7 @@ fn run_launch<
         &mut *errors,
         files,
         &mut failures,
-        watcher,
+        observer,
         &mut slowest,
     );
     let tests = Subject::Tests(said.as_str());
@@ -98,14 +98,14 @@ fn run_launch<
 /// how far the run has come is drawn there meanwhile. Words that give no options are refused as
 /// `read_options` says, and then nothing is run; so is `--report`, by 105, and `--replay` or `--drive`, since
 /// nobody knows beforehand what the tests answer. Each body of the tree has a job, and whatever plan
-/// is made of the tree, the jobs may answer. Who watches is shown the run, as one of two watchers.
+/// is made of the tree, the jobs may answer. Who watches is shown the run, as one of two observers.
 pub fn run_test_words<
     B: Job + Send,
     T: Threads + Wait + Sync,
     C: Clock + Sync + Drop,
     W: Write,
     E: Write,
-    V: Watcher,
+    V: Observer,
 >(
     rt: &T,
     clock: C,
@@ -115,7 +115,7 @@ pub fn run_test_words<
     program: Program<B>,
     writer: &mut W,
     errors: &mut E,
-    watcher: &mut V,
+    observer: &mut V,
 ) -> Ending
     requires jobs { (plan : PlanParts) (workers ring : ℕ) → JobsMayAnswer B.answers
         (run_of plan workers ring program.jobs.items) }
@@ -137,7 +137,7 @@ pub fn run_test_words<
             writer,
             errors,
             &mut NoFiles,
-            watcher,
+            observer,
         ),
         Err(fault) => {
             drop(program);
@@ -154,7 +154,7 @@ pub fn run_test_program<
     C: Clock + Sync + Drop,
     W: Write,
     E: Write,
-    V: Watcher,
+    V: Observer,
 >(
     rt: &T,
     clock: C,
@@ -164,7 +164,7 @@ pub fn run_test_program<
     program: Program<B>,
     writer: &mut W,
     errors: &mut E,
-    watcher: &mut V,
+    observer: &mut V,
 ) -> Ending
     requires jobs { (plan : PlanParts) (workers ring : ℕ) → JobsMayAnswer B.answers
         (run_of plan workers ring program.jobs.items) }
@@ -186,7 +186,7 @@ pub fn run_test_program<
             program,
             writer,
             errors,
-            watcher,
+            observer,
         ),
         Err(fault) => {
             drop(program);
@@ -203,7 +203,7 @@ fn run_filed_words<
     W: Write,
     E: Write,
     K: ReportFiles,
-    V: Watcher,
+    V: Observer,
 >(
     rt: &T,
     clock: C,
@@ -215,7 +215,7 @@ fn run_filed_words<
     writer: &mut W,
     errors: &mut E,
     files: &mut K,
-    watcher: &mut V,
+    observer: &mut V,
 ) -> Ending
     requires jobs { (plan : PlanParts) (workers ring : ℕ) → JobsMayAnswer B.answers
         (run_of plan workers ring program.jobs.items) }
@@ -237,7 +237,7 @@ fn run_filed_words<
             writer,
             errors,
             files,
-            watcher,
+            observer,
         ),
         Err(fault) => {
             drop(program);
@@ -256,7 +256,7 @@ fn run_given_tests<
     W: Write,
     E: Write,
     K: ReportFiles,
-    V: Watcher,
+    V: Observer,
 >(
     rt: &T,
     clock: C,
@@ -269,7 +269,7 @@ fn run_given_tests<
     writer: &mut W,
     errors: &mut E,
     files: &mut K,
-    watcher: &mut V,
+    observer: &mut V,
 ) -> Ending
     requires jobs { (plan : PlanParts) (workers ring : ℕ) → JobsMayAnswer B.answers
         (run_of plan workers ring program.jobs.items) }
@@ -290,7 +290,7 @@ fn run_given_tests<
             writer,
             errors,
             files,
-            watcher,
+            observer,
         ),
         Err(fault) => {
             drop(program);
@@ -311,7 +311,7 @@ pub fn run_test_main<
     W: Write,
     E: Write,
     K: ReportFiles,
-    V: Watcher,
+    V: Observer,
 >(
     rt: &T,
     clock: C,
@@ -324,7 +324,7 @@ pub fn run_test_main<
     writer: &mut W,
     errors: &mut E,
     files: &mut K,
-    watcher: &mut V,
+    observer: &mut V,
 ) -> Ending
     requires jobs { (plan : PlanParts) (workers ring : ℕ) → JobsMayAnswer B.answers
         (run_of plan workers ring program.jobs.items) }
@@ -349,7 +349,7 @@ pub fn run_test_main<
             writer,
             errors,
             files,
-            watcher,
+            observer,
         ),
         Err(fault) => {
             drop(program);

@@ -9,21 +9,20 @@ ghost use Rattle.table_rule.specs.Moments.{KeepsApart};
 ghost use Rattle.table_rule.specs.Picture.{given_by, replies_of};
 ghost use Rattle.run_table.specs.Balance.{IsBalanced};
 ghost use Rattle.run_table.specs.Prepared.{HasAllJobs, IsRightCount, IsRightRing};
-ghost use Rattle.worker_pool.specs.Hearings.{HaveHeard, HaveHeardNothing};
 ghost use Rattle.worker_pool.specs.Premises.{JobsMayAnswer};
 ghost use Rattle.worker_pool.specs.Reports.{run_of, AreParts, AreTexts, IsReport, IsRefusedRun};
 ghost use Rattle.worker_pool.specs.Reports.{EndsAsReplied, IsLeft, IsToldAsGiven};
-ghost use Rattle.worker_pool.specs.Watching.{HasSeenMore};
+ghost use Rattle.listeners.specs.Observing.{HasSeenMore};
 
 use job_times::{Stopwatch, TimedJob, timed_jobs, untimed_jobs};
-use listeners::Audience;
+use listeners::Observer;
 use plan_events::{Job, MOST_WORKERS};
 use resource_locks::Plan;
 use run_table::{Jobs, TableFault};
 use std::alloc::Global;
 use std::sync::Wait;
 use std::thread::Threads;
-use worker_pool::{Report, RunCause, RunFault, Watcher, run_watched};
+use worker_pool::{Report, RunCause, RunFault, run_watched};
 
 /// The most words that the ring of places may have.
 const MOST_RING: u32 = 16_384;
@@ -111,7 +110,7 @@ fn untimed_fault<'s, B: Job, S: Stopwatch>(
 }
 
 /// Runs a plan as `run_watched` does, with these jobs that are timed, and puts them back into this room.
-fn run_noted<'s, B: Job + Send, V: Watcher, R: Threads + Wait + Sync, S: Stopwatch + Sync>(
+fn run_noted<'s, B: Job + Send, O: Observer, R: Threads + Wait + Sync, S: Stopwatch + Sync>(
     rt: &R,
     alloc: Global,
     plan: Plan,
@@ -119,13 +118,11 @@ fn run_noted<'s, B: Job + Send, V: Watcher, R: Threads + Wait + Sync, S: Stopwat
     room: Jobs<B>,
     workers: u32,
     ring: u32,
-    audience: &mut Audience,
-    watcher: &mut V,
+    observer: &mut O,
 ) -> Result<Report<B>, RunFault<B>>
     requires empty { room.items ≡ [] }
     requires room { vec_len timed ≤ vec_capacity room }
     requires jobs { JobsMayAnswer B.answers (run_of plan workers ring (untimed timed.items)) }
-    requires fresh { All (λ l. got (l.vtable, l.value) ≡ []) audience.old.listeners.items }
     ensures plan { IfOk result (λ report. report.plan ≡ plan) }
     ensures report { IfOk result (λ report. IsReport (run_of plan workers ring (untimed timed.entry.items))
         (replies_of B.answers (run_of plan workers ring (untimed timed.entry.items))) report.events.items) }
@@ -141,23 +138,15 @@ fn run_noted<'s, B: Job + Send, V: Watcher, R: Threads + Wait + Sync, S: Stopwat
         (run_of plan workers ring (untimed timed.entry.items)) report.events.items report.unused_jobs.items) }
     ensures balanced { IfOk result (λ report. IsBalanced plan (untimed timed.entry.items) report.events.items
         report.unused_jobs.items) }
-    ensures listeners { length audience.new.listeners.items ≡ length audience.old.listeners.items }
-    ensures told { IfOk result (λ report. All (λ l. got (l.vtable, l.value) ≡ report.events.items)
-        audience.new.listeners.items) }
-    ensures heard { IfOk result (λ report. HaveHeard (λ l ts. heard (l.vtable, l.value) ts) report.texts
-        report.events.items audience.old.listeners.items audience.new.listeners.items) }
-    ensures seen { IfOk result (λ report. HasSeenMore V.saw plan (tellings_of report.texts report.events.items)
-        watcher.old watcher.new) }
+    ensures seen { IfOk result (λ report. HasSeenMore O.saw plan (tellings_of report.texts report.events.items)
+        observer.old observer.new) }
     ensures accepted { IfOk result (λ _. IsRightCount workers × IsRightRing ring × HasAllJobs plan (untimed timed.entry.items)) }
     ensures refused { IfErr result (λ fault. IsRefusedRun plan workers ring (untimed timed.entry.items) fault.cause) }
     ensures plan_back { IfErr result (λ fault. fault.plan ≡ plan) }
     ensures jobs_back { IfErr result (λ fault. IsPermutation (untimed timed.entry.items) fault.jobs.items) }
-    ensures untold { IfErr result (λ _. All (λ l. got (l.vtable, l.value) ≡ []) audience.new.listeners.items) }
-    ensures unheard { IfErr result (λ _. HaveHeardNothing (λ l ts. heard (l.vtable, l.value) ts)
-        audience.old.listeners.items audience.new.listeners.items) }
-    ensures unseen { IfErr result (λ _. watcher.new ≡ watcher.old) }
+    ensures unseen { IfErr result (λ _. observer.new ≡ observer.old) }
 {
-    match run_watched(rt, alloc, plan, timed, workers, ring, audience, watcher) {
+    match run_watched(rt, alloc, plan, timed, workers, ring, observer) {
         Ok(report) => Ok(untimed_report(report, room)),
         Err(fault) => Err(untimed_fault(fault, room)),
     }
@@ -165,19 +154,17 @@ fn run_noted<'s, B: Job + Send, V: Watcher, R: Threads + Wait + Sync, S: Stopwat
 
 /// Runs a plan as `run_watched` of worker_pool does, and a stopwatch takes note of when each job begins and ends. Each
 /// clause is that of `run_watched`, and none speaks of the stopwatch.
-pub fn run_timed<B: Job + Send, V: Watcher, R: Threads + Wait + Sync, S: Stopwatch + Sync>(
+pub fn run_timed<B: Job + Send, O: Observer, R: Threads + Wait + Sync, S: Stopwatch + Sync>(
     rt: &R,
     alloc: Global,
     plan: Plan,
     jobs: Jobs<B>,
     workers: u32,
     ring: u32,
-    audience: &mut Audience,
-    watcher: &mut V,
+    observer: &mut O,
     stopwatch: &S,
 ) -> Result<Report<B>, RunFault<B>>
     requires jobs { JobsMayAnswer B.answers (run_of plan workers ring jobs.items) }
-    requires fresh { All (λ l. got (l.vtable, l.value) ≡ []) audience.old.listeners.items }
     ensures plan { IfOk result (λ report. report.plan ≡ plan) }
     ensures report { IfOk result (λ report. IsReport (run_of plan workers ring jobs.items)
         (replies_of B.answers (run_of plan workers ring jobs.items)) report.events.items) }
@@ -192,29 +179,19 @@ pub fn run_timed<B: Job + Send, V: Watcher, R: Threads + Wait + Sync, S: Stopwat
     ensures left { IfOk result (λ report. IsLeft (replies_of B.answers (run_of plan workers ring jobs.items))
         (run_of plan workers ring jobs.items) report.events.items report.unused_jobs.items) }
     ensures balanced { IfOk result (λ report. IsBalanced plan jobs.items report.events.items report.unused_jobs.items) }
-    ensures listeners { length audience.new.listeners.items ≡ length audience.old.listeners.items }
-    ensures told { IfOk result (λ report. All (λ l. got (l.vtable, l.value) ≡ report.events.items)
-        audience.new.listeners.items) }
-    ensures heard { IfOk result (λ report. HaveHeard (λ l ts. heard (l.vtable, l.value) ts) report.texts
-        report.events.items audience.old.listeners.items audience.new.listeners.items) }
-    ensures seen { IfOk result (λ report. HasSeenMore V.saw plan (tellings_of report.texts report.events.items)
-        watcher.old watcher.new) }
+    ensures seen { IfOk result (λ report. HasSeenMore O.saw plan (tellings_of report.texts report.events.items)
+        observer.old observer.new) }
     ensures accepted { IfOk result (λ _. IsRightCount workers × IsRightRing ring × HasAllJobs plan jobs.items) }
     ensures refused { IfErr result (λ fault. IsRefusedRun plan workers ring jobs.items fault.cause) }
     ensures plan_back { IfErr result (λ fault. fault.plan ≡ plan) }
     ensures jobs_back { IfErr result (λ fault. IsPermutation jobs.items fault.jobs.items) }
-    ensures untold { IfErr result (λ _. All (λ l. got (l.vtable, l.value) ≡ []) audience.new.listeners.items) }
-    ensures unheard { IfErr result (λ _. HaveHeardNothing (λ l ts. heard (l.vtable, l.value) ts)
-        audience.old.listeners.items audience.new.listeners.items) }
-    ensures unseen { IfErr result (λ _. watcher.new ≡ watcher.old) }
+    ensures unseen { IfErr result (λ _. observer.new ≡ observer.old) }
 {
     let Ok(room) = Vec::with_capacity(alloc, jobs.len()) else {
         return Err(without_memory(plan, jobs, workers, ring));
     };
     match timed_jobs(alloc, jobs, stopwatch) {
-        Ok(timed) => run_noted(
-            rt, alloc, plan, timed, room, workers, ring, audience, watcher,
-        ),
+        Ok(timed) => run_noted(rt, alloc, plan, timed, room, workers, ring, observer),
         Err(jobs) => Err(without_memory(plan, jobs, workers, ring)),
     }
 }

@@ -9,7 +9,6 @@ ghost use Rattle.job_times.specs.Timings.{is_noted};
 use crate::threaded_run::two_jobs;
 use descriptor::{BodyId, NodeId, Tree};
 use job_times::{JobTimes, RunTimes, Stopwatch, Timings};
-use listeners::Audience;
 use plan_events::Event;
 use resource_locks::Plan;
 use std::alloc::{AllocError, Global};
@@ -17,7 +16,6 @@ use std::sync::Wait;
 use std::thread::Threads;
 use std::time::Clock;
 use timed_runs::run_timed;
-use worker_pool::Nobody;
 
 /// How long each node of a tree took, as this stopwatch has it now.
 fn noted<S: Stopwatch>(alloc: Global, tree: &Tree, stopwatch: &S) -> Result<Timings, AllocError>
@@ -52,22 +50,8 @@ pub fn run_two_timed<R: Threads + Wait + Sync + Clock>(
     let Ok(jobs) = two_jobs(alloc, first, second) else {
         return None;
     };
-    let Ok(mut nobody) = Audience::new(Vec::new(alloc)) else {
-        return None;
-    };
     let stopwatch = JobTimes::new(alloc, rt).ok()?;
-    let mut watcher = Nobody;
-    match run_timed(
-        rt,
-        alloc,
-        plan,
-        jobs,
-        2,
-        1024,
-        &mut nobody,
-        &mut watcher,
-        &stopwatch,
-    ) {
+    match run_timed(rt, alloc, plan, jobs, 2, 1024, &mut (), &stopwatch) {
         Ok(report) => match noted(alloc, report.plan.tree(), &stopwatch) {
             Ok(timings) => Some((report.events, timings)),
             Err(_) => None,

@@ -1,7 +1,6 @@
 -- A dispatcher's state whose seat dealt others is as ready as before, and of a run from there on the same is known as from before.
-use Rattle.std.proofs.Common.{◌≡◌, ◌∙◌, ◌≤◌, ◌-◌, ℕ, List, length, Result, IfOk, IfErr, Ok, Err, refl, sym, ap, subst, vec_capacity}
+use Rattle.std.proofs.Common.{◌≡◌, ◌∙◌, ◌≤◌, ℕ, List, Result, IfOk, IfErr, Ok, Err, refl, sym, ap, subst, vec_capacity}
 use Rattle.std.proofs.lemmas.Result.{IfOk-weaker}
-use Rattle.std.specs.List.{All}
 use Rattle.plan_events.specs.declared.event.Event.{Event}
 use Rattle.plan_events.specs.declared.outcome.Reply.{Reply}
 use Rattle.resource_locks.specs.Plans.{PlanParts, most_events}
@@ -10,10 +9,9 @@ use Rattle.table_rule.specs.declared.view.View.{View}
 use Rattle.table_rule.specs.Plays.{dispatcher}
 use Rattle.run_table.specs.Seats.{IsOf}
 use Rattle.run_table.specs.declared.dispatcher.DispatcherSeat.{DispatcherSeat}
-use Rattle.worker_pool.specs.Hearings.{HaveHeardSince}
 use Rattle.worker_pool.specs.Runs.{IsReady, HasRun}
-use Rattle.worker_pool.specs.Telling.{IsNoted, KeepsTexts, left_to_read}
-use Rattle.worker_pool.specs.Watching.{HasSeenSince}
+use Rattle.worker_pool.specs.Telling.{IsNoted, KeepsTexts}
+use Rattle.worker_pool.specs.Seeing.{HasSeenSince}
 use Rattle.worker_pool.specs.declared.running.DispatcherState.{DispatcherState}
 use Rattle.worker_pool.proofs.Reported.{carried}
 use Rattle.worker_pool.proofs.TextsRead.{read_alike}
@@ -44,48 +42,35 @@ untouched (Err e) n a b c none same was = same ∙ was none
 
 -- of a view that has read as much of the same plan as another, the same is known
 module _ {B : Type 0} (old new : View B) (about : new.about ≡ old.about) (read : (dispatcher new).read ≡ (dispatcher old).read) where
-  pub told_alike : {L : Type 0} (got : L → List Event) (listeners : List L) → All (λ l. got l ≡ (dispatcher old).read) listeners → All (λ l. got l ≡ (dispatcher new).read) listeners
-  told_alike got listeners told = carried read (λ (r : List Event). All (λ l. got l ≡ r) listeners) told
-
-  pub room_alike : {L : Type 0} (room_of : L → ℕ) (listeners : List L) → All (λ l. left_to_read old ≤ room_of l) listeners → All (λ l. left_to_read new ≤ room_of l) listeners
-  room_alike room_of listeners room =
-      carried about (λ a. All (λ l. most_events a.plan - length (dispatcher new).read ≤ room_of l) listeners)
-      (carried read (λ (r : List Event). All (λ l. most_events old.about.plan - length r ≤ room_of l) listeners) room)
-
   pub noted_alike : (events : List Event) (wide : ℕ) → IsNoted old events wide → IsNoted new events wide
   noted_alike events wide noted = record {
     read = noted.read ∙ sym read;
     enough = carried about (λ a. most_events a.plan ≤ wide) noted.enough;
   }
 
-module _ {B L : Type 0} (answers : B → List Reply) (got : L → List Event) (before dealt : DispatcherState B) (is : IsDealt before dealt) where
-  pub ready_dealt : (room_of : L → ℕ) (listeners : List L) → IsReady answers got room_of before listeners → IsReady answers got room_of dealt listeners
-  ready_dealt room_of listeners ready =
+module _ {B : Type 0} (answers : B → List Reply) (before dealt : DispatcherState B) (is : IsDealt before dealt) where
+  pub ready_dealt : IsReady answers before → IsReady answers dealt
+  ready_dealt ready =
       let old = before.seat.seat.me.0 in
       let new = dealt.seat.seat.me.0 in
       record {
-        told = told_alike old new is.same.about is.read got listeners ready.told;
-        room = room_alike old new is.same.about is.read room_of listeners ready.room;
         texts = carried is.texts (λ t. KeepsTexts answers new t) (read_alike answers old new before.texts is.same.about is.read is.slots ready.texts);
         noted = carried is.events (λ e. IsNoted new e.items (vec_capacity e)) (noted_alike old new is.same.about is.read before.events.items (vec_capacity before.events) ready.noted);
       }
 
-  pub run_dealt : {W : Type 0} (heard_by : L → List Telling → Type 0) (saw : PlanParts → W → W → List Telling → Type 0) (after : DispatcherState B) (first next : List L) (was now : W) → HasRun answers got heard_by saw dealt after first next was now → HasRun answers got heard_by saw before after first next was now
-  run_dealt heard_by saw after first next was now run =
+  pub run_dealt : {O : Type 0} (saw : PlanParts → O → O → List Telling → Type 0) (after : DispatcherState B) (was now : O) → HasRun answers saw dealt after was now → HasRun answers saw before after was now
+  run_dealt saw after was now run =
       let last = (dispatcher after.seat.seat.me.0).read in
       record {
         same = record { table = run.same.table ∙ is.same.table; about = run.same.about ∙ is.same.about };
         noted = run.noted;
-        listeners = run.listeners;
-        told = run.told;
-        heard = subst (λ (r : List Event). HaveHeardSince heard_by after.texts r last first next) is.read run.heard;
         seen = subst (λ a. HasSeenSince saw a.plan after.texts (dispatcher before.seat.seat.me.0).read last was now) is.same.about
             (subst (λ (r : List Event). HasSeenSince saw dealt.seat.seat.me.0.about.plan after.texts r last was now) is.read run.seen);
         texts = run.texts;
         over = run.over;
       }
 
-  pub ran_dealt : {X E W : Type 0} (ran : Result X E) (heard_by : L → List Telling → Type 0) (saw : PlanParts → W → W → List Telling → Type 0) (after : DispatcherState B) (first next : List L) (was now : W) → IfOk ran (λ _. HasRun answers got heard_by saw dealt after first next was now) → IfOk ran (λ _. HasRun answers got heard_by saw before after first next was now)
-  ran_dealt ran heard_by saw after first next was now run =
-      IfOk-weaker ran (λ _. HasRun answers got heard_by saw dealt after first next was now) (λ _. HasRun answers got heard_by saw before after first next was now)
-      (λ _. run_dealt heard_by saw after first next was now) run
+  pub ran_dealt : {X E O : Type 0} (ran : Result X E) (saw : PlanParts → O → O → List Telling → Type 0) (after : DispatcherState B) (was now : O) → IfOk ran (λ _. HasRun answers saw dealt after was now) → IfOk ran (λ _. HasRun answers saw before after was now)
+  ran_dealt ran saw after was now run =
+      IfOk-weaker ran (λ _. HasRun answers saw dealt after was now) (λ _. HasRun answers saw before after was now)
+      (λ _. run_dealt saw after was now) run

@@ -8,10 +8,10 @@ use Rattle.command_line.proofs.Watched.{named_behind_it, named_by_some}
 use Rattle.command_line.proofs.slow_tests.run_named.Goals as goal
 
 pub returns-clause-same : goal.returns-clause-same
-returns-clause-same g c = (named_by_some g.E.Write.contents c.args.lines.now c.run_filed.new.watcher c.run_filed.ensures.watched).1.same
+returns-clause-same g c = (named_by_some g.E.Write.contents c.args.lines.now c.run_filed.new.observer c.run_filed.ensures.watched).1.same
 
 pub returns-clause-names : goal.returns-clause-names
-returns-clause-names g c = named_behind_it g.E.Write.contents c.args.lines.now c.run_filed.new.watcher (named_by_some g.E.Write.contents c.args.lines.now c.run_filed.new.watcher c.run_filed.ensures.watched)
+returns-clause-names g c = named_behind_it g.E.Write.contents c.args.lines.now c.run_filed.new.observer (named_by_some g.E.Write.contents c.args.lines.now c.run_filed.new.observer c.run_filed.ensures.watched)
 
 pub returns-clause-runs : goal.returns-clause-runs
 returns-clause-runs g c = record {

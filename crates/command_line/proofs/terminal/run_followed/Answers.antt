@@ -8,10 +8,10 @@ use Rattle.command_line.proofs.Watched.{drawn_behind_it, drawn_by_some}
 use Rattle.command_line.proofs.terminal.run_followed.Goals as goal
 
 pub returns-clause-same : goal.returns-clause-same
-returns-clause-same g c = (drawn_by_some g.E.Write.contents c.args.progress.now c.run_filed.new.watcher c.run_filed.ensures.watched).same
+returns-clause-same g c = (drawn_by_some g.E.Write.contents c.args.progress.now c.run_filed.new.observer c.run_filed.ensures.watched).same
 
 pub returns-clause-draws : goal.returns-clause-draws
-returns-clause-draws g c = drawn_behind_it g.E.Write.contents c.args.progress.now c.run_filed.new.watcher (drawn_by_some g.E.Write.contents c.args.progress.now c.run_filed.new.watcher c.run_filed.ensures.watched)
+returns-clause-draws g c = drawn_behind_it g.E.Write.contents c.args.progress.now c.run_filed.new.observer (drawn_by_some g.E.Write.contents c.args.progress.now c.run_filed.new.observer c.run_filed.ensures.watched)
 
 pub returns-clause-runs : goal.returns-clause-runs
 returns-clause-runs g c = record {

@@ -16,7 +16,7 @@ returns-clause-output g c =
     let answers = c.args.answers.now in
     let history = c.as_slice-history.result.now in
     let texts = c.in_ok-texts.texts in
-    let times = g.V.NotesTimes.noted c.show_all.new.watcher in
+    let times = g.V.NotesTimes.noted c.show_all.new.observer in
     let left : IsHistory settings.workers plan answers history = subst (λ (h : List Event). IsHistory settings.workers plan answers h) (sym c.as_slice-history.ensures.value) c.in_ok-trace.ensures.history in
     let report = c.in_ok-report.report in
     let made = c.in_ok-report.ensures in
@@ -51,10 +51,10 @@ returns-in_err-report-clause-watched g c =
     let plan = c.args.plan.now in
     let answers = c.args.answers.now in
     let history = c.as_slice-history.result.now in
-    let times = g.V.NotesTimes.noted c.show_all.new.watcher in
+    let times = g.V.NotesTimes.noted c.show_all.new.observer in
     let left : IsHistory settings.workers plan answers history = subst (λ (h : List Event). IsHistory settings.workers plan answers h) (sym c.as_slice-history.ensures.value) c.in_ok-trace.ensures.history in
-    watches_in_vain g.V.Watcher.saw c.args.watcher.now c.show_all.new.watcher times (IsPrintedRun asked settings plan answers) plan c.from_residual-in_err-report.result c.from_residual-in_err-report.ensures.1
-    (run_in_vain g.V.Watcher.saw c.args.watcher.now c.show_all.new.watcher times asked settings plan answers history c.in_ok-texts.texts (record {
+    watches_in_vain g.V.Observer.saw c.args.observer.now c.show_all.new.observer times (IsPrintedRun asked settings plan answers) plan c.from_residual-in_err-report.result c.from_residual-in_err-report.ensures.1
+    (run_in_vain g.V.Observer.saw c.args.observer.now c.show_all.new.observer times asked settings plan answers history c.in_ok-texts.texts (record {
       tree = c.in_ok-trace.ensures.tree;
       published = left;
       are = c.in_ok-texts.ensures.deciding settings.workers left.legal;

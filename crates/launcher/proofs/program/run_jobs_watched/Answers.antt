@@ -18,12 +18,12 @@ run_planned-answer-requires-clause-jobs g c κs within = c.requires.jobs c.in_ok
 
 pub returns-in_err-settings-clause-watched : goal.returns-in_err-settings-clause-watched
 returns-in_err-settings-clause-watched g c =
-    planned_fails (asked_by c.args.options.now) (program_parts c.args.program.tree c.args.program.properties) g.B.Job.answers g.B.Job.gives c.args.program.jobs.items g.V.Watcher.saw c.args.watcher.now c.args.watcher.now _ _ _ c.in_err-settings.field-0.0 c.from_residual.result c.from_residual.ensures.1 refl c.in_err-settings.ensures.refused
+    planned_fails (asked_by c.args.options.now) (program_parts c.args.program.tree c.args.program.properties) g.B.Job.answers g.B.Job.gives c.args.program.jobs.items g.V.Observer.saw c.args.observer.now c.args.observer.now _ _ _ c.in_err-settings.field-0.0 c.from_residual.result c.from_residual.ensures.1 refl c.in_err-settings.ensures.refused
 
 pub returns-in_err-settings-clause-exact : goal.returns-in_err-settings-clause-exact
 returns-in_err-settings-clause-exact g c =
-    unseen_run (asked_by c.args.options.now) (program_parts c.args.program.tree c.args.program.properties) g.B.Job.answers g.B.Job.gives c.args.program.jobs.items g.V.Watcher.saw c.args.watcher.now c.args.watcher.now (times_of c.args.times.now.timings) _ _ c.from_residual.result
-    (planned_fails (asked_by c.args.options.now) (program_parts c.args.program.tree c.args.program.properties) g.B.Job.answers g.B.Job.gives c.args.program.jobs.items g.V.Watcher.saw c.args.watcher.now c.args.watcher.now (times_of c.args.times.now.timings) _ _ c.in_err-settings.field-0.0 c.from_residual.result c.from_residual.ensures.1 refl c.in_err-settings.ensures.refused)
+    unseen_run (asked_by c.args.options.now) (program_parts c.args.program.tree c.args.program.properties) g.B.Job.answers g.B.Job.gives c.args.program.jobs.items g.V.Observer.saw c.args.observer.now c.args.observer.now (times_of c.args.times.now.timings) _ _ c.from_residual.result
+    (planned_fails (asked_by c.args.options.now) (program_parts c.args.program.tree c.args.program.properties) g.B.Job.answers g.B.Job.gives c.args.program.jobs.items g.V.Observer.saw c.args.observer.now c.args.observer.now (times_of c.args.times.now.timings) _ _ c.in_err-settings.field-0.0 c.from_residual.result c.from_residual.ensures.1 refl c.in_err-settings.ensures.refused)
 
 pub returns-in_err-settings-clause-no_memory : goal.returns-in_err-settings-clause-no_memory
 returns-in_err-settings-clause-no_memory g c =
@@ -31,13 +31,13 @@ returns-in_err-settings-clause-no_memory g c =
 
 pub returns-clause-watched : goal.returns-clause-watched
 returns-clause-watched g c =
-    program_run g.B.Job.answers g.B.Job.gives (asked_by c.args.options.now) (program_parts c.args.program.tree c.args.program.properties) c.args.program.jobs.items g.V.Watcher.saw c.args.watcher.now c.run_planned-answer.new.watcher (times_of c.run_planned-answer.new.times.timings) c.in_ok-settings.field-0.settings c.in_ok-settings.field-0.plan c.in_ok-settings.ensures.ready
+    program_run g.B.Job.answers g.B.Job.gives (asked_by c.args.options.now) (program_parts c.args.program.tree c.args.program.properties) c.args.program.jobs.items g.V.Observer.saw c.args.observer.now c.run_planned-answer.new.observer (times_of c.run_planned-answer.new.times.timings) c.in_ok-settings.field-0.settings c.in_ok-settings.field-0.plan c.in_ok-settings.ensures.ready
     c.in_ok-settings.ensures.steps c.in_ok-settings.field-0.is_missing c.in_ok-settings.ensures.missing (g.W.Write.contents c.args.writer.now) _ c.run_planned-answer.result c.answer_unless.result c.answer_unless.ensures c.run_planned-answer.ensures.exact
 
 pub returns-clause-exact : goal.returns-clause-exact
 returns-clause-exact g c =
-    unseen_run (asked_by c.args.options.now) (program_parts c.args.program.tree c.args.program.properties) g.B.Job.answers g.B.Job.gives c.args.program.jobs.items g.V.Watcher.saw c.args.watcher.now c.run_planned-answer.new.watcher (times_of c.run_planned-answer.new.times.timings) _ _ c.answer_unless.result
-    (program_run g.B.Job.answers g.B.Job.gives (asked_by c.args.options.now) (program_parts c.args.program.tree c.args.program.properties) c.args.program.jobs.items g.V.Watcher.saw c.args.watcher.now c.run_planned-answer.new.watcher (times_of c.run_planned-answer.new.times.timings) c.in_ok-settings.field-0.settings c.in_ok-settings.field-0.plan c.in_ok-settings.ensures.ready
+    unseen_run (asked_by c.args.options.now) (program_parts c.args.program.tree c.args.program.properties) g.B.Job.answers g.B.Job.gives c.args.program.jobs.items g.V.Observer.saw c.args.observer.now c.run_planned-answer.new.observer (times_of c.run_planned-answer.new.times.timings) _ _ c.answer_unless.result
+    (program_run g.B.Job.answers g.B.Job.gives (asked_by c.args.options.now) (program_parts c.args.program.tree c.args.program.properties) c.args.program.jobs.items g.V.Observer.saw c.args.observer.now c.run_planned-answer.new.observer (times_of c.run_planned-answer.new.times.timings) c.in_ok-settings.field-0.settings c.in_ok-settings.field-0.plan c.in_ok-settings.ensures.ready
     c.in_ok-settings.ensures.steps c.in_ok-settings.field-0.is_missing c.in_ok-settings.ensures.missing (g.W.Write.contents c.args.writer.now) _ c.run_planned-answer.result c.answer_unless.result c.answer_unless.ensures c.run_planned-answer.ensures.exact)
 
 pub returns-clause-no_memory : goal.returns-clause-no_memory

@@ -18,6 +18,6 @@ returns-in-None g c =
     let Prints = IsPrintedJobs answers gives None asked settings plan c.args.jobs.items in
     record {
       output = program_shown answers gives None asked settings plan c.args.jobs.items options.details c.ran_report.result c.in-None.is c.ran_report.ensures.output;
-      watched = subst (λ (b : Bool). WatchesBy g.V.Watcher.saw Prints plan c.args.watcher.now c.ran_report.new.watcher (g.V.NotesTimes.noted c.ran_report.new.watcher) b c.ran_report.result) (sym run) c.ran_report.ensures.watched;
+      watched = subst (λ (b : Bool). WatchesBy g.V.Observer.saw Prints plan c.args.observer.now c.ran_report.new.observer (g.V.NotesTimes.noted c.ran_report.new.observer) b c.ran_report.result) (sym run) c.ran_report.ensures.watched;
       refused = subst (λ (b : Bool). IfErr c.ran_report.result (LacksBy b)) (sym run) c.ran_report.ensures.refused;
     }

@@ -22,7 +22,7 @@ returns-in-Ok-run_timed-clause-output g c =
     let made = c.in_ok-output_of-in-Ok-run_timed.ensures in
     let q = c.in-Ok-run_timed.ensures in
     let events = over.events.items in
-    let times = g.V.NotesTimes.noted c.run_timed.new.watcher in
+    let times = g.V.NotesTimes.noted c.run_timed.new.observer in
     record {
       history = events;
       texts = over.texts;
@@ -42,7 +42,7 @@ returns-in-Ok-run_timed-clause-watched g c =
     let made = c.in_ok-output_of-in-Ok-run_timed.ensures in
     let q = c.in-Ok-run_timed.ensures in
     let events = over.events.items in
-    let times = g.V.NotesTimes.noted c.run_timed.new.watcher in
+    let times = g.V.NotesTimes.noted c.run_timed.new.observer in
     record {
       history = events;
       texts = over.texts;
@@ -59,10 +59,10 @@ returns-in_err-output_of-in-Ok-run_timed-clause-watched g c =
     let settings = c.args.settings.now in
     let over = c.in-Ok-run_timed.ran in
     let events = over.events.items in
-    let times = g.V.NotesTimes.noted c.run_timed.new.watcher in
+    let times = g.V.NotesTimes.noted c.run_timed.new.observer in
     let q = c.in-Ok-run_timed.ensures in
-    watches_in_vain g.V.Watcher.saw c.args.watcher.now c.run_timed.new.watcher times (IsPrintedJobs g.B.Job.answers g.B.Job.gives _ asked settings c.args.plan c.args.jobs.items) c.args.plan _ c.from_residual.ensures.1
-    (jobs_in_vain g.B.Job.answers g.B.Job.gives asked settings c.args.plan c.requires.tree c.requires.guarded c.args.jobs.items events over.texts q.report q.texts q.given g.V.Watcher.saw c.args.watcher.now c.run_timed.new.watcher times q.seen over.unused_jobs.items q.balanced _)
+    watches_in_vain g.V.Observer.saw c.args.observer.now c.run_timed.new.observer times (IsPrintedJobs g.B.Job.answers g.B.Job.gives _ asked settings c.args.plan c.args.jobs.items) c.args.plan _ c.from_residual.ensures.1
+    (jobs_in_vain g.B.Job.answers g.B.Job.gives asked settings c.args.plan c.requires.tree c.requires.guarded c.args.jobs.items events over.texts q.report q.texts q.given g.V.Observer.saw c.args.observer.now c.run_timed.new.observer times q.seen over.unused_jobs.items q.balanced _)
 
 pub unrun-requires : goal.unrun-requires
 unrun-requires g c =

@@ -26,4 +26,4 @@ returns-clause-output g c =
 
 pub returns-clause-watched : goal.returns-clause-watched
 returns-clause-watched g c =
-    suite_watched (asked_by c.args.options.now) c.args.settings.now c.args.plan (plan_is_tree c.plan.view_is c.plan.invariant.plan.tree) c.requires.guarded c.args.answers.now c.in_ok-jobs.jobs.items c.in_ok-jobs.ensures g.V.Watcher.saw c.args.watcher.now c.ran_report.new.watcher (g.V.NotesTimes.noted c.ran_report.new.watcher) c.ran_report.result c.ran_report.ensures.watched
+    suite_watched (asked_by c.args.options.now) c.args.settings.now c.args.plan (plan_is_tree c.plan.view_is c.plan.invariant.plan.tree) c.requires.guarded c.args.answers.now c.in_ok-jobs.jobs.items c.in_ok-jobs.ensures g.V.Observer.saw c.args.observer.now c.ran_report.new.observer (g.V.NotesTimes.noted c.ran_report.new.observer) c.ran_report.result c.ran_report.ensures.watched

@@ -18,7 +18,7 @@ returns-in_err-suite-clause-reads g c =
 pub returns-in_err-suite-clause-watched : goal.returns-in_err-suite-clause-watched
 returns-in_err-suite-clause-watched g c =
     takes_none _ _ c.in_err-suite.field-0.0 c.from_residual.result _ c.from_residual.ensures.1
-    (λ bytes fails. seen_unread g.V.Watcher.saw c.args.watcher.now c.args.watcher.now (times_of c.args.times.now.timings) (asked_by c.args.options.now) _ _ c.in_err-suite.field-0.0 (suite_read bytes) c.from_residual.result c.from_residual.ensures.1 refl fails) c.in_err-suite.ensures.reads
+    (λ bytes fails. seen_unread g.V.Observer.saw c.args.observer.now c.args.observer.now (times_of c.args.times.now.timings) (asked_by c.args.options.now) _ _ c.in_err-suite.field-0.0 (suite_read bytes) c.from_residual.result c.from_residual.ensures.1 refl fails) c.in_err-suite.ensures.reads
 
 pub returns-clause-exact : goal.returns-clause-exact
 returns-clause-exact g c =
@@ -32,5 +32,5 @@ returns-clause-reads g c =
 pub returns-clause-watched : goal.returns-clause-watched
 returns-clause-watched g c =
     takes_run _ _ (asked_by c.args.options.now) c.in_ok-suite.suite _ _ c.run_suite_watched.result _ c.run_suite_watched.ensures.exact
-    (λ bytes read. seen_read g.V.Watcher.saw c.args.watcher.now c.run_suite_watched.new.watcher (times_of c.run_suite_watched.new.times.timings) (asked_by c.args.options.now) _ _ c.in_ok-suite.suite (suite_read bytes) c.run_suite_watched.result read c.in_ok-suite.ensures.bare c.run_suite_watched.ensures.watched)
+    (λ bytes read. seen_read g.V.Observer.saw c.args.observer.now c.run_suite_watched.new.observer (times_of c.run_suite_watched.new.times.timings) (asked_by c.args.options.now) _ _ c.in_ok-suite.suite (suite_read bytes) c.run_suite_watched.result read c.in_ok-suite.ensures.bare c.run_suite_watched.ensures.watched)
     c.in_ok-suite.ensures.reads

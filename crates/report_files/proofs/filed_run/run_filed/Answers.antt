@@ -10,13 +10,13 @@ use Rattle.report_files.proofs.filed_run.run_filed.Goals as goal
 pub returns-then-asks_no_more-clause-filed : goal.returns-then-asks_no_more-clause-filed
 returns-then-asks_no_more-clause-filed g c =
     let run = c.run_options_watched in
-    unreported_run g.V.Watcher.saw c.args.watcher.now run.new.watcher (times_of run.new.times.timings) (asked_by c.args.options.now) c.args.wanted.now (g.R.Read.remaining c.args.reader.now) (g.R.Read.remaining run.new.reader) (g.W.Write.contents c.args.writer.now) (g.W.Write.contents run.new.writer)
+    unreported_run g.V.Observer.saw c.args.observer.now run.new.observer (times_of run.new.times.timings) (asked_by c.args.options.now) c.args.wanted.now (g.R.Read.remaining c.args.reader.now) (g.R.Read.remaining run.new.reader) (g.W.Write.contents c.args.writer.now) (g.W.Write.contents run.new.writer)
     (g.K.ReportFiles.deeds c.args.files.now) run.result (c.asks_no_more.ensures c.if-asks_no_more.true) (record { exact = run.ensures.exact; reads = run.ensures.reads; quiet = run.ensures.quiet }) run.ensures.watched
 
 pub returns-then-asks_no_more-clause-watched : goal.returns-then-asks_no_more-clause-watched
 returns-then-asks_no_more-clause-watched g c =
     let run = c.run_options_watched in
-    some_watched g.V.Watcher.saw c.args.watcher.now run.new.watcher (times_of run.new.times.timings) (asked_by c.args.options.now) (g.R.Read.remaining c.args.reader.now) (g.R.Read.remaining run.new.reader) (g.W.Write.contents c.args.writer.now) (g.W.Write.contents run.new.writer) run.result run.ensures.watched
+    some_watched g.V.Observer.saw c.args.observer.now run.new.observer (times_of run.new.times.timings) (asked_by c.args.options.now) (g.R.Read.remaining c.args.reader.now) (g.R.Read.remaining run.new.reader) (g.W.Write.contents c.args.writer.now) (g.W.Write.contents run.new.writer) run.result run.ensures.watched
 
 pub returns-in_err-reports-clause-filed : goal.returns-in_err-reports-clause-filed
 returns-in_err-reports-clause-filed g c =
@@ -28,4 +28,4 @@ returns-clause-filed g c = inr (c.run_opened.ensures.filed (g.K.ReportFiles.deed
 pub returns-then-asks_no_more-clause-slowest : goal.returns-then-asks_no_more-clause-slowest
 returns-then-asks_no_more-clause-slowest g c =
     let run = c.run_options_watched in
-    unlisted_run (asked_by c.args.options.now) (times_of run.new.times.timings) g.V.Watcher.saw c.args.watcher.now run.new.watcher (g.R.Read.remaining c.args.reader.now) (g.R.Read.remaining run.new.reader) (g.W.Write.contents c.args.writer.now) (g.W.Write.contents run.new.writer) run.result run.ensures.watched
+    unlisted_run (asked_by c.args.options.now) (times_of run.new.times.timings) g.V.Observer.saw c.args.observer.now run.new.observer (g.R.Read.remaining c.args.reader.now) (g.R.Read.remaining run.new.reader) (g.W.Write.contents c.args.writer.now) (g.W.Write.contents run.new.writer) run.result run.ensures.watched

@@ -6,5 +6,5 @@ use Rattle.test_programs.proofs.filed_jobs.run_jobs_beside.Goals as goal
 
 pub returns-clause-watched : goal.returns-clause-watched
 returns-clause-watched g c =
-    let saw = g.V.Watcher.saw in
-    carried {a = c.run_jobs_listed.new.beside.watcher.now} (search rules) (λ v. HasSeenSome saw c.args.watcher.now v) c.run_jobs_listed.ensures.watched
+    let saw = g.V.Observer.saw in
+    carried {a = c.run_jobs_listed.new.beside.observer.now} (search rules) (λ v. HasSeenSome saw c.args.observer.now v) c.run_jobs_listed.ensures.watched

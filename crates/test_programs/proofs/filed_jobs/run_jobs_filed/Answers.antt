@@ -15,12 +15,12 @@ returns-then-asks_no_more-clause-filed g c =
 pub returns-then-asks_no_more-clause-watched : goal.returns-then-asks_no_more-clause-watched
 returns-then-asks_no_more-clause-watched g c =
     let run = c.run_jobs_watched in
-    some_watched g.V.Watcher.saw c.args.watcher.now run.new.watcher (times_of run.new.times.timings) g.B.Job.answers g.B.Job.gives (asked_by c.args.options.now) (program_parts c.args.program.tree c.args.program.properties) c.args.program.jobs.items (g.W.Write.contents c.args.writer.now) (g.W.Write.contents run.new.writer) run.result run.ensures.watched
+    some_watched g.V.Observer.saw c.args.observer.now run.new.observer (times_of run.new.times.timings) g.B.Job.answers g.B.Job.gives (asked_by c.args.options.now) (program_parts c.args.program.tree c.args.program.properties) c.args.program.jobs.items (g.W.Write.contents c.args.writer.now) (g.W.Write.contents run.new.writer) run.result run.ensures.watched
 
 pub returns-then-asks_no_more-clause-slowest : goal.returns-then-asks_no_more-clause-slowest
 returns-then-asks_no_more-clause-slowest g c =
     let run = c.run_jobs_watched in
-    jobs_unlisted g.B.Job.answers g.B.Job.gives (asked_by c.args.options.now) (program_parts c.args.program.tree c.args.program.properties) c.args.program.jobs.items (times_of run.new.times.timings) (g.W.Write.contents c.args.writer.now) (g.W.Write.contents run.new.writer) g.V.Watcher.saw c.args.watcher.now run.new.watcher run.result run.ensures.watched
+    jobs_unlisted g.B.Job.answers g.B.Job.gives (asked_by c.args.options.now) (program_parts c.args.program.tree c.args.program.properties) c.args.program.jobs.items (times_of run.new.times.timings) (g.W.Write.contents c.args.writer.now) (g.W.Write.contents run.new.writer) g.V.Observer.saw c.args.observer.now run.new.observer run.result run.ensures.watched
 
 pub returns-in_err-reports-clause-filed : goal.returns-in_err-reports-clause-filed
 returns-in_err-reports-clause-filed g c =

@@ -9,10 +9,10 @@ use Rattle.test_programs.proofs.SeenJobs.{pair_same, pair_watched}
 use Rattle.test_programs.proofs.shown_jobs.run_jobs_paired.Goals as goal
 
 pub returns-clause-same : goal.returns-clause-same
-returns-clause-same g c = pair_same g.D.Watcher.saw g.V.Watcher.saw c.args.pair.now c.run_jobs_filed.new.watcher c.run_jobs_filed.ensures.watched
+returns-clause-same g c = pair_same g.D.Observer.saw g.V.Observer.saw c.args.pair.now c.run_jobs_filed.new.observer c.run_jobs_filed.ensures.watched
 
 pub returns-clause-watched : goal.returns-clause-watched
-returns-clause-watched g c = pair_watched g.D.Watcher.saw g.V.Watcher.saw c.args.pair.now c.run_jobs_filed.new.watcher c.run_jobs_filed.ensures.watched
+returns-clause-watched g c = pair_watched g.D.Observer.saw g.V.Observer.saw c.args.pair.now c.run_jobs_filed.new.observer c.run_jobs_filed.ensures.watched
 
 pub returns-clause-runs : goal.returns-clause-runs
 returns-clause-runs g c =

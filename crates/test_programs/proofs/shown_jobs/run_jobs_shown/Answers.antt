@@ -6,5 +6,5 @@ use Rattle.test_programs.proofs.shown_jobs.run_jobs_shown.Goals as goal
 
 pub returns-clause-watched : goal.returns-clause-watched
 returns-clause-watched g c =
-    let saw = g.D.Watcher.saw in
-    carried {a = c.run_jobs_paired.new.pair.watcher.now} (search rules) (λ v. HasSeenSome saw c.args.watcher.now v) c.run_jobs_paired.ensures.watched
+    let saw = g.D.Observer.saw in
+    carried {a = c.run_jobs_paired.new.pair.observer.now} (search rules) (λ v. HasSeenSome saw c.args.observer.now v) c.run_jobs_paired.ensures.watched

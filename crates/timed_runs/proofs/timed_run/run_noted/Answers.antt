@@ -1,15 +1,13 @@
 -- What is said of the jobs that are timed is said of the caller's.
 use Rattle.std.proofs.Common.{◌≡◌, map, IsPermutation, arith}
-use Rattle.std.specs.List.{All}
 use Rattle.std.proofs.lemmas.List.Sorted.{IsPermutation-map, length_permutation}
 use Rattle.listeners.specs.Listeners.{tellings_of}
 use Rattle.table_rule.specs.Moments.{KeepsApart}
 use Rattle.table_rule.specs.Picture.{given_by, replies_of}
 use Rattle.run_table.specs.Balance.{IsBalanced}
 use Rattle.job_times.specs.TimedJobs.{job_of, untimed}
-use Rattle.worker_pool.specs.Hearings.{HaveHeard}
 use Rattle.worker_pool.specs.Reports.{run_of, AreParts, AreTexts, EndsAsReplied, IsLeft, IsReport, IsRefusedRun, IsToldAsGiven}
-use Rattle.worker_pool.specs.Watching.{HasSeenMore}
+use Rattle.listeners.specs.Observing.{HasSeenMore}
 use Rattle.worker_pool.proofs.Reported.{carried}
 use Rattle.timed_runs.proofs.Renamed.{all_there, balanced, few_left, left_over, may_answer, refused, replied, reported, texts_are, told_given}
 use Rattle.timed_runs.proofs.timed_run.run_noted.Goals as goal
@@ -70,15 +68,8 @@ returns-in-Ok-clause-balanced g c =
     (carried c.untimed_report.ensures.jobs (λ js. IsBalanced c.args.plan jobs c.in-Ok.report.events.items js)
     (balanced (λ t. t.job) c.args.plan c.args.timed.items c.in-Ok.report.unused_jobs.items c.in-Ok.report.events.items c.in-Ok.ensures.balanced))
 
-pub returns-in-Ok-clause-told : goal.returns-in-Ok-clause-told
-returns-in-Ok-clause-told g c = carried c.untimed_report.ensures.same (λ r. All (λ b. (goal.Listener-dyn g (b.vtable, b.value)).got b.value ≡ r.events.items) c.run_watched.new.audience.listeners.items) c.in-Ok.ensures.told
-
-pub returns-in-Ok-clause-heard : goal.returns-in-Ok-clause-heard
-returns-in-Ok-clause-heard g c =
-    carried c.untimed_report.ensures.same (λ r. HaveHeard (λ b ts. (goal.Listener-dyn g (b.vtable, b.value)).heard b.value ts) r.texts r.events.items c.args.audience.now.listeners.items c.run_watched.new.audience.listeners.items) c.in-Ok.ensures.heard
-
 pub returns-in-Ok-clause-seen : goal.returns-in-Ok-clause-seen
-returns-in-Ok-clause-seen g c = carried c.untimed_report.ensures.same (λ r. HasSeenMore g.V.Watcher.saw c.args.plan (tellings_of r.texts r.events.items) c.args.watcher.now c.run_watched.new.watcher) c.in-Ok.ensures.seen
+returns-in-Ok-clause-seen g c = carried c.untimed_report.ensures.same (λ r. HasSeenMore g.O.Observer.saw c.args.plan (tellings_of r.texts r.events.items) c.args.observer.now c.run_watched.new.observer) c.in-Ok.ensures.seen
 
 pub returns-in-Ok-clause-accepted : goal.returns-in-Ok-clause-accepted
 returns-in-Ok-clause-accepted g c = (c.in-Ok.ensures.accepted.0, c.in-Ok.ensures.accepted.1, all_there (λ t. t.job) c.args.plan c.args.timed.items c.in-Ok.ensures.accepted.2)

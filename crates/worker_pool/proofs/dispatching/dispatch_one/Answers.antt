@@ -1,17 +1,19 @@
--- One event less is left to read; and neither the texts nor the telling change what was read.
-use Rattle.std.proofs.Common.{◌≡◌, ◌≤◌, ◌+◌, ◌∙◌, ℕ, [], ◌∷◌, ◌++◌, length, length-append, ap, subst, List}
-use Rattle.std.specs.List.{All}
+-- Neither the texts nor the observer change what was read.
+use Rattle.std.proofs.Common.{◌≡◌, ◌∙◌, ℕ, [], ◌∷◌, ◌++◌, ap, subst, sym, List}
 use Rattle.plan_events.specs.declared.event.Event.{Event}
-use Rattle.resource_locks.specs.Plans.{most_events}
+use Rattle.resource_locks.specs.Plans.{PlanParts}
+use Rattle.listeners.specs.Listeners.{telling}
+use Rattle.listeners.specs.Observing.{HasSeenMore}
 use Rattle.event_history.specs.History.{IsLegal}
 use Rattle.table_rule.specs.declared.view.SlotState.{SlotState}
 use Rattle.table_rule.specs.Picture.{replies_of}
 use Rattle.table_rule.specs.Plays.{dispatcher}
-use Rattle.worker_pool.specs.Telling.{AreTextsRead, KeepsTexts, left_to_read}
-use Rattle.worker_pool.proofs.DispatcherStates.{of_then, one_is_left, seat_then}
-use Rattle.worker_pool.proofs.Heard.{tellings_stay}
+use Rattle.run_table.proofs.Facts.{plan_is}
+use Rattle.worker_pool.specs.Telling.{AreTextsRead, KeepsTexts}
+use Rattle.worker_pool.proofs.DispatcherStates.{of_then, seat_then}
+use Rattle.worker_pool.proofs.Seen.{tellings_stay}
 use Rattle.worker_pool.proofs.Moments.{moment_alike}
-use Rattle.worker_pool.proofs.Reported.{at_most_that, carried, one_less_left}
+use Rattle.worker_pool.proofs.Reported.{carried}
 use Rattle.worker_pool.proofs.TextsRead.{read_alike}
 use Rattle.worker_pool.proofs.dispatching.dispatch_one.Goals as goal
 
@@ -27,23 +29,11 @@ keep_text-requires-clause-last g c =
           (carried (ap (λ d. d.slots) c.in_ok-read.ensures.read) (λ (made : List (ℕ × SlotState)). AreTextsRead v.about.plan (replies_of g.B.Job.answers v.about) made (dispatcher v).read c.args.texts.now) c.requires.texts),
     )
 
-pub tell-requires : goal.tell-requires
-tell-requires g c =
-    let v = c.args.dispatcher_seat.now.seat.me.0 in
-    λ k d inside. at_most_that 1 (left_to_read v) _ (one_is_left (most_events v.about.plan) (length (dispatcher v).read) c.in_ok-read.ensures.inside) (c.requires.room k d inside)
-
 pub advance-requires : goal.advance-requires
 advance-requires g c = seat_then _ _ _ (seat_then _ _ _ c.requires.seat c.read.ensures.same) c.keep_text.ensures.same
 
 pub returns-clause-same : goal.returns-clause-same
 returns-clause-same g c = of_then _ _ _ (of_then _ _ _ c.read.ensures.same c.keep_text.ensures.same) c.advance.ensures.same
-
-pub returns-clause-told : goal.returns-clause-told
-returns-clause-told g c =
-    let v = c.args.dispatcher_seat.now.seat.me.0 in
-    let w = c.advance.new.self.seat.me.0 in
-    let read : (dispatcher w).read ≡ (dispatcher v).read ++ c.in_ok-read.read ∷ [] = ap (λ d. d.read) c.advance.ensures.told ∙ (c.keep_text.ensures.read ∙ ap (λ d. d.read) c.in_ok-read.ensures.read) in
-    carried read (λ (r : List Event). All (λ b. (goal.Listener-dyn g (b.vtable, b.value)).got b.value ≡ r) c.tell.new.self.listeners.items) (c.tell.ensures.all_got (dispatcher v).read c.requires.told)
 
 pub returns-clause-texts : goal.returns-clause-texts
 returns-clause-texts g c =
@@ -51,12 +41,6 @@ returns-clause-texts g c =
 
 pub returns-clause-some : goal.returns-clause-some
 returns-clause-some g c = ap (λ d. d.read) c.advance.ensures.told ∙ (c.keep_text.ensures.read ∙ ap (λ d. d.read) c.in_ok-read.ensures.read)
-
-pub returns-in_err-read-clause-told : goal.returns-in_err-read-clause-told
-returns-in_err-read-clause-told g c = carried c.in_err-read.ensures.none (λ m. All (λ b. (goal.Listener-dyn g (b.vtable, b.value)).got b.value ≡ (dispatcher m.0).read) c.args.audience.now.listeners.items) c.requires.told
-
-pub returns-in_err-read-clause-room : goal.returns-in_err-read-clause-room
-returns-in_err-read-clause-room g c = carried c.in_err-read.ensures.none (λ m. All (λ b. left_to_read m.0 ≤ (goal.Listener-dyn g (b.vtable, b.value)).room b.value) c.args.audience.now.listeners.items) c.requires.room
 
 pub returns-in_err-read-clause-texts : goal.returns-in_err-read-clause-texts
 returns-in_err-read-clause-texts g c = carried c.in_err-read.ensures.none (λ m. KeepsTexts g.B.Job.answers m.0 c.args.texts.now) c.requires.texts
@@ -66,15 +50,6 @@ returns-clause-moment g c =
     moment_alike g.B.Job.answers c.read.new.self.seat.me.0 c.advance.new.self.seat.me.0 (c.advance.ensures.same.about ∙ c.keep_text.ensures.same.about)
     (ap (λ d. d.dealt) c.advance.ensures.told ∙ c.keep_text.ensures.dealt) (ap (λ d. d.read) c.advance.ensures.told ∙ c.keep_text.ensures.read) c.read.ensures.moment
 
-pub returns-clause-room : goal.returns-clause-room
-returns-clause-room g c =
-    let v = c.args.dispatcher_seat.now.seat.me.0 in
-    let w = c.advance.new.self.seat.me.0 in
-    let about = c.advance.ensures.same.about ∙ (c.keep_text.ensures.same.about ∙ c.read.ensures.same.about) in
-    let read : (dispatcher w).read ≡ (dispatcher v).read ++ c.in_ok-read.read ∷ [] = ap (λ d. d.read) c.advance.ensures.told ∙ (c.keep_text.ensures.read ∙ ap (λ d. d.read) c.in_ok-read.ensures.read) in
-    let less = one_less_left (most_events v.about.plan) (most_events w.about.plan) (length (dispatcher v).read) (length (dispatcher w).read) (ap (λ a. most_events a.plan) about) (ap length read ∙ length-append (dispatcher v).read (c.in_ok-read.read ∷ [])) c.in_ok-read.ensures.inside in
-    c.tell.ensures.all_room (left_to_read w) (λ k d inside. at_most_that (left_to_read w + 1) (left_to_read v) _ less (c.requires.room k d inside))
-
 pub returns-clause-kept : goal.returns-clause-kept
 returns-clause-kept g c =
     let v = c.args.dispatcher_seat.now.seat.me.0 in
@@ -83,3 +58,9 @@ returns-clause-kept g c =
     let replies = replies_of g.B.Job.answers w.about in
     let legal = subst (λ (h : List Event). IsLegal w.about.plan replies w.about.workers h) read c.read.ensures.moment.legal in
     tellings_stay w.about.plan replies w.about.workers (dispatcher v).read c.in_ok-read.read legal c.args.texts.now c.keep_text.new.texts c.keep_text.ensures.others c.keep_text.ensures.silent
+
+pub returns-clause-seen : goal.returns-clause-seen
+returns-clause-seen g c =
+    let seat = c.args.dispatcher_seat.now.seat in
+    carried (plan_is _ _ _ seat c.args.table.now.fitting c.requires.seat ∙ sym c.plan.ensures)
+    (λ (p : PlanParts). HasSeenMore g.O.Observer.saw p (telling c.keep_text.new.texts c.in_ok-read.read ∷ []) c.args.observer.now c.see.new.self) c.see.ensures

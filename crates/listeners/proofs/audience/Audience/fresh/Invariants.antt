@@ -4,4 +4,4 @@ use Rattle.std.specs.List.{All}
 use Rattle.listeners.proofs.audience.Audience.fresh.Given as goal
 
 abbrev pub invariant-loop-listener : goal.invariant-loop-listener
-invariant-loop-listener g l = All (λ b. (goal.Listener-dyn g (b.vtable, b.value)).got b.value ≡ []) (take l.listener-index l.self.listeners.items)
+invariant-loop-listener g l = All (λ b. g.L.Listener.got b ≡ []) (take l.listener-index l.self.listeners.items)

@@ -4,4 +4,4 @@ use Rattle.std.specs.List.{All}
 use Rattle.listeners.proofs.audience.Audience.has_room.Given as goal
 
 abbrev pub invariant-loop-listener : goal.invariant-loop-listener
-invariant-loop-listener g l = All (λ b. l.wanted ≤ (goal.Listener-dyn g (b.vtable, b.value)).room b.value) (take l.listener-index l.self.listeners.items)
+invariant-loop-listener g l = All (λ b. l.wanted ≤ g.L.Listener.room b) (take l.listener-index l.self.listeners.items)

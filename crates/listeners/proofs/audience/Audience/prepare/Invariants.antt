@@ -8,7 +8,7 @@ use Rattle.listeners.proofs.audience.Audience.prepare.Given as goal
 
 abbrev pub invariant-loop-index : goal.invariant-loop-index
 invariant-loop-index g l = record {
-  ready : AreReady (λ b. (goal.Listener-dyn g (b.vtable, b.value)).got b.value) (λ b. most_events l.plan ≤ (goal.Listener-dyn g (b.vtable, b.value)).room b.value) l.index l.fn.self.listeners.items l.self.listeners.items;
-  grown : AreStepped (λ a b. (goal.Listener-dyn g (a.vtable, a.value)).room a.value ≤ (goal.Listener-dyn g (b.vtable, b.value)).room b.value) l.index l.fn.self.listeners.items l.self.listeners.items;
-  heard : AreStepped (λ a b. HasHeardMore (λ c. (goal.Listener-dyn g (c.vtable, c.value)).heard c.value) [] a b) l.index l.fn.self.listeners.items l.self.listeners.items;
+  ready : AreReady (λ b. g.L.Listener.got b) (λ b. most_events l.plan ≤ g.L.Listener.room b) l.index l.fn.self.listeners.items l.self.listeners.items;
+  grown : AreStepped (λ a b. g.L.Listener.room a ≤ g.L.Listener.room b) l.index l.fn.self.listeners.items l.self.listeners.items;
+  heard : AreStepped (λ a b. HasHeardMore (λ c. g.L.Listener.heard c) [] a b) l.index l.fn.self.listeners.items l.self.listeners.items;
 }

@@ -9,7 +9,7 @@ use Rattle.listeners.proofs.audience.Audience.tell.Given as goal
 
 abbrev pub invariant-loop-index : goal.invariant-loop-index
 invariant-loop-index g l = record {
-  got : AreChanged (λ b. (goal.Listener-dyn g (b.vtable, b.value)).got b.value) (λ (heard : List Event). heard ++ l.event ∷ []) l.index l.fn.self.listeners.items l.self.listeners.items;
-  heard : AreStepped (λ a b. HasHeardMore (λ c. (goal.Listener-dyn g (c.vtable, c.value)).heard c.value) (record { event = l.event; text = option_map (λ t. t.now) l.text } ∷ []) a b) l.index l.fn.self.listeners.items l.self.listeners.items;
-  room : AreChanged (λ b. (goal.Listener-dyn g (b.vtable, b.value)).room b.value) (λ n. n - 1) l.index l.fn.self.listeners.items l.self.listeners.items;
+  got : AreChanged (λ b. g.L.Listener.got b) (λ (heard : List Event). heard ++ l.event ∷ []) l.index l.fn.self.listeners.items l.self.listeners.items;
+  heard : AreStepped (λ a b. HasHeardMore (λ c. g.L.Listener.heard c) (record { event = l.event; text = option_map (λ t. t.now) l.text } ∷ []) a b) l.index l.fn.self.listeners.items l.self.listeners.items;
+  room : AreChanged (λ b. g.L.Listener.room b) (λ n. n - 1) l.index l.fn.self.listeners.items l.self.listeners.items;
 }

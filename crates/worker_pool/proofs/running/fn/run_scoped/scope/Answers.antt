@@ -7,7 +7,7 @@ pub tell_run-ran-requires-clause-ready : goal.tell_run-ran-requires-clause-ready
 tell_run-ran-requires-clause-ready g c =
     let before = c.captures.state.now in
     let first = c.start_first in
-    λ κs lives. ready_dealt _ _ before (at_seat before first.new.seat) (is_dealt before first.new.seat first.ensures.same first.ensures.read first.ensures.slots) _ _ c.requires.ready
+    λ κs lives. ready_dealt _ before (at_seat before first.new.seat) (is_dealt before first.new.seat first.ensures.same first.ensures.read first.ensures.slots) c.requires.ready
 
 pub returns : goal.returns
 returns g c =
@@ -15,11 +15,9 @@ returns g c =
     let first = c.start_first in
     let told = c.tell_run-ran.ensures in
     record {
-      run = ran_dealt _ _ before (at_seat before first.new.seat) (is_dealt before first.new.seat first.ensures.same first.ensures.read first.ensures.slots) c.tell_run-ran.result _ _ _ _ _ _ _ told.run;
+      run = ran_dealt _ before (at_seat before first.new.seat) (is_dealt before first.new.seat first.ensures.same first.ensures.read first.ensures.slots) c.tell_run-ran.result _ _ _ _ told.run;
       back = untouched c.tell_run-ran.result _ _ _ _ told.none told.back (none_dealt before first.new.seat _ first.ensures.none);
-      untold = told.untold;
       unseen = told.unseen;
       same_state = refl;
-      same_audience = refl;
-      same_watcher = refl;
+      same_observer = refl;
     }
