@@ -1,11 +1,10 @@
 -- What an audience has seen, one event after the other, and what follows for a run from its start.
-use Rattle.std.proofs.Common.{◌≡◌, ℕ, ◌+◌, ◌-◌, ◌<◌, ◌≤◌, List, [], ◌∷◌, ◌++◌, length, map, get_or, refl, sym, ap, subst, ◌∙◌, arith, append-nil, append_assoc, length-append}
+use Rattle.std.proofs.Common.{◌≡◌, ℕ, ◌-◌, ◌<◌, ◌≤◌, List, [], ◌∷◌, ◌++◌, length, map, get_or, refl, sym, ap, subst, ◌∙◌, arith, append_assoc, length-append}
 use Rattle.std.specs.List.{All}
 use Rattle.std.proofs.lemmas.List.{get_or-map, length-map, map-append}
 use Rattle.plan_events.specs.declared.event.Event.{Event}
 use Rattle.listeners.specs.Listeners.{Telling, HasHeardMore, EachPlace}
 use Rattle.listeners.specs.Observing.{HaveGot, HaveSeen, events_of}
-use Rattle.listeners.proofs.Hearing.{all_kept}
 use Rattle.listeners.proofs.Retelling.{less_more, less_none, longer_twice, longer_none}
 use Rattle.listeners.proofs.Stepping.{nothing_more}
 

@@ -28,3 +28,4 @@ pub use results::{Results, summary_text, tree_text};
 pub use summary::Summary;
 pub use theme::Theme;
 pub use to_writer::{WriteFault, print_to};
+pub use told::{NodeEvents, node_events};

@@ -9,7 +9,7 @@ ghost use Rattle.listeners.specs.Counts.{outline_of, counts_below};
 
 use crate::counts::{Counts, count};
 use crate::node_places::{NodePlace, outline_of};
-use crate::told::{NodeEvents, note, told_of};
+use crate::told::{NodeEvents, node_events, note};
 use plan_events::Event;
 use resource_locks::Plan;
 use std::alloc::{AllocError, Global};
@@ -50,7 +50,7 @@ impl Tally {
         ensures told { IfOk result (λ tally. tally.told ≡ all_told (length tally.outline) events.now) }
     {
         let outline = outline_of(alloc, plan)?;
-        let told = told_of(alloc, outline.len(), events)?;
+        let told = node_events(alloc, outline.len(), events)?;
         Ok(Tally { outline, told })
     }
 

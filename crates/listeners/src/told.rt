@@ -12,21 +12,13 @@ use std::alloc::{AllocError, Global};
 
 /// What events tell of a node.
 #[derive(Clone, Copy)]
-pub(crate) struct NodeEvents {
+pub struct NodeEvents {
     pub started: bool,
     pub skipped: bool,
     pub registered: bool,
     /// How it ended, if it did.
     pub status: Option<Status>,
 }
-
-/// What no event tells.
-pub(crate) const NOTHING: NodeEvents = NodeEvents {
-    started: false,
-    skipped: false,
-    registered: false,
-    status: None,
-};
 
 /// The status that stands with an event of this kind, which counts at a finish alone.
 fn status_by(kind: EventKind, status: Option<Status>) -> Option<Status>
@@ -39,6 +31,14 @@ fn status_by(kind: EventKind, status: Option<Status>) -> Option<Status>
 }
 
 impl NodeEvents {
+    /// What no event tells.
+    pub const NOTHING: NodeEvents = NodeEvents {
+        started: false,
+        skipped: false,
+        registered: false,
+        status: None,
+    };
+
     /// What is told when one more event of the node is.
     fn after(self, kind: EventKind, status: Option<Status>) -> NodeEvents
         ensures started { result.started ≡ (self.started || is_start kind) }
@@ -92,15 +92,15 @@ pub(crate) fn note(told: &mut Vec<NodeEvents>, event: Event)
     }
 }
 
-/// What the events tell of each of so many nodes.
-pub(crate) fn told_of(
+/// What the events tell of each of so many nodes, from node 0, in one pass over them.
+pub fn node_events(
     alloc: Global,
     nodes: usize,
     events: &[Event],
 ) -> Result<Vec<NodeEvents>, AllocError>
     ensures { IfOk result (λ told. told.items ≡ all_told nodes events.now) }
 {
-    let mut told = vec![in alloc; NOTHING; nodes]?;
+    let mut told = vec![in alloc; NodeEvents::NOTHING; nodes]?;
     for event in events {
         note(&mut told, *event);
     }

@@ -11,7 +11,7 @@ ghost use Rattle.listeners.specs.TreeTexts.{end_of, ending, name_at, front, line
 use crate::feed::text_of;
 use crate::printed::{push_cleaned, push_text};
 use crate::theme::Theme;
-use crate::told::{NOTHING, NodeEvents};
+use crate::told::NodeEvents;
 use descriptor::{NodeId, Tree};
 use plan_events::{Status, Texts};
 use std::alloc::{AllocError, Global};
@@ -85,7 +85,10 @@ impl Drawing<'_> {
     fn told(&self, node: NodeId) -> NodeEvents
         ensures { result ≡ told_at self.now.told.now node }
     {
-        self.told.get(node.index()).copied().unwrap_or(NOTHING)
+        self.told
+            .get(node.index())
+            .copied()
+            .unwrap_or(NodeEvents::NOTHING)
     }
 
     /// Adds a node, if it has a line.

@@ -10,7 +10,6 @@ pub mod PlanTold
 mod Pushing
 pub mod SameReports
 pub mod Suites
-pub mod ToldMore
 pub mod Upward
 pub mod Alike
 pub mod ToldAsExpected

@@ -13,16 +13,15 @@ use Rattle.plan_events.specs.Texts.{TextParts, text_at}
 use Rattle.plan_events.specs.declared.event.Event.{Event}
 use Rattle.listeners.specs.declared.told.NodeEvents.{NodeEvents}
 use Rattle.listeners.specs.Feed.{text_or}
-use Rattle.listeners.specs.Told as listeners
+use Rattle.listeners.specs.Told.{told_of}
 use Rattle.reports.specs.Cases.{own_cause, cause_within, case_of, is_case, own_case, dynamic_cases, child_cases, cases_of}
 use Rattle.reports.specs.ClassNames.{class_name}
 use Rattle.reports.specs.Junit.{end_elements, output_element, case_attributes, case_line, suite_attributes, suite_of, suites_element, junit_of}
-use Rattle.reports.specs.JunitBy.{junit_by, reported}
+use Rattle.reports.specs.JunitBy.{junit_by}
 use Rattle.reports.specs.Told.{badness}
 use Rattle.reports.specs.XmlStrings.{element}
 use Rattle.reports.specs.declared.cases.Case.{Case}
 use Rattle.reports.specs.declared.cases.Cause.{Cause}
-use Rattle.reports.specs.declared.told.NodeTold.{NodeTold}
 use Rattle.resource_locks.specs.Plans.{PlanParts}
 
 all_both : {X : Type 0} (P : X → Type 0) (xs ys : List X) → AllByRecursion P xs → AllByRecursion P ys → AllByRecursion P (xs ++ ys)
@@ -42,7 +41,7 @@ all_of_either P false xs ys h k = k
 children_inside : (t : Nodes) (a : ℕ) → All (λ c. c < size t) (children_of t a)
 children_inside t a k default lt = (children_listed t a k (get_or (children_of t a) k default) (slice_get-get_or (children_of t a) k default lt)).inside
 
-module _ (t : Nodes) (tree : IsTree t) (told : List NodeTold) where
+module _ (t : Nodes) (tree : IsTree t) (told : List NodeEvents) where
   of_worse : (b : Bool) (above own : Cause) → above.node < size t → own.node < size t → (cond b above own).node < size t
   of_worse true above own h k = h
   of_worse false above own h k = k
@@ -95,19 +94,19 @@ module _ (p : PlanParts) (tree : IsTree p.tree) (ms : List Mode) (hs : List (Lis
   same_cases class [] h = refl
   same_cases class (c ∷ cs) h = ap₂ (λ (line rest : List ℕ). line ++ rest) (ap (line_with class c) (same c.cause.node h.0)) (same_cases class cs h.1)
 
-  same_suite : (told : List NodeTold) (n : ℕ) → suite_of p a no_times told n ≡ suite_of other b no_times told n
+  same_suite : (told : List NodeEvents) (n : ℕ) → suite_of p a no_times told n ≡ suite_of other b no_times told n
   same_suite told n =
       let class = class_name p.tree n in
       let cases = cases_of p.tree told n in
       ap (λ (lines : List ℕ). cond (length cases == 0) [] (codes "  " ++ (element (codes "testsuite") (suite_attributes no_times class cases) (codes "\n" ++ (lines ++ codes "  ")) ++ codes "\n")))
       (same_cases class cases (cases_inside p.tree tree told n))
 
-  same_suites : (told : List NodeTold) → suites_element p a no_times told ≡ suites_element other b no_times told
+  same_suites : (told : List NodeEvents) → suites_element p a no_times told ≡ suites_element other b no_times told
   same_suites told =
       ap (λ (suites : List ℕ). element (codes "testsuites") [] (codes "\n" ++ suites) ++ codes "\n") (same_flat (suite_of p a no_times told) (suite_of other b no_times told) (range_with_len 0 (size p.tree)) (same_suite told))
 
   -- Events that tell so of each node are reported as one that is told so.
-  pub same_report : (events : List Event) (told : ℕ → NodeEvents) → ((n : ℕ) → n < size p.tree → listeners.told_of events n ≡ told n) → junit_of p a events ≡ junit_by other b told
+  pub same_report : (events : List Event) (told : ℕ → NodeEvents) → ((n : ℕ) → n < size p.tree → told_of events n ≡ told n) → junit_of p a events ≡ junit_by other b told
   same_report events told so =
-      ap (λ (all : List NodeTold). suites_element p a no_times all) (same_map (λ n. reported (listeners.told_of events n)) (λ n. reported (told n)) 0 (size p.tree) (λ k low high. ap reported (so k (omega (arith, high)))))
-      ∙ same_suites (map (λ n. reported (told n)) (range_with_len 0 (size p.tree)))
+      ap (λ (all : List NodeEvents). suites_element p a no_times all) (same_map (told_of events) told 0 (size p.tree) (λ k low high. so k (omega (arith, high))))
+      ∙ same_suites (map told (range_with_len 0 (size p.tree)))

@@ -3,14 +3,14 @@ use Rattle.std.proofs.Common.{◌≡◌, ℕ, ◌==◌, Bool, false, cond, List,
 use Rattle.descriptor.specs.Nodes.{Nodes}
 use Rattle.job_times.specs.Timings.{Times}
 use Rattle.plan_events.specs.Texts.{TextParts}
+use Rattle.listeners.specs.declared.told.NodeEvents.{NodeEvents}
 use Rattle.resource_locks.specs.Plans.{PlanParts}
 use Rattle.reports.specs.Cases.{cases_of}
 use Rattle.reports.specs.ClassNames.{class_name}
 use Rattle.reports.specs.Junit.{suite_element, suite_with, suite_of}
 use Rattle.reports.specs.declared.cases.Case.{Case}
-use Rattle.reports.specs.declared.told.NodeTold.{NodeTold}
 
-pub told_suite : (p : PlanParts) (texts : TextParts) (times : Times) (told : List NodeTold) (n : ℕ) (tree : Nodes) (class : List ℕ) (cases : List Case) (old new : List ℕ) → tree ≡ p.tree → class ≡ class_name tree n → cases ≡ cases_of tree told n
+pub told_suite : (p : PlanParts) (texts : TextParts) (times : Times) (told : List NodeEvents) (n : ℕ) (tree : Nodes) (class : List ℕ) (cases : List Case) (old new : List ℕ) → tree ≡ p.tree → class ≡ class_name tree n → cases ≡ cases_of tree told n
     → (length cases == 0) ≡ false → new ≡ old ++ suite_element p texts times class cases → new ≡ old ++ suite_of p texts times told n
 told_suite p texts times told n tree class cases old new same named are some written =
     written

@@ -7,16 +7,16 @@ use Rattle.resource_locks.specs.Plans.{PlanParts}
 use Rattle.plan_events.specs.Texts.{TextParts, text_at}
 use Rattle.plan_events.specs.declared.event.Event.{Event}
 use Rattle.listeners.specs.Feed.{id_at, text_or}
+use Rattle.listeners.specs.Told.{all_told}
 use Rattle.listeners.specs.TreeTexts.{name_at}
+use Rattle.listeners.specs.declared.told.NodeEvents.{NodeEvents}
 use Rattle.reports.specs.Cases.{cases_of, has_error, has_failed, is_left_out}
 use Rattle.reports.specs.ClassNames.{class_name, reported_name}
 use Rattle.reports.specs.TimeTexts.{time_text, time_or_none, time_of_cases}
-use Rattle.reports.specs.Told.{all_told}
 use Rattle.reports.specs.XmlStrings.{attribute, attribute_of, number_attribute, element, empty_element, escaped}
 use Rattle.reports.specs.declared.cases.Case.{Case}
 use Rattle.reports.specs.declared.told.NodeEnd.{NodeEnd}
 use Rattle.reports.specs.declared.told.NodeEnd.TheVariants.{Passed, Failed, Aborted, Skipped, NotRun}
-use Rattle.reports.specs.declared.told.NodeTold.{NodeTold}
 
 -- an element that says why, with these words before the text, and of which type that is
 abbrev pub reason_element : List ℕ → List ℕ → List ℕ → List ℕ → List ℕ
@@ -95,11 +95,11 @@ abbrev pub suite_with : PlanParts → TextParts → Times → List ℕ → List 
 suite_with plan texts times class cases = cond (length cases == 0) [] (suite_element plan texts times class cases)
 
 -- the suite of node n, of whose nodes this was told
-abbrev pub suite_of : PlanParts → TextParts → Times → List NodeTold → ℕ → List ℕ
+abbrev pub suite_of : PlanParts → TextParts → Times → List NodeEvents → ℕ → List ℕ
 suite_of plan texts times told n = suite_with plan texts times (class_name plan.tree n) (cases_of plan.tree told n)
 
 -- the element of all suites, in the plan's order
-abbrev pub suites_element : PlanParts → TextParts → Times → List NodeTold → List ℕ
+abbrev pub suites_element : PlanParts → TextParts → Times → List NodeEvents → List ℕ
 suites_element plan texts times told =
     element (codes "testsuites") [] (codes "\n" ++ flat_map (suite_of plan texts times told) (range_with_len 0 (size plan.tree))) ++ codes "\n"
 

@@ -6,13 +6,8 @@ use Rattle.job_times.specs.Timings.{no_times}
 use Rattle.listeners.specs.declared.told.NodeEvents.{NodeEvents}
 use Rattle.plan_events.specs.Texts.{TextParts}
 use Rattle.reports.specs.Junit.{suites_element}
-use Rattle.reports.specs.declared.told.NodeTold.{NodeTold}
 use Rattle.resource_locks.specs.Plans.{PlanParts}
-
--- what a report is told of a node, of all that is: not whether it started
-abbrev pub reported : NodeEvents → NodeTold
-reported told = record { skipped = told.skipped; registered = told.registered; status = told.status }
 
 -- the whole text, where no time is known
 abbrev pub junit_by : PlanParts → TextParts → (ℕ → NodeEvents) → List ℕ
-junit_by plan texts told = suites_element plan texts no_times (map (λ n. reported (told n)) (range_with_len 0 (size plan.tree)))
+junit_by plan texts told = suites_element plan texts no_times (map told (range_with_len 0 (size plan.tree)))

@@ -8,8 +8,9 @@ ghost use Rattle.reports.specs.Cases.{has_failed, has_registered, is_bare_factor
 ghost use Rattle.reports.specs.Cases.{own_cause, was_found, worse_of};
 
 use crate::nodes::{kind_of, role_of};
-use crate::told::{NodeEnd, NodeTold, told_at};
+use crate::told::{NodeEnd, end_of, told_at};
 use descriptor::{NodeId, Tree};
+use listeners::NodeEvents;
 use std::alloc::{AllocError, Global};
 
 /// What is told of a case: what became of a node.
@@ -56,12 +57,12 @@ impl Case {
 }
 
 /// What became of the node itself.
-fn own_cause(told: &[NodeTold], node: NodeId) -> Cause
+fn own_cause(told: &[NodeEvents], node: NodeId) -> Cause
     ensures { result ≡ own_cause told.now node }
 {
     Cause {
         node,
-        end: told_at(told, node).end(),
+        end: end_of(told_at(told, node)),
     }
 }
 
@@ -77,7 +78,7 @@ fn worse_of(above: Cause, own: Cause) -> Cause
 }
 
 /// What is told of a node: the worst that became of it and of the nodes that it is below.
-fn cause_of(tree: &Tree, told: &[NodeTold], node: NodeId) -> Cause
+fn cause_of(tree: &Tree, told: &[NodeEvents], node: NodeId) -> Cause
     requires { node < size tree.now }
     ensures { (steps : ℕ) → node ≤ steps → result ≡ cause_within tree.now told.now steps node }
 {
@@ -89,7 +90,7 @@ fn cause_of(tree: &Tree, told: &[NodeTold], node: NodeId) -> Cause
 }
 
 /// The node as a case.
-fn case_of(tree: &Tree, told: &[NodeTold], node: NodeId) -> Case
+fn case_of(tree: &Tree, told: &[NodeEvents], node: NodeId) -> Case
     requires { node < size tree.now }
     ensures { result ≡ case_of tree.now told.now node }
 {
@@ -100,14 +101,14 @@ fn case_of(tree: &Tree, told: &[NodeTold], node: NodeId) -> Case
 }
 
 /// Whether the node is no spare, or was registered.
-fn was_found(tree: &Tree, told: &[NodeTold], node: NodeId) -> bool
+fn was_found(tree: &Tree, told: &[NodeEvents], node: NodeId) -> bool
     ensures { result ≡ was_found tree.now told.now node }
 {
     !role_of(tree, node).is_spare() || told_at(told, node).registered
 }
 
 /// Whether a dynamic test of the node was registered.
-fn has_registered(tree: &Tree, told: &[NodeTold], node: NodeId) -> bool
+fn has_registered(tree: &Tree, told: &[NodeEvents], node: NodeId) -> bool
     requires { node < size tree.now }
     ensures { result ≡ has_registered tree.now told.now node }
 {
@@ -117,7 +118,7 @@ fn has_registered(tree: &Tree, told: &[NodeTold], node: NodeId) -> bool
 }
 
 /// Whether the node is a factory that did not pass and has no test that could tell so.
-fn is_bare_factory(tree: &Tree, told: &[NodeTold], node: NodeId) -> bool
+fn is_bare_factory(tree: &Tree, told: &[NodeEvents], node: NodeId) -> bool
     requires { node < size tree.now }
     ensures { result ≡ is_bare_factory tree.now told.now node }
 {
@@ -127,7 +128,7 @@ fn is_bare_factory(tree: &Tree, told: &[NodeTold], node: NodeId) -> bool
 }
 
 /// Whether the node is a case.
-fn is_case(tree: &Tree, told: &[NodeTold], node: NodeId) -> bool
+fn is_case(tree: &Tree, told: &[NodeEvents], node: NodeId) -> bool
     requires { node < size tree.now }
     ensures { result ≡ is_case tree.now told.now node }
 {
@@ -139,7 +140,7 @@ fn is_case(tree: &Tree, told: &[NodeTold], node: NodeId) -> bool
 fn push_own(
     cases: &mut Vec<Case>,
     tree: &Tree,
-    told: &[NodeTold],
+    told: &[NodeEvents],
     node: NodeId,
 ) -> Result<(), AllocError>
     requires { node < size tree.now }
@@ -155,7 +156,7 @@ fn push_own(
 fn push_children(
     cases: &mut Vec<Case>,
     tree: &Tree,
-    told: &[NodeTold],
+    told: &[NodeEvents],
     node: NodeId,
 ) -> Result<(), AllocError>
     requires { node < size tree.now }
@@ -173,7 +174,7 @@ fn push_children(
 fn push_dynamic(
     cases: &mut Vec<Case>,
     tree: &Tree,
-    told: &[NodeTold],
+    told: &[NodeEvents],
     node: NodeId,
 ) -> Result<(), AllocError>
     requires { node < size tree.now }
@@ -189,7 +190,7 @@ fn push_dynamic(
 fn push_child(
     cases: &mut Vec<Case>,
     tree: &Tree,
-    told: &[NodeTold],
+    told: &[NodeEvents],
     node: NodeId,
 ) -> Result<(), AllocError>
     requires { node < size tree.now }
@@ -203,7 +204,7 @@ fn push_child(
 fn push_all(
     cases: &mut Vec<Case>,
     tree: &Tree,
-    told: &[NodeTold],
+    told: &[NodeEvents],
     node: NodeId,
 ) -> Result<(), AllocError>
     requires { node < size tree.now }
@@ -222,7 +223,7 @@ fn push_all(
 pub(crate) fn cases_of(
     alloc: Global,
     tree: &Tree,
-    told: &[NodeTold],
+    told: &[NodeEvents],
     node: NodeId,
 ) -> Result<Vec<Case>, AllocError>
     requires { node < size tree.now }

@@ -12,10 +12,10 @@ use crate::cases::{Case, cases_of};
 use crate::class_names::class_name;
 use crate::junit_case::{push_case, push_time};
 use crate::times::time_of_cases;
-use crate::told::{NodeTold, all_told};
 use crate::xml_strings::{push_attribute, push_number};
 use descriptor::NodeId;
 use job_times::Timings;
+use listeners::{NodeEvents, node_events};
 use plan_events::{Event, Texts};
 use resource_locks::Plan;
 use std::alloc::{AllocError, Global};
@@ -124,7 +124,7 @@ fn push_suite(
     plan: &Plan,
     texts: &Texts,
     timings: &Timings,
-    told: &[NodeTold],
+    told: &[NodeEvents],
     node: NodeId,
 ) -> Result<(), AllocError>
     requires { node < size plan.now.tree }
@@ -148,7 +148,7 @@ fn push_suites(
     plan: &Plan,
     texts: &Texts,
     timings: &Timings,
-    told: &[NodeTold],
+    told: &[NodeEvents],
 ) -> Result<(), AllocError>
     ensures { OnOk result (string_bytes xml.new ≡ string_bytes xml.old
         ++ flat_map (suite_of plan.now texts.now (times_of timings.now) told.now) (range_with_len 0 (size plan.now.tree))) }
@@ -175,7 +175,7 @@ pub fn timed_junit_text(
     ensures { IfOk result (λ xml. string_bytes xml ≡ timed_junit_of plan.now texts.now (times_of timings.now)
         events.now) }
 {
-    let told = all_told(alloc, plan.tree().len(), events)?;
+    let told = node_events(alloc, plan.tree().len(), events)?;
     let mut xml = String::from_str(alloc, "<testsuites>\n")?;
     push_suites(alloc, &mut xml, plan, texts, timings, told.as_slice())?;
     xml.push_str("</testsuites>\n")?;

@@ -4,9 +4,9 @@ use Rattle.std.specs.List.{flat_map, range_with_len}
 use Rattle.std.proofs.lemmas.Grind.{common_steps}
 use Rattle.descriptor.specs.Nodes.{size}
 use Rattle.job_times.specs.Timings.{times_of}
+use Rattle.listeners.specs.Told.{all_told}
+use Rattle.listeners.specs.declared.told.NodeEvents.{NodeEvents}
 use Rattle.reports.specs.Junit.{suite_of, suites_element}
-use Rattle.reports.specs.Told.{all_told}
-use Rattle.reports.specs.declared.told.NodeTold.{NodeTold}
 use Rattle.reports.proofs.Growing.{behind}
 use Rattle.reports.proofs.junit.timed_junit_text.Goals as goal
 
@@ -20,4 +20,4 @@ returns c =
     let head = codes "<testsuites>\n" in
     behind (head ++ suites) _ (behind head _ c.in_ok-xml.ensures.ok c.in_ok-push_suites.ensures) c.in_ok-push_str.ensures.bytes
     ∙ ap (λ (l : List ℕ). head ++ l) (sym (append_assoc suites (codes "</testsuites>") (codes "\n")))
-    ∙ ap (λ (t : List NodeTold). suites_element plan c.args.texts.now times t) told
+    ∙ ap (λ (t : List NodeEvents). suites_element plan c.args.texts.now times t) told

@@ -1,7 +1,7 @@
 -- Where each had room for the events up to this one, each is told it.
-use Rattle.std.proofs.Common.{◌≡◌, ◌∙◌, ◌∷◌, [], true, false, refl, sym, ap, subst}
+use Rattle.std.proofs.Common.{◌∙◌, ◌∷◌, [], sym, subst}
 use Rattle.std.proofs.lemmas.Bool.{false≢true}
-use Rattle.listeners.specs.Listeners.{Telling, telling, EachPlace, HasHeardMore}
+use Rattle.listeners.specs.Listeners.{telling, EachPlace, HasHeardMore}
 use Rattle.listeners.proofs.Observing.{room_left, seen_one}
 use Rattle.listeners.proofs.audience.AudienceObserver.see.Goals as goal
 

@@ -3,7 +3,7 @@ use Rattle.std.proofs.Common.{◌∙◌, length, ap, sym, arith}
 use Rattle.std.proofs.lemmas.List.{length-replicate}
 use Rattle.listeners.specs.Told.{nothing}
 use Rattle.listeners.proofs.ToldMore.{none_told, told_next}
-use Rattle.listeners.proofs.told.told_of.Goals as goal
+use Rattle.listeners.proofs.told.node_events.Goals as goal
 
 pub loop-event-init : goal.loop-event-init
 loop-event-init c =
