@@ -1,11 +1,12 @@
 -- What events tell of a node: whether it was registered, started or skipped, and how it ended.
-use Rattle.std.specs.Prelude.{ℕ, ◌==◌, ◌&&◌, ◌||◌, Bool, true, false, cond, List, [], ◌∷◌, map, Option, None, Some, slice_index_or}
+use Rattle.std.specs.Prelude.{ℕ, ◌==◌, ◌&&◌, ◌||◌, not, Bool, true, false, cond, List, [], ◌∷◌, map, Option, None, Some, slice_index_or}
 use Rattle.std.specs.List.{list_any, range_with_len}
 use Rattle.std.specs.Option.{option_or}
 use Rattle.plan_events.specs.declared.event.Event.{Event}
 use Rattle.plan_events.specs.declared.event.EventKind.{EventKind}
 use Rattle.plan_events.specs.declared.event.EventKind.TheVariants.{Started, Finished, Skipped, Registered}
 use Rattle.plan_events.specs.declared.status.Status.{Status}
+use Rattle.plan_events.specs.Statuses.{is_failed}
 use Rattle.listeners.specs.declared.told.NodeEvents.{NodeEvents}
 
 -- whether the event says that its node started
@@ -81,3 +82,7 @@ has_line told = told.started || told.skipped
 abbrev pub ended : (Status → Bool) → Option Status → Bool
 ended such None = false
 ended such (Some status) = such status
+
+-- whether an event tells that a node failed, which is not the plan
+abbrev pub tells_failure : Event → Bool
+tells_failure e = not (e.node == 0) && ended is_failed (status_by e.kind e.status)

@@ -1,7 +1,7 @@
 //! Who is shown each event of a run, one after the other, on the thread that began it.
 
 ghost use Rattle.std.specs.Prelude.{◌≡◌, ◌∷◌, [], List, true};
-ghost use Rattle.listeners.specs.Endings.{ends_plan as is_end};
+ghost use Rattle.listeners.specs.Endings.{ends_plan as is_end, is_finish};
 
 use descriptor::NodeId;
 use plan_events::{Event, EventKind, Texts};
@@ -36,10 +36,18 @@ impl Observer for () {
     fn idle(&mut self) {}
 }
 
+/// Whether an event of this kind says that its node finished.
+pub fn is_finish(kind: EventKind) -> bool
+    ensures exact { result ≡ is_finish kind }
+    ensures finish { result ≡ true → kind ≡ EventKind.Finished }
+{
+    matches!(kind, EventKind::Finished)
+}
+
 /// Whether the event is the plan's finish, the last event of a run.
 pub fn ends_plan(event: Event) -> bool
     ensures exact { result ≡ is_end event }
     ensures finish { result ≡ true → (event.kind ≡ EventKind.Finished) × (event.node ≡ 0) }
 {
-    matches!(event.kind, EventKind::Finished) && event.node == NodeId::ROOT
+    is_finish(event.kind) && event.node == NodeId::ROOT
 }

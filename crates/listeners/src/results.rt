@@ -12,7 +12,7 @@ use crate::feed::feed_text;
 use crate::summary_lines::push_counts;
 use crate::tally::Tally;
 use crate::theme::Theme;
-use crate::told::tells_failure;
+use crate::told::any_failed;
 use crate::tree_drawing::draw;
 use plan_events::{Event, Texts};
 use resource_locks::Plan;
@@ -75,7 +75,7 @@ impl<'a> Results<'a> {
         ensures failed { result ≡ has_failed self.now.plan self.now.events }
         ensures node { IsTrue result ↔ HasFailed self.now.plan self.now.events }
     {
-        tells_failure(self.tally.told())
+        any_failed(self.tally.told())
     }
 
     /// A heading, and twelve lines with the counts.

@@ -5,8 +5,10 @@ ghost use Rattle.std.specs.Option.{option_or};
 ghost use Rattle.plan_events.specs.declared.event.Event.{Event};
 ghost use Rattle.plan_events.specs.Statuses.{is_aborted, is_successful, is_failed};
 ghost use Rattle.listeners.specs.Told.{all_told, is_start, is_skip, is_registration, status_by, has_line, ended};
+ghost use Rattle.listeners.specs.Told.{tells_failure};
 ghost use Rattle.listeners.specs.Inside.Tallies.{TellsFailure};
 
+use descriptor::NodeId;
 use plan_events::{Event, EventKind, Status};
 use std::alloc::{AllocError, Global};
 
@@ -28,6 +30,20 @@ fn status_by(kind: EventKind, status: Option<Status>) -> Option<Status>
         EventKind::Finished => status,
         _ => None,
     }
+}
+
+/// Whether a node that ended so has failed.
+fn is_failure(status: Option<Status>) -> bool
+    ensures { result ≡ ended is_failed status }
+{
+    matches!(status, Some(Status::Failed))
+}
+
+/// Whether the event tells that a node failed, which is not the plan.
+pub fn tells_failure(event: Event) -> bool
+    ensures { result ≡ tells_failure event }
+{
+    event.node != NodeId::ROOT && is_failure(status_by(event.kind, event.status))
 }
 
 impl NodeEvents {
@@ -76,7 +92,7 @@ impl NodeEvents {
     pub(crate) fn has_failed(self) -> bool
         ensures { result ≡ ended is_failed self.status }
     {
-        matches!(self.status, Some(Status::Failed))
+        is_failure(self.status)
     }
 }
 
@@ -108,7 +124,7 @@ pub fn node_events(
 }
 
 /// Whether it was told of a node other than node 0 that it failed.
-pub(crate) fn tells_failure(told: &[NodeEvents]) -> bool
+pub(crate) fn any_failed(told: &[NodeEvents]) -> bool
     ensures { IsTrue result ↔ TellsFailure told.now }
 {
     for place in 1..told.len() {

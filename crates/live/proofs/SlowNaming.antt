@@ -5,11 +5,12 @@ use Rattle.std.proofs.lemmas.List.Elements.{All-append, All-cons, All-filter, Al
 use Rattle.std.proofs.lemmas.List.Folds.{list_any-append}
 use Rattle.std.proofs.lemmas.List.Sums.{sum_by-append, sum_by-cons}
 use Rattle.descriptor.specs.Nodes.{Nodes}
+use Rattle.listeners.specs.Endings.{is_finish}
 use Rattle.listeners.specs.Listeners.{Telling}
 use Rattle.listeners.specs.Told.{is_start}
 use Rattle.plan_events.specs.declared.event.EventKind.{EventKind}
 use Rattle.plan_events.specs.declared.event.EventKind.TheVariants.{Started, Finished, Skipped, Registered}
-use Rattle.live.specs.RunningTests.{finishes, is_finish, is_plain_test, name_in, starts_test}
+use Rattle.live.specs.RunningTests.{finishes, is_plain_test, name_in, starts_test}
 use Rattle.live.specs.SlowNaming.{AreSlow, IsNoted, IsOfNode, IsOfRunning, IsRunningBehind, MayAdd, NotesBy, Slow, TakesNext, TakesOut, times_noted, times_said, times_started}
 use Rattle.live.specs.declared.slow_tests.LimitedTest.{LimitedTest}
 

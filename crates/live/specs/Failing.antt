@@ -1,21 +1,15 @@
 -- The nodes that failed, as they are kept.
-use Rattle.std.specs.Prelude.{◌≡◌, ◌⊎◌, ◌&&◌, ◌==◌, not, Bool, [], ◌∷◌, ◌++◌, ℕ, ◌+◌, ◌^◌, ◌-◌, ◌<◌, List, length, Option, string_bytes}
+use Rattle.std.specs.Prelude.{◌≡◌, ◌⊎◌, [], ◌∷◌, ◌++◌, ℕ, ◌+◌, ◌^◌, ◌-◌, ◌<◌, List, length, Option, string_bytes}
 use Rattle.std.specs.List.{filter}
 use Rattle.descriptor.specs.Kinds.{is_container}
 use Rattle.descriptor.specs.Nodes.{kind_of}
-use Rattle.plan_events.specs.Statuses.{is_failed}
-use Rattle.plan_events.specs.declared.event.Event.{Event}
 use Rattle.resource_locks.specs.Plans.{PlanParts}
 use Rattle.listeners.specs.Feed.{id_at, text_or}
 use Rattle.listeners.specs.Listeners.{Telling}
-use Rattle.listeners.specs.Told.{ended, status_by}
+use Rattle.listeners.specs.Told.{tells_failure}
 use Rattle.listeners.specs.TreeTexts.{name_at}
 use Rattle.live.specs.declared.failure.Failure.{Failure}
 use Rattle.live.specs.declared.failures.Failures.{Failures}
-
--- whether an event tells that a node failed, which is not the plan
-abbrev pub tells_failure : Event → Bool
-tells_failure e = not (e.node == 0) && ended is_failed (status_by e.kind e.status)
 
 -- of these events those that tell of a failure
 abbrev pub failures_in : List Telling → List Telling

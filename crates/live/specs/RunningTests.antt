@@ -1,9 +1,10 @@
 -- The tests that run, and which of them is named.
-use Rattle.std.specs.Prelude.{◌≡◌, ◌⊎◌, ℕ, ◌-◌, ◌/◌, ◌<◌, ◌≤◌, ◌==◌, ◌&&◌, nat_le, nat_lt, not, Bool, true, false, cond, List, [], ◌∷◌, ◌++◌, All, codes, map, Option, None, Some, IfSome, option_map, string_bytes}
+use Rattle.std.specs.Prelude.{◌≡◌, ◌⊎◌, ℕ, ◌-◌, ◌/◌, ◌<◌, ◌≤◌, ◌==◌, ◌&&◌, nat_le, nat_lt, not, Bool, true, cond, List, [], ◌∷◌, ◌++◌, All, codes, map, Option, None, Some, IfSome, option_map, string_bytes}
 use Rattle.std.specs.Fmt.{decimal}
 use Rattle.std.specs.List.{filter, list_any}
 use Rattle.std.specs.Time.{instant_nanos}
 use Rattle.descriptor.specs.Nodes.{Nodes, is_leaf_at, parent_of, size}
+use Rattle.listeners.specs.Endings.{is_finish}
 use Rattle.listeners.specs.Listeners.{Telling}
 use Rattle.listeners.specs.Told.{is_start}
 use Rattle.listeners.specs.TreeTexts.{name_at}
@@ -18,13 +19,6 @@ use Rattle.live.specs.declared.running.RunningTest.{RunningTest}
 -- whether node n is a test that holds no other node
 abbrev pub is_plain_test : Nodes → ℕ → Bool
 is_plain_test tree n = nat_lt n (size tree) && is_leaf_at tree n
-
--- whether the event says that its node finished
-abbrev pub is_finish : EventKind → Bool
-is_finish Started = false
-is_finish Finished = true
-is_finish Skipped = false
-is_finish Registered = false
 
 -- whether it is said that node n finished
 abbrev pub finishes : ℕ → Telling → Bool

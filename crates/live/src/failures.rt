@@ -2,16 +2,14 @@
 
 ghost use Rattle.std.specs.Prelude.{◌≡◌, ◌<◌, []};
 ghost use Rattle.std.specs.List.{list_any};
-ghost use Rattle.listeners.specs.Told.{ended};
-ghost use Rattle.plan_events.specs.Statuses.{is_failed};
 ghost use Rattle.plan_events.specs.Texts.{text_at};
 ghost use Rattle.live.specs.FailedTexts.{are_some, is_left_out};
-ghost use Rattle.live.specs.Failing.{Keeps, KeepsNode, Misses, tells_failure};
+ghost use Rattle.live.specs.Failing.{Keeps, KeepsNode, Misses};
 
 use crate::failure::{Failure, Naming};
 use descriptor::NodeId;
-use listeners::Observer;
-use plan_events::{Event, EventKind, Status, Texts};
+use listeners::{Observer, tells_failure};
+use plan_events::{Event, Texts};
 use resource_locks::Plan;
 use std::alloc::Global;
 
@@ -20,23 +18,6 @@ const MOST_KEPT: usize = 20;
 
 /// How many of them the words name.
 const MOST_NAMED: usize = 10;
-
-/// Whether a node ended so that it failed.
-fn has_failed(status: Option<Status>) -> bool
-    ensures { result ≡ ended is_failed status }
-{
-    matches!(status, Some(Status::Failed))
-}
-
-/// Whether an event tells that a node failed, which is not the plan.
-fn tells_failure(event: Event) -> bool
-    ensures { result ≡ tells_failure event }
-{
-    match event.kind {
-        EventKind::Finished => event.node != NodeId::ROOT && has_failed(event.status),
-        EventKind::Started | EventKind::Skipped | EventKind::Registered => false,
-    }
-}
 
 /// Whether the words had no room for one of them.
 fn any_left_out(failures: &[Failure]) -> bool

@@ -10,8 +10,8 @@ ghost use Rattle.listeners.specs.Endings.{is_finish};
 
 use crate::line_form::LineForm;
 use job_times::{Stopwatch, Timings};
-use listeners::{Observer, WriteFault, ends_plan, feed_text, print_to};
-use plan_events::{Event, EventKind, Texts};
+use listeners::{Observer, WriteFault, ends_plan, feed_text, is_finish, print_to};
+use plan_events::{Event, Texts};
 use reports::{json_text, timed_json_text};
 use resource_locks::Plan;
 use std::alloc::{AllocError, Global};
@@ -119,7 +119,7 @@ impl<'w, 't, 's, W: Write, S: Stopwatch> LiveFeed<'w, 't, 's, W, S> {
         ensures noted { NotesIf (self.old.timed && is_finish event.kind) event.node
             self.old.timings.now.took.items self.new.timings.now.took.items }
     {
-        if self.timed && matches!(event.kind, EventKind::Finished) {
+        if self.timed && is_finish(event.kind) {
             let stopwatch = self.stopwatch;
             self.timings.note(stopwatch, plan.tree(), event.node);
         }
