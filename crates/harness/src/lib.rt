@@ -11,14 +11,11 @@ pub use descriptor::{LockMode, Mode, NodeId};
 pub use exit::exit_code;
 pub use here::{System, run_tests_here};
 pub use job::TestJob;
-pub use listeners::Observer;
+pub use listeners::{Audience, Listener, Observer};
 pub use plan_events::{Event, EventKind, Status, Texts};
 pub use report_files::{ReportFiles, SystemFiles};
 pub use resource_locks::Plan;
-pub use run::{
-    run_tests, run_tests_by_clock, run_tests_by_words, run_tests_main, run_tests_on_terminal,
-    run_tests_watched,
-};
+pub use run::{run_tests, run_tests_by_clock, run_tests_main};
 pub use system_facts::{SystemFacts, SystemTexts};
 pub use test_bodies::{Checked, Stop, TestBox, TestFn, assume, check, check_same};
 pub use test_tree::{BuildFault, ClassId, EngineId, FactoryId, Tests};

@@ -26,55 +26,21 @@ use std::io::{self, Write};
 use std::sync::Wait;
 use std::thread::Threads;
 use std::time::Clock;
-use test_programs::{run_test_main, run_test_program, run_test_words};
+use test_programs::{run_test_main, run_test_program};
 use test_tree::{BuildFault, Tests};
 use word_files::{Facts, TextFiles};
 
-/// Runs of these tests what the words ask for; the first word is the program's name. By this clock is told how long
-/// they took, if that is asked for. All else is as `run_tests` says.
-pub fn run_tests_by_words<T: Threads + Wait + Sync, C: Clock + Sync + Drop, W: Write, E: Write>(
-    rt: &T,
-    clock: C,
-    alloc: Global,
-    words: &[String],
-    tests: Box<Tests>,
-    writer: &mut W,
-    errors: &mut E,
-) -> Result<Ending, BuildFault>
-    ensures run { IfOk result (λ ending. IsTestRun replies_left gives_left W.contents E.contents
-        (program_parts (held tests.value).tree (properties_of tests.value)) (jobs_by (held tests.value).jobs) false
-        (map string_bytes words.now) writer.old writer.new errors.old errors.new ending) }
-    // No dynamic test holds a key, so a run never gets stuck.
-    ensures bare { IfOk result (λ _. HasBareSpares (held tests.value).tree) }
-    ensures unbuilt { IfErr result (λ fault. (IsPending (held tests.value) fault.cause ⊎ (fault.cause ≡ NoMemory)) × (writer.new ≡ writer.old)
-        × (errors.new ≡ errors.old)) }
-{
-    let (tree, properties, bodies, slow) = Box::into_inner(tests).into_parts()?;
-    let jobs = jobs_of(alloc, bodies)?;
-    let program = Program {
-        tree,
-        properties,
-        jobs,
-        slow,
-    };
-    let mut nobody = ();
-    Ok(run_test_words(
-        rt,
-        clock,
-        alloc,
-        words,
-        false,
-        program,
-        writer,
-        errors,
-        &mut nobody,
-    ))
-}
-
-/// Does what `run_tests` does, and shows the run to one who watches it: each event of its history in order, with its
-/// text, as it is told; or nothing, where nothing is run. So a program has a listener of its own: it may be any type
-/// with `watch`, and may borrow what it fills. No clause says what it saw.
-pub fn run_tests_watched<T: Threads + Wait + Sync + Clock, W: Write, E: Write, V: Observer>(
+/// Runs of these tests what the words that the system gave ask for, and says how the program ends:
+/// all that is left to do is to end with the status. The words are those of `console`, but for
+/// `--report`, `--replay` and `--drive`, which are refused with 105, and for files of words, of which
+/// it knows none: `run_tests_main` has files. What they ask for goes to the writer; what a refusal is
+/// for goes to the other. A refusal, also that of words which are no text, is status 255. Tests of
+/// which something was declared that never came are handed back as a fault, and nothing is run or
+/// written. How long the tests took is told by the clock of `rt`, if that is asked for. Each event of
+/// the run is shown to the observer, in order and with its text; nothing where nothing is run. It may
+/// be any type with `see`, an `Audience` of listeners or `()`, and may borrow what it fills. No clause
+/// says what it saw.
+pub fn run_tests<T: Threads + Wait + Sync + Clock, W: Write, E: Write, V: Observer>(
     rt: &T,
     alloc: Global,
     words: io::Result<Args>,
@@ -108,86 +74,10 @@ pub fn run_tests_watched<T: Threads + Wait + Sync + Clock, W: Write, E: Write, V
     ))
 }
 
-/// Runs of these tests what the words that the system gave ask for, and says how the program ends:
-/// all that is left to do is to end with the status. The words are those of `console`, but for
-/// `--report`, `--replay` and `--drive`, which are refused with 105, and for files of words, of which
-/// it knows none: `run_tests_main` has files. What they ask for goes to the writer; what a refusal is for goes to the other. A refusal, also that of words which are no text, is
-/// status 255. Tests of which something was declared that never came are handed back as a fault, and
-/// nothing is run or written. How long the tests took is told by the clock of `rt`, if that is asked for.
-pub fn run_tests<T: Threads + Wait + Sync + Clock, W: Write, E: Write>(
-    rt: &T,
-    alloc: Global,
-    words: io::Result<Args>,
-    tests: Box<Tests>,
-    writer: &mut W,
-    errors: &mut E,
-) -> Result<Ending, BuildFault>
-    ensures run { IfOk result (λ ending. IfOk words (λ given. IsTestRun
-        replies_left gives_left W.contents E.contents
-        (program_parts (held tests.value).tree (properties_of tests.value)) (jobs_by (held tests.value).jobs) false
-        (map string_bytes (into_iter_items given)) writer.old writer.new errors.old errors.new ending)) }
-    ensures refused { IfOk result (λ ending. IfErr words (λ error. (fault : LaunchFault)
-        × IsGivenFault (error_kind error) fault × Closes tests_sentence_of W.contents E.contents (Err fault) writer.old
-        writer.new errors.old errors.new ending)) }
-    // No dynamic test holds a key, so a run never gets stuck.
-    ensures bare { IfOk result (λ _. HasBareSpares (held tests.value).tree) }
-    ensures unbuilt { IfErr result (λ fault. (IsPending (held tests.value) fault.cause ⊎ (fault.cause ≡ NoMemory)) × (writer.new ≡ writer.old)
-        × (errors.new ≡ errors.old)) }
-{
-    let mut nobody = ();
-    run_tests_watched(rt, alloc, words, tests, writer, errors, &mut nobody)
-}
-
-/// Does what `run_tests` does by this clock, where the other writer is a terminal. On it stands how far the run has
-/// come, on a line that is drawn anew at most ten times a second, and is erased at the end; and behind a tree or a
-/// summary what failed, with the words that select just that.
-pub fn run_tests_on_terminal<T: Threads + Wait + Sync, C: Clock + Sync + Drop, W: Write, E: Write>(
-    rt: &T,
-    clock: C,
-    alloc: Global,
-    words: io::Result<Args>,
-    tests: Box<Tests>,
-    writer: &mut W,
-    errors: &mut E,
-) -> Result<Ending, BuildFault>
-    ensures run { IfOk result (λ ending. IfOk words (λ given. IsTestRun
-        replies_left gives_left W.contents E.contents
-        (program_parts (held tests.value).tree (properties_of tests.value)) (jobs_by (held tests.value).jobs) true
-        (map string_bytes (into_iter_items given)) writer.old writer.new errors.old errors.new ending)) }
-    ensures refused { IfOk result (λ ending. IfErr words (λ error. (fault : LaunchFault)
-        × IsGivenFault (error_kind error) fault × Closes tests_sentence_of W.contents E.contents (Err fault) writer.old
-        writer.new errors.old errors.new ending)) }
-    ensures bare { IfOk result (λ _. HasBareSpares (held tests.value).tree) }
-    ensures unbuilt { IfErr result (λ fault. (IsPending (held tests.value) fault.cause ⊎ (fault.cause ≡ NoMemory)) × (writer.new ≡ writer.old)
-        × (errors.new ≡ errors.old)) }
-{
-    let (tree, properties, bodies, slow) = Box::into_inner(tests).into_parts()?;
-    let jobs = jobs_of(alloc, bodies)?;
-    let program = Program {
-        tree,
-        properties,
-        jobs,
-        slow,
-    };
-    let mut nobody = ();
-    Ok(run_test_program(
-        rt,
-        clock,
-        alloc,
-        words,
-        true,
-        program,
-        writer,
-        errors,
-        &mut nobody,
-    ))
-}
-
 /// All that `console` has but `--replay` and `--drive`, by this clock: what the words ask for that those stand for which
 /// the system gave, by the texts of files and by what the system tells; and the reports that they ask for are kept in
-/// these files. If the other writer is a terminal that can be drawn on, how far the run has come is drawn there meanwhile,
-/// as `run_tests_on_terminal` says; and one who watches is shown the run, as `run_tests_watched` says. All else is as
-/// `run_tests` says.
+/// these files. If the other writer is a terminal that can be drawn on, how far the run has come is drawn there meanwhile.
+/// All else is as `run_tests` says.
 pub fn run_tests_by_clock<
     T: Threads + Wait + Sync,
     C: Clock + Sync + Drop,

@@ -26,6 +26,6 @@ pub use launch_options::{
     Details, Given, LaunchFault, Options, key_judged, option_names, processors_named, ring_named,
     strategy_names, theme_names, theme_of,
 };
-pub use program::{Program, run_jobs, run_jobs_watched};
-pub use run::{read_suite, run_options, run_options_watched, run_suite, run_suite_watched};
+pub use program::{Program, run_jobs};
+pub use run::{read_suite, run_options, run_options_watched, run_suite};
 pub use warning_lines::beginning;

@@ -29,7 +29,7 @@ use crate::slow_limits::{set_default_limits, set_limits};
 use crate::watched_feed::WatchedFeed;
 use config_params::{Params, Settings};
 use descriptor::{BodyId, Tree};
-use job_times::{NoStopwatch, RunTimes, Stopwatch, Timings};
+use job_times::{RunTimes, Stopwatch};
 use launch_options::{LaunchFault, Options};
 use listeners::Observer;
 use live::LiveFeed;
@@ -199,7 +199,7 @@ fn run_planned<B: Job + Send, T: Threads + Wait + Sync, W: Write, V: Observer, S
     }
 }
 
-/// Runs what the request selects of a program's jobs, as `run_suite_watched` does those of a suite, and writes
+/// Runs what the request selects of a program's jobs, as `run_suite` does those of a suite, and writes
 /// the same of it, a schedule by the replies that its history and its texts tell. First of all it is refused that steps
 /// are to be replayed, or that they are to be those of the fixed schedule (105): nobody knows
 /// beforehand what the jobs answer. Then what a suite is refused for: what gives no settings
@@ -208,7 +208,7 @@ fn run_planned<B: Job + Send, T: Threads + Wait + Sync, W: Write, V: Observer, S
 /// be started (90),
 /// and an output of which the writer has only the first bytes (81). On any refusal but 81 nothing
 /// is written.
-pub fn run_jobs_watched<
+pub fn run_jobs<
     B: Job + Send,
     T: Threads + Wait + Sync,
     W: Write,
@@ -268,28 +268,4 @@ pub fn run_jobs_watched<
         times,
     );
     answer_unless(is_missing, answer)
-}
-
-/// Runs a program's jobs as `run_jobs_watched` does, where nobody watches and no time is known.
-pub fn run_jobs<B: Job + Send, T: Threads + Wait + Sync, W: Write>(
-    rt: &T,
-    alloc: Global,
-    options: &Options,
-    program: Program<B>,
-    writer: &mut W,
-) -> Result<ExitStatus, LaunchFault>
-    requires jobs { (plan : PlanParts) (workers ring : ℕ) → JobsMayAnswer B.answers
-        (run_of plan workers ring program.jobs.items) }
-    requires all { HasJobs program.tree program.jobs.items }
-    ensures exact { IsProgramRun B.answers B.gives (asked_by options.now) (program_parts program.tree program.properties)
-        program.jobs.items (W.contents writer.old) (W.contents writer.new) result }
-    ensures no_memory { IfErr result (λ fault. fault ≡ LaunchFault.NoMemory →
-        TakesMemory (asked_by options.now) (program_parts program.tree program.properties)) }
-    ensures quiet { IfErr result (λ fault. is_writing fault ≡ false →
-        Keeps (W.contents writer.old) (W.contents writer.new)) }
-{
-    let mut nobody = ();
-    let stopwatch = NoStopwatch;
-    let mut times = RunTimes::new(&stopwatch, Timings::none(alloc));
-    run_jobs_watched(rt, alloc, options, program, writer, &mut nobody, &mut times)
 }

@@ -436,7 +436,7 @@ fn run_ready<T: Threads + Wait + Sync, W: Write, V: Observer, S: Stopwatch + Syn
 /// If it is to be told how long tests took, the time of each node is noted once, when its finish is
 /// told, as the stopwatch has it then; what is printed tells these times, and they are left to the caller.
 /// No clause says what they are. Of a run by the fixed schedule nothing is known, nor when or where it was.
-pub fn run_suite_watched<T: Threads + Wait + Sync, W: Write, V: Observer, S: Stopwatch + Sync>(
+pub fn run_suite<T: Threads + Wait + Sync, W: Write, V: Observer, S: Stopwatch + Sync>(
     rt: &T,
     alloc: Global,
     options: &Options,
@@ -473,28 +473,7 @@ pub fn run_suite_watched<T: Threads + Wait + Sync, W: Write, V: Observer, S: Sto
     answer_unless(is_missing, answer)
 }
 
-/// Runs a suite as `run_suite_watched` does, where nobody watches and no time is known.
-pub fn run_suite<T: Threads + Wait + Sync, W: Write>(
-    rt: &T,
-    alloc: Global,
-    options: &Options,
-    suite: Suite,
-    writer: &mut W,
-) -> Result<ExitStatus, LaunchFault>
-    ensures exact { IsSuiteRun (asked_by options.now) (suite_parts suite) (W.contents writer.old)
-        (W.contents writer.new) result }
-    ensures no_memory { IfErr result
-        (λ fault. fault ≡ LaunchFault.NoMemory → TakesMemory (asked_by options.now) (suite_parts suite)) }
-    ensures quiet { IfErr result (λ fault. is_writing fault ≡ false →
-        Keeps (W.contents writer.old) (W.contents writer.new)) }
-{
-    let mut nobody = ();
-    let stopwatch = NoStopwatch;
-    let mut times = RunTimes::new(&stopwatch, Timings::none(alloc));
-    run_suite_watched(rt, alloc, options, suite, writer, &mut nobody, &mut times)
-}
-
-/// Reads a suite and runs it, as `read_suite` and `run_suite_watched` say. The reading takes memory before
+/// Reads a suite and runs it, as `read_suite` and `run_suite` say. The reading takes memory before
 /// anything is judged, but want of memory never stands in place of a suite that is too large, nor,
 /// once the suite was read, of settings that are none or of a selector that covers nothing. On any
 /// refusal but 81 nothing is written.
@@ -527,7 +506,7 @@ pub fn run_options_watched<
         (suite_read bytes) (W.contents writer.old) (W.contents writer.new) result) }
 {
     let suite = read_suite(alloc, reader)?;
-    run_suite_watched(rt, alloc, options, suite, writer, observer, times)
+    run_suite(rt, alloc, options, suite, writer, observer, times)
 }
 
 /// Reads a suite and runs it as `run_options_watched` does, where nobody watches and no time is known.

@@ -19,7 +19,7 @@ ghost use Rattle.test_programs.specs.JobsRuns.{RunsJobs};
 
 use job_times::{RunTimes, Stopwatch};
 use launch_options::ReportAsked;
-use launcher::{ExitStatus, LaunchFault, Options, Program, run_jobs_watched};
+use launcher::{ExitStatus, LaunchFault, Options, Program, run_jobs};
 use listeners::Observer;
 use plan_events::Job;
 use report_files::{
@@ -62,7 +62,7 @@ fn run_jobs_recorded<
     ensures unrecorded { is_run None (asked_by options.now).details ≡ false → IfOk result
         (λ _. beside.new.other.now.recorded ≡ Recorded.Nothing) }
 {
-    run_jobs_watched(rt, alloc, options, program, writer, beside, times)
+    run_jobs(rt, alloc, options, program, writer, beside, times)
 }
 
 /// Does the same, and writes each report when the run is over.
@@ -309,7 +309,7 @@ fn asks_no_more(options: &Options, wanted: &[ReportAsked<'_>]) -> bool
     wanted.is_empty()
 }
 
-/// Runs these jobs as the options say, as `run_jobs_watched` does, and keeps these reports of that in files, if some are
+/// Runs these jobs as the options say, as `run_jobs` does, and keeps these reports of that in files, if some are
 /// asked for. The files are opened before anything is run, and 107 is refused if one cannot be: then all are given up,
 /// and nothing is written. When the run is over and all that it prints was printed, each report is written and kept;
 /// those of what is refused are given up. 82 is answered if one is not kept: the others are. If times are asked for,
@@ -348,7 +348,7 @@ pub(crate) fn run_jobs_filed<
 {
     *slowest = None;
     if asks_no_more(options, wanted) {
-        return run_jobs_watched(rt, alloc, options, program, writer, observer, times);
+        return run_jobs(rt, alloc, options, program, writer, observer, times);
     }
     let mut reports = open_wanted(alloc, &mut *files, wanted)?;
     run_jobs_opened(

@@ -9,4 +9,4 @@ mod shown_jobs;
 mod test_program;
 mod unreported;
 
-pub use test_program::{run_test_main, run_test_program, run_test_words};
+pub use test_program::{run_test_main, run_test_program};

@@ -99,7 +99,7 @@ fn run_launch<
 /// `read_options` says, and then nothing is run; so is `--report`, by 105, and `--replay` or `--drive`, since
 /// nobody knows beforehand what the tests answer. Each body of the tree has a job, and whatever plan
 /// is made of the tree, the jobs may answer. Who watches is shown the run, as one of two observers.
-pub fn run_test_words<
+fn run_test_words<
     B: Job + Send,
     T: Threads + Wait + Sync,
     C: Clock + Sync + Drop,

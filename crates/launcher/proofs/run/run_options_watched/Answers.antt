@@ -22,15 +22,15 @@ returns-in_err-suite-clause-watched g c =
 
 pub returns-clause-exact : goal.returns-clause-exact
 returns-clause-exact g c =
-    if_known (g.R.Read.remaining c.args.reader.now) (λ bytes read. run_read _ _ _ c.in_ok-suite.suite _ c.run_suite_watched.result read c.in_ok-suite.ensures.bare c.run_suite_watched.ensures.exact) c.in_ok-suite.ensures.exact
+    if_known (g.R.Read.remaining c.args.reader.now) (λ bytes read. run_read _ _ _ c.in_ok-suite.suite _ c.run_suite.result read c.in_ok-suite.ensures.bare c.run_suite.ensures.exact) c.in_ok-suite.ensures.exact
 
 pub returns-clause-reads : goal.returns-clause-reads
 returns-clause-reads g c =
-    takes_run _ _ (asked_by c.args.options.now) c.in_ok-suite.suite _ _ c.run_suite_watched.result _ c.run_suite_watched.ensures.exact
-    (λ bytes read. run_read _ _ _ c.in_ok-suite.suite (suite_read bytes) c.run_suite_watched.result read c.in_ok-suite.ensures.bare c.run_suite_watched.ensures.exact) c.in_ok-suite.ensures.reads
+    takes_run _ _ (asked_by c.args.options.now) c.in_ok-suite.suite _ _ c.run_suite.result _ c.run_suite.ensures.exact
+    (λ bytes read. run_read _ _ _ c.in_ok-suite.suite (suite_read bytes) c.run_suite.result read c.in_ok-suite.ensures.bare c.run_suite.ensures.exact) c.in_ok-suite.ensures.reads
 
 pub returns-clause-watched : goal.returns-clause-watched
 returns-clause-watched g c =
-    takes_run _ _ (asked_by c.args.options.now) c.in_ok-suite.suite _ _ c.run_suite_watched.result _ c.run_suite_watched.ensures.exact
-    (λ bytes read. seen_read g.V.Observer.saw c.args.observer.now c.run_suite_watched.new.observer (times_of c.run_suite_watched.new.times.timings) (asked_by c.args.options.now) _ _ c.in_ok-suite.suite (suite_read bytes) c.run_suite_watched.result read c.in_ok-suite.ensures.bare c.run_suite_watched.ensures.watched)
+    takes_run _ _ (asked_by c.args.options.now) c.in_ok-suite.suite _ _ c.run_suite.result _ c.run_suite.ensures.exact
+    (λ bytes read. seen_read g.V.Observer.saw c.args.observer.now c.run_suite.new.observer (times_of c.run_suite.new.times.timings) (asked_by c.args.options.now) _ _ c.in_ok-suite.suite (suite_read bytes) c.run_suite.result read c.in_ok-suite.ensures.bare c.run_suite.ensures.watched)
     c.in_ok-suite.ensures.reads

@@ -8,18 +8,18 @@ use Rattle.test_programs.proofs.filed_jobs.run_jobs_filed.Goals as goal
 
 pub returns-then-asks_no_more-clause-filed : goal.returns-then-asks_no_more-clause-filed
 returns-then-asks_no_more-clause-filed g c =
-    let run = c.run_jobs_watched in
+    let run = c.run_jobs in
     jobs_unfiled g.B.Job.answers g.B.Job.gives (asked_by c.args.options.now) (program_parts c.args.program.tree c.args.program.properties) c.args.program.jobs.items (times_of run.new.times.timings) (g.W.Write.contents c.args.writer.now) (g.W.Write.contents run.new.writer) c.args.wanted.now (g.K.ReportFiles.deeds c.args.files.now) run.result
     (c.asks_no_more.ensures c.if-asks_no_more.true) (record { exact = run.ensures.exact; quiet = run.ensures.quiet })
 
 pub returns-then-asks_no_more-clause-watched : goal.returns-then-asks_no_more-clause-watched
 returns-then-asks_no_more-clause-watched g c =
-    let run = c.run_jobs_watched in
+    let run = c.run_jobs in
     some_watched g.V.Observer.saw c.args.observer.now run.new.observer (times_of run.new.times.timings) g.B.Job.answers g.B.Job.gives (asked_by c.args.options.now) (program_parts c.args.program.tree c.args.program.properties) c.args.program.jobs.items (g.W.Write.contents c.args.writer.now) (g.W.Write.contents run.new.writer) run.result run.ensures.watched
 
 pub returns-then-asks_no_more-clause-slowest : goal.returns-then-asks_no_more-clause-slowest
 returns-then-asks_no_more-clause-slowest g c =
-    let run = c.run_jobs_watched in
+    let run = c.run_jobs in
     jobs_unlisted g.B.Job.answers g.B.Job.gives (asked_by c.args.options.now) (program_parts c.args.program.tree c.args.program.properties) c.args.program.jobs.items (times_of run.new.times.timings) (g.W.Write.contents c.args.writer.now) (g.W.Write.contents run.new.writer) g.V.Observer.saw c.args.observer.now run.new.observer run.result run.ensures.watched
 
 pub returns-in_err-reports-clause-filed : goal.returns-in_err-reports-clause-filed

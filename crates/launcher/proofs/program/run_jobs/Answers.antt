@@ -7,7 +7,7 @@ use Rattle.launcher.specs.Programs.{program_parts}
 use Rattle.launcher.specs.Runs.{is_writing}
 use Rattle.launcher.proofs.Judging.{still_refused}
 use Rattle.launcher.proofs.ProgramRuns.{fails_memory, no_job_missing, planned_fails, planned_memory, program_run, unseen_run}
-use Rattle.launcher.proofs.program.run_jobs_watched.Goals as goal
+use Rattle.launcher.proofs.program.run_jobs.Goals as goal
 
 pub run_planned-answer-requires-clause-all : goal.run_planned-answer-requires-clause-all
 run_planned-answer-requires-clause-all g c κs within =

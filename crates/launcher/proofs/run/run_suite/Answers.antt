@@ -9,7 +9,7 @@ use Rattle.launcher.specs.Runs.{is_writing}
 use Rattle.launcher.proofs.Judging.{still_refused}
 use Rattle.launcher.proofs.Planning.{ready_takes}
 use Rattle.launcher.proofs.Showing.{judged_run, memory, refused_suite, suite_run}
-use Rattle.launcher.proofs.run.run_suite_watched.Goals as goal
+use Rattle.launcher.proofs.run.run_suite.Goals as goal
 
 pub returns-in_err-ready-clause-watched : goal.returns-in_err-ready-clause-watched
 returns-in_err-ready-clause-watched g c =
