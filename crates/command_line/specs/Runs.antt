@@ -4,7 +4,7 @@ use Rattle.std.specs.Fmt.{decimal}
 use Rattle.std.specs.Io.KnownBytes.{Appends, Keeps}
 use Rattle.launch_options.specs.Given.{Text}
 use Rattle.launch_options.specs.Asked.{Asked, asked_by}
-use Rattle.launcher.specs.Closings.{line_after}
+use Rattle.launcher.specs.AfterRuns.{line_after}
 use Rattle.launcher.specs.ExitStatuses.{number_of, status_after}
 use Rattle.launch_options.specs.Faults.{refusal_text}
 use Rattle.launch_options.specs.declared.asked.Options.{Options}

@@ -1,7 +1,7 @@
 //! What is said once a run is over.
 
 ghost use Rattle.std.specs.Prelude.{◌≡◌, ◌++◌, Err, IfOk, IfSome, option_map, string_bytes};
-ghost use Rattle.launcher.specs.Closings.{line_after};
+ghost use Rattle.launcher.specs.AfterRuns.{line_after};
 ghost use Rattle.launcher.specs.ExitStatuses.{number_of, status_after};
 ghost use Rattle.messages.specs.Sentences.{sentence_by};
 ghost use Rattle.command_line.specs.Runs.{Closes, ClosesRun, HasMessage, PrintsLine, PrintsMessage, WentOut};
@@ -11,7 +11,7 @@ ghost use Rattle.command_line.specs.Runs.{refusal_line, seed_line};
 use arrayvec::ArrayString;
 use command_words::{given_by, message_of};
 use launcher::option_names::SELECT_UNIQUE_ID;
-use launcher::{Closing, Details, ExitStatus, LaunchFault, Options};
+use launcher::{AfterRun, Details, ExitStatus, LaunchFault, Options};
 use listeners::print_to;
 use live::{Failures, failed_text};
 use messages::{Hints, Message, Subject, hints_of, hints_text};
@@ -105,11 +105,11 @@ fn close<W: Write, E: Write>(
     ensures message { PrintsMessage E.contents message errors.old errors.new result.is_told }
     ensures status { result.status ≡ number_of (status_after answer) }
 {
-    let closing = Closing::after(answer);
-    let is_printed = print_line(writer, closing.line);
+    let after = AfterRun::of(answer);
+    let is_printed = print_line(writer, after.line);
     let is_told = print_message(errors, message);
     Ending {
-        status: closing.status.number(),
+        status: after.status.number(),
         is_printed,
         is_told,
     }

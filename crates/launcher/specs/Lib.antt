@@ -1,6 +1,6 @@
+pub mod AfterRuns
 pub mod Beside
 pub mod Bytes
-pub mod Closings
 pub mod ExitStatuses
 pub mod Faults
 pub mod Missing

@@ -2,9 +2,9 @@
 //! What is asked for, and each refusal, stand in `launch_options`.
 #![tactic(auto)]
 
+mod after_run;
 mod asked_times;
 mod bytes;
-mod closing;
 mod driven;
 mod exit_status;
 mod missing;
@@ -19,8 +19,8 @@ mod told_replies;
 mod warning_lines;
 mod watched_feed;
 
+pub use after_run::AfterRun;
 pub use bytes::{ReadFault, read_front};
-pub use closing::Closing;
 pub use exit_status::ExitStatus;
 pub use launch_options::{
     Details, Given, LaunchFault, Options, key_judged, option_names, processors_named, ring_named,

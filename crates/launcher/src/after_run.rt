@@ -1,7 +1,7 @@
 //! What the program does after a run.
 
 ghost use Rattle.std.specs.Prelude.{◌≡◌};
-ghost use Rattle.launcher.specs.Closings.{line_after};
+ghost use Rattle.launcher.specs.AfterRuns.{line_after};
 ghost use Rattle.launcher.specs.ExitStatuses.{status_after};
 
 use crate::exit_status::ExitStatus;
@@ -9,16 +9,16 @@ use launch_options::LaunchFault;
 
 /// What the program does after a run: it prints a line or none, and ends.
 #[derive(Clone, Copy, Debug, PartialEq, Eq)]
-pub struct Closing {
+pub struct AfterRun {
     /// The refusal whose line is printed. Where the output failed there is none, since a line on it
     /// is of no use; and where a report did, since the output is whole.
     pub line: Option<LaunchFault>,
     pub status: ExitStatus,
 }
 
-impl Closing {
-    /// What is done after this answer.
-    pub fn after(answer: Result<ExitStatus, LaunchFault>) -> Closing
+impl AfterRun {
+    /// What is done after a run with this answer.
+    pub fn of(answer: Result<ExitStatus, LaunchFault>) -> AfterRun
         ensures line { result.line ≡ line_after answer }
         ensures status { result.status ≡ status_after answer }
     {
@@ -26,7 +26,7 @@ impl Closing {
             Ok(_) | Err(LaunchFault::Writing(_)) | Err(LaunchFault::CutReport(_)) => None,
             Err(fault) => Some(fault),
         };
-        Closing {
+        AfterRun {
             line,
             status: ExitStatus::after(answer),
         }
