@@ -10,6 +10,7 @@ ghost use Rattle.listeners.specs.Listeners.{text_told, tellings_of, HasHeardMore
 
 use crate::listener::Listener;
 use crate::observer::Observer;
+use descriptor::NodeId;
 use plan_events::{Event, EventKind, Texts};
 use resource_locks::Plan;
 use std::alloc::AllocError;
@@ -132,10 +133,11 @@ impl<L: Listener> Audience<L> {
         }
     }
 
-    /// Tells listeners that nobody has prepared: they make room first, and are told nothing if there is no memory.
+    /// Tells listeners without room, whom nobody has prepared: they make room when the plan starts. If there is no
+    /// memory, or the room comes to an end in the middle of a run, they are told nothing more of it.
     fn tell_late(&mut self, plan: &Plan, texts: &Texts, event: Event) {
         let event = &event;
-        if self.prepare(plan).is_ok() && self.has_room(1) {
+        if starts_plan(*event) && self.prepare(plan).is_ok() && self.has_room(1) {
             self.tell(*event, text_with(texts, *event));
         }
     }
@@ -190,4 +192,9 @@ fn is_fresh<L: Listener>(listener: &L) -> bool
     ensures { IsTrue result ↔ (L.got listener.now ≡ []) }
 {
     listener.got().is_empty()
+}
+
+/// Whether the event is the plan's start, the first event of a run.
+fn starts_plan(event: Event) -> bool {
+    matches!(event.kind, EventKind::Started) && event.node == NodeId::ROOT
 }
