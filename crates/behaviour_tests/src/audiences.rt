@@ -101,7 +101,8 @@ fn takes_16_listeners_and_hands_17_back(rt: HostRuntime) {
 
 #[test]
 fn an_empty_audience_is_fresh_and_has_room(rt: HostRuntime) {
-    let fits = match Audience::new(Vec::new(rt.alloc())) {
+    let nobody: Vec<Box<dyn Listener>> = Vec::new(rt.alloc());
+    let fits = match Audience::new(nobody) {
         Ok(audience) => {
             audience.fresh() && audience.has_room(1_000_000) && audience.got(0).is_none()
         }

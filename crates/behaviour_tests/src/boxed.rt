@@ -7,7 +7,6 @@ ghost use Rattle.test_jobs.specs.Acting.{AreFresh, replies_left};
 use crate::running::{push_events, staged};
 use crate::watching::board_of;
 use descriptor::BodyId;
-use listeners::Audience;
 use plan_events::{Event, Job};
 use resource_locks::Plan;
 use run_table::Jobs;
@@ -16,7 +15,7 @@ use std::sync::{Arc, Wait};
 use std::thread::Threads;
 use suite_text::Script;
 use test_jobs::{Act, Actor, Board, Counted, actor};
-use worker_pool::run_plan;
+use worker_pool::run_watched;
 
 /// Two tests that may run side by side, nodes 3 and 4.
 const TWO: &str = "property junit.jupiter.execution.parallel.enabled=true
@@ -68,13 +67,7 @@ fn run_both<R: Threads + Wait + Sync>(
     let Ok(jobs) = two_boxed(alloc, first, one, second, other) else {
         return None;
     };
-    let Ok(mut audience) = Audience::new(Vec::new(alloc)) else {
-        return None;
-    };
-    if !audience.fresh() {
-        return None;
-    }
-    match run_plan(rt, alloc, plan, jobs, 2, 1, &mut audience) {
+    match run_watched(rt, alloc, plan, jobs, 2, 1, &mut ()) {
         Ok(report) => Some(report.events),
         Err(_) => None,
     }

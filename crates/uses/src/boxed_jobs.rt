@@ -8,7 +8,6 @@ ghost use Rattle.uses.specs.Passing.{passing};
 
 use crate::threaded_run::Passing;
 use descriptor::BodyId;
-use listeners::Audience;
 use plan_events::{Event, Job, Outcome, Pull, Status};
 use resource_locks::Plan;
 use run_table::Jobs;
@@ -16,7 +15,7 @@ use std::alloc::{AllocError, Global};
 use std::sync::Wait;
 use std::thread::Threads;
 use unique_id::Text;
-use worker_pool::run_plan;
+use worker_pool::run_watched;
 
 /// A job that fails.
 #[derive(Drop)]
@@ -81,13 +80,7 @@ pub fn run_each<R: Threads + Wait + Sync>(
     let Ok(jobs) = two_boxed(alloc, good, passes, bad, fails) else {
         return None;
     };
-    let Ok(mut audience) = Audience::new(Vec::new(alloc)) else {
-        return None;
-    };
-    if !audience.fresh() {
-        return None;
-    }
-    match run_plan(rt, alloc, plan, jobs, 4, 1024, &mut audience) {
+    match run_watched(rt, alloc, plan, jobs, 4, 1024, &mut ()) {
         Ok(report) => Some(report.events),
         Err(_) => None,
     }

@@ -24,5 +24,5 @@ two_boxed-requires-clause-other g c =
     (read_made kinds (kinds.entry at-1-2) at-1-2 refl (List Reply) (λ j x. j.1.answers x) c.into_dyn_box-2.result.vtable c.into_dyn_box-2.result.value c.in-Ok-new.other.value c.into_dyn_box-2.ensures.1)
     (ap replies_counted c.in-Ok-new.ensures.ok ∙ c.new-2.ensures) c.requires.other
 
-pub run_plan-requires-clause-jobs : goal.run_plan-requires-clause-jobs
-run_plan-requires-clause-jobs g c κs within = may_answer _ c.args.plan 2 1 c.in-Ok-two_boxed.jobs.items c.in-Ok-two_boxed.ensures
+pub run_watched-requires-clause-jobs : goal.run_watched-requires-clause-jobs
+run_watched-requires-clause-jobs g c κs within = may_answer _ c.args.plan 2 1 c.in-Ok-two_boxed.jobs.items c.in-Ok-two_boxed.ensures

@@ -24,5 +24,5 @@ two_boxed-requires-clause-bad g c =
     (read_made kinds (kinds.entry at-1-2) at-1-2 refl (List Reply) (λ j x. j.1.answers x) c.into_dyn_box-2.result.vtable c.into_dyn_box-2.result.value c.in-Ok-new.fails.value c.into_dyn_box-2.ensures.1)
     (ap fails c.in-Ok-new.ensures.ok)
 
-pub run_plan-requires-clause-jobs : goal.run_plan-requires-clause-jobs
-run_plan-requires-clause-jobs g c κs within = all_may_answer _ c.args.plan 4 1024 c.in-Ok-two_boxed.jobs.items c.in-Ok-two_boxed.ensures
+pub run_watched-requires-clause-jobs : goal.run_watched-requires-clause-jobs
+run_watched-requires-clause-jobs g c κs within = all_may_answer _ c.args.plan 4 1024 c.in-Ok-two_boxed.jobs.items c.in-Ok-two_boxed.ensures
