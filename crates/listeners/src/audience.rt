@@ -20,11 +20,11 @@ const MOST_LISTENERS: usize = 16;
 
 /// Refusal 80: there are more than 16 listeners. They are handed back.
 #[derive(Drop)]
-pub struct TooManyListeners<L: Listener = Box<dyn Listener>> {
+pub struct TooManyListeners<L = Box<dyn Listener>> {
     pub listeners: Vec<L>,
 }
 
-impl<L: Listener> TooManyListeners<L> {
+impl<L> TooManyListeners<L> {
     /// The number of the refusal.
     pub fn number(&self) -> u8
         ensures { result ≡ 80 }
@@ -35,7 +35,7 @@ impl<L: Listener> TooManyListeners<L> {
 
 /// The listeners of a run, of whom there may be none: boxes of any types, if nothing else is said.
 #[derive(Drop)]
-pub struct Audience<L: Listener = Box<dyn Listener>> {
+pub struct Audience<L = Box<dyn Listener>> {
     listeners: Vec<L>,
     ghost few: { length listeners.items ≤ 16 },
 }

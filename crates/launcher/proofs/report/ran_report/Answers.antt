@@ -13,14 +13,14 @@ use Rattle.launcher.proofs.JobsRan.{jobs_in_vain, moved_behind, printed_jobs}
 use Rattle.launcher.proofs.Reporting.{unrun, watches_in_vain}
 use Rattle.launcher.proofs.report.ran_report.Goals as goal
 
-pub returns-in-Ok-run_timed-clause-output : goal.returns-in-Ok-run_timed-clause-output
-returns-in-Ok-run_timed-clause-output g c =
+pub returns-in_ok-output_of-in-Ok-clause-output : goal.returns-in_ok-output_of-in-Ok-clause-output
+returns-in_ok-output_of-in-Ok-clause-output g c =
     let asked = asked_by c.args.options.now in
     let settings = c.args.settings.now in
-    let over = c.in-Ok-run_timed.ran in
-    let report = c.in_ok-output_of-in-Ok-run_timed.field-0 in
-    let made = c.in_ok-output_of-in-Ok-run_timed.ensures in
-    let q = c.in-Ok-run_timed.ensures in
+    let over = c.in-Ok.ran in
+    let report = c.in_ok-output_of-in-Ok.field-0 in
+    let made = c.in_ok-output_of-in-Ok.ensures in
+    let q = c.in-Ok.ensures in
     let events = over.events.items in
     let times = g.V.NotesTimes.noted c.run_timed.new.observer in
     record {
@@ -33,14 +33,14 @@ returns-in-Ok-run_timed-clause-output g c =
           (subst (λ (p : PlanParts). report.status ≡ status_of_run asked.fail_if_no_tests (tests_found p events) (has_failed p events)) q.plan made.status);
     }
 
-pub returns-in-Ok-run_timed-clause-watched : goal.returns-in-Ok-run_timed-clause-watched
-returns-in-Ok-run_timed-clause-watched g c =
+pub returns-in_ok-output_of-in-Ok-clause-watched : goal.returns-in_ok-output_of-in-Ok-clause-watched
+returns-in_ok-output_of-in-Ok-clause-watched g c =
     let asked = asked_by c.args.options.now in
     let settings = c.args.settings.now in
-    let over = c.in-Ok-run_timed.ran in
-    let report = c.in_ok-output_of-in-Ok-run_timed.field-0 in
-    let made = c.in_ok-output_of-in-Ok-run_timed.ensures in
-    let q = c.in-Ok-run_timed.ensures in
+    let over = c.in-Ok.ran in
+    let report = c.in_ok-output_of-in-Ok.field-0 in
+    let made = c.in_ok-output_of-in-Ok.ensures in
+    let q = c.in-Ok.ensures in
     let events = over.events.items in
     let times = g.V.NotesTimes.noted c.run_timed.new.observer in
     record {
@@ -53,14 +53,14 @@ returns-in-Ok-run_timed-clause-watched g c =
       seen = q.seen;
     }
 
-pub returns-in_err-output_of-in-Ok-run_timed-clause-watched : goal.returns-in_err-output_of-in-Ok-run_timed-clause-watched
-returns-in_err-output_of-in-Ok-run_timed-clause-watched g c =
+pub returns-in_err-output_of-in-Ok-clause-watched : goal.returns-in_err-output_of-in-Ok-clause-watched
+returns-in_err-output_of-in-Ok-clause-watched g c =
     let asked = asked_by c.args.options.now in
     let settings = c.args.settings.now in
-    let over = c.in-Ok-run_timed.ran in
+    let over = c.in-Ok.ran in
     let events = over.events.items in
     let times = g.V.NotesTimes.noted c.run_timed.new.observer in
-    let q = c.in-Ok-run_timed.ensures in
+    let q = c.in-Ok.ensures in
     watches_in_vain g.V.Observer.saw c.args.observer.now c.run_timed.new.observer times (IsPrintedJobs g.B.Job.answers g.B.Job.gives _ asked settings c.args.plan c.args.jobs.items) c.args.plan _ c.from_residual.ensures.1
     (jobs_in_vain g.B.Job.answers g.B.Job.gives asked settings c.args.plan c.requires.tree c.requires.guarded c.args.jobs.items events over.texts q.report q.texts q.given g.V.Observer.saw c.args.observer.now c.run_timed.new.observer times q.seen over.unused_jobs.items q.balanced _)
 
