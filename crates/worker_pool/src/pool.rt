@@ -7,8 +7,8 @@ ghost use Rattle.run_table.specs.Seats.{IsSeatOf, IsOf};
 ghost use Rattle.worker_pool.specs.Premises.{MayAnswer};
 
 use crate::gate::{FinishedSeat, FreeSeat, Gate, SharedTable, TableBrand};
-use crate::idle::FEW;
 use crate::serving::serve;
+use node_sources::FEW_WORKERS;
 use plan_events::Job;
 use run_table::DispatcherSeat;
 use std::alloc::{AllocError, Global};
@@ -21,11 +21,11 @@ use std::thread::{JoinHandle, Scope, Threads};
 fn first_of<R: Threads>(rt: &R, workers: usize) -> usize
     ensures some { 0 < workers → 0 < result }
 {
-    if workers <= FEW {
+    if workers <= FEW_WORKERS {
         return workers;
     }
     match thread::available_parallelism(rt) {
-        Ok(processors) => processors.get().max(FEW),
+        Ok(processors) => processors.get().max(FEW_WORKERS),
         Err(_) => workers,
     }
 }

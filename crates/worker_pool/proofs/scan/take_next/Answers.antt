@@ -1,7 +1,7 @@
 -- One node less is left of the circle.
 use Rattle.std.proofs.Common.{◌∙◌, arith}
 use Rattle.descriptor.specs.Nodes.{size}
-use Rattle.worker_pool.proofs.Circles.{first_inside, others_inside}
+use Rattle.node_sources.proofs.Circles.{first_inside, others_inside}
 use Rattle.worker_pool.proofs.Going.{goes_itself}
 use Rattle.worker_pool.proofs.Outgoing.{then_goes}
 use Rattle.worker_pool.proofs.scan.take_next.Goals as goal

@@ -2,9 +2,9 @@
 use Rattle.std.proofs.Common.{◌+◌, ◌<◌, ◌∙◌, ℕ, sym, ap, subst, arith, IsPermutation}
 use Rattle.std.specs.List.{All, range_with_len}
 use Rattle.std.proofs.lemmas.Grind.{common_steps}
-use Rattle.worker_pool.specs.Inside.Circles.{left_of_circle}
-use Rattle.worker_pool.proofs.Circles.{behind_is, each_once, all_inside}
-use Rattle.worker_pool.proofs.circle.Circle.behind.Goals as goal
+use Rattle.node_sources.specs.Circles.{left_of_circle}
+use Rattle.node_sources.proofs.Circles.{behind_is, each_once, all_inside}
+use Rattle.node_sources.proofs.circle.Circle.behind.Goals as goal
 
 pub returns-clause-round : goal.returns-clause-round
 returns-clause-round c =

@@ -25,7 +25,7 @@ pub(crate) struct BusyKeys {
 
 impl Model for BusyKeys {
     ghost use Rattle.std.specs.Prelude.{List};
-    ghost use Rattle.worker_pool.specs.declared.busy.BusyKey.{BusyKey};
+    ghost use Rattle.node_sources.specs.declared.busy.BusyKey.{BusyKey};
 
     ghost Value = { List BusyKey };
 

@@ -92,7 +92,7 @@ impl Parkers {
     }
 
     /// Whether no worker parks for want of a node.
-    pub(crate) fn are_empty(&self) -> bool {
+    pub fn are_empty(&self) -> bool {
         self.idle.load(Ordering::SeqCst) == 0
     }
 
@@ -102,7 +102,7 @@ impl Parkers {
     }
 
     /// Words of the ring are free.
-    pub(crate) fn make_room(&self) {
+    pub fn make_room(&self) {
         if self.waiting_for_room.load(Ordering::SeqCst) != 0 {
             self.wake_all(self.waiting_for_room.swap(0, Ordering::SeqCst));
         }
@@ -142,12 +142,6 @@ impl Parkers {
         self.waiting_for_room
             .fetch_or(bit_of(slot), Ordering::SeqCst);
         self.wake_dispatcher();
-    }
-
-    /// The worker of this slot has room.
-    pub(crate) fn has_room(&self, slot: usize) {
-        self.waiting_for_room
-            .fetch_and(!bit_of(slot), Ordering::SeqCst);
     }
 
     /// The dispatcher is about to park.

@@ -6,7 +6,7 @@ use Rattle.std.proofs.lemmas.List.{take_all}
 use Rattle.std.proofs.lemmas.List.Elements.{All-append}
 use Rattle.std.proofs.lemmas.List.FromFn.{length-range_with_len, get_or-range_with_len}
 use Rattle.std.proofs.lemmas.List.Sorted.{IsPermutation-refl, IsPermutation-append_comm}
-use Rattle.worker_pool.specs.Inside.Circles.{left_of_circle, circle_behind}
+use Rattle.node_sources.specs.Circles.{left_of_circle, circle_behind}
 
 range_of : (a m n : ℕ) → m ≡ n → range_with_len a m ≡ range_with_len a n
 range_of a m n same = ap (range_with_len a) same

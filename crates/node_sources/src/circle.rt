@@ -2,7 +2,7 @@
 
 ghost use Rattle.std.specs.Prelude.{◌≡◌, ◌<◌, ◌∷◌, [], IfSome, IfNone, IsPermutation};
 ghost use Rattle.std.specs.List.{All, range_with_len};
-ghost use Rattle.worker_pool.specs.Inside.Circles.{circle_behind};
+ghost use Rattle.node_sources.specs.Circles.{circle_behind};
 
 use descriptor::NodeId;
 use std::marker::Model;
@@ -10,7 +10,7 @@ use std::marker::Model;
 /// The numbers of the nodes that are left of one time round: those from one number to below
 /// another, and then those below a third.
 #[derive(Drop)]
-pub(crate) struct Circle {
+pub struct Circle {
     next: usize,
     end: usize,
     below: usize,
@@ -18,7 +18,7 @@ pub(crate) struct Circle {
 
 impl Model for Circle {
     ghost use Rattle.std.specs.Prelude.{ℕ, List};
-    ghost use Rattle.worker_pool.specs.Inside.Circles.{left_of_circle};
+    ghost use Rattle.node_sources.specs.Circles.{left_of_circle};
 
     ghost Value = { List ℕ };
 
@@ -27,7 +27,7 @@ impl Model for Circle {
 
 impl Circle {
     /// Once round so many nodes, each once, from the one behind this node on.
-    pub(crate) fn behind(last: NodeId, nodes: usize) -> Circle
+    pub fn behind(last: NodeId, nodes: usize) -> Circle
         ensures round { result ≡ circle_behind last nodes }
         ensures each_once { IsPermutation (range_with_len 0 nodes) result }
         ensures inside { All (λ n. n < nodes) result }
@@ -41,7 +41,7 @@ impl Circle {
     }
 
     /// The next number, if one is left.
-    pub(crate) fn next(&mut self) -> Option<usize>
+    pub fn next(&mut self) -> Option<usize>
         ensures some { IfSome result (λ n. self.old ≡ n ∷ self.new) }
         ensures none { IfNone result ((self.old ≡ []) × (self.new ≡ [])) }
     {

@@ -1,0 +1,2 @@
+-- What is proved of the circle of nodes.
+pub mod Circles
