@@ -1,5 +1,5 @@
 -- The dispatcher's seat, one step after the other.
-use Rattle.std.proofs.Common.{◌∙◌, ◌<◌, ◌≤◌, ◌-◌, ℕ, arith}
+use Rattle.std.proofs.Common.{◌∙◌}
 use Rattle.atomic_table.specs.declared.owned.Table.{Table}
 use Rattle.atomic_table.specs.declared.shared.Seat.{Seat as TableSeat}
 use Rattle.table_rule.specs.declared.rule.Law.{Law}
@@ -13,6 +13,3 @@ of_then a b c first second = record { table = second.table ∙ first.table; abou
 
 pub seat_then : {B A : Type 0} (t : Table (Slot B) (View B) (TableKey B) Law A) (a b : TableSeat (Slot B) (View B)) → IsSeatOf t a → IsOf a b → IsSeatOf t b
 seat_then t a b is of = record { same = of.table ∙ is.same; about = of.about ∙ is.about }
-
-pub one_is_left : (most read : ℕ) → read < most → 1 ≤ most - read
-one_is_left most read inside = omega (arith, inside)

@@ -7,14 +7,14 @@ use Rattle.scheduling.specs.declared.task.Task.TheVariants.{Closes}
 use Rattle.table_rule.specs.Plays.{worker, result_in, outstanding_in}
 use Rattle.run_table.specs.Seats.{seated}
 use Rattle.worker_pool.specs.Inside.Steady.{HandKept}
-use Rattle.worker_pool.proofs.Due.{draws, gives}
+use Rattle.worker_pool.proofs.Due.{draws, gives, is_ready}
 use Rattle.worker_pool.proofs.Endings.{ends_steady}
 use Rattle.worker_pool.proofs.Quiet.{quiet_giving}
 use Rattle.worker_pool.proofs.Steps.{arrives, moved, closes_busy}
 use Rattle.worker_pool.proofs.task_steps.go_on_closing.Goals as goal
 
 pub returns-in-Ending-clause-steady : goal.returns-in-Ending-clause-steady
-returns-in-Ending-clause-steady g c = draws c.args.seat.now.seat c.draw_due.new.self.seat c.draw_due.ensures.same.about _ c.draw_due.ensures.done c.draw_due.ensures.unmoved
+returns-in-Ending-clause-steady g c = λ phase it. draws c.args.seat.now.seat c.draw_due.new.self.seat c.draw_due.ensures.same.about _ c.draw_due.ensures.done c.draw_due.ensures.unmoved phase (is_ready c.args.seat.now.seat phase it)
 
 pub returns-in-Raising-clause-steady : goal.returns-in-Raising-clause-steady
 returns-in-Raising-clause-steady g c = λ phase it.
