@@ -1,17 +1,17 @@
-//! A listener of one's own: how many tests of each class failed.
+//! An observer of one's own: how many tests of each class failed, and of the dynamic tests of each factory.
 
 use harness::{Event, NodeId, Observer, Plan, Status, Texts};
 use std::alloc::{AllocError, Global};
 use std::io::Write;
 
-/// A class, by its name, and how many of its tests failed.
+/// A class or a factory, by its name, and how many of its tests failed.
 #[derive(Drop)]
 struct ClassFailures {
     name: String,
     failed: usize,
 }
 
-/// The classes of which a test failed, in the order in which the first of each did.
+/// The classes and factories of which a test failed, in the order in which the first of each did.
 #[derive(Drop)]
 pub(crate) struct FailuresByClass {
     alloc: Global,
@@ -26,7 +26,7 @@ impl FailuresByClass {
         }
     }
 
-    /// Counts a test of the class of this name that failed. Without memory it is not counted.
+    /// Counts a test that failed below a class or a factory of this name. Without memory it is not counted.
     fn count(&mut self, class: &str) -> Result<(), AllocError> {
         for known in self.classes.iter_mut() {
             if known.name.as_str() == class {
@@ -39,7 +39,7 @@ impl FailuresByClass {
         Ok(())
     }
 
-    /// Prints a line for each class of which a test failed.
+    /// Prints a line for each class or factory of which a test failed.
     pub(crate) fn print<W: Write>(&self, writer: &mut W) {
         for ClassFailures { name, failed } in self.classes.iter() {
             let _ = writer.write_fmt(format_args!("{name}: {failed} failed\n"));
@@ -52,12 +52,16 @@ impl Observer for FailuresByClass {
 
     fn see(&mut self, plan: &Plan, _texts: &Texts, event: Event) {
         let event = &event;
-        if event.status != Some(Status::Failed) || event.node.index() >= plan.tree().len() {
+        let tree = plan.tree();
+        if event.status != Some(Status::Failed) || event.node.index() >= tree.len() {
             return;
         }
-        match plan.tree().parent(event.node) {
+        if tree.kind(event.node).is_container() {
+            return;
+        }
+        match tree.parent(event.node) {
             Some(class) if class != NodeId::ROOT => {
-                let _ = self.count(plan.tree().node(class).name.as_str());
+                let _ = self.count(tree.node(class).name.as_str());
             }
             _ => {}
         }
