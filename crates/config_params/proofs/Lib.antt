@@ -10,5 +10,4 @@ pub mod NearestModes
 pub mod GivenModes
 pub mod Worked
 pub mod LockKeys
-pub mod NamedLocks
 pub mod LockLimits

@@ -25,7 +25,7 @@ use Rattle.config_params.specs.declared.limits_fault.LimitsFault.TheVariants.{No
 use Rattle.config_params.specs.declared.settings_fault.SettingsFault.{SettingsFault}
 use Rattle.config_params.specs.declared.settings_fault.SettingsFault.TheVariants.{BadHolders, UnknownLock}
 use Rattle.config_params.proofs.LockKeys.{limited_of, limited_is, said_over}
-use Rattle.config_params.proofs.NamedLocks.{named_by, declared_has}
+use Rattle.resource_locks.proofs.NamedLocks.{named_by, declared_has}
 
 or_or : {A : Type 0} (a b c : Option A) → option_or (option_or a b) c ≡ option_or a (option_or b c)
 or_or None b c = refl

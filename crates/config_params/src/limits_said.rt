@@ -11,14 +11,20 @@ ghost use Rattle.config_params.specs.LockLimits.{value_fault};
 
 use crate::limits_fault::LimitsFault;
 use crate::lock_key::lock_limited;
-use crate::lock_names::LockNames;
 use crate::numbers::holders_in;
 use crate::params::{Params, get_over, limiting_keys};
 use crate::settings_fault::SettingsFault;
 use descriptor::Tree;
-use resource_locks::KeyLimit;
+use resource_locks::{GLOBAL, KeyLimit, LockNames};
 use std::alloc::Global;
 use unique_id::Text;
+
+/// Whether a lock can be limited where these are the locks of a tree: it is one of them, and not the global one.
+fn can_limit(names: &LockNames, lock: &str) -> bool
+    ensures { result ≡ can_limit names.now lock.now }
+{
+    GLOBAL != lock && names.has(lock)
+}
 
 /// How many nodes may hold a lock at once by the key that says it. Refused where its value is no number from 1 to 64
 /// (35), and where the lock can have no limit (36).
@@ -41,7 +47,7 @@ fn holders_said(
     let Some(most) = holders_in(value) else {
         return Err(SettingsFault::BadHolders);
     };
-    if names.can_limit(lock) {
+    if can_limit(names, lock) {
         Ok(most)
     } else {
         Err(SettingsFault::UnknownLock)

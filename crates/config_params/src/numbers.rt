@@ -51,7 +51,7 @@ pub(crate) fn limit_in(text: &str) -> Option<u32>
 }
 
 /// How many holders of a lock a text allows: 1 or 2 digits, not zero, at most 64.
-pub(crate) fn holders_in(text: &str) -> Option<u8>
+pub fn holders_in(text: &str) -> Option<u8>
     ensures { result ≡ holders_in text.now }
 {
     let holders = number_in(2, text)?;

@@ -1,27 +1,10 @@
 //! What is wrong with how many nodes are to hold a lock at once.
 
-ghost use Rattle.std.specs.Prelude.{◌≡◌, is_some};
-ghost use Rattle.config_params.specs.Numbers.{holders_in};
-
 use crate::nearest::push_nearest;
-use config_params::{Params, SettingsFault, get_over, limiting_keys, lock_limited};
+use config_params::{Params, SettingsFault, get_over, holders_in, limiting_keys, lock_limited};
 use descriptor::{Lock, NodeId, Tree};
+use resource_locks::{GLOBAL, LockNames};
 use std::alloc::{AllocError, Global};
-use std::collections::HashSet;
-use suite_text::number_up_to;
-
-/// The lock that each node below an engine holds, and that can have no limit.
-const GLOBAL: &str = "GLOBAL";
-
-/// How many nodes may hold a lock at once at most, if that is limited.
-const MOST_HOLDERS: u32 = 64;
-
-/// Whether a value is a number of holders.
-fn is_number_of_holders(value: &str) -> bool
-    ensures { result ≡ is_some (holders_in value.now) }
-{
-    value.len() <= 2 && matches!(number_up_to(MOST_HOLDERS, value), Some(1..))
-}
 
 /// The first of these keys whose value is no number of holders, and its value.
 fn first_unread<'a>(
@@ -31,7 +14,7 @@ fn first_unread<'a>(
 ) -> Option<(&'a str, &'a str)> {
     for key in keys {
         match get_over(over, under, key) {
-            Some(value) if !is_number_of_holders(value) => return Some((*key, value)),
+            Some(value) if holders_in(value).is_none() => return Some((*key, value)),
             _ => {}
         }
     }
@@ -71,11 +54,11 @@ fn names_in<'a>(alloc: Global, tree: &'a Tree) -> Result<Vec<&'a str>, AllocErro
     Ok(names)
 }
 
-/// The first of these keys whose lock has none of these names or can have no limit, and its lock.
-fn first_unknown<'a>(keys: &[&'a str], names: &HashSet<&str>) -> Option<(&'a str, &'a str)> {
+/// The first of these keys whose lock is none of these or can have no limit, and its lock.
+fn first_unknown<'a>(keys: &[&'a str], names: &LockNames) -> Option<(&'a str, &'a str)> {
     for key in keys {
         match lock_limited(key) {
-            Some(lock) if lock == GLOBAL || !(&*names).contains(&lock) => {
+            Some(lock) if lock == GLOBAL || !names.has(lock) => {
                 return Some((*key, lock));
             }
             _ => {}
@@ -111,7 +94,7 @@ fn push_unknown(
     tree: &Tree,
 ) -> Result<(), AllocError> {
     let names = names_in(alloc, tree)?;
-    let known: HashSet<&str> = names.iter().copied().collect(alloc)?;
+    let known = LockNames::of(alloc, tree)?;
     match first_unknown(keys, &known) {
         Some((key, lock)) => push_lock(alloc, text, names.as_slice(), key, lock),
         None => Ok(()),

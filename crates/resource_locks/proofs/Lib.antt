@@ -16,6 +16,7 @@ pub mod Turns
 pub mod Guarded
 pub mod Engines
 pub mod LockTrees
+pub mod NamedLocks
 pub mod Numbered
 pub mod Forced
 pub mod HoistedLines

@@ -16,7 +16,7 @@ pub record Declared : Type 0 where
 abbrev pub declared_of : Nodes → Declared
 declared_of t = record { tree = t; locks = locks_of t; isolated = is_isolated_at t }
 
--- the key of which every node below an engine is a holder
+-- the key that each child of an engine holds, for all that is below it
 abbrev pub global : List ℕ
 global = codes "GLOBAL"
 

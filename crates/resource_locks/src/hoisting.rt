@@ -15,7 +15,7 @@ ghost use Rattle.resource_locks.specs.Wants.{is_write};
 ghost use Rattle.std.specs.List.{list_any};
 ghost use Rattle.std.specs.Str.{bytes_eq};
 
-use crate::keys::GLOBAL;
+use crate::lock_names::GLOBAL;
 use crate::lock_set::{LockSet, is_writing};
 use descriptor::{Lock, LockMode, Mode, NodeId, Tree};
 use std::alloc::{AllocError, Global};

@@ -4,92 +4,53 @@ ghost use Rattle.std.specs.Prelude.{◌≡◌, ◌<◌, ◌≤◌, ℕ, List, []
 ghost use Rattle.std.specs.Prelude.{slice_index_or};
 ghost use Rattle.descriptor.specs.Nodes.{IsTree};
 ghost use Rattle.resource_locks.specs.Declarations.{declared_of};
-ghost use Rattle.resource_locks.specs.Keys.{with_key, with_keys, keys_of};
+ghost use Rattle.resource_locks.specs.Keys.{keys_of};
 ghost use Rattle.descriptor.specs.declared.lock_mode.LockMode.{LockMode as ModeValue};
 ghost use Rattle.resource_locks.specs.Plans.{number_of, numbers_of};
 ghost use Rattle.resource_locks.specs.Wants.{HasLock};
 
 use crate::fault::PlanFault;
+use crate::lock_names::LockNames;
 use crate::lock_set::LockSet;
-use descriptor::{Lock, NodeId, Tree};
-use indexmap::IndexSet;
+use descriptor::{Lock, Tree};
 use std::alloc::{AllocError, Global};
 use std::marker::Model;
 use unique_id::Text;
 
-/// The key of which every node below an engine is a holder.
-pub(crate) const GLOBAL: &str = "GLOBAL";
-
 /// The greatest number of keys of a plan, the global one included.
 const MOST_KEYS: usize = 256;
 
-/// Keys, each once; the number of a key is its place.
+/// The keys of a plan, which are the locks that its tree names; the number of a key is its place.
 #[derive(Drop)]
 pub(crate) struct Keys {
-    keys: IndexSet<String>,
+    names: LockNames,
 }
 
 impl Model for Keys {
-    ghost use Rattle.std.specs.Prelude.{List, ℕ, ◌≤◌, length, map, string_bytes};
+    ghost use Rattle.std.specs.Prelude.{List, ℕ, ◌≤◌, length};
 
     ghost Value = { List (List ℕ) };
 
-    ghost view = { λ k. map string_bytes k.keys.keys };
+    ghost view = { λ k. k.names };
 
-    ghost invariant = { λ k. length (map string_bytes k.keys.keys) ≤ 256 };
+    ghost invariant = { λ k. length k.names ≤ 256 };
 }
 
 impl Keys {
-    /// The keys of the plan of a tree: the global one, and then those that its nodes declare.
+    /// The keys of the plan of a tree: the global one, and then those that its nodes declare. Refused where these are
+    /// more than 256.
     pub(crate) fn of(alloc: Global, tree: &Tree) -> Result<Keys, PlanFault>
         ensures keys { IfOk result (λ keys. keys ≡ keys_of (declared_of tree.now)) }
         ensures tree { OnOk result (IsTree tree.now) }
         ensures refused { IfErr result (λ fault. fault ≡ PlanFault.TooManyKeys →
             256 < length (keys_of (declared_of tree.now))) }
     {
-        let mut keys = Keys {
-            keys: IndexSet::new(alloc),
-        };
-        if let Err(fault) = keys.add(alloc, GLOBAL) {
-            drop(keys);
-            return Err(fault);
-        }
-        for node in 0..tree.len() {
-            if let Err(fault) = keys.add_all(alloc, tree.locks(NodeId::new(node as u16))) {
-                drop(keys);
-                return Err(fault);
-            }
-        }
-        Ok(keys)
-    }
-
-    /// Adds the keys of locks. Refused where there would be more than 256 keys; an `Err` may leave
-    /// some of them there.
-    fn add_all(&mut self, alloc: Global, locks: &[Lock]) -> Result<(), PlanFault>
-        ensures ok { OnOk result (self.new ≡ with_keys self.old locks.now) }
-        ensures refused { IfErr result (λ fault. fault ≡ PlanFault.TooManyKeys →
-            256 < length (with_keys self.old locks.now)) }
-    {
-        for lock in locks {
-            self.add(alloc, lock.key.as_str())?;
-        }
-        Ok(())
-    }
-
-    /// Adds a key. Refused where it would be the 257th.
-    fn add(&mut self, alloc: Global, key: &str) -> Result<(), PlanFault>
-        ensures ok { OnOk result (self.new ≡ with_key self.old key.now) }
-        ensures refused { IfErr result (λ fault. fault ≡ PlanFault.TooManyKeys →
-            256 < length (with_key self.old key.now)) }
-    {
-        if self.keys.contains(key) {
-            return Ok(());
-        }
-        if self.keys.len() >= MOST_KEYS {
+        let names = LockNames::of(alloc, tree)?;
+        if names.len() > MOST_KEYS {
+            drop(names);
             return Err(PlanFault::TooManyKeys);
         }
-        self.keys.insert(String::from_str(alloc, key)?)?;
-        Ok(())
+        Ok(Keys { names })
     }
 
     /// The number of a key, if it is one of these.
@@ -97,7 +58,7 @@ impl Keys {
         ensures value { IfSome result (λ number. number ≡ number_of self.now key.now) }
         ensures none { IsNone result → length self.now ≤ number_of self.now key.now }
     {
-        match self.keys.get_index_of(key) {
+        match self.names.number(key) {
             Some(number) => Some(number as u8),
             None => None,
         }
@@ -141,10 +102,6 @@ impl Keys {
         ensures same { IfOk result (λ texts. texts.items ≡ self.now) }
         ensures few { length self.now ≤ 256 }
     {
-        let mut texts = Vec::new(alloc);
-        for key in self.keys.as_slice() {
-            texts.push(Text::new(alloc, key.as_str())?)?;
-        }
-        Ok(texts)
+        self.names.texts(alloc)
     }
 }

@@ -8,7 +8,7 @@ ghost use Rattle.resource_locks.specs.Held.{table};
 ghost use Rattle.resource_locks.specs.Limits.{first_limit, limit_given, any_limited, share_numbers, mode_below};
 
 use crate::hoisting::parent;
-use crate::keys::GLOBAL;
+use crate::lock_names::GLOBAL;
 use descriptor::{Mode, Tree};
 use std::alloc::{AllocError, Global};
 use unique_id::Text;

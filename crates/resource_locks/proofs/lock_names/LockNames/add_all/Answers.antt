@@ -3,7 +3,7 @@ use Rattle.std.proofs.Common.{◌≡◌, ◌∙◌, arith}
 use Rattle.std.proofs.lemmas.Grind.{common_steps}
 use Rattle.resource_locks.specs.Keys.{with_key}
 use Rattle.resource_locks.proofs.Numbering.{key_next}
-use Rattle.config_params.proofs.lock_names.LockNames.add_all.Goals as goal
+use Rattle.resource_locks.proofs.lock_names.LockNames.add_all.Goals as goal
 
 pub loop-lock-preserved : goal.loop-lock-preserved
 loop-lock-preserved c =

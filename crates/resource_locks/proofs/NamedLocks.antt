@@ -1,5 +1,5 @@
 -- The locks that a tree names: those that its nodes declare, and the global one.
-use Rattle.std.proofs.Common.{◌≡◌, ℕ, zero, suc, ◌<◌, Bool, true, false, ◌||◌, ◌&&◌, not, map, String, Global, string_bytes, List, [], ◌∷◌, ◌++◌, Some, slice_get, ◌⊎◌, inl, inr, refl, sym, ap, subst, ◌∙◌, arith}
+use Rattle.std.proofs.Common.{◌≡◌, ℕ, zero, suc, ◌<◌, Bool, true, false, ◌||◌, List, [], ◌∷◌, ◌++◌, Some, slice_get, ◌⊎◌, inl, inr, refl, sym, ap, subst, ◌∙◌, arith}
 use Rattle.std.specs.Prelude.{cond}
 use Rattle.std.specs.List.{list_any}
 use Rattle.std.specs.Str.{bytes_eq}
@@ -12,10 +12,9 @@ use Rattle.descriptor.specs.declared.lock_mode.LockMode.{LockMode}
 use Rattle.resource_locks.specs.Declarations.{Declared, global}
 use Rattle.resource_locks.specs.Keys.{with_key, with_keys, keys_upto}
 use Rattle.resource_locks.specs.Wants.{HasLock}
-use Rattle.resource_locks.proofs.Numbering.{any_bytes}
-use Rattle.config_params.specs.LockLimits.{can_limit}
 
-abbrev Has : List (List ℕ) → List ℕ → Type 0
+-- a list of keys has a key
+abbrev pub Has : List (List ℕ) → List ℕ → Type 0
 Has keys key = list_any (bytes_eq key) keys ≡ true
 
 -- keys with one more have those that they had, and that one
@@ -56,6 +55,11 @@ keys_added keys (l ∷ more) key mode zero e =
 keys_added keys (l ∷ more) key mode (suc i) e = keys_added (with_key keys l.key) more key mode i e
 
 module _ (d : Declared) where
+  -- the global lock is named
+  pub global_has : (n : ℕ) → Has (keys_upto d n) global
+  global_has zero = or_left (bytes_eq global global) false ((bytes_eq-Decides global global).1 refl)
+  global_has (suc n) = keys_stay (keys_upto d n) (d.locks n) global (global_has n)
+
   -- a lock that is named is the global one, or a node declares it
   pub named_by : (n : ℕ) (key : List ℕ) → Has (keys_upto d n) key → (key ≡ global) ⊎ ((m : ℕ) × ((m < n) × ((mode : LockMode) × HasLock (d.locks m) key mode)))
   named_by zero key h = elim (or_cases (bytes_eq key global) false h) [ inl same ↦ inl ((bytes_eq-Decides key global).0 same) | inr never ↦ absurd (false≢true never) ]
@@ -73,8 +77,3 @@ module _ (d : Declared) where
         | inl e ↦ (let l = subst (λ (x : ℕ). HasLock (d.locks x) key mode) e h in keys_added (keys_upto d n) (d.locks n) key mode l.0 l.1)
         | inr ne ↦ keys_stay (keys_upto d n) (d.locks n) key (declared_has n m key mode (omega (arith, lt, ne)) h)
       ]
-
--- a lock that is not the global one can be limited if a set has it
-pub other_named : (ks : List (String Global)) (now : List (List ℕ)) (lock : List ℕ) → map string_bytes ks ≡ now → (b : Bool) → b ≡ list_any (λ k. bytes_eq lock (string_bytes k)) ks → (other : Bool) → other ≡ not (bytes_eq global lock) → other ≡ true
-    → b ≡ can_limit now lock
-other_named ks now lock is b e other o t = e ∙ any_bytes (bytes_eq lock) ks ∙ ap (list_any (bytes_eq lock)) is ∙ sym (ap (λ (b : Bool). b && list_any (bytes_eq lock) now) (sym o ∙ t))

@@ -2,7 +2,7 @@
 use Rattle.std.proofs.Common.{◌∙◌, ap, map, List, ℕ, string_bytes}
 use Rattle.resource_locks.specs.Keys.{with_key}
 use Rattle.resource_locks.proofs.Numbering.{has_key, inserted}
-use Rattle.config_params.proofs.lock_names.LockNames.add.Goals as goal
+use Rattle.resource_locks.proofs.lock_names.LockNames.add.Goals as goal
 
 pub returns-then-contains : goal.returns-then-contains
 returns-then-contains c = has_key c.self.inside.names.keys c.args.self.now c.args.name.now c.self.view_is c.contains.result c.contains.ensures c.if-contains.true

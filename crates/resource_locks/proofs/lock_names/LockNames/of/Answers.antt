@@ -4,7 +4,7 @@ use Rattle.std.proofs.lemmas.Grind.{common_steps}
 use Rattle.descriptor.specs.Nodes.{locks_of}
 use Rattle.resource_locks.specs.Declarations.{declared_of}
 use Rattle.resource_locks.proofs.Numbering.{node_next}
-use Rattle.config_params.proofs.lock_names.LockNames.of.Goals as goal
+use Rattle.resource_locks.proofs.lock_names.LockNames.of.Goals as goal
 
 pub loop-node-preserved : goal.loop-node-preserved
 loop-node-preserved c =
