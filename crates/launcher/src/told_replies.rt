@@ -6,21 +6,13 @@ ghost use Rattle.plan_events.specs.Texts.{text_at};
 ghost use Rattle.launcher.specs.Programs.{HasTextsBy};
 
 use descriptor::{BodyId, NodeId};
-use plan_events::{Event, EventKind, Outcome, Reply, Status, Texts};
+use listeners::{NodeEvents, node_events};
+use plan_events::{Event, Outcome, Reply, Status, Texts};
 use resource_locks::Plan;
 use sched_core::{Answers, texts_of};
 use scheduling::{NodeJobs, jobs_of};
 use std::alloc::{AllocError, Global};
 use unique_id::Text;
-
-/// What a history tells of a node: how it ended, how many of the nodes right below it were registered, and whether
-/// any of these has an event.
-#[derive(Clone, Copy)]
-struct NodeStory {
-    status: Option<Status>,
-    registered: u16,
-    is_entered: bool,
-}
 
 /// Which of a container's bodies is meant.
 #[derive(Clone, Copy)]
@@ -29,39 +21,31 @@ enum Which {
     After,
 }
 
-/// Adds what an event tells of its node, and of the node above it.
-fn add_event(stories: &mut Vec<NodeStory>, plan: &Plan, event: &Event) {
-    if event.node.index() >= plan.tree().len() {
-        return;
-    }
-    if let Some(story) = stories.get_mut(event.node.index()) {
-        if let EventKind::Finished = event.kind {
-            story.status = event.status;
+/// Whether anything is told of a node right below this one.
+fn is_entered(plan: &Plan, told: &[NodeEvents], node: NodeId) -> bool
+    requires { node < size plan.now.tree }
+{
+    for child in plan.tree().children(node) {
+        if let Some(one) = told.get(child.index()) {
+            if one.started || one.skipped || one.registered {
+                return true;
+            }
         }
     }
-    let Some(parent) = plan.tree().parent(event.node) else {
-        return;
-    };
-    if let Some(above) = stories.get_mut(parent.index()) {
-        above.is_entered = true;
-        if let EventKind::Registered = event.kind {
-            above.registered = above.registered.saturating_add(1);
-        }
-    }
+    false
 }
 
-/// What a history tells of each node.
-fn stories_of(alloc: Global, plan: &Plan, history: &[Event]) -> Result<Vec<NodeStory>, AllocError> {
-    let untold = NodeStory {
-        status: None,
-        registered: 0,
-        is_entered: false,
-    };
-    let mut stories = vec![in alloc; untold; plan.tree().len()]?;
-    for event in history {
-        add_event(&mut stories, plan, event);
+/// How many of the nodes right below this one were registered.
+fn registered_below(plan: &Plan, told: &[NodeEvents], node: NodeId) -> u16
+    requires { node < size plan.now.tree }
+{
+    let mut registered: u16 = 0;
+    for child in plan.tree().children(node) {
+        if let Some(one) = told.get(child.index()) {
+            registered = registered.saturating_add(u16::from(one.registered));
+        }
     }
-    Ok(stories)
+    registered
 }
 
 /// The job by whose answer a container ended: its after-body, if that is run and the container was not stopped before
@@ -111,29 +95,32 @@ fn reply_told(
     })
 }
 
+/// How a node ended by what is told of it, if it did.
+fn status_told(told: &[NodeEvents], node: NodeId) -> Option<Status> {
+    told.get(node.index())?.status
+}
+
 /// Appends the replies of bodies, or of after-bodies, by which nodes ended.
 fn push_replies(
     alloc: Global,
     plan: &Plan,
     texts: &Texts,
-    stories: &[NodeStory],
+    told: &[NodeEvents],
     which: Which,
     replies: &mut Vec<(BodyId, Reply)>,
 ) -> Result<(), AllocError> {
     for number in 0..plan.tree().len() {
         let node = NodeId::new(number as u16);
-        let Some(story) = stories.get(number) else {
-            return Ok(());
-        };
-        let Some(status) = story.status else {
+        let Some(status) = status_told(told, node) else {
             continue;
         };
-        let Some(job) = giver(plan, node, story.is_entered, which) else {
+        let Some(job) = giver(plan, node, is_entered(plan, told, node), which) else {
             continue;
         };
+        let registered = registered_below(plan, told, node);
         replies.push((
             job,
-            reply_told(alloc, status, story.registered, texts.of(node))?,
+            reply_told(alloc, status, registered, texts.of(node))?,
         ))?;
     }
     Ok(())
@@ -148,14 +135,14 @@ pub(crate) fn told_answers(
     history: &[Event],
     texts: &Texts,
 ) -> Result<Answers, AllocError> {
-    let stories = stories_of(alloc, plan, history)?;
+    let told = node_events(alloc, plan.tree().len(), history)?;
     let mut replies = Vec::new(alloc);
     // bodies first: so the numbers rise, and a reply is found fast
     push_replies(
         alloc,
         plan,
         texts,
-        stories.as_slice(),
+        told.as_slice(),
         Which::Body,
         &mut replies,
     )?;
@@ -163,7 +150,7 @@ pub(crate) fn told_answers(
         alloc,
         plan,
         texts,
-        stories.as_slice(),
+        told.as_slice(),
         Which::After,
         &mut replies,
     )?;
