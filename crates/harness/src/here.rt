@@ -38,12 +38,12 @@ pub fn run_tests_here<S: System, W: Write, E: Write + IsTerminal, V: Observer>(
     observer: &mut V,
 ) -> Result<Ending, BuildFault>
     // By some words, or for some reason by none: no clause can say what a system gives.
-    ensures run { IfOk result (λ ending. IsRunHere replies_left gives_left W.contents E.contents
+    ensures run { IfOk result (λ ending. IsRunHere replies_left gives_left V.saw W.contents E.contents
         (program_parts (held tests.value).tree (properties_of tests.value)) (jobs_by (held tests.value).jobs)
-        writer.old writer.new errors.old errors.new ending) }
+        observer.old observer.new writer.old writer.new errors.old errors.new ending) }
     ensures bare { IfOk result (λ _. HasBareSpares (held tests.value).tree) }
-    ensures unbuilt { IfErr result (λ fault. (IsPending (held tests.value) fault.cause ⊎ (fault.cause ≡ NoMemory)) × (writer.new ≡ writer.old)
-        × (errors.new ≡ errors.old) × (observer.new ≡ observer.old)) }
+    ensures unbuilt { IfErr result (λ fault. (IsPending (held tests.value) fault.cause ⊎ (fault.cause ≡ NoMemory))
+        × (writer.new ≡ writer.old) × (errors.new ≡ errors.old) × (observer.new ≡ observer.old)) }
 {
     let words = args(system);
     let told = SystemFacts::of(system);

@@ -38,8 +38,7 @@ use word_files::{Facts, TextFiles};
 /// which something was declared that never came are handed back as a fault, and nothing is run or
 /// written. How long the tests took is told by the clock of `rt`, if that is asked for. Each event of
 /// the run is shown to the observer, in order and with its text; nothing where nothing is run. It may
-/// be any type with `see`, an `Audience` of listeners or `()`, and may borrow what it fills. No clause
-/// says what it saw.
+/// be any type with `see`, an `Audience` of listeners or `()`, and may borrow what it fills.
 pub fn run_tests<T: Threads + Wait + Sync + Clock, W: Write, E: Write, V: Observer>(
     rt: &T,
     alloc: Global,
@@ -50,16 +49,17 @@ pub fn run_tests<T: Threads + Wait + Sync + Clock, W: Write, E: Write, V: Observ
     observer: &mut V,
 ) -> Result<Ending, BuildFault>
     ensures run { IfOk result (λ ending. IfOk words (λ given. IsTestRun
-        replies_left gives_left W.contents E.contents
-        (program_parts (held tests.value).tree (properties_of tests.value)) (jobs_by (held tests.value).jobs) false
-        (map string_bytes (into_iter_items given)) writer.old writer.new errors.old errors.new ending)) }
+        replies_left gives_left V.saw W.contents E.contents
+        (program_parts (held tests.value).tree (properties_of tests.value)) (jobs_by (held tests.value).jobs)
+        observer.old observer.new false (map string_bytes (into_iter_items given)) writer.old writer.new errors.old
+        errors.new ending)) }
     ensures refused { IfOk result (λ ending. IfErr words (λ error. (fault : LaunchFault)
-        × IsGivenFault (error_kind error) fault × Closes tests_sentence_of W.contents E.contents (Err fault) writer.old
-        writer.new errors.old errors.new ending)) }
+        × IsGivenFault (error_kind error) fault × (observer.new ≡ observer.old) × Closes tests_sentence_of W.contents
+        E.contents (Err fault) writer.old writer.new errors.old errors.new ending)) }
     // No dynamic test holds a key, so a run never gets stuck.
     ensures bare { IfOk result (λ _. HasBareSpares (held tests.value).tree) }
-    ensures unbuilt { IfErr result (λ fault. (IsPending (held tests.value) fault.cause ⊎ (fault.cause ≡ NoMemory)) × (writer.new ≡ writer.old)
-        × (errors.new ≡ errors.old) × (observer.new ≡ observer.old)) }
+    ensures unbuilt { IfErr result (λ fault. (IsPending (held tests.value) fault.cause ⊎ (fault.cause ≡ NoMemory))
+        × (writer.new ≡ writer.old) × (errors.new ≡ errors.old) × (observer.new ≡ observer.old)) }
 {
     let (tree, properties, bodies, slow) = Box::into_inner(tests).into_parts()?;
     let jobs = jobs_of(alloc, bodies)?;
@@ -101,17 +101,18 @@ pub fn run_tests_by_clock<
     observer: &mut V,
 ) -> Result<Ending, BuildFault>
     ensures run { IfOk result (λ ending. IfOk words (λ given. IsTestMainRun
-        replies_left gives_left W.contents E.contents
+        replies_left gives_left V.saw W.contents E.contents
         (program_parts (held tests.value).tree (properties_of tests.value)) (jobs_by (held tests.value).jobs)
-        K.deeds is_terminal facts.now (map string_bytes (into_iter_items given)) writer.old writer.new errors.old
-        errors.new files.old files.new ending)) }
+        observer.old observer.new K.deeds is_terminal facts.now (map string_bytes (into_iter_items given)) writer.old
+        writer.new errors.old errors.new files.old files.new ending)) }
     ensures refused { IfOk result (λ ending. IfErr words (λ error. (fault : LaunchFault)
-        × IsGivenFault (error_kind error) fault × (files.new ≡ files.old) × Closes tests_sentence_of W.contents
-        E.contents (Err fault) writer.old writer.new errors.old errors.new ending)) }
+        × IsGivenFault (error_kind error) fault × (observer.new ≡ observer.old) × (files.new ≡ files.old) × Closes
+        tests_sentence_of W.contents E.contents (Err fault) writer.old writer.new errors.old errors.new ending)) }
     // No dynamic test holds a key, so a run never gets stuck.
     ensures bare { IfOk result (λ _. HasBareSpares (held tests.value).tree) }
-    ensures unbuilt { IfErr result (λ fault. (IsPending (held tests.value) fault.cause ⊎ (fault.cause ≡ NoMemory)) × (writer.new ≡ writer.old)
-        × (errors.new ≡ errors.old) × (files.new ≡ files.old) × (observer.new ≡ observer.old)) }
+    ensures unbuilt { IfErr result (λ fault. (IsPending (held tests.value) fault.cause ⊎ (fault.cause ≡ NoMemory))
+        × (writer.new ≡ writer.old) × (errors.new ≡ errors.old) × (files.new ≡ files.old)
+        × (observer.new ≡ observer.old)) }
 {
     let (tree, properties, bodies, slow) = Box::into_inner(tests).into_parts()?;
     let jobs = jobs_of(alloc, bodies)?;
@@ -160,16 +161,17 @@ pub fn run_tests_main<
     observer: &mut V,
 ) -> Result<Ending, BuildFault>
     ensures run { IfOk result (λ ending. IfOk words (λ given. IsTestMainRun
-        replies_left gives_left W.contents E.contents
+        replies_left gives_left V.saw W.contents E.contents
         (program_parts (held tests.value).tree (properties_of tests.value)) (jobs_by (held tests.value).jobs)
-        K.deeds is_terminal facts.now (map string_bytes (into_iter_items given)) writer.old writer.new errors.old
-        errors.new files.old files.new ending)) }
+        observer.old observer.new K.deeds is_terminal facts.now (map string_bytes (into_iter_items given)) writer.old
+        writer.new errors.old errors.new files.old files.new ending)) }
     ensures refused { IfOk result (λ ending. IfErr words (λ error. (fault : LaunchFault)
-        × IsGivenFault (error_kind error) fault × (files.new ≡ files.old) × Closes tests_sentence_of W.contents
-        E.contents (Err fault) writer.old writer.new errors.old errors.new ending)) }
+        × IsGivenFault (error_kind error) fault × (observer.new ≡ observer.old) × (files.new ≡ files.old) × Closes
+        tests_sentence_of W.contents E.contents (Err fault) writer.old writer.new errors.old errors.new ending)) }
     ensures bare { IfOk result (λ _. HasBareSpares (held tests.value).tree) }
-    ensures unbuilt { IfErr result (λ fault. (IsPending (held tests.value) fault.cause ⊎ (fault.cause ≡ NoMemory)) × (writer.new ≡ writer.old)
-        × (errors.new ≡ errors.old) × (files.new ≡ files.old) × (observer.new ≡ observer.old)) }
+    ensures unbuilt { IfErr result (λ fault. (IsPending (held tests.value) fault.cause ⊎ (fault.cause ≡ NoMemory))
+        × (writer.new ≡ writer.old) × (errors.new ≡ errors.old) × (files.new ≡ files.old)
+        × (observer.new ≡ observer.old)) }
 {
     run_tests_by_clock(
         rt,

@@ -118,10 +118,7 @@ fn push_replies(
             continue;
         };
         let registered = registered_below(plan, told, node);
-        replies.push((
-            job,
-            reply_told(alloc, status, registered, texts.of(node))?,
-        ))?;
+        replies.push((job, reply_told(alloc, status, registered, texts.of(node))?))?;
     }
     Ok(())
 }

@@ -114,7 +114,7 @@ module _ {V : Type 0} (saw : PlanParts → V → V → List Telling → Type 0) 
   Both = BothSaw saw HasRecorded
 
   both_begun : (p : PlanParts) → Both p first first []
-  both_begun p = record { same = refl; seen = nothing_seen saw p first.observer.now; other = nothing_seen HasRecorded p first.other.now }
+  both_begun p = record { same = refl; same_other = refl; seen = nothing_seen saw p first.observer.now; other = nothing_seen HasRecorded p first.other.now }
 
   both_seen : (p : PlanParts) (ts : List Telling) → HasSeenMore Both p ts first now → Both p first now ts
   both_seen p ts more = more first [] (both_begun p)

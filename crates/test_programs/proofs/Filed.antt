@@ -100,30 +100,30 @@ module _ {B : Type 0} (answers : B → List Reply) (gives : B → Reply → Type
     alone (Err fault) = refl
 
     -- reports whose files were open are filed by what was run, and what was done with them in the end
-    pub jobs_filed : (ws : List Wanted) (account was now : Option (List Deed)) (ran answer : Result ExitStatus LaunchFault) → length b ≡ length ws → AreOpened contents b ws → Does account was (openings ws) → RunsJobs answers gives asked parts jobs old new ran
+    pub jobs_filed : {V : Type 0} (saw : PlanParts → V → V → List Telling → Type 0) (begun ended : V) (ws : List Wanted) (account was now : Option (List Deed)) (ran answer : Result ExitStatus LaunchFault) → length b ≡ length ws → AreOpened contents b ws → Does account was (openings ws) → RunsJobs answers gives asked parts jobs saw begun ended times old new ran
         → (is_run None asked.details ≡ true → IfOk ran (λ status. IsReportedJobs answers gives asked parts jobs contents times old new status b n)) → IfErr ran (λ fault. n ≡ b) → length n ≡ length b → Does was now ds → AreEnded contents n ws ds → answer ≡ answer_with ran (first_lost 1 ds)
-        → JobsFiled answers gives asked parts jobs ws times old new account now answer
-    jobs_filed [] account was now ran answer many opened opening runs reported refused same ending ended is =
-        let none : ds ≡ [] = unfiled n ds (same ∙ many) ended in
+        → JobsFiled answers gives asked parts jobs saw begun ended ws times old new account now answer
+    jobs_filed saw begun ended [] account was now ran answer many opened opening runs reported refused same ending all_ended is =
+        let none : ds ≡ [] = unfiled n ds (same ∙ many) all_ended in
         let same_answer : answer ≡ ran = is ∙ ap (λ (l : List Deed). answer_with ran (first_lost 1 l)) none ∙ sym (alone ran) in (
-          subst (RunsJobs answers gives asked parts jobs old new) (sym same_answer) runs,
+          subst (RunsJobs answers gives asked parts jobs saw begun ended times old new) (sym same_answer) runs,
           does_more account was now [] [] opening (subst (λ (l : List Deed). Does was now l) none ending),
         )
-    jobs_filed (w ∷ ws) account was now ran answer many opened opening runs reported refused same ending ended is =
-        inr (opened_with contents (RunsJobs answers gives asked parts jobs old new) (FilesJobs answers gives asked parts jobs (w ∷ ws) times old new) (w ∷ ws) account was now b n ran answer ds many opened opening runs (λ on. filed (w ∷ ws) many opened same ended ran (reported on)) refused same ending ended is)
+    jobs_filed saw begun ended (w ∷ ws) account was now ran answer many opened opening runs reported refused same ending all_ended is =
+        inr (opened_with contents (RunsJobs answers gives asked parts jobs saw begun ended times old new) (FilesJobs answers gives asked parts jobs (w ∷ ws) times old new) (w ∷ ws) account was now b n ran answer ds many opened opening runs (λ on. filed (w ∷ ws) many opened same all_ended ran (reported on)) refused same ending all_ended is)
 
 -- where no report is asked for no file is touched
-pub jobs_unfiled : {B : Type 0} (answers : B → List Reply) (gives : B → Reply → Type 0) (asked : Asked) (parts : SuiteParts) (jobs : List (ℕ × B)) (times : Times) (old new : Option (List ℕ)) (ws : List ReportAsked) (account : Option (List Deed)) (answer : Result ExitStatus LaunchFault) → length ws ≡ 0 → RunsJobs answers gives asked parts jobs old new answer
-    → JobsFiled answers gives asked parts jobs (map parts_of ws) times old new account account answer
-jobs_unfiled answers gives asked parts jobs times old new [] account answer none runs = (runs, does_nothing account)
-jobs_unfiled answers gives asked parts jobs times old new (w ∷ ws) account answer none runs = absurd (omega (arith, none))
+pub jobs_unfiled : {B V : Type 0} (answers : B → List Reply) (gives : B → Reply → Type 0) (asked : Asked) (parts : SuiteParts) (jobs : List (ℕ × B)) (saw : PlanParts → V → V → List Telling → Type 0) (begun ended : V) (times : Times) (old new : Option (List ℕ)) (ws : List ReportAsked) (account : Option (List Deed)) (answer : Result ExitStatus LaunchFault) → length ws ≡ 0 → RunsJobs answers gives asked parts jobs saw begun ended times old new answer
+    → JobsFiled answers gives asked parts jobs saw begun ended (map parts_of ws) times old new account account answer
+jobs_unfiled answers gives asked parts jobs saw begun ended times old new [] account answer none runs = (runs, does_nothing account)
+jobs_unfiled answers gives asked parts jobs saw begun ended times old new (w ∷ ws) account answer none runs = absurd (omega (arith, none))
 
 -- the files could not be opened
-pub jobs_unopened : {B : Type 0} (answers : B → List Reply) (gives : B → Reply → Type 0) (asked : Asked) (parts : SuiteParts) (jobs : List (ℕ × B)) (times : Times) (old : Option (List ℕ)) (ws : List ReportAsked) (was now : Option (List Deed)) (fault : LaunchFault) (answer : Result ExitStatus LaunchFault) → IsErrAnd answer (λ e. e ≡ fault) → length ws ≢ 0
-    → IsUnopened (map parts_of ws) was now fault → JobsFiled answers gives asked parts jobs (map parts_of ws) times old old was now answer
-jobs_unopened answers gives asked parts jobs times old [] was now fault answer same some unopened = absurd (some refl)
-jobs_unopened answers gives asked parts jobs times old (w ∷ ws) was now fault (Ok status) same some unopened = absurd same
-jobs_unopened answers gives asked parts jobs times old (w ∷ ws) was now fault (Err e) same some unopened = inl (record { fault = fault; is = ap Err same; unopened = unopened; unwritten = refl })
+pub jobs_unopened : {B V : Type 0} (answers : B → List Reply) (gives : B → Reply → Type 0) (asked : Asked) (parts : SuiteParts) (jobs : List (ℕ × B)) (saw : PlanParts → V → V → List Telling → Type 0) (begun : V) (times : Times) (old : Option (List ℕ)) (ws : List ReportAsked) (was now : Option (List Deed)) (fault : LaunchFault) (answer : Result ExitStatus LaunchFault) → IsErrAnd answer (λ e. e ≡ fault) → length ws ≢ 0
+    → IsUnopened (map parts_of ws) was now fault → JobsFiled answers gives asked parts jobs saw begun begun (map parts_of ws) times old old was now answer
+jobs_unopened answers gives asked parts jobs saw begun times old [] was now fault answer same some unopened = absurd (some refl)
+jobs_unopened answers gives asked parts jobs saw begun times old (w ∷ ws) was now fault (Ok status) same some unopened = absurd same
+jobs_unopened answers gives asked parts jobs saw begun times old (w ∷ ws) was now fault (Err e) same some unopened = inl (record { fault = fault; is = ap Err same; unopened = unopened; unseen = refl; unwritten = refl })
 
 -- where none is asked for none is opened
 pub none_opened : (ws : List ReportAsked) (account : Option (List Deed)) → length ws ≡ 0 → Does account account (openings (map parts_of ws))

@@ -95,14 +95,25 @@ jobs_with answers gives asked parts jobs times old new status keeps is = record 
 
 module _ {V O : Type 0} (saw : PlanParts → V → V → List Telling → Type 0) (beside : PlanParts → O → O → List Telling → Type 0) (first now : Beside V O) where
   both_seen : (p : PlanParts) (ts : List Telling) → HasSeenMore (BothSaw saw beside) p ts first now → BothSaw saw beside p first now ts
-  both_seen p ts more = more first [] (record { same = refl; seen = nothing_seen saw p first.observer.now; other = nothing_seen beside p first.other.now })
+  both_seen p ts more = more first [] (record { same = refl; same_other = refl; seen = nothing_seen saw p first.observer.now; other = nothing_seen beside p first.other.now })
 
-  -- of two who watched the first is still the same
+  -- what both have seen, each has
+  pub pair_seen : (p : PlanParts) (ts : List Telling) → HasSeenMore (BothSaw saw beside) p ts first now → HasSeenMore saw p ts first.observer.now now.observer.now
+  pair_seen p ts more = (both_seen p ts more).seen
+
+  pub pair_other : (p : PlanParts) (ts : List Telling) → HasSeenMore (BothSaw saw beside) p ts first now → HasSeenMore beside p ts first.other.now now.other.now
+  pair_other p ts more = (both_seen p ts more).other
+
+  -- both who watched are still the same
   pub pair_same : HasSeenSome (BothSaw saw beside) first now → now.observer.ghost_name ≡ first.observer.ghost_name
   pair_same (inl same) = ap (λ (b : Beside V O). b.observer.ghost_name) same
   pair_same (inr seen) = (both_seen seen.0 seen.1 seen.2).same
 
-  -- and has seen what both saw
+  pub pair_same_other : HasSeenSome (BothSaw saw beside) first now → now.other.ghost_name ≡ first.other.ghost_name
+  pair_same_other (inl same) = ap (λ (b : Beside V O). b.other.ghost_name) same
+  pair_same_other (inr seen) = (both_seen seen.0 seen.1 seen.2).same_other
+
+  -- and the first has seen what both saw
   pub pair_watched : HasSeenSome (BothSaw saw beside) first now → HasSeenSome saw first.observer.now now.observer.now
   pair_watched (inl same) = inl (ap (λ (b : Beside V O). b.observer.now) same)
-  pair_watched (inr seen) = inr (seen.0, seen.1, (both_seen seen.0 seen.1 seen.2).seen)
+  pair_watched (inr seen) = inr (seen.0, seen.1, pair_seen seen.0 seen.1 seen.2)

@@ -2,12 +2,13 @@
 use Rattle.std.specs.Prelude.{◌≡◌, ◌⊎◌, ℕ, true, false, List, [], ◌∷◌, Option, None, IfOk, Result, Err}
 use Rattle.job_times.specs.Timings.{Times, times_asked}
 use Rattle.plan_events.specs.declared.outcome.Reply.{Reply}
+use Rattle.resource_locks.specs.Plans.{PlanParts}
 use Rattle.suite_text.specs.Reading.Parts.{SuiteParts}
 use Rattle.launch_options.specs.Asked.{Asked}
 use Rattle.launch_options.specs.declared.fault.LaunchFault.{LaunchFault}
 use Rattle.launcher.specs.Watched.{is_run}
 use Rattle.launcher.specs.declared.exit_status.ExitStatus.{ExitStatus}
-use Rattle.listeners.specs.Listeners.{tellings_of}
+use Rattle.listeners.specs.Listeners.{Telling, tellings_of}
 use Rattle.report_files.specs.Deeds.{Deed, Does}
 use Rattle.report_files.specs.FiledReports.{Wanted, IsUnopened}
 use Rattle.report_files.specs.FiledRuns.{AreFiledOf, IsOpenedWith}
@@ -17,13 +18,6 @@ use Rattle.report_files.specs.SlowestTests.{IsSlowestIn}
 use Rattle.report_files.specs.declared.recording.Recorded.{Recorded}
 use Rattle.report_files.specs.declared.report.Report.{Report}
 use Rattle.test_programs.specs.JobsRuns.{IsJobsRunWith, RunsJobs}
-
--- the files of these reports could not be opened: nothing is run, and nothing is written
-pub record IsUnopenedJobs (wanted : List Wanted) (old new : Option (List ℕ)) (was now : Option (List Deed)) (answer : Result ExitStatus LaunchFault) : Type 0 where
-  pub fault : LaunchFault
-  pub is : answer ≡ Err fault
-  pub unopened : IsUnopened wanted was now fault
-  pub unwritten : new ≡ old
 
 module _ {B : Type 0} (answers : B → List Reply) (gives : B → Reply → Type 0) (asked : Asked) (parts : SuiteParts) (jobs : List (ℕ × B)) where
   -- the history that is printed is recorded, each event with its text
@@ -45,25 +39,35 @@ module _ {B : Type 0} (answers : B → List Reply) (gives : B → Reply → Type
   abbrev pub FilesJobs : List Wanted → Times → (old new : Option (List ℕ)) → Result ExitStatus LaunchFault → List Deed → Type 0
   FilesJobs wanted times old new ran ends = is_run None asked.details ≡ true → IfOk ran (λ status. IsFiledJobs wanted times old new status ends)
 
-  -- the files of these reports were opened, and what is asked for is run
-  abbrev pub IsOpenedJobs : List Wanted → Times → (old new : Option (List ℕ)) → (was now : Option (List Deed)) → Result ExitStatus LaunchFault → Type 0
-  IsOpenedJobs wanted times old new = IsOpenedWith (RunsJobs answers gives asked parts jobs old new) (FilesJobs wanted times old new) wanted
-
-  -- a run with reports that are kept in files; what is printed has these times. Where none is asked for it is a run as any, and no file is
-  -- touched.
-  abbrev pub JobsFiled : List Wanted → Times → (old new : Option (List ℕ)) → (was now : Option (List Deed)) → Result ExitStatus LaunchFault → Type 0
-  JobsFiled [] times old new was now answer = RunsJobs answers gives asked parts jobs old new answer × Does was now []
-  JobsFiled (w ∷ wanted) times old new was now answer = IsUnopenedJobs (w ∷ wanted) old new was now answer ⊎ IsOpenedJobs (w ∷ wanted) times old new was now answer
-
   -- of a run that was printed to its end, with these times: a list, if one is made, is of the plan that was run, and by the same times; and
   -- none is made where nothing is run
   pub record IsSlowestOfJobs (times : Times) (old new : Option (List ℕ)) (status : ExitStatus) (slowest : Option (List ℕ)) : Type 0 where
     pub listed : is_run None asked.details ≡ true → IsJobsRunWith answers gives asked parts jobs (λ p history texts. IsSlowestIn asked.times times p slowest) times old new status
     pub unrun : is_run None asked.details ≡ false → slowest ≡ None
 
-  -- What is asked for is run with these reports, and of a run that was not refused this list of the slowest tests is made: what is printed,
-  -- each report and the list tell the same times.
-  pub record IsTimedJobs (wanted : List Wanted) (old new : Option (List ℕ)) (was now : Option (List Deed)) (result : Result ExitStatus LaunchFault) (slowest : Option (List ℕ)) : Type 0 where
-    pub times : Times
-    pub filed : JobsFiled wanted times old new was now result
-    pub listed : IfOk result (λ status. IsSlowestOfJobs times old new status slowest)
+  -- and of who watches, who was like this when the run began, and is like this when it has ended
+  module _ {V : Type 0} (saw : PlanParts → V → V → List Telling → Type 0) (begun ended : V) where
+    -- the files of these reports could not be opened: nothing is run, so nothing is seen, and nothing is written
+    pub record IsUnopenedJobs (wanted : List Wanted) (old new : Option (List ℕ)) (was now : Option (List Deed)) (answer : Result ExitStatus LaunchFault) : Type 0 where
+      pub fault : LaunchFault
+      pub is : answer ≡ Err fault
+      pub unopened : IsUnopened wanted was now fault
+      pub unseen : ended ≡ begun
+      pub unwritten : new ≡ old
+
+    -- the files of these reports were opened, and what is asked for is run
+    abbrev pub IsOpenedJobs : List Wanted → Times → (old new : Option (List ℕ)) → (was now : Option (List Deed)) → Result ExitStatus LaunchFault → Type 0
+    IsOpenedJobs wanted times old new = IsOpenedWith (RunsJobs answers gives asked parts jobs saw begun ended times old new) (FilesJobs wanted times old new) wanted
+
+    -- a run with reports that are kept in files; what is printed has these times. Where none is asked for it is a run as any, and no file is
+    -- touched.
+    abbrev pub JobsFiled : List Wanted → Times → (old new : Option (List ℕ)) → (was now : Option (List Deed)) → Result ExitStatus LaunchFault → Type 0
+    JobsFiled [] times old new was now answer = RunsJobs answers gives asked parts jobs saw begun ended times old new answer × Does was now []
+    JobsFiled (w ∷ wanted) times old new was now answer = IsUnopenedJobs (w ∷ wanted) old new was now answer ⊎ IsOpenedJobs (w ∷ wanted) times old new was now answer
+
+    -- What is asked for is run with these reports, and of a run that was not refused this list of the slowest tests is made: what is printed,
+    -- each report and the list tell the same times.
+    pub record IsTimedJobs (wanted : List Wanted) (old new : Option (List ℕ)) (was now : Option (List Deed)) (result : Result ExitStatus LaunchFault) (slowest : Option (List ℕ)) : Type 0 where
+      pub times : Times
+      pub filed : JobsFiled wanted times old new was now result
+      pub listed : IfOk result (λ status. IsSlowestOfJobs times old new status slowest)

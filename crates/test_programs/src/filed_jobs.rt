@@ -54,7 +54,8 @@ fn run_jobs_recorded<
     ensures same { beside.new.observer.ghost_name ≡ beside.old.observer.ghost_name }
     ensures watched { HasSeenSome V.saw beside.old.observer.now beside.new.observer.now }
     ensures runs { RunsJobs B.answers B.gives (asked_by options.now) (program_parts program.tree program.properties)
-        program.jobs.items (W.contents writer.old) (W.contents writer.new) result }
+        program.jobs.items V.saw beside.old.observer.now beside.new.observer.now
+        (times_of times.new.timings) (W.contents writer.old) (W.contents writer.new) result }
     ensures recorded { is_run None (asked_by options.now).details ≡ true → IfOk result
         (λ status. IsRecordedJobs B.answers B.gives (asked_by options.now) (program_parts program.tree program.properties)
         program.jobs.items (times_of times.new.timings) (W.contents writer.old) (W.contents writer.new) status
@@ -90,7 +91,8 @@ fn run_jobs_reported<
     ensures same { beside.new.observer.ghost_name ≡ beside.old.observer.ghost_name }
     ensures watched { HasSeenSome V.saw beside.old.observer.now beside.new.observer.now }
     ensures runs { RunsJobs B.answers B.gives (asked_by options.now) (program_parts program.tree program.properties)
-        program.jobs.items (W.contents writer.old) (W.contents writer.new) result }
+        program.jobs.items V.saw beside.old.observer.now beside.new.observer.now
+        (times_of times.new.timings) (W.contents writer.old) (W.contents writer.new) result }
     ensures reported { is_run None (asked_by options.now).details ≡ true → IfOk result
         (λ status. IsReportedJobs B.answers B.gives (asked_by options.now) (program_parts program.tree program.properties)
         program.jobs.items F.contents (times_of times.new.timings) (W.contents writer.old) (W.contents writer.new)
@@ -153,7 +155,8 @@ fn run_jobs_listed<
     ensures same { beside.new.observer.ghost_name ≡ beside.old.observer.ghost_name }
     ensures watched { HasSeenSome V.saw beside.old.observer.now beside.new.observer.now }
     ensures runs { RunsJobs B.answers B.gives (asked_by options.now) (program_parts program.tree program.properties)
-        program.jobs.items (W.contents writer.old) (W.contents writer.new) result }
+        program.jobs.items V.saw beside.old.observer.now beside.new.observer.now
+        (times_of times.new.timings) (W.contents writer.old) (W.contents writer.new) result }
     ensures reported { is_run None (asked_by options.now).details ≡ true → IfOk result
         (λ status. IsReportedJobs B.answers B.gives (asked_by options.now) (program_parts program.tree program.properties)
         program.jobs.items F.contents (times_of times.new.timings) (W.contents writer.old) (W.contents writer.new)
@@ -202,7 +205,8 @@ fn run_jobs_beside<
     requires all { HasJobs program.tree program.jobs.items }
     ensures watched { HasSeenSome V.saw observer.old observer.new }
     ensures runs { RunsJobs B.answers B.gives (asked_by options.now) (program_parts program.tree program.properties)
-        program.jobs.items (W.contents writer.old) (W.contents writer.new) result }
+        program.jobs.items V.saw observer.old observer.new
+        (times_of times.new.timings) (W.contents writer.old) (W.contents writer.new) result }
     ensures reported { is_run None (asked_by options.now).details ≡ true → IfOk result
         (λ status. IsReportedJobs B.answers B.gives (asked_by options.now) (program_parts program.tree program.properties)
         program.jobs.items F.contents (times_of times.new.timings) (W.contents writer.old) (W.contents writer.new)
@@ -257,8 +261,9 @@ fn run_jobs_opened<
     requires all { length reports.old ≡ length wanted.now }
     ensures filed { (before : Option (List Deed)) →
         Does before (K.deeds files.old) (openings (map parts_of wanted.now)) →
-        JobsFiled B.answers B.gives (asked_by options.now) (program_parts program.tree program.properties) program.jobs.items
-        (map parts_of wanted.now) (times_of times.new.timings) (W.contents writer.old) (W.contents writer.new) before
+        JobsFiled B.answers B.gives (asked_by options.now) (program_parts program.tree program.properties)
+        program.jobs.items V.saw observer.old observer.new (map parts_of wanted.now)
+        (times_of times.new.timings) (W.contents writer.old) (W.contents writer.new) before
         (K.deeds files.new) result }
     ensures watched { HasSeenSome V.saw observer.old observer.new }
     ensures slowest { IfOk result (λ status. IsSlowestOfJobs B.answers B.gives (asked_by options.now)
@@ -338,8 +343,8 @@ pub(crate) fn run_jobs_filed<
         (run_of plan workers ring program.jobs.items) }
     requires all { HasJobs program.tree program.jobs.items }
     ensures filed { JobsFiled B.answers B.gives (asked_by options.now) (program_parts program.tree program.properties)
-        program.jobs.items (map parts_of wanted.now) (times_of times.new.timings) (W.contents writer.old)
-        (W.contents writer.new) (K.deeds files.old) (K.deeds files.new) result }
+        program.jobs.items V.saw observer.old observer.new (map parts_of wanted.now) (times_of times.new.timings)
+        (W.contents writer.old) (W.contents writer.new) (K.deeds files.old) (K.deeds files.new) result }
     ensures watched { HasSeenSome V.saw observer.old observer.new }
     // The list is of the plan that was run, by the same times.
     ensures slowest { IfOk result (λ status. IsSlowestOfJobs B.answers B.gives (asked_by options.now)

@@ -55,8 +55,9 @@ fn run_jobs_named<
     requires all { HasJobs program.tree program.jobs.items }
     ensures same { lines.new.errors.ghost_name ≡ lines.old.errors.ghost_name }
     ensures names { AreNamedBehind (E.contents lines.old.errors.now) (E.contents lines.new.errors.now) }
-    ensures runs { IsTimedJobs B.answers B.gives (asked_by launch.now.options) (program_parts program.tree program.properties)
-        program.jobs.items (map parts_of launch.now.reports.items) (W.contents writer.old) (W.contents writer.new)
+    ensures runs { IsTimedJobs B.answers B.gives (asked_by launch.now.options) (program_parts program.tree
+        program.properties) program.jobs.items V.saw observer.old observer.new (map parts_of launch.now.reports.items)
+        (W.contents writer.old) (W.contents writer.new)
         (K.deeds files.old) (K.deeds files.new) result (option_map string_bytes slowest.new) }
 {
     run_jobs_shown(
@@ -92,8 +93,9 @@ fn run_jobs_quiet<
         (run_of plan workers ring program.jobs.items) }
     requires all { HasJobs program.tree program.jobs.items }
     ensures names { AreNamedBehind (E.contents errors.old) (E.contents errors.new) }
-    ensures runs { IsTimedJobs B.answers B.gives (asked_by launch.now.options) (program_parts program.tree program.properties)
-        program.jobs.items (map parts_of launch.now.reports.items) (W.contents writer.old) (W.contents writer.new)
+    ensures runs { IsTimedJobs B.answers B.gives (asked_by launch.now.options) (program_parts program.tree
+        program.properties) program.jobs.items V.saw observer.old observer.new (map parts_of launch.now.reports.items)
+        (W.contents writer.old) (W.contents writer.new)
         (K.deeds files.old) (K.deeds files.new) result (option_map string_bytes slowest.new) }
 {
     let stopwatch = times_by(alloc, clock);
@@ -132,8 +134,9 @@ fn run_jobs_followed<
     requires all { HasJobs program.tree program.jobs.items }
     ensures same { progress.new.terminal.ghost_name ≡ progress.old.terminal.ghost_name }
     ensures draws { IsDrawnBehind (E.contents progress.old.terminal.now) (E.contents progress.new.terminal.now) }
-    ensures runs { IsTimedJobs B.answers B.gives (asked_by launch.now.options) (program_parts program.tree program.properties)
-        program.jobs.items (map parts_of launch.now.reports.items) (W.contents writer.old) (W.contents writer.new)
+    ensures runs { IsTimedJobs B.answers B.gives (asked_by launch.now.options) (program_parts program.tree
+        program.properties) program.jobs.items V.saw observer.old observer.new (map parts_of launch.now.reports.items)
+        (W.contents writer.old) (W.contents writer.new)
         (K.deeds files.old) (K.deeds files.new) result (option_map string_bytes slowest.new) }
 {
     run_jobs_shown(
@@ -169,8 +172,9 @@ fn run_jobs_drawn<
         (run_of plan workers ring program.jobs.items) }
     requires all { HasJobs program.tree program.jobs.items }
     ensures draws { IsDrawnBehind (E.contents errors.old) (E.contents errors.new) }
-    ensures runs { IsTimedJobs B.answers B.gives (asked_by launch.now.options) (program_parts program.tree program.properties)
-        program.jobs.items (map parts_of launch.now.reports.items) (W.contents writer.old) (W.contents writer.new)
+    ensures runs { IsTimedJobs B.answers B.gives (asked_by launch.now.options) (program_parts program.tree
+        program.properties) program.jobs.items V.saw observer.old observer.new (map parts_of launch.now.reports.items)
+        (W.contents writer.old) (W.contents writer.new)
         (K.deeds files.old) (K.deeds files.new) result (option_map string_bytes slowest.new) }
 {
     let stopwatch = times_by(alloc, clock);
@@ -232,8 +236,9 @@ pub(crate) fn run_jobs_meanwhile<
         (run_of plan workers ring program.jobs.items) }
     requires all { HasJobs program.tree program.jobs.items }
     ensures tells { IsToldMeanwhile is_terminal (E.contents errors.old) (E.contents errors.new) }
-    ensures runs { IsTimedJobs B.answers B.gives (asked_by launch.now.options) (program_parts program.tree program.properties)
-        program.jobs.items (map parts_of launch.now.reports.items) (W.contents writer.old) (W.contents writer.new)
+    ensures runs { IsTimedJobs B.answers B.gives (asked_by launch.now.options) (program_parts program.tree
+        program.properties) program.jobs.items V.saw observer.old observer.new (map parts_of launch.now.reports.items)
+        (W.contents writer.old) (W.contents writer.new)
         (K.deeds files.old) (K.deeds files.new) result (option_map string_bytes slowest.new) }
 {
     if is_terminal {

@@ -46,9 +46,11 @@ fn run_jobs_paired<
         (run_of plan workers ring program.jobs.items) }
     requires all { HasJobs program.tree program.jobs.items }
     ensures same { pair.new.observer.ghost_name ≡ pair.old.observer.ghost_name }
+    ensures same_other { pair.new.other.ghost_name ≡ pair.old.other.ghost_name }
     ensures watched { HasSeenSome D.saw pair.old.observer.now pair.new.observer.now }
-    ensures runs { IsTimedJobs B.answers B.gives (asked_by launch.now.options) (program_parts program.tree program.properties)
-        program.jobs.items (map parts_of launch.now.reports.items) (W.contents writer.old) (W.contents writer.new)
+    ensures runs { IsTimedJobs B.answers B.gives (asked_by launch.now.options) (program_parts program.tree
+        program.properties) program.jobs.items V.saw pair.old.other.now pair.new.other.now
+        (map parts_of launch.now.reports.items) (W.contents writer.old) (W.contents writer.new)
         (K.deeds files.old) (K.deeds files.new) result (option_map string_bytes slowest.new) }
 {
     let wanted = launch.reports.as_slice();
@@ -66,7 +68,7 @@ fn run_jobs_paired<
     )
 }
 
-/// Does the same: the first who watches has seen the run, and the other is shown it too.
+/// Does the same: the first who watches has seen the run, and the other the very history that is printed.
 pub(crate) fn run_jobs_shown<
     B: Job + Send,
     T: Threads + Wait + Sync,
@@ -91,8 +93,9 @@ pub(crate) fn run_jobs_shown<
         (run_of plan workers ring program.jobs.items) }
     requires all { HasJobs program.tree program.jobs.items }
     ensures watched { HasSeenSome D.saw observer.old observer.new }
-    ensures runs { IsTimedJobs B.answers B.gives (asked_by launch.now.options) (program_parts program.tree program.properties)
-        program.jobs.items (map parts_of launch.now.reports.items) (W.contents writer.old) (W.contents writer.new)
+    ensures runs { IsTimedJobs B.answers B.gives (asked_by launch.now.options) (program_parts program.tree
+        program.properties) program.jobs.items V.saw other.old other.new (map parts_of launch.now.reports.items)
+        (W.contents writer.old) (W.contents writer.new)
         (K.deeds files.old) (K.deeds files.new) result (option_map string_bytes slowest.new) }
 {
     let mut pair = Beside { observer, other };

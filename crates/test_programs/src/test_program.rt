@@ -60,8 +60,9 @@ fn run_launch<
     requires jobs { (plan : PlanParts) (workers ring : ℕ) → JobsMayAnswer B.answers
         (run_of plan workers ring program.jobs.items) }
     requires all { HasJobs program.tree program.jobs.items }
-    ensures { IsRunOfTests B.answers B.gives W.contents E.contents (program_parts program.tree program.properties)
-        program.jobs.items is_terminal (asked_by launch.entry.options) (map parts_of launch.entry.reports.items)
+    ensures { IsRunOfTests B.answers B.gives V.saw W.contents E.contents (program_parts program.tree program.properties)
+        program.jobs.items observer.old observer.new is_terminal (asked_by launch.entry.options)
+        (map parts_of launch.entry.reports.items)
         writer.old writer.new errors.old errors.new (K.deeds files.old) (K.deeds files.new) result }
 {
     let said = said_of_settings(alloc, &launch.options, &program.properties, &program.tree);
@@ -98,7 +99,8 @@ fn run_launch<
 /// how far the run has come is drawn there meanwhile. Words that give no options are refused as
 /// `read_options` says, and then nothing is run; so is `--report`, by 105, and `--replay` or `--drive`, since
 /// nobody knows beforehand what the tests answer. Each body of the tree has a job, and whatever plan
-/// is made of the tree, the jobs may answer. Who watches is shown the run, as one of two observers.
+/// is made of the tree, the jobs may answer. Whoever watches has seen the history that is printed, each event
+/// with its text; nothing, if nothing is run.
 fn run_test_words<
     B: Job + Send,
     T: Threads + Wait + Sync,
@@ -120,9 +122,9 @@ fn run_test_words<
     requires jobs { (plan : PlanParts) (workers ring : ℕ) → JobsMayAnswer B.answers
         (run_of plan workers ring program.jobs.items) }
     requires all { HasJobs program.tree program.jobs.items }
-    ensures { IsTestRun B.answers B.gives W.contents E.contents (program_parts program.tree program.properties)
-        program.jobs.items is_terminal (map string_bytes words.now) writer.old writer.new errors.old errors.new
-        result }
+    ensures { IsTestRun B.answers B.gives V.saw W.contents E.contents (program_parts program.tree program.properties)
+        program.jobs.items observer.old observer.new is_terminal (map string_bytes words.now) writer.old writer.new
+        errors.old errors.new result }
 {
     match read_unreported(alloc, words) {
         Ok(launch) => run_launch(
@@ -169,12 +171,12 @@ pub fn run_test_program<
     requires jobs { (plan : PlanParts) (workers ring : ℕ) → JobsMayAnswer B.answers
         (run_of plan workers ring program.jobs.items) }
     requires all { HasJobs program.tree program.jobs.items }
-    ensures run { IfOk words (λ given. IsTestRun B.answers B.gives W.contents E.contents (program_parts program.tree
-        program.properties) program.jobs.items is_terminal (map string_bytes (into_iter_items given)) writer.old
-        writer.new errors.old errors.new result) }
+    ensures run { IfOk words (λ given. IsTestRun B.answers B.gives V.saw W.contents E.contents
+        (program_parts program.tree program.properties) program.jobs.items observer.old observer.new is_terminal
+        (map string_bytes (into_iter_items given)) writer.old writer.new errors.old errors.new result) }
     ensures refused { IfErr words (λ error. (fault : LaunchFault) × IsGivenFault (error_kind error) fault
-        × Closes tests_sentence_of W.contents E.contents (Err fault) writer.old writer.new errors.old errors.new
-        result) }
+        × (observer.new ≡ observer.old) × Closes tests_sentence_of W.contents E.contents (Err fault) writer.old
+        writer.new errors.old errors.new result) }
 {
     match given_words(alloc, words) {
         Ok(words) => run_test_words(
@@ -220,9 +222,9 @@ fn run_filed_words<
     requires jobs { (plan : PlanParts) (workers ring : ℕ) → JobsMayAnswer B.answers
         (run_of plan workers ring program.jobs.items) }
     requires all { HasJobs program.tree program.jobs.items }
-    ensures { IsFiledTestRun B.answers B.gives W.contents E.contents (program_parts program.tree program.properties)
-        program.jobs.items K.deeds is_terminal (map string_bytes words.now) writer.old writer.new errors.old errors.new
-        files.old files.new result }
+    ensures { IsFiledTestRun B.answers B.gives V.saw W.contents E.contents
+        (program_parts program.tree program.properties) program.jobs.items observer.old observer.new K.deeds
+        is_terminal (map string_bytes words.now) writer.old writer.new errors.old errors.new files.old files.new result }
 {
     match read_launch(alloc, words) {
         Ok(launch) => run_launch(
@@ -274,9 +276,9 @@ fn run_given_tests<
     requires jobs { (plan : PlanParts) (workers ring : ℕ) → JobsMayAnswer B.answers
         (run_of plan workers ring program.jobs.items) }
     requires all { HasJobs program.tree program.jobs.items }
-    ensures { IsTestMainRun B.answers B.gives W.contents E.contents (program_parts program.tree program.properties)
-        program.jobs.items K.deeds is_terminal facts.now (map string_bytes words.now) writer.old writer.new errors.old
-        errors.new files.old files.new result }
+    ensures { IsTestMainRun B.answers B.gives V.saw W.contents E.contents
+        (program_parts program.tree program.properties) program.jobs.items observer.old observer.new K.deeds
+        is_terminal facts.now (map string_bytes words.now) writer.old writer.new errors.old errors.new files.old files.new result }
 {
     match all_words(alloc, words, texts, facts) {
         Ok(expanded) => run_filed_words(
@@ -329,12 +331,13 @@ pub fn run_test_main<
     requires jobs { (plan : PlanParts) (workers ring : ℕ) → JobsMayAnswer B.answers
         (run_of plan workers ring program.jobs.items) }
     requires all { HasJobs program.tree program.jobs.items }
-    ensures run { IfOk words (λ given. IsTestMainRun B.answers B.gives W.contents E.contents (program_parts program.tree
-        program.properties) program.jobs.items K.deeds is_terminal facts.now (map string_bytes (into_iter_items given))
-        writer.old writer.new errors.old errors.new files.old files.new result) }
+    ensures run { IfOk words (λ given. IsTestMainRun B.answers B.gives V.saw W.contents E.contents
+        (program_parts program.tree program.properties) program.jobs.items observer.old observer.new K.deeds
+        is_terminal facts.now (map string_bytes (into_iter_items given)) writer.old writer.new errors.old errors.new
+        files.old files.new result) }
     ensures refused { IfErr words (λ error. (fault : LaunchFault) × IsGivenFault (error_kind error) fault
-        × (files.new ≡ files.old) × Closes tests_sentence_of W.contents E.contents (Err fault) writer.old writer.new
-        errors.old errors.new result) }
+        × (observer.new ≡ observer.old) × (files.new ≡ files.old) × Closes tests_sentence_of W.contents E.contents
+        (Err fault) writer.old writer.new errors.old errors.new result) }
 {
     match given_words(alloc, words) {
         Ok(words) => run_given_tests(

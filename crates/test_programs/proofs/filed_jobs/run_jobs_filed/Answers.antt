@@ -9,8 +9,8 @@ use Rattle.test_programs.proofs.filed_jobs.run_jobs_filed.Goals as goal
 pub returns-then-asks_no_more-clause-filed : goal.returns-then-asks_no_more-clause-filed
 returns-then-asks_no_more-clause-filed g c =
     let run = c.run_jobs in
-    jobs_unfiled g.B.Job.answers g.B.Job.gives (asked_by c.args.options.now) (program_parts c.args.program.tree c.args.program.properties) c.args.program.jobs.items (times_of run.new.times.timings) (g.W.Write.contents c.args.writer.now) (g.W.Write.contents run.new.writer) c.args.wanted.now (g.K.ReportFiles.deeds c.args.files.now) run.result
-    (c.asks_no_more.ensures c.if-asks_no_more.true) (record { exact = run.ensures.exact; quiet = run.ensures.quiet })
+    jobs_unfiled g.B.Job.answers g.B.Job.gives (asked_by c.args.options.now) (program_parts c.args.program.tree c.args.program.properties) c.args.program.jobs.items g.V.Observer.saw c.args.observer.now run.new.observer (times_of run.new.times.timings) (g.W.Write.contents c.args.writer.now) (g.W.Write.contents run.new.writer) c.args.wanted.now (g.K.ReportFiles.deeds c.args.files.now) run.result
+    (c.asks_no_more.ensures c.if-asks_no_more.true) (record { exact = run.ensures.watched; quiet = run.ensures.quiet })
 
 pub returns-then-asks_no_more-clause-watched : goal.returns-then-asks_no_more-clause-watched
 returns-then-asks_no_more-clause-watched g c =
@@ -24,7 +24,7 @@ returns-then-asks_no_more-clause-slowest g c =
 
 pub returns-in_err-reports-clause-filed : goal.returns-in_err-reports-clause-filed
 returns-in_err-reports-clause-filed g c =
-    jobs_unopened g.B.Job.answers g.B.Job.gives (asked_by c.args.options.now) (program_parts c.args.program.tree c.args.program.properties) c.args.program.jobs.items (times_of c.args.times.now.timings) (g.W.Write.contents c.args.writer.now) c.args.wanted.now (g.K.ReportFiles.deeds c.args.files.now) (g.K.ReportFiles.deeds c.open_wanted.new.files)
+    jobs_unopened g.B.Job.answers g.B.Job.gives (asked_by c.args.options.now) (program_parts c.args.program.tree c.args.program.properties) c.args.program.jobs.items g.V.Observer.saw c.args.observer.now (times_of c.args.times.now.timings) (g.W.Write.contents c.args.writer.now) c.args.wanted.now (g.K.ReportFiles.deeds c.args.files.now) (g.K.ReportFiles.deeds c.open_wanted.new.files)
     c.in_err-reports.field-0.0 c.from_residual.result c.from_residual.ensures.1 c.in_err-reports.ensures.some c.in_err-reports.ensures.refused
 
 pub returns-clause-filed : goal.returns-clause-filed

@@ -17,7 +17,7 @@ returns-clause-filed g c account opening =
     let run = c.run_jobs_beside-answer in
     let ended = c.end_all-lost.ensures in
     jobs_filed g.B.Job.answers g.B.Job.gives (asked_by c.args.options.now) (program_parts c.args.program.tree c.args.program.properties) c.args.program.jobs.items (times_of run.new.times.timings) (g.W.Write.contents c.args.writer.now) (g.W.Write.contents run.new.writer) g.K.File.Write.contents c.args.reports.now run.new.reports ended.0
-    (map parts_of c.args.wanted.now) account (g.K.ReportFiles.deeds c.args.files.now) (g.K.ReportFiles.deeds c.end_all-lost.new.files) run.result c.answer_with.result (many_wanted c.args.wanted.now (length c.args.reports.now) c.requires.all) c.requires.opened opening run.ensures.runs run.ensures.reported run.ensures.refused
+    g.V.Observer.saw c.args.observer.now run.new.observer (map parts_of c.args.wanted.now) account (g.K.ReportFiles.deeds c.args.files.now) (g.K.ReportFiles.deeds c.end_all-lost.new.files) run.result c.answer_with.result (many_wanted c.args.wanted.now (length c.args.reports.now) c.requires.all) c.requires.opened opening run.ensures.runs run.ensures.reported run.ensures.refused
     run.ensures.many ended.1 ended.2 (c.answer_with.ensures ∙ ap (answer_with run.result) ended.3)
 
 pub returns-clause-slowest : goal.returns-clause-slowest

@@ -2,7 +2,9 @@
 use Rattle.job_times.specs.Timings.{times_of}
 use Rattle.launch_options.specs.Asked.{asked_by}
 use Rattle.launcher.specs.Programs.{program_parts}
+use Rattle.report_files.specs.Recordings.{HasRecorded}
 use Rattle.test_programs.proofs.Filed.{jobs_recorded, jobs_unrecorded, some_seen, still_same}
+use Rattle.test_programs.proofs.SeenBeside.{first_saw}
 use Rattle.test_programs.proofs.filed_jobs.run_jobs_recorded.Goals as goal
 
 pub returns-clause-same : goal.returns-clause-same
@@ -16,7 +18,12 @@ returns-clause-watched g c =
     some_seen g.B.Job.answers g.B.Job.gives (asked_by c.args.options.now) (program_parts c.args.program.tree c.args.program.properties) c.args.program.jobs.items (times_of run.new.times.timings) (g.W.Write.contents c.args.writer.now) (g.W.Write.contents run.new.writer) g.V.Observer.saw c.args.beside.now run.new.observer run.result run.ensures.watched
 
 pub returns-clause-runs : goal.returns-clause-runs
-returns-clause-runs g c = record { exact = c.run_jobs.ensures.exact; quiet = c.run_jobs.ensures.quiet }
+returns-clause-runs g c =
+    let run = c.run_jobs in
+    record {
+      exact = first_saw g.V.Observer.saw HasRecorded c.args.beside.now run.new.observer (times_of run.new.times.timings) g.B.Job.answers g.B.Job.gives (asked_by c.args.options.now) (program_parts c.args.program.tree c.args.program.properties) c.args.program.jobs.items (g.W.Write.contents c.args.writer.now) (g.W.Write.contents run.new.writer) run.result run.ensures.watched;
+      quiet = run.ensures.quiet;
+    }
 
 pub returns-clause-recorded : goal.returns-clause-recorded
 returns-clause-recorded g c runs =

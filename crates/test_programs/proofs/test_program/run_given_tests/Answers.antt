@@ -11,4 +11,4 @@ returns-in-Ok g c = record {
 }
 
 pub returns-in-Err : goal.returns-in-Err
-returns-in-Err g c = record { expanded = Err c.in-Err.fault; expands = c.in-Err.ensures; runs = (refl, c.close_run.ensures.closed) }
+returns-in-Err g c = record { expanded = Err c.in-Err.fault; expands = c.in-Err.ensures; runs = (refl, refl, c.close_run.ensures.closed) }
