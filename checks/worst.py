@@ -139,6 +139,11 @@ def tagged(part):
     return tests(nodes(part), "#a #b ", "engine e #c\n  class a.B #d\n")
 
 
+def told(details, lines):
+    """A run of which these details are printed."""
+    return lambda part: (["--details", details], lines(part))
+
+
 def run(lines, *words):
     """A case of a suite that is run."""
     return lambda part: (["--details", "none", *words], lines(part))
@@ -240,11 +245,17 @@ CASES = [
     Case("sixteen locks on each test", suite(full_locks)),
     # runs
     Case("4,095 tests, run", run(lambda part: tests(nodes(part))), 0),
-    Case("ids of 1,024 bytes, all printed", lambda part: (["--details", "testfeed"], long_ids(part)), 0),
-    Case("tests 58 levels deep, the tree printed", lambda part: (["--details", "tree"], nested(part)), 0),
-    Case("tests 58 levels deep, reported in XML", lambda part: (["--details", "xml"], nested(part)), 0),
-    Case("classes with both bodies, reported in XML", lambda part: (["--details", "xml"], classes(part)), 0),
-    Case("a factory of 4,092 dynamic tests, reported in XML", lambda part: (["--details", "xml"], factory(part)), 0),
+    Case("ids of 1,024 bytes, all printed", told("testfeed", long_ids), 0),
+    Case("tests 58 levels deep, the tree printed", told("tree", nested), 0),
+    Case("4,095 tests, reported in XML", told("xml", lambda part: tests(nodes(part))), 0),
+    Case("tests 58 levels deep, reported in XML", told("xml", nested), 0),
+    Case("classes with both bodies, reported in XML", told("xml", classes), 0),
+    Case("a factory of 4,092 dynamic tests, reported in XML", told("xml", factory), 0),
+    Case("4,095 tests, told as JSON", told("json", lambda part: tests(nodes(part))), 0),
+    Case("tests 58 levels deep, told as JSON", told("json", nested), 0),
+    Case("4,095 tests, listed", told("list", lambda part: tests(nodes(part))), 0),
+    Case("tests 58 levels deep, listed", told("list", nested), 0),
+    Case("sixteen locks on each test, told as a plan", told("plan", full_locks), 0),
     Case("4,095 tests that fail", lambda part: (["--details", "summary"], tests(nodes(part)).replace(" pass", " fail x")), 1),
     Case("classes with both bodies, run", run(classes), 0),
     Case("a factory of 4,092 dynamic tests, run", run(factory), 0),
