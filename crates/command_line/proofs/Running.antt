@@ -8,8 +8,9 @@ use Rattle.launch_options.specs.Asked.{asked_by}
 use Rattle.launch_options.specs.Given.{Text}
 use Rattle.launch_options.specs.declared.asked.Options.{Options}
 use Rattle.launch_options.specs.declared.fault.LaunchFault.{LaunchFault}
-use Rattle.launcher.specs.Runs.{IsRun, TakesFrom, fault_in, is_writing}
-use Rattle.launcher.specs.declared.exit_status.ExitStatus.{ExitStatus}
+use Rattle.launcher.specs.Runs.{IsRun, is_writing}
+use Rattle.ready_runs.specs.Reading.{TakesFrom, fault_in}
+use Rattle.run_outputs.specs.declared.exit_status.ExitStatus.{ExitStatus}
 use Rattle.suite_text.specs.Reading.Bytes.{suite_read}
 use Rattle.report_files.specs.Deeds.{Deed}
 use Rattle.report_files.specs.FiledReports.{Wanted}

@@ -4,11 +4,11 @@ use Rattle.std.specs.Fmt.{decimal}
 use Rattle.std.specs.Io.KnownBytes.{Appends, Keeps}
 use Rattle.launch_options.specs.Given.{Text}
 use Rattle.launch_options.specs.Asked.{Asked, asked_by}
-use Rattle.launcher.specs.AfterRuns.{line_after}
-use Rattle.launcher.specs.ExitStatuses.{number_of, status_after}
+use Rattle.run_outputs.specs.AfterRuns.{line_after}
+use Rattle.run_outputs.specs.ExitStatuses.{number_of, status_after}
 use Rattle.launch_options.specs.Faults.{refusal_text}
 use Rattle.launch_options.specs.declared.asked.Options.{Options}
-use Rattle.launcher.specs.declared.exit_status.ExitStatus.{ExitStatus}
+use Rattle.run_outputs.specs.declared.exit_status.ExitStatus.{ExitStatus}
 use Rattle.launch_options.specs.declared.fault.LaunchFault.{LaunchFault}
 use Rattle.messages.specs.Hints.{hints_text}
 use Rattle.messages.specs.Messages.{message_text}

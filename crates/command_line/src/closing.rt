@@ -1,8 +1,8 @@
 //! What is said once a run is over.
 
 ghost use Rattle.std.specs.Prelude.{◌≡◌, ◌++◌, Err, IfOk, IfSome, option_map, string_bytes};
-ghost use Rattle.launcher.specs.AfterRuns.{line_after};
-ghost use Rattle.launcher.specs.ExitStatuses.{number_of, status_after};
+ghost use Rattle.run_outputs.specs.AfterRuns.{line_after};
+ghost use Rattle.run_outputs.specs.ExitStatuses.{number_of, status_after};
 ghost use Rattle.messages.specs.Sentences.{sentence_by};
 ghost use Rattle.command_line.specs.Runs.{Closes, ClosesRun, HasMessage, PrintsLine, PrintsMessage, WentOut};
 ghost use Rattle.command_line.specs.Runs.{SaysAll, SaysFailures, SaysHints, SaysIfRun, SaysSeed, SaysText};

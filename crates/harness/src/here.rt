@@ -3,7 +3,7 @@
 ghost use Rattle.std.specs.Prelude.{◌≡◌, ◌⊎◌, IfOk, IfErr};
 ghost use Rattle.harness.specs.Jobs.{gives_left, jobs_by, replies_left};
 ghost use Rattle.harness.specs.SystemRuns.{IsRunHere};
-ghost use Rattle.launcher.specs.Programs.{program_parts};
+ghost use Rattle.ready_runs.specs.ReadyPrograms.{program_parts};
 ghost use Rattle.resource_locks.specs.Spares.{HasBareSpares};
 ghost use Rattle.test_tree.specs.Building.{held, properties_of};
 ghost use Rattle.test_tree.specs.Growing.{IsPending};

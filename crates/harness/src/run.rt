@@ -6,7 +6,7 @@ ghost use Rattle.std.specs.Vec.Iter.{into_iter_items};
 ghost use Rattle.harness.specs.Jobs.{gives_left, jobs_by, replies_left};
 ghost use Rattle.resource_locks.specs.Spares.{HasBareSpares};
 ghost use Rattle.launch_options.specs.declared.fault.LaunchFault.{LaunchFault};
-ghost use Rattle.launcher.specs.Programs.{program_parts};
+ghost use Rattle.ready_runs.specs.ReadyPrograms.{program_parts};
 ghost use Rattle.messages.specs.Sentences.{tests_sentence_of};
 ghost use Rattle.command_line.specs.Runs.{Closes};
 ghost use Rattle.command_words.specs.GivenWords.{IsGivenFault};

@@ -11,7 +11,7 @@ use Rattle.launch_options.specs.Faults.{cut_by_memory, cut_by_writer}
 use Rattle.launch_options.specs.declared.fault.CutOutput.{CutOutput}
 use Rattle.launch_options.specs.declared.fault.LaunchFault.{LaunchFault}
 use Rattle.launch_options.specs.declared.fault.LaunchFault.TheVariants.{Writing}
-use Rattle.launcher.specs.declared.exit_status.ExitStatus.{ExitStatus}
+use Rattle.run_outputs.specs.declared.exit_status.ExitStatus.{ExitStatus}
 use Rattle.launcher.specs.Runs.{is_writing}
 use Rattle.launcher.specs.Watched.{IsAllOf, IsAnswered, IsBrokenOff, IsRefusedBy, LacksBy, LacksMeans, cut_in}
 

@@ -21,13 +21,14 @@ use Rattle.table_rule.specs.Picture.{given_by, replies_of}
 use Rattle.worker_pool.specs.Reports.{run_of, AreTexts, IsReport, IsToldAsGiven}
 use Rattle.listeners.specs.Observing.{HasSeenMore}
 use Rattle.launch_options.specs.Asked.{Asked}
-use Rattle.launcher.specs.declared.exit_status.ExitStatus.{ExitStatus}
-use Rattle.launcher.specs.ExitStatuses.{status_of_run}
-use Rattle.launcher.specs.Programs.{one_each, IsBehindRun, IsHistoryBy, IsPrintedJobs}
+use Rattle.run_outputs.specs.declared.exit_status.ExitStatus.{ExitStatus}
+use Rattle.run_outputs.specs.ExitStatuses.{status_of_run}
+use Rattle.launcher.specs.Programs.{one_each, IsHistoryBy, IsPrintedJobs}
+use Rattle.run_outputs.specs.ScheduleLines.{IsBehindRun}
 use Rattle.launch_options.specs.declared.details.Details.{Details}
-use Rattle.launcher.specs.Reports.{details_of}
-use Rattle.launcher.specs.ScheduleTexts.{schedule_line}
-use Rattle.launcher.specs.WarningTexts.{head_of}
+use Rattle.run_outputs.specs.Outputs.{details_of}
+use Rattle.run_outputs.specs.ScheduleTexts.{schedule_line}
+use Rattle.run_outputs.specs.WarningTexts.{head_of}
 use Rattle.launcher.specs.Watched.{HasSeenPrinted, SomeOutput}
 use Rattle.launcher.proofs.Answered.{said, legal_said, said_given, texts_said}
 use Rattle.launcher.proofs.Reporting.{expected_output, schedule_behind}

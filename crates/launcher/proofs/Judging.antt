@@ -3,8 +3,8 @@ use Rattle.std.proofs.Common.{◌≡◌, ℕ, Bool, List, Option, Some, None, Re
 use Rattle.launch_options.specs.Asked.{Asked}
 use Rattle.launch_options.specs.declared.fault.CutOutput.{CutOutput}
 use Rattle.launch_options.specs.declared.fault.LaunchFault.{LaunchFault}
-use Rattle.launcher.specs.declared.exit_status.ExitStatus.{ExitStatus}
-use Rattle.launcher.specs.Missing.{IsJudged, answer_unless, status_unless}
+use Rattle.run_outputs.specs.declared.exit_status.ExitStatus.{ExitStatus}
+use Rattle.run_outputs.specs.Missing.{IsJudged, answer_unless, status_unless}
 use Rattle.launcher.specs.Watched.{IsAnswered, IsRefusedBy, SeesRefusal, cut_in}
 
 module _ (missing : Bool) (Output : List ℕ → ExitStatus → Type 0) where

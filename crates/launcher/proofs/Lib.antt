@@ -4,15 +4,12 @@ pub mod Driving
 pub mod JobsRan
 pub mod Judging
 pub mod Launching
-pub mod Noting
-pub mod Planning
 pub mod ProgramRuns
 pub mod ProgramShown
-pub mod Reading
+pub mod ReadyRuns
 pub mod Replaying
 pub mod Reporting
 pub mod Scripting
-pub mod SeenBeside
 pub mod Selected
 pub mod Showing
 pub mod SuiteRan

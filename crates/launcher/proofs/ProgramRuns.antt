@@ -1,11 +1,8 @@
 -- What is answered of a program's jobs.
-use Rattle.std.proofs.Common.{◌≡◌, ◌∙◌, ℕ, Bool, true, false, List, [], Option, Some, None, Result, Ok, Err, IfErr, refl, sym, ap, subst, inl, inr}
-use Rattle.std.specs.Option.{option_or}
+use Rattle.std.proofs.Common.{◌≡◌, ◌∙◌, ℕ, Bool, true, false, List, [], Option, None, Result, Ok, Err, IfErr, refl, sym, ap, subst, inl, inr}
 use Rattle.std.specs.Result.{IsErrAnd}
 use Rattle.std.proofs.lemmas.Bool.{true≢false}
-use Rattle.std.proofs.lemmas.Option.{none-some}
 use Rattle.config_params.specs.declared.settings.Settings.{Settings}
-use Rattle.config_params.specs.declared.settings_fault.SettingsFault.{SettingsFault}
 use Rattle.descriptor.specs.Nodes.{Nodes, IsTree}
 use Rattle.plan_events.specs.declared.event.Event.{Event}
 use Rattle.plan_events.specs.declared.outcome.Reply.{Reply}
@@ -14,7 +11,6 @@ use Rattle.listeners.specs.Listeners.{Telling}
 use Rattle.job_times.specs.Timings.{Times}
 use Rattle.resource_locks.specs.Plans.{PlanParts}
 use Rattle.never_stuck.specs.Reaching.{NeverStuck}
-use Rattle.scheduling.specs.declared.step.Step.{Step}
 use Rattle.run_table.specs.Prepared.{HasAllJobs}
 use Rattle.selectors.specs.Selections.{answer}
 use Rattle.suite_text.specs.Reading.Parts.{SuiteParts}
@@ -23,16 +19,19 @@ use Rattle.launch_options.specs.declared.details.Details.{Details}
 use Rattle.launch_options.specs.declared.details.Details.TheVariants as details
 use Rattle.launch_options.specs.declared.fault.LaunchFault.{LaunchFault}
 use Rattle.launch_options.specs.declared.fault.LaunchFault.TheVariants.{NoMemory, Suite as OfSuite, BadWords, BadStep, BadReport, CutReport, UnreadRun, BadSavedLine, UnreadWords, BadSelector, BadTags, BadPair, BadSettings, NothingMatches, TooManyKeys, TooManyWorkers, NoWorker, Reading, Writing}
-use Rattle.launcher.specs.declared.exit_status.ExitStatus.{ExitStatus}
-use Rattle.launcher.specs.Missing.{IsJudged, answer_unless, is_missing}
-use Rattle.launcher.specs.Programs.{FailsProgram, HasJobs, IsJobsOutput, IsPrintedJobs, IsProgramOutput, IsProgramRun, IsSeenProgram, IsSeenProgramRun, IsSeenSelectedOutput, IsSelectedBy, IsSelectedOutput, program_refusal, steps_refusal}
-use Rattle.launcher.specs.Runs.{FailsSuite, IsReady, TakesMemory, crowd_refusal, plan_refusal, run_refusal, settings_in, settings_refusal}
-use Rattle.launcher.specs.Watched.{HasLiveFeed, IsAnswered, LacksBy, SeesRefusal, cut_in, is_run}
+use Rattle.run_outputs.specs.declared.exit_status.ExitStatus.{ExitStatus}
+use Rattle.run_outputs.specs.Missing.{IsJudged, answer_unless, is_missing}
+use Rattle.ready_runs.specs.ReadyPrograms.{FailsProgram, program_refusal, steps_refusal}
+use Rattle.launcher.specs.Programs.{HasJobs, IsJobsOutput, IsPrintedJobs, IsProgramOutput, IsProgramRun, IsSeenProgram, IsSeenProgramRun, IsSeenSelectedOutput, IsSelectedBy, IsSelectedOutput}
+use Rattle.ready_runs.specs.Ready.{IsReady, TakesMemory}
+use Rattle.launcher.specs.Watched.{HasLiveFeed, IsAnswered, LacksBy, SeesRefusal, cut_in}
+use Rattle.run_outputs.specs.Outputs.{is_run}
 use Rattle.launcher.proofs.BrokenOff.{answered_as, refused}
 use Rattle.launcher.proofs.Judging.{judged}
 use Rattle.launcher.proofs.Showing.{IsTextOf, lines_run}
-use Rattle.launcher.proofs.Planning.{ready_takes}
+use Rattle.ready_runs.proofs.Planning.{ready_takes}
 use Rattle.launcher.proofs.Selected.{selected_jobs, all_jobs}
+use Rattle.ready_runs.proofs.ProgramRefusals.{same_refusal}
 
 -- no job of the plan is missing
 pub no_job_missing : {B : Type 0} (asked : Asked) (parts : SuiteParts) (settings : Settings) (p : PlanParts) (jobs : List (ℕ × B)) → IsTree parts.tree → IsReady asked parts settings p [] → HasJobs parts.tree jobs → HasAllJobs p jobs
@@ -62,52 +61,7 @@ module _ {B : Type 0} (answers : B → List Reply) (gives : B → Reply → Type
 pub jobs_feed_runs : (asked : Asked) → HasLiveFeed asked → is_run None asked.details ≡ true
 jobs_feed_runs asked lines = lines_run asked.details lines.0
 
-no_replay : (replay : Option (List Step)) (drive : Option ℕ) → steps_refusal replay drive ≡ None → replay ≡ None
-no_replay None drive none = refl
-no_replay (Some steps) drive none = absurd (none-some BadWords (sym none))
-
--- a program whose steps are not asked for
-module _ (asked : Asked) (parts : SuiteParts) (no_steps : steps_refusal asked.replay asked.drive ≡ None) where
-  -- is refused as a suite is
-  same_refusal : program_refusal asked parts ≡ run_refusal asked parts
-  same_refusal = ap (λ o. option_or o (run_refusal asked parts)) no_steps
-
-  fails_as : (fault : LaunchFault) → FailsSuite asked parts fault → FailsProgram asked parts fault
-  fails_as NoMemory x = (no_steps, x)
-  fails_as (OfSuite f) x = absurd x
-  fails_as BadWords x = absurd x
-  fails_as (BadStep n) x = absurd x
-  fails_as (BadReport n) x = absurd x
-  fails_as (CutReport n) x = absurd x
-  fails_as UnreadRun x = absurd x
-  fails_as (BadSavedLine n) x = absurd x
-  fails_as (UnreadWords n) x = absurd x
-  fails_as (BadSelector n) x = absurd x
-  fails_as (BadTags f) x = absurd x
-  fails_as (BadPair f) x = absurd x
-  fails_as (BadSettings f) x = same_refusal ∙ x
-  fails_as (NothingMatches n) x = same_refusal ∙ x
-  fails_as TooManyKeys x = same_refusal ∙ x
-  fails_as TooManyWorkers x = same_refusal ∙ x
-  fails_as NoWorker x = (same_refusal ∙ x.0, sym (ap (λ r. is_run r asked.details) (no_replay asked.replay asked.drive no_steps)) ∙ x.1)
-  fails_as Reading x = absurd x
-  fails_as (Writing f) x = absurd x
-
-  pub fails_so : {X : Type 0} (result : Result X LaunchFault) → IfErr result (FailsSuite asked parts) → IfErr result (FailsProgram asked parts)
-  fails_so (Ok x) is = tt
-  fails_so (Err e) is = fails_as e is
-
-  pub settings_fail : {X : Type 0} (cause : SettingsFault) (result : Result X LaunchFault) → IsErrAnd result (λ e. e ≡ BadSettings cause) → Err cause ≡ settings_in asked parts → IfErr result (FailsProgram asked parts)
-  settings_fail cause (Ok x) is same = absurd is
-  settings_fail cause (Err e) is same =
-      rw is (same_refusal ∙ ap (λ r. option_or (settings_refusal r) (option_or (plan_refusal asked parts.tree parts.properties) (crowd_refusal r))) (sym same))
-
 module _ (asked : Asked) (parts : SuiteParts) where
-  -- steps are asked for
-  pub steps_fail : {X : Type 0} (fault : LaunchFault) (result : Result X LaunchFault) → IsErrAnd result (λ e. e ≡ fault) → fault ≡ BadWords → steps_refusal asked.replay asked.drive ≡ Some fault → IfErr result (FailsProgram asked parts)
-  steps_fail fault (Ok x) is words why = absurd is
-  steps_fail fault (Err e) is words why = rw is (rw words (ap (λ o. option_or o (run_refusal asked parts)) why ∙ ap Some words))
-
   -- want of memory hides nothing that is judged before
   pub fails_memory : {X : Type 0} (fault : LaunchFault) (result : Result X LaunchFault) → IsErrAnd result (λ e. e ≡ fault) → FailsProgram asked parts fault → IfErr result (λ f. f ≡ NoMemory → TakesMemory asked parts)
   fails_memory fault (Ok x) is fails = absurd is

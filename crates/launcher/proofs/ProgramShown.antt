@@ -8,10 +8,10 @@ use Rattle.launch_options.specs.Asked.{Asked}
 use Rattle.launch_options.specs.declared.details.Details.{Details}
 use Rattle.launch_options.specs.declared.details.Details.TheVariants as details
 use Rattle.launch_options.specs.declared.fault.LaunchFault.{LaunchFault}
-use Rattle.launcher.specs.declared.exit_status.ExitStatus.{ExitStatus}
-use Rattle.launcher.specs.declared.report.Output.{Output}
+use Rattle.run_outputs.specs.declared.exit_status.ExitStatus.{ExitStatus}
+use Rattle.run_outputs.specs.declared.output.Output.{Output}
 use Rattle.launcher.specs.Programs.{IsJobsOutput, IsProgramOutput}
-use Rattle.launcher.specs.Watched.{is_run}
+use Rattle.run_outputs.specs.Outputs.{is_run}
 
 -- any details but the list and the nodes
 abbrev Runs : Details → Type 0

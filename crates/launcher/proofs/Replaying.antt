@@ -24,10 +24,10 @@ use Rattle.schedules.specs.Schedules.{IsSchedule}
 use Rattle.step_text.specs.StepSpelling.{steps_text, AreNamable}
 use Rattle.step_text.proofs.Written.{text_back}
 use Rattle.worker_pool.specs.Reports.{AreTexts as AreRunTexts}
-use Rattle.launcher.specs.declared.exit_status.ExitStatus.{ExitStatus}
+use Rattle.run_outputs.specs.declared.exit_status.ExitStatus.{ExitStatus}
 use Rattle.launch_options.specs.Asked.{IsReplay}
-use Rattle.launcher.specs.ReplayTexts.{replay_line}
-use Rattle.launcher.specs.Reports.{replayed, replay_counts, IsReplayOutput}
+use Rattle.run_outputs.specs.ReplayTexts.{replay_line}
+use Rattle.run_outputs.specs.Outputs.{replayed, replay_counts, IsReplayOutput}
 
 -- the line, without its end, is read as just these steps
 pub read_again : (steps : List Step) → AreNamable steps → IsReplay (Some (steps_text steps)) (Some steps)

@@ -30,18 +30,20 @@ use Rattle.run_table.specs.Prepared.{HasAllJobs, IsRightRing}
 use Rattle.run_table.specs.declared.fault.TableFault.TheVariants.{NoMemory, NoWorkers, TooManyWorkers, BadRing, JobsMissing}
 use Rattle.launch_options.specs.declared.details.Details.{Details}
 use Rattle.launch_options.specs.declared.details.Details.TheVariants as details
-use Rattle.launcher.specs.declared.exit_status.ExitStatus.{ExitStatus}
-use Rattle.launcher.specs.declared.scripted.ScriptedJob.{ScriptedJob}
+use Rattle.run_outputs.specs.declared.exit_status.ExitStatus.{ExitStatus}
+use Rattle.suite_jobs.specs.declared.scripted.ScriptedJob.{ScriptedJob}
 use Rattle.launch_options.specs.Asked.{Asked}
-use Rattle.launcher.specs.ExitStatuses.{status_of_run}
-use Rattle.launcher.specs.Reports.{details_of, expected_details, IsBehindDetails, IsExpectedOutput, IsHistory, IsPrintedRun}
-use Rattle.launcher.specs.Scripted.{replies_left, AreScripted}
-use Rattle.launcher.specs.WarningTexts.{head_of}
-use Rattle.launcher.specs.ScheduleTexts.{schedule_line}
+use Rattle.run_outputs.specs.ExitStatuses.{status_of_run}
+use Rattle.run_outputs.specs.Outputs.{details_of, expected_details, IsExpectedOutput}
+use Rattle.run_outputs.specs.ScheduleLines.{IsBehindDetails}
+use Rattle.launcher.specs.Reports.{IsHistory, IsPrintedRun}
+use Rattle.suite_jobs.specs.Scripted.{replies_left, AreScripted}
+use Rattle.run_outputs.specs.WarningTexts.{head_of}
+use Rattle.run_outputs.specs.ScheduleTexts.{schedule_line}
 use Rattle.launcher.specs.Watched.{HasSeenPrinted, SomeOutput, Watches}
 use Rattle.launch_options.specs.declared.fault.LaunchFault.{LaunchFault}
 use Rattle.launch_options.specs.declared.fault.LaunchFault.TheVariants as launches
-use Rattle.launcher.specs.declared.report.Output.{Output}
+use Rattle.run_outputs.specs.declared.output.Output.{Output}
 use Rattle.listeners.specs.Listeners.{Telling, tellings_of}
 use Rattle.listeners.specs.Observing.{HasSeenMore}
 use Rattle.std.specs.Result.{IsErrAnd}

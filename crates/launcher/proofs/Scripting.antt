@@ -1,10 +1,8 @@
 -- The jobs of a suite are those that a run asks for, and what is legal by their replies is legal by what the suite says.
-use Rattle.std.proofs.Common.{◌≡◌, ◌∙◌, ℕ, zero, suc, ◌+◌, ◌<◌, ◌==◌, ◌&&◌, not, nat_lt, cond, Bool, true, false, List, [], ◌∷◌, ◌++◌, length, Option, Some, None, slice_get, refl, sym, ap, subst, arith, inl, inr}
+use Rattle.std.proofs.Common.{◌≡◌, ◌∙◌, ℕ, zero, suc, ◌<◌, ◌==◌, ◌&&◌, cond, Bool, true, false, List, [], ◌∷◌, length, Option, Some, None, slice_get, refl, sym, ap, subst, arith, inl, inr}
 use Rattle.std.specs.List.{All}
 use Rattle.std.proofs.lemmas.Bool.{eqb-true}
-use Rattle.std.proofs.lemmas.List.Elements.{All-append, All-cons, All-head, All-nil, All-tail}
-use mathlib.Core.Logic.{dite}
-use native.Mathlib.Decide.{ℕ_discrete}
+use Rattle.std.proofs.lemmas.List.Elements.{All-head, All-tail}
 use Rattle.std.proofs.lemmas.Option.{none-some, same_Some}
 use Rattle.std.specs.Option.{is_some}
 use Rattle.descriptor.specs.Nodes.{IsTree, size, body_of, after_of, kind_of, role_of}
@@ -13,7 +11,7 @@ use Rattle.descriptor.specs.declared.kind.Kind.{Kind}
 use Rattle.descriptor.specs.declared.kind.Kind.TheVariants.{Test, Container, ContainerAndTest}
 use Rattle.descriptor.specs.declared.role.Role.{Role}
 use Rattle.descriptor.specs.declared.role.Role.TheVariants.{Plain, Factory, Spare}
-use Rattle.plan_events.specs.Jobs.{unpulled, HasOutcome}
+use Rattle.plan_events.specs.Jobs.{unpulled}
 use Rattle.plan_events.specs.declared.event.Event.{Event}
 use Rattle.plan_events.specs.declared.outcome.Reply.{Reply}
 use Rattle.plan_events.specs.declared.status.Status.{Status}
@@ -28,12 +26,11 @@ use Rattle.table_rule.specs.Picture.{replies_in}
 use Rattle.table_rule.specs.Slots.{slot_count, is_body_slot, after_slot, job_at, job_with}
 use Rattle.table_rule.proofs.Jobs.{body_job, after_job_at, after_is, one_slot_each, far}
 use Rattle.run_table.specs.Prepared.{HasAllJobs}
-use Rattle.run_table.proofs.Filled.{first_counts, one_more}
 use Rattle.worker_pool.proofs.Handed.{body_inside, after_inside, replies_found}
 use Rattle.worker_pool.specs.Premises.{JobsMayAnswer}
 use Rattle.worker_pool.specs.Reports.{run_of}
-use Rattle.launcher.specs.declared.scripted.ScriptedJob.{ScriptedJob}
-use Rattle.launcher.specs.Scripted.{reply_left, replies_left, asked_reply, is_pulled_slot, IsScripted, AreScripted}
+use Rattle.suite_jobs.specs.declared.scripted.ScriptedJob.{ScriptedJob}
+use Rattle.suite_jobs.specs.Scripted.{replies_left, asked_reply, is_pulled_slot, IsScripted, AreScripted}
 
 -- the job that was found with a number
 module _ {B : Type 0} where
@@ -52,45 +49,6 @@ module _ {B : Type 0} where
       go : (job_with jobs number ≡ None → replies_in answers jobs number ≡ []) → (b : Bool) → cond b (Some x.1) (job_with jobs number) ≡ None → cond b (answers x.1) (replies_in answers jobs number) ≡ []
       go rest true h = absurd (none-some x.1 (sym h))
       go rest false h = rest h
-
-  still_there : (jobs : List (ℕ × B)) (x : ℕ × B) (number : ℕ) → (job : B) × (job_with jobs number ≡ Some job) → (job : B) × (job_with (jobs ++ x ∷ []) number ≡ Some job)
-  still_there jobs x number found = (found.0, first_counts jobs (x ∷ []) number found.0 found.1)
-
-  now_there : (jobs : List (ℕ × B)) (number : ℕ) (job : B) → (other : B) × (job_with (jobs ++ (number, job) ∷ []) number ≡ Some other)
-  now_there jobs number job = go (job_with jobs number) refl
-    where
-      go : (found : Option B) → job_with jobs number ≡ found → (other : B) × (job_with (jobs ++ (number, job) ∷ []) number ≡ Some other)
-      go None q = (job, one_more jobs number job q)
-      go (Some other) q = (other, first_counts jobs ((number, job) ∷ []) number other q)
-
--- the outcome of a job that was not asked for dynamic tests, or was asked for all of them
-pub ran_out : (o : Option Reply) (reply : Reply) → o ≡ Some reply → 0 < length (unpulled (reply_left o)) → HasOutcome (reply_left o) reply.outcome
-ran_out None reply is some = absurd (none-some reply is)
-ran_out (Some r) reply is some = record { place = 0; reply = r; stands = refl; no_pulls = none r.pulls (nat_lt 0 r.pulls) refl some; is = ap (λ (x : Reply). x.outcome) (sym (same_Some r reply is)) }
-  where
-    none : (pulls : ℕ) (b : Bool) → nat_lt 0 pulls ≡ b → 0 < length {A = Reply} (cond (not b) (r ∷ []) []) → pulls ≡ 0
-    none pulls true q low = absurd (omega (arith, low))
-    none pulls false q low = grind (arith, q)
-
--- slot by slot
-module _ (p : PlanParts) (answers : List (ℕ × Reply)) where
-  pub none_scripted : (jobs : List (ℕ × ScriptedJob)) → jobs ≡ [] → AreScripted p answers 0 jobs
-  none_scripted jobs is = record { each = subst (All (IsScripted p answers)) (sym is) (All-nil (IsScripted p answers)); all = λ slot number low at. absurd (omega (arith, low)) }
-
-  pub slot_without : (i : ℕ) (jobs : List (ℕ × ScriptedJob)) → AreScripted p answers i jobs → job_at p i ≡ None → AreScripted p answers (i + 1) jobs
-  slot_without i jobs so_far none = record {
-    each = so_far.each;
-    all = λ slot number low at. dite (ℕ_discrete slot i) (λ e. absurd (none-some number (sym none ∙ ap (job_at p) (sym e) ∙ at))) (λ ne. so_far.all slot number (omega (arith, low, ne)) at);
-  }
-
-  pub slot_with_job : (i number : ℕ) (job : ScriptedJob) (jobs : List (ℕ × ScriptedJob)) → AreScripted p answers i jobs → i < slot_count p → job_at p i ≡ Some number
-      → replies_left job ≡ asked_reply (is_pulled_slot p i) (reply_of answers number) ∷ [] → AreScripted p answers (i + 1) (jobs ++ (number, job) ∷ [])
-  slot_with_job i number job jobs so_far inside is answer = record {
-    each = All-append (IsScripted p answers) jobs ((number, job) ∷ []) so_far.each (All-cons (IsScripted p answers) (number, job) [] (record { slot = i; inside = inside; is = is; answer = answer }) (All-nil (IsScripted p answers)));
-    all = λ slot other low at. dite (ℕ_discrete slot i)
-        (λ e. subst (λ (n : ℕ). (found : ScriptedJob) × (job_with (jobs ++ (number, job) ∷ []) n ≡ Some found)) (same_Some number other (sym is ∙ ap (job_at p) (sym e) ∙ at)) (now_there jobs number job))
-        (λ ne. still_there jobs (number, job) other (so_far.all slot other (omega (arith, low, ne)) at));
-  }
 
 -- what a factory's body is run for alone is pulled
 maker_factory : (kind : Kind) (role : Role) → sort_by kind role ≡ Maker → is_factory role ≡ true

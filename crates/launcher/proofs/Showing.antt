@@ -31,18 +31,22 @@ use Rattle.launch_options.specs.declared.details.Details.{Details}
 use Rattle.launch_options.specs.declared.details.Details.TheVariants as details
 use Rattle.launch_options.specs.declared.fault.LaunchFault.{LaunchFault}
 use Rattle.launch_options.specs.declared.fault.LaunchFault.TheVariants.{NoMemory, Suite as OfSuite, BadWords, BadStep, BadReport, CutReport, UnreadRun, BadSavedLine, UnreadWords, BadSelector, BadTags, BadPair, BadSettings, NothingMatches, TooManyKeys, TooManyWorkers, NoWorker, Reading, Writing}
-use Rattle.launcher.specs.declared.exit_status.ExitStatus.{ExitStatus}
-use Rattle.launcher.specs.declared.report.Output.{Output}
-use Rattle.launcher.specs.declared.watched_feed.WatchedFeed.{WatchedFeed}
-use Rattle.launcher.specs.Beside.{SeesBeside}
-use Rattle.launcher.specs.Reports.{details_of, HasHistory, IsOutput, IsOutputWith, IsPlanOutput, IsPrintedRun, IsRunOutput}
-use Rattle.launcher.specs.Missing.{IsJudged, answer_unless, is_missing}
-use Rattle.launcher.specs.Runs.{FailsSuite, IsReady, IsSeenOutput, IsSeenReadyRun, IsSeenSuiteOutput, IsSeenSuiteRun, IsSuiteOutput, IsSuiteOutputBy, IsSuiteRun, IsUnrun, TakesMemory}
-use Rattle.launcher.specs.WarningTexts.{head_of}
-use Rattle.launcher.specs.Watched.{HasLiveFeed, HasSeenPrinted, IsAllOf, IsBrokenOff, SeesRefusal, SeesTextBy, SomeOutput, WatchesBy, IsAnswered, cut_in, form_by, is_run, outlet_by}
+use Rattle.run_outputs.specs.declared.exit_status.ExitStatus.{ExitStatus}
+use Rattle.run_outputs.specs.declared.output.Output.{Output}
+use Rattle.run_outputs.specs.declared.watched_feed.WatchedFeed.{WatchedFeed}
+use Rattle.run_outputs.specs.Beside.{SeesBeside}
+use Rattle.run_outputs.specs.Outputs.{details_of}
+use Rattle.launcher.specs.Reports.{HasHistory, IsOutput, IsOutputWith, IsPlanOutput, IsPrintedRun, IsRunOutput}
+use Rattle.run_outputs.specs.Missing.{IsJudged, answer_unless, is_missing}
+use Rattle.ready_runs.specs.Ready.{FailsSuite, IsReady, TakesMemory}
+use Rattle.launcher.specs.Runs.{IsSeenOutput, IsSeenReadyRun, IsSeenSuiteOutput, IsSeenSuiteRun, IsSuiteOutput, IsSuiteOutputBy, IsSuiteRun, IsUnrun}
+use Rattle.run_outputs.specs.WarningTexts.{head_of}
+use Rattle.launcher.specs.Watched.{HasLiveFeed, HasSeenPrinted, IsAllOf, IsBrokenOff, SeesRefusal, SeesTextBy, SomeOutput, WatchesBy, IsAnswered, cut_in, form_by, outlet_by}
+use Rattle.run_outputs.specs.Outputs.{is_run}
 use Rattle.launcher.proofs.BrokenOff.{answered_as, broken as broken_run, cut_short, refused, uncut_by, whole as whole_of}
 use Rattle.launcher.proofs.Judging.{judged}
-use Rattle.launcher.proofs.Planning.{ready_output, ready_takes, ready_unrun}
+use Rattle.launcher.proofs.ReadyRuns.{ready_output, ready_unrun}
+use Rattle.ready_runs.proofs.Planning.{ready_takes}
 
 -- lines are printed from the first only if they are asked for, and no replay
 lines_asked : (kind : Details) (replay : Option (List Step)) (drive : Option ℕ) → outlet_by kind replay drive ≡ Waiting → (prints_live kind ≡ true) × (replay ≡ None) × (drive ≡ None)

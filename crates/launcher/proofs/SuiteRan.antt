@@ -16,12 +16,12 @@ use Rattle.table_rule.specs.Slots.{slot_count}
 use Rattle.worker_pool.specs.Reports.{run_of, IsReport}
 use Rattle.launch_options.specs.Asked.{Asked}
 use Rattle.launch_options.specs.declared.fault.LaunchFault.{LaunchFault}
-use Rattle.launcher.specs.declared.exit_status.ExitStatus.{ExitStatus}
-use Rattle.launcher.specs.declared.report.Output.{Output}
-use Rattle.launcher.specs.declared.scripted.ScriptedJob.{ScriptedJob}
+use Rattle.run_outputs.specs.declared.exit_status.ExitStatus.{ExitStatus}
+use Rattle.run_outputs.specs.declared.output.Output.{Output}
+use Rattle.suite_jobs.specs.declared.scripted.ScriptedJob.{ScriptedJob}
 use Rattle.launcher.specs.Programs.{IsPrintedJobs}
 use Rattle.launcher.specs.Reports.{HasHistory, IsPrintedRun, IsRunOutput}
-use Rattle.launcher.specs.Scripted.{gives_left, replies_left, AreScripted}
+use Rattle.suite_jobs.specs.Scripted.{gives_left, replies_left, AreScripted}
 use Rattle.launcher.specs.Watched.{HasSeenPrinted, Watches}
 use Rattle.launcher.proofs.Reporting.{printed_run, told_of}
 

@@ -1,14 +1,5 @@
-pub mod AfterRuns
-pub mod Beside
-pub mod Bytes
-pub mod ExitStatuses
 pub mod Faults
-pub mod Missing
 pub mod Programs
-pub mod ReplayTexts
 pub mod Reports
 pub mod Runs
-pub mod ScheduleTexts
-pub mod Scripted
-pub mod WarningTexts
 pub mod Watched

@@ -1,12 +1,11 @@
 -- What is run and printed of a program's jobs, of which nobody knows beforehand what they answer.
-use Rattle.std.specs.Prelude.{◌≡◌, ℕ, ◌<◌, ◌⊎◌, Bool, true, false, List, [], ◌∷◌, ◌++◌, Option, Some, None, IfSome, slice_get, Result, Ok}
-use Rattle.std.specs.Option.{is_some, option_or}
-use Rattle.config_params.specs.Parameters.{Parameters}
+use Rattle.std.specs.Prelude.{◌≡◌, ℕ, ◌<◌, ◌⊎◌, true, false, List, [], ◌∷◌, ◌++◌, Option, Some, None, slice_get, Result, Ok}
+use Rattle.std.specs.Option.{is_some}
 use Rattle.config_params.specs.declared.settings.Settings.{Settings}
 use Rattle.descriptor.specs.Nodes.{Nodes, size, body_of, after_of}
 use Rattle.plan_events.specs.declared.event.Event.{Event}
 use Rattle.plan_events.specs.declared.outcome.Reply.{Reply}
-use Rattle.plan_events.specs.Texts.{TextParts, text_at}
+use Rattle.plan_events.specs.Texts.{TextParts}
 use Rattle.resource_locks.specs.Plans.{PlanParts}
 use Rattle.resource_locks.specs.Spares.{HasBareSpares}
 use Rattle.event_history.specs.Apart.{IsApart}
@@ -18,8 +17,6 @@ use Rattle.event_history.specs.Order.{IsInOrder}
 use Rattle.event_history.specs.Parts.{EndsInPlan}
 use Rattle.event_history.specs.Plans.{is_same}
 use Rattle.never_stuck.specs.Reaching.{NeverStuck}
-use Rattle.scheduling.specs.declared.step.Step.{Step}
-use Rattle.sched_core.specs.Texts.{AreTexts as AreReplayed}
 use Rattle.suite_text.specs.Reading.Parts.{SuiteParts}
 use Rattle.table_rule.specs.Picture.{given_by, replies_of}
 use Rattle.table_rule.specs.Slots.{job_with}
@@ -32,14 +29,17 @@ use Rattle.launch_options.specs.Asked.{Asked}
 use Rattle.launch_options.specs.declared.details.Details.{Details}
 use Rattle.launch_options.specs.declared.details.Details.TheVariants as details
 use Rattle.launch_options.specs.declared.fault.LaunchFault.{LaunchFault}
-use Rattle.launch_options.specs.declared.fault.LaunchFault.TheVariants.{BadSettings, BadWords, NoMemory, NothingMatches, NoWorker, TooManyKeys, TooManyWorkers}
-use Rattle.launcher.specs.declared.exit_status.ExitStatus.{ExitStatus}
-use Rattle.launcher.specs.ExitStatuses.{status_of_run}
-use Rattle.launcher.specs.Missing.{IsJudged, is_missing}
-use Rattle.launcher.specs.Reports.{details_of, HasHistory, IsBehindDetails, IsExpectedOutput, IsListing, IsPlanned, IsScheduleLine}
-use Rattle.launcher.specs.Runs.{TakesMemory, plan_in, run_refusal, settings_in}
-use Rattle.launcher.specs.WarningTexts.{head_of}
-use Rattle.launcher.specs.Watched.{IsAnswered, LacksBy, SeesRefusal, SeesTextBy, is_run}
+use Rattle.run_outputs.specs.declared.exit_status.ExitStatus.{ExitStatus}
+use Rattle.run_outputs.specs.ExitStatuses.{status_of_run}
+use Rattle.run_outputs.specs.Missing.{IsJudged, is_missing}
+use Rattle.run_outputs.specs.ScheduleLines.{IsBehindRun}
+use Rattle.run_outputs.specs.Outputs.{details_of, IsExpectedOutput, IsListing, IsPlanned}
+use Rattle.launcher.specs.Reports.{HasHistory}
+use Rattle.ready_runs.specs.Ready.{plan_in, settings_in}
+use Rattle.run_outputs.specs.WarningTexts.{head_of}
+use Rattle.launcher.specs.Watched.{IsAnswered, LacksBy, SeesRefusal, SeesTextBy}
+use Rattle.run_outputs.specs.Outputs.{is_run}
+use Rattle.ready_runs.specs.ReadyPrograms.{FailsProgram, program_refusal}
 
 -- each body and each after-body of the tree has a job
 abbrev pub HasJobs : {B : Type 0} → Nodes → List (ℕ × B) → Type 0
@@ -64,30 +64,6 @@ pub record IsHistoryBy (workers : ℕ) (p : PlanParts) (reply : ℕ → Reply) (
   pub only : workers ≡ 1 → ((n : ℕ) → n < size p.tree → is_same p n ≡ true) → (h : List Event) → IsLegal p (one_each reply) 1 h → IsInOrder p h → IsComplete p h → h ≡ history
   -- and unless the plan fails fast each node ends as it is expected to by these replies, whatever the number of workers
   pub as_expected : p.fail_fast ≡ false → (n : ℕ) → n < size p.tree → IsAsExpected p (one_each reply) history n (expected p reply n)
-
--- each node has the text that a replay of this history has where the bodies answer so
-pub record HasTextsBy (p : PlanParts) (told : List (ℕ × Reply)) (history : List Event) (texts : TextParts) : Type 0 where
-  pub replayed : TextParts
-  pub are : AreReplayed p told history replayed
-  pub same : (n : ℕ) → n < size p.tree → text_at replayed n ≡ text_at texts n
-
--- The line of a schedule of a run of jobs of which nobody knew beforehand what they answer: it names steps by which so many workers
--- come to just this history where the jobs give these replies, or says that none were found. Where it names steps, the same replies
--- explain the texts: a suite whose bodies are scripted with them has this history by these steps, with these texts.
-pub record IsJobsSchedule (kind : Details) (workers : ℕ) (p : PlanParts) (history : List Event) (texts : TextParts) (printed : List ℕ) : Type 0 where
-  pub told : List (ℕ × Reply)
-  pub line : IsScheduleLine kind workers p told history printed
-  pub explains : IfSome line.found (λ _. HasTextsBy p told history texts)
-
--- what is printed behind the details of such a run: nothing, unless a schedule is asked for
-abbrev pub IsBehindJobs : Details → Bool → ℕ → PlanParts → List Event → TextParts → List ℕ → Type 0
-IsBehindJobs kind false workers p history texts behind = behind ≡ []
-IsBehindJobs kind true workers p history texts behind = IsJobsSchedule kind workers p history texts behind
-
--- the same of any run: of jobs of which it is known beforehand what they answer, as of a suite's, or is not
-abbrev pub IsBehindRun : Details → Bool → ℕ → PlanParts → Option (List (ℕ × Reply)) → List Event → TextParts → List ℕ → Type 0
-IsBehindRun kind asked workers p None history texts behind = IsBehindJobs kind asked workers p history texts behind
-IsBehindRun kind asked workers p (Some known) history texts behind = IsBehindDetails kind asked workers p known history behind
 
 -- of jobs that may answer so, and what is known beforehand of what they do, if it is
 module _ {B : Type 0} (answers : B → List Reply) (gives : B → Reply → Type 0) (known : Option (List (ℕ × Reply))) where
@@ -141,32 +117,6 @@ module _ {B : Type 0} (answers : B → List Reply) (gives : B → Reply → Type
   -- the answer of a run of this plan that somebody watches
   abbrev pub IsSeenPlanRun : Option (List ℕ) → Option (List ℕ) → Result ExitStatus LaunchFault → Type 0
   IsSeenPlanRun = IsAnswered asked IsSeenProgram (λ fault. LacksBy (is_run None asked.details) fault × SeesRefusal first now IsSeenProgram fault)
-
--- a program's tree and what it says of the configuration, as those of a suite without scripts
-abbrev pub program_parts : Nodes → Parameters → SuiteParts
-program_parts tree properties = record { tree = tree; scripts = []; properties = properties }
-
--- why steps are refused that are to be replayed, or those of the fixed schedule: nobody knows beforehand what the jobs answer
-abbrev pub steps_refusal : (replay : Option (List Step)) (drive : Option ℕ) → Option LaunchFault
-steps_refusal (Some steps) drive = Some BadWords
-steps_refusal None (Some workers) = Some BadWords
-steps_refusal None None = None
-
--- why a program is not run: that steps are to be taken, and then what a suite is refused for
-abbrev pub program_refusal : Asked → SuiteParts → Option LaunchFault
-program_refusal asked parts = option_or (steps_refusal asked.replay asked.drive) (run_refusal asked parts)
-
--- a program is refused by its first refusal, and want of memory stands in place of none that is judged before; where nothing refuses
--- it there may be no thread to run it
-abbrev pub FailsProgram : Asked → SuiteParts → LaunchFault → Type 0
-FailsProgram asked parts NoMemory = (steps_refusal asked.replay asked.drive ≡ None) × TakesMemory asked parts
-FailsProgram asked parts BadWords = program_refusal asked parts ≡ Some BadWords
-FailsProgram asked parts (BadSettings fault) = program_refusal asked parts ≡ Some (BadSettings fault)
-FailsProgram asked parts (NothingMatches number) = program_refusal asked parts ≡ Some (NothingMatches number)
-FailsProgram asked parts TooManyKeys = program_refusal asked parts ≡ Some TooManyKeys
-FailsProgram asked parts TooManyWorkers = program_refusal asked parts ≡ Some TooManyWorkers
-FailsProgram asked parts NoWorker = (program_refusal asked parts ≡ None) × (is_run None asked.details ≡ true)
-FailsProgram asked parts _ = ⊥
 
 -- what the request selects of a program's tree is run by the settings, and this is printed of that plan: the text, and the status
 pub record IsSelectedBy (Prints : Settings → PlanParts → List ℕ → ExitStatus → Type 0) (asked : Asked) (parts : SuiteParts) (text : List ℕ) (status : ExitStatus) : Type 0 where

@@ -14,13 +14,13 @@ use Rattle.live.specs.declared.live_feed.Outlet.TheVariants.{Waiting, Closed, Fa
 use Rattle.listeners.specs.Observing.{HasSeenMore}
 use Rattle.launch_options.specs.declared.details.Details.{Details}
 use Rattle.launch_options.specs.declared.details.Details.TheVariants as details
-use Rattle.launcher.specs.declared.exit_status.ExitStatus.{ExitStatus}
+use Rattle.run_outputs.specs.declared.exit_status.ExitStatus.{ExitStatus}
 use Rattle.launch_options.specs.declared.fault.CutCause.{CutCause}
 use Rattle.launch_options.specs.declared.fault.CutCause.TheVariants.{Writer, Memory}
 use Rattle.launch_options.specs.declared.fault.CutOutput.{CutOutput}
 use Rattle.launch_options.specs.declared.fault.LaunchFault.{LaunchFault}
 use Rattle.launch_options.specs.declared.fault.LaunchFault.TheVariants.{NoMemory, NoWorker, Writing}
-use Rattle.launcher.specs.declared.report.Output.{Output}
+use Rattle.run_outputs.specs.declared.output.Output.{Output}
 use Rattle.launch_options.specs.Asked.{Asked}
 use Rattle.launch_options.specs.DetailsTexts.{prints_live}
 
@@ -41,18 +41,6 @@ form_by details.Json = Json
 form_by details.Xml = Feed
 form_by details.List = Feed
 form_by details.Plan = Feed
-
--- whether the plan is run: no steps are replayed, and more is asked for than its list or its nodes
-abbrev pub is_run : Option (List Step) → Details → Bool
-is_run (Some steps) kind = false
-is_run None details.None = true
-is_run None details.Summary = true
-is_run None details.Tree = true
-is_run None details.Testfeed = true
-is_run None details.Json = true
-is_run None details.Xml = true
-is_run None details.List = false
-is_run None details.Plan = false
 
 -- some output of this kind
 pub record SomeOutput (Output : List ℕ → ExitStatus → Type 0) : Type 0 where

@@ -11,13 +11,12 @@ ghost use Rattle.launch_options.specs.Asked.{asked_by};
 ghost use Rattle.launcher.specs.Reports.{IsHistory, IsPrintedRun, IsRunOutput};
 ghost use Rattle.launcher.specs.Watched.{LacksMeans, Watches};
 
-use crate::report::{Output, told_report};
-use crate::watched_feed::{NotesTimes, show};
 use config_params::Settings;
 use launch_options::{LaunchFault, Options};
 use listeners::Observer;
 use plan_events::{Event, Texts};
 use resource_locks::Plan;
+use run_outputs::{NotesTimes, Output, show, told_report};
 use sched_core::{Answers, Trace, drive_with, texts_of};
 use std::alloc::{AllocError, Global};
 

@@ -1,17 +1,19 @@
 //! A run of a program's jobs: from its tree and its jobs to the bytes of a writer.
 
-ghost use Rattle.std.specs.Prelude.{◌≡◌, ◌≤◌, ℕ, [], None, Some, IfOk, IfErr, false, string_bytes};
+ghost use Rattle.std.specs.Prelude.{◌≡◌, ◌≤◌, ℕ, None, IfOk, IfErr, false, string_bytes};
 ghost use Rattle.std.specs.Io.KnownBytes.{Keeps};
 ghost use Rattle.descriptor.specs.Nodes.{IsTree};
 ghost use Rattle.job_times.specs.Timings.{times_of};
 ghost use Rattle.launch_options.specs.Asked.{asked_by};
-ghost use Rattle.launcher.specs.Missing.{is_missing};
-ghost use Rattle.launcher.specs.Programs.{FailsProgram, HasJobs, IsProgramRun};
+ghost use Rattle.run_outputs.specs.Missing.{is_missing};
+ghost use Rattle.launcher.specs.Programs.{HasJobs, IsProgramRun};
 ghost use Rattle.launcher.specs.Programs.{IsSeenPlanRun, IsSeenProgram, IsSeenProgramRun};
-ghost use Rattle.launcher.specs.Programs.{program_parts, steps_refusal};
-ghost use Rattle.launcher.specs.Runs.{IsReady, TakesMemory, is_writing};
-ghost use Rattle.launcher.specs.Watched.{IsBrokenOff, LacksBy, SeesRefusal, form_by, is_run, outlet_by};
-ghost use Rattle.launcher.specs.WarningTexts.{head_of};
+ghost use Rattle.ready_runs.specs.ReadyPrograms.{program_parts};
+ghost use Rattle.ready_runs.specs.Ready.{TakesMemory};
+ghost use Rattle.launcher.specs.Runs.{is_writing};
+ghost use Rattle.launcher.specs.Watched.{IsBrokenOff, LacksBy, SeesRefusal, form_by, outlet_by};
+ghost use Rattle.run_outputs.specs.Outputs.{is_run};
+ghost use Rattle.run_outputs.specs.WarningTexts.{head_of};
 ghost use Rattle.live.specs.LiveFeeds.{IsFront};
 ghost use Rattle.resource_locks.specs.Declarations.{declared_of};
 ghost use Rattle.resource_locks.specs.Hoisted.{IsGuarded};
@@ -20,13 +22,8 @@ ghost use Rattle.run_table.specs.Prepared.{HasAllJobs};
 ghost use Rattle.worker_pool.specs.Premises.{JobsMayAnswer};
 ghost use Rattle.worker_pool.specs.Reports.{run_of};
 
-use crate::asked_times::head_of_run;
-use crate::exit_status::ExitStatus;
-use crate::missing::answer_unless;
-use crate::report::{Output, program_report};
-use crate::run::{SelectedPlan, broken_off, crewed_plan, form_for, outlet_for, settings_over};
-use crate::slow_limits::{set_default_limits, set_limits};
-use crate::watched_feed::WatchedFeed;
+use crate::report::program_report;
+use crate::run::{broken_off, form_for, outlet_for};
 use config_params::{Params, Settings};
 use descriptor::{BodyId, Tree};
 use job_times::{RunTimes, Stopwatch};
@@ -34,12 +31,15 @@ use launch_options::{LaunchFault, Options};
 use listeners::Observer;
 use live::LiveFeed;
 use plan_events::Job;
+use ready_runs::{PlannedProgram, planned_program};
 use resource_locks::Plan;
+use run_outputs::{ExitStatus, Output, WatchedFeed, answer_unless};
 use run_table::Jobs;
 use std::alloc::Global;
 use std::io::Write;
 use std::sync::Wait;
 use std::thread::Threads;
+use suite_jobs::{set_default_limits, set_limits};
 
 /// What a program has to be run: a tree, what it says of the configuration below the options, a job
 /// for each body and each after-body of the tree, and from how many milliseconds on bodies of these
@@ -50,61 +50,6 @@ pub struct Program<B> {
     pub properties: Params,
     pub jobs: Jobs<B>,
     pub slow: Vec<(BodyId, u32)>,
-}
-
-/// The settings and the plan of a program, whether something had to be selected and is not, and the lines of the
-/// settings' warnings.
-#[derive(Drop)]
-struct PlannedProgram {
-    settings: Settings,
-    plan: Plan,
-    is_missing: bool,
-    head: String,
-}
-
-/// Refused is that steps are to be replayed, or that they are to be those of the fixed schedule (105).
-fn refuse_steps(options: &Options) -> Result<(), LaunchFault>
-    ensures accepted { IfOk result (λ _. steps_refusal (asked_by options.now).replay options.now.drive ≡ None) }
-    ensures refused { IfErr result (λ fault. (fault ≡ LaunchFault.BadWords)
-        × (steps_refusal (asked_by options.now).replay options.now.drive ≡ Some fault)) }
-{
-    match &options.replay {
-        Some(_) => Err(LaunchFault::BadWords),
-        None => match options.drive {
-            Some(_) => Err(LaunchFault::BadWords),
-            None => Ok(()),
-        },
-    }
-}
-
-/// Makes the settings and the plan of what the request selects of a program's tree, and a place for the time of each of
-/// its nodes.
-fn planned_program<S: Stopwatch>(
-    alloc: Global,
-    options: &Options,
-    properties: Params,
-    tree: Tree,
-    times: &mut RunTimes<'_, S>,
-) -> Result<PlannedProgram, LaunchFault>
-    ensures steps { IfOk result (λ _. steps_refusal (asked_by options.now).replay options.now.drive ≡ None) }
-    ensures ready { IfOk result (λ planned. IsReady (asked_by options.now) (program_parts tree properties)
-        planned.settings planned.plan []) }
-    ensures missing { IfOk result (λ planned. planned.is_missing ≡ is_missing (asked_by options.now) tree) }
-    ensures head { IfOk result (λ planned. string_bytes planned.head ≡ head_of options.now.details planned.settings.warnings) }
-    ensures refused { IfErr result (FailsProgram (asked_by options.now) (program_parts tree properties)) }
-{
-    refuse_steps(options)?;
-    let settings = settings_over(options, &properties)?;
-    let selected = crewed_plan(alloc, options, &settings, tree, &properties)?;
-    drop(properties);
-    let head = head_of_run(alloc, options, settings.warnings, &selected.plan, times)?;
-    let SelectedPlan { plan, is_missing } = selected;
-    Ok(PlannedProgram {
-        settings,
-        plan,
-        is_missing,
-        head,
-    })
 }
 
 /// What the options print of these jobs on a plan, and the program's status, of which a feed may have printed a part.

@@ -9,9 +9,10 @@ use Rattle.launch_options.specs.Asked.{Asked}
 use Rattle.launch_options.specs.ReportTexts.{parts_of}
 use Rattle.launch_options.specs.declared.fault.LaunchFault.{LaunchFault}
 use Rattle.launch_options.specs.declared.reports.ReportAsked.{ReportAsked}
-use Rattle.launcher.specs.Runs.{IsSeenRun, TakesFrom, fault_in}
-use Rattle.launcher.specs.Watched.{is_run}
-use Rattle.launcher.specs.declared.exit_status.ExitStatus.{ExitStatus}
+use Rattle.launcher.specs.Runs.{IsSeenRun}
+use Rattle.ready_runs.specs.Reading.{TakesFrom, fault_in}
+use Rattle.run_outputs.specs.Outputs.{is_run}
+use Rattle.run_outputs.specs.declared.exit_status.ExitStatus.{ExitStatus}
 use Rattle.listeners.specs.Listeners.{Telling}
 use Rattle.report_files.specs.Deeds.{Deed, Does}
 use Rattle.report_files.specs.FiledReports.{Wanted, AreEnded, AreOpened, IsUnopened, answer_with, first_lost, givings_up, openings}

@@ -10,7 +10,7 @@ use Rattle.suite_text.specs.Reading.Parts.{SuiteParts}
 use Rattle.suite_text.specs.declared.suite.fault.SuiteFault.{SuiteFault}
 use Rattle.launch_options.specs.Asked.{Asked}
 use Rattle.launch_options.specs.declared.details.Details.{Details}
-use Rattle.launcher.specs.declared.exit_status.ExitStatus.{ExitStatus}
+use Rattle.run_outputs.specs.declared.exit_status.ExitStatus.{ExitStatus}
 use Rattle.listeners.specs.Listeners.{EachPlace}
 use Rattle.listeners.specs.declared.theme.Theme.{Theme}
 use Rattle.report_files.specs.Deeds.{Deed}

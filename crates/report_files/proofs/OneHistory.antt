@@ -12,10 +12,13 @@ use Rattle.suite_text.specs.declared.suite.Suite as suites
 use Rattle.suite_text.specs.declared.suite.fault.SuiteFault.{SuiteFault}
 use Rattle.launch_options.specs.Asked.{Asked}
 use Rattle.launch_options.specs.declared.fault.LaunchFault.{LaunchFault}
-use Rattle.launcher.specs.declared.exit_status.ExitStatus.{ExitStatus}
+use Rattle.run_outputs.specs.declared.exit_status.ExitStatus.{ExitStatus}
 use Rattle.launcher.specs.Reports.{IsPrintedRun}
-use Rattle.launcher.specs.Runs.{IsSeenRun, IsSeenSuiteRun, ReadsSuite, IsSeenSuiteOutput, RunsLoaded, TakesFrom, answers_of, fault_in, plan_in}
-use Rattle.launcher.specs.Watched.{SeesTextBy, HasSeenPrinted, is_run}
+use Rattle.launcher.specs.Runs.{IsSeenRun, IsSeenSuiteRun, IsSeenSuiteOutput, RunsLoaded}
+use Rattle.ready_runs.specs.Reading.{ReadsSuite, TakesFrom, fault_in}
+use Rattle.ready_runs.specs.Ready.{answers_of, plan_in}
+use Rattle.launcher.specs.Watched.{SeesTextBy, HasSeenPrinted}
+use Rattle.run_outputs.specs.Outputs.{is_run}
 use Rattle.listeners.specs.Listeners.{Telling, tellings_of}
 use Rattle.listeners.specs.declared.theme.Theme.{Theme}
 use Rattle.report_files.specs.Besides.{BothSaw}

@@ -7,9 +7,10 @@ use Rattle.suite_text.specs.declared.suite.fault.SuiteFault.{SuiteFault}
 use Rattle.resource_locks.specs.Plans.{PlanParts}
 use Rattle.launch_options.specs.Asked.{Asked}
 use Rattle.launch_options.specs.declared.fault.LaunchFault.{LaunchFault}
-use Rattle.launcher.specs.Runs.{IsSeenRun, TakesFrom, fault_in}
-use Rattle.launcher.specs.Watched.{is_run}
-use Rattle.launcher.specs.declared.exit_status.ExitStatus.{ExitStatus}
+use Rattle.launcher.specs.Runs.{IsSeenRun}
+use Rattle.ready_runs.specs.Reading.{TakesFrom, fault_in}
+use Rattle.run_outputs.specs.Outputs.{is_run}
+use Rattle.run_outputs.specs.declared.exit_status.ExitStatus.{ExitStatus}
 use Rattle.listeners.specs.Listeners.{Telling, tellings_of}
 use Rattle.report_files.specs.FiledReports.{answer_with}
 use Rattle.report_files.specs.Recordings.{IsRecorded}

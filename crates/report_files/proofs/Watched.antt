@@ -13,10 +13,12 @@ use Rattle.suite_text.specs.declared.suite.fault.SuiteFault.{SuiteFault}
 use Rattle.launch_options.specs.Asked.{Asked}
 use Rattle.launch_options.specs.declared.fault.CutOutput.{CutOutput}
 use Rattle.launch_options.specs.declared.fault.LaunchFault.{LaunchFault}
-use Rattle.launcher.specs.declared.exit_status.ExitStatus.{ExitStatus}
+use Rattle.run_outputs.specs.declared.exit_status.ExitStatus.{ExitStatus}
 use Rattle.launcher.specs.Reports.{IsPrintedRun}
-use Rattle.launcher.specs.Runs.{FailsSuite, IsSeenRun, IsSeenSuiteOutput, IsSeenSuiteRun, RunsLoaded, answers_of, plan_in}
-use Rattle.launcher.specs.Watched.{IsAnswered, IsRefusedBy, SeesRefusal, SeesTextBy, cut_in, is_run}
+use Rattle.ready_runs.specs.Ready.{FailsSuite, answers_of, plan_in}
+use Rattle.launcher.specs.Runs.{IsSeenRun, IsSeenSuiteOutput, IsSeenSuiteRun, RunsLoaded}
+use Rattle.launcher.specs.Watched.{IsAnswered, IsRefusedBy, SeesRefusal, SeesTextBy, cut_in}
+use Rattle.run_outputs.specs.Outputs.{is_run}
 
 module _ {L : Type 0} (saw : PlanParts → L → L → List Telling → Type 0) (first now : L) (times : Times) (Holds : Type 0) (same : now ≡ first → Holds) (seen : (p : PlanParts) (ts : List Telling) → HasSeenMore saw p ts first now → Holds) where
   -- of a text that was printed of a run, or of none

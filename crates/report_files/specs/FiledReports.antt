@@ -4,7 +4,7 @@ use Rattle.launch_options.specs.Given.{Text}
 use Rattle.launch_options.specs.declared.details.Details.{Details}
 use Rattle.launch_options.specs.declared.fault.LaunchFault.{LaunchFault}
 use Rattle.launch_options.specs.declared.fault.LaunchFault.TheVariants.{BadReport, CutReport, NoMemory}
-use Rattle.launcher.specs.declared.exit_status.ExitStatus.{ExitStatus}
+use Rattle.run_outputs.specs.declared.exit_status.ExitStatus.{ExitStatus}
 use Rattle.report_files.specs.Deeds.{Deed, Does, IsEmpty}
 use Rattle.report_files.specs.Deeds.Deed.{Opened, Kept, NotKept, GivenUp}
 use Rattle.report_files.specs.declared.report.Outcome.{Outcome}

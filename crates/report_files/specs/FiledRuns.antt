@@ -10,9 +10,10 @@ use Rattle.suite_text.specs.Reading.Parts.{SuiteParts}
 use Rattle.suite_text.specs.declared.suite.fault.SuiteFault.{SuiteFault}
 use Rattle.launch_options.specs.Asked.{Asked}
 use Rattle.launch_options.specs.declared.fault.LaunchFault.{LaunchFault}
-use Rattle.launcher.specs.Runs.{IsRun, TakesFrom, fault_in, is_writing}
-use Rattle.launcher.specs.Watched.{is_run}
-use Rattle.launcher.specs.declared.exit_status.ExitStatus.{ExitStatus}
+use Rattle.launcher.specs.Runs.{IsRun, is_writing}
+use Rattle.ready_runs.specs.Reading.{TakesFrom, fault_in}
+use Rattle.run_outputs.specs.Outputs.{is_run}
+use Rattle.run_outputs.specs.declared.exit_status.ExitStatus.{ExitStatus}
 use Rattle.listeners.specs.declared.theme.Theme.{Theme}
 use Rattle.report_files.specs.Deeds.{Deed, Does, IsEmpty}
 use Rattle.report_files.specs.Deeds.Deed.{Opened, Kept, NotKept, GivenUp}

@@ -2,8 +2,8 @@
 use Rattle.std.specs.Prelude.{ℕ, List, ◌++◌}
 use Rattle.job_times.specs.Timings.{Times}
 use Rattle.launch_options.specs.declared.details.Details.{Details}
-use Rattle.launcher.specs.Reports.{details_of}
-use Rattle.launcher.specs.WarningTexts.{beginning}
+use Rattle.run_outputs.specs.Outputs.{details_of}
+use Rattle.run_outputs.specs.WarningTexts.{beginning}
 use Rattle.listeners.specs.declared.theme.Theme.{Theme}
 use Rattle.report_files.specs.Told.{ToldParts}
 

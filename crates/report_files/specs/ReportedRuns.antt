@@ -9,10 +9,10 @@ use Rattle.resource_locks.specs.Plans.{PlanParts}
 use Rattle.suite_text.specs.Reading.Parts.{SuiteParts}
 use Rattle.suite_text.specs.declared.suite.fault.SuiteFault.{SuiteFault}
 use Rattle.launch_options.specs.Asked.{Asked}
-use Rattle.launcher.specs.declared.exit_status.ExitStatus.{ExitStatus}
-use Rattle.launcher.specs.Missing.{is_missing, status_unless}
+use Rattle.run_outputs.specs.declared.exit_status.ExitStatus.{ExitStatus}
+use Rattle.run_outputs.specs.Missing.{is_missing, status_unless}
 use Rattle.launcher.specs.Reports.{IsPrintedRun}
-use Rattle.launcher.specs.Runs.{answers_of, plan_in, settings_in}
+use Rattle.ready_runs.specs.Ready.{answers_of, plan_in, settings_in}
 use Rattle.listeners.specs.Listeners.{EachPlace, Telling, tellings_of}
 use Rattle.listeners.specs.declared.theme.Theme.{Theme}
 use Rattle.report_files.specs.Recordings.{IsRecorded, text_in}

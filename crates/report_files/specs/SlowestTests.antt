@@ -5,9 +5,9 @@ use Rattle.live.specs.Slowest.{slowest_of}
 use Rattle.resource_locks.specs.Plans.{PlanParts}
 use Rattle.suite_text.specs.Reading.Bytes.{suite_read}
 use Rattle.launch_options.specs.Asked.{Asked}
-use Rattle.launcher.specs.Runs.{TakesFrom}
-use Rattle.launcher.specs.Watched.{is_run}
-use Rattle.launcher.specs.declared.exit_status.ExitStatus.{ExitStatus}
+use Rattle.ready_runs.specs.Reading.{TakesFrom}
+use Rattle.run_outputs.specs.Outputs.{is_run}
+use Rattle.run_outputs.specs.declared.exit_status.ExitStatus.{ExitStatus}
 use Rattle.report_files.specs.ReportedRuns.{IsRunWith}
 use Rattle.report_files.specs.declared.recording.Recorded.{Recorded}
 use Rattle.report_files.specs.declared.recording.Recorded.TheVariants.{Nothing, Told, Lacking}

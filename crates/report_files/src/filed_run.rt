@@ -4,8 +4,8 @@ ghost use Rattle.std.specs.Prelude.{◌≡◌, IfOk, IfErr, IsTrue, List, Option
 ghost use Rattle.job_times.specs.Timings.{times_of};
 ghost use Rattle.launch_options.specs.Asked.{asked_by};
 ghost use Rattle.launch_options.specs.ReportTexts.{parts_of};
-ghost use Rattle.launcher.specs.Runs.{TakesFrom, fault_in};
-ghost use Rattle.launcher.specs.Watched.{is_run};
+ghost use Rattle.ready_runs.specs.Reading.{TakesFrom, fault_in};
+ghost use Rattle.run_outputs.specs.Outputs.{is_run};
 ghost use Rattle.suite_text.specs.Reading.Bytes.{suite_read};
 ghost use Rattle.report_files.specs.Deeds.{Deed, Does};
 ghost use Rattle.report_files.specs.FiledReports.{AreOpened, openings};

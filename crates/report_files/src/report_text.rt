@@ -2,7 +2,7 @@
 
 ghost use Rattle.std.specs.Prelude.{◌≡◌, ◌++◌, IfOk, string_bytes};
 ghost use Rattle.job_times.specs.Timings.{times_of};
-ghost use Rattle.launcher.specs.Reports.{details_of};
+ghost use Rattle.run_outputs.specs.Outputs.{details_of};
 ghost use Rattle.listeners.specs.Counts.{counts_of};
 ghost use Rattle.listeners.specs.SummaryTexts.{summary_of};
 ghost use Rattle.listeners.specs.TreeTexts.{tree_of};
@@ -11,10 +11,10 @@ ghost use Rattle.report_files.specs.ReportTexts.{report_of};
 use crate::recording::ToldRun;
 use job_times::Timings;
 use launch_options::Details;
-use launcher::beginning;
 use listeners::{Results, Theme, feed_text};
 use plan_events::Texts;
 use reports::{list_text, plan_text, timed_json_text, timed_junit_text};
+use run_outputs::beginning;
 use std::alloc::{AllocError, Global};
 
 /// The counts of a run.

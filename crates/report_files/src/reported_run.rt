@@ -4,8 +4,9 @@ ghost use Rattle.std.specs.Prelude.{◌≡◌, IfOk, IfErr, IfSome, false, lengt
 ghost use Rattle.std.specs.Io.KnownBytes.{Keeps};
 ghost use Rattle.job_times.specs.Timings.{times_of};
 ghost use Rattle.launch_options.specs.Asked.{asked_by};
-ghost use Rattle.launcher.specs.Runs.{IsRun, TakesFrom, fault_in, is_writing};
-ghost use Rattle.launcher.specs.Watched.{is_run};
+ghost use Rattle.launcher.specs.Runs.{IsRun, is_writing};
+ghost use Rattle.ready_runs.specs.Reading.{TakesFrom, fault_in};
+ghost use Rattle.run_outputs.specs.Outputs.{is_run};
 ghost use Rattle.suite_text.specs.Reading.Bytes.{suite_read};
 ghost use Rattle.report_files.specs.ReportedRuns.{HasSeenSome, IsRecordedRun, IsReportedRun};
 

@@ -11,8 +11,8 @@ use Rattle.launch_options.specs.ReportTexts.{parts_of}
 use Rattle.launch_options.specs.declared.fault.LaunchFault.{LaunchFault}
 use Rattle.launch_options.specs.declared.reports.ReportAsked.{ReportAsked}
 use Rattle.launcher.specs.Programs.{IsSeenProgramRun}
-use Rattle.launcher.specs.Watched.{is_run}
-use Rattle.launcher.specs.declared.exit_status.ExitStatus.{ExitStatus}
+use Rattle.run_outputs.specs.Outputs.{is_run}
+use Rattle.run_outputs.specs.declared.exit_status.ExitStatus.{ExitStatus}
 use Rattle.report_files.specs.Besides.{BothSaw}
 use Rattle.report_files.specs.Deeds.{Deed, Does}
 use Rattle.report_files.specs.FiledReports.{Wanted, AreEnded, AreOpened, IsUnopened, answer_with, first_lost, openings}

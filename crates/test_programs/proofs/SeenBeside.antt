@@ -11,10 +11,12 @@ use Rattle.suite_text.specs.Reading.Parts.{SuiteParts}
 use Rattle.launch_options.specs.Asked.{Asked}
 use Rattle.launch_options.specs.declared.fault.CutOutput.{CutOutput}
 use Rattle.launch_options.specs.declared.fault.LaunchFault.{LaunchFault}
-use Rattle.launcher.specs.declared.exit_status.ExitStatus.{ExitStatus}
-use Rattle.launcher.specs.Programs.{FailsProgram, IsPrintedJobs, IsSeenProgramRun, IsSeenSelectedOutput}
-use Rattle.launcher.specs.Runs.{plan_in}
-use Rattle.launcher.specs.Watched.{IsRefusedBy, SeesRefusal, SeesTextBy, cut_in, is_run}
+use Rattle.run_outputs.specs.declared.exit_status.ExitStatus.{ExitStatus}
+use Rattle.ready_runs.specs.ReadyPrograms.{FailsProgram}
+use Rattle.launcher.specs.Programs.{IsPrintedJobs, IsSeenProgramRun, IsSeenSelectedOutput}
+use Rattle.ready_runs.specs.Ready.{plan_in}
+use Rattle.launcher.specs.Watched.{IsRefusedBy, SeesRefusal, SeesTextBy, cut_in}
+use Rattle.run_outputs.specs.Outputs.{is_run}
 use Rattle.report_files.specs.Besides.{BothSaw}
 use Rattle.report_files.specs.Deeds.{Deed}
 use Rattle.report_files.specs.FiledReports.{Wanted}

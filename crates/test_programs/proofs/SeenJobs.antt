@@ -10,10 +10,12 @@ use Rattle.listeners.specs.Observing.{HasSeenMore}
 use Rattle.suite_text.specs.Reading.Parts.{SuiteParts}
 use Rattle.launch_options.specs.Asked.{Asked}
 use Rattle.launch_options.specs.declared.fault.LaunchFault.{LaunchFault}
-use Rattle.launcher.specs.declared.exit_status.ExitStatus.{ExitStatus}
-use Rattle.launcher.specs.Programs.{FailsProgram, IsPrintedJobs, IsSeenProgramRun, IsSeenSelectedOutput}
-use Rattle.launcher.specs.Runs.{plan_in}
-use Rattle.launcher.specs.Watched.{HasSeenPrinted, SeesRefusal, SeesTextBy, is_run}
+use Rattle.run_outputs.specs.declared.exit_status.ExitStatus.{ExitStatus}
+use Rattle.ready_runs.specs.ReadyPrograms.{FailsProgram}
+use Rattle.launcher.specs.Programs.{IsPrintedJobs, IsSeenProgramRun, IsSeenSelectedOutput}
+use Rattle.ready_runs.specs.Ready.{plan_in}
+use Rattle.launcher.specs.Watched.{HasSeenPrinted, SeesRefusal, SeesTextBy}
+use Rattle.run_outputs.specs.Outputs.{is_run}
 use Rattle.report_files.proofs.Watched.{of_answer, of_fault, of_text}
 use Rattle.report_files.specs.Besides.{BothSaw}
 use Rattle.report_files.specs.ReportedRuns.{HasSeenSome}

@@ -6,8 +6,8 @@ use Rattle.resource_locks.specs.Plans.{PlanParts}
 use Rattle.suite_text.specs.Reading.Parts.{SuiteParts}
 use Rattle.launch_options.specs.Asked.{Asked}
 use Rattle.launch_options.specs.declared.fault.LaunchFault.{LaunchFault}
-use Rattle.launcher.specs.Watched.{is_run}
-use Rattle.launcher.specs.declared.exit_status.ExitStatus.{ExitStatus}
+use Rattle.run_outputs.specs.Outputs.{is_run}
+use Rattle.run_outputs.specs.declared.exit_status.ExitStatus.{ExitStatus}
 use Rattle.listeners.specs.Listeners.{Telling, tellings_of}
 use Rattle.report_files.specs.Deeds.{Deed, Does}
 use Rattle.report_files.specs.FiledReports.{Wanted, IsUnopened}

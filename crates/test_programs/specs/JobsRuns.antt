@@ -11,10 +11,11 @@ use Rattle.suite_text.specs.Reading.Parts.{SuiteParts}
 use Rattle.listeners.specs.Listeners.{Telling}
 use Rattle.launch_options.specs.Asked.{Asked}
 use Rattle.launch_options.specs.declared.fault.LaunchFault.{LaunchFault}
-use Rattle.launcher.specs.Missing.{is_missing, status_unless}
+use Rattle.run_outputs.specs.Missing.{is_missing, status_unless}
 use Rattle.launcher.specs.Programs.{IsPrintedJobs, IsSeenProgramRun}
-use Rattle.launcher.specs.Runs.{is_writing, plan_in, settings_in}
-use Rattle.launcher.specs.declared.exit_status.ExitStatus.{ExitStatus}
+use Rattle.launcher.specs.Runs.{is_writing}
+use Rattle.ready_runs.specs.Ready.{plan_in, settings_in}
+use Rattle.run_outputs.specs.declared.exit_status.ExitStatus.{ExitStatus}
 
 -- of a program's tree and what it says of the configuration, and of its jobs, which may answer so
 module _ {B : Type 0} (answers : B → List Reply) (gives : B → Reply → Type 0) (asked : Asked) (parts : SuiteParts) (jobs : List (ℕ × B)) where

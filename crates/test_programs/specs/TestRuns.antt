@@ -7,7 +7,7 @@ use Rattle.launch_options.specs.Asked.{Asked, asked_by}
 use Rattle.launch_options.specs.Given.{Text}
 use Rattle.launch_options.specs.declared.asked.Options.{Options}
 use Rattle.launch_options.specs.declared.fault.LaunchFault.{LaunchFault}
-use Rattle.launcher.specs.declared.exit_status.ExitStatus.{ExitStatus}
+use Rattle.run_outputs.specs.declared.exit_status.ExitStatus.{ExitStatus}
 use Rattle.messages.specs.Sentences.{tests_sentence_of}
 use Rattle.listeners.specs.Listeners.{Telling}
 use Rattle.plan_events.specs.declared.outcome.Reply.{Reply}

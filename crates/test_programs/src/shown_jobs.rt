@@ -6,7 +6,8 @@ ghost use Rattle.worker_pool.specs.Premises.{JobsMayAnswer};
 ghost use Rattle.worker_pool.specs.Reports.{run_of};
 ghost use Rattle.launch_options.specs.Asked.{asked_by};
 ghost use Rattle.launch_options.specs.ReportTexts.{parts_of};
-ghost use Rattle.launcher.specs.Programs.{HasJobs, program_parts};
+ghost use Rattle.launcher.specs.Programs.{HasJobs};
+ghost use Rattle.ready_runs.specs.ReadyPrograms.{program_parts};
 ghost use Rattle.report_files.specs.ReportedRuns.{HasSeenSome};
 ghost use Rattle.test_programs.specs.FiledJobs.{IsTimedJobs};
 

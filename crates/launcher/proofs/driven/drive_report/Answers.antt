@@ -3,8 +3,9 @@ use Rattle.std.proofs.Common.{◌≡◌, ◌++◌, List, string_bytes, sym, subs
 use Rattle.plan_events.specs.declared.event.Event.{Event}
 use Rattle.job_times.specs.Timings.{Times, times_asked}
 use Rattle.launch_options.specs.Asked.{asked_by}
-use Rattle.launcher.specs.Reports.{details_of, IsHistory, IsPrintedRun}
-use Rattle.launcher.specs.WarningTexts.{head_of}
+use Rattle.run_outputs.specs.Outputs.{details_of}
+use Rattle.launcher.specs.Reports.{IsHistory, IsPrintedRun}
+use Rattle.run_outputs.specs.WarningTexts.{head_of}
 use Rattle.launcher.proofs.Reporting.{printed_run, run_in_vain, watches_in_vain}
 use Rattle.launcher.proofs.driven.drive_report.Goals as goal
 

@@ -3,7 +3,7 @@ use Rattle.std.proofs.Common.{◌≡◌, false, refl}
 use Rattle.std.specs.Io.KnownBytes.{Keeps}
 use Rattle.job_times.specs.Timings.{times_of}
 use Rattle.launch_options.specs.Asked.{asked_by}
-use Rattle.launcher.specs.Programs.{program_parts}
+use Rattle.ready_runs.specs.ReadyPrograms.{program_parts}
 use Rattle.launcher.specs.Runs.{is_writing}
 use Rattle.launcher.proofs.Judging.{still_refused}
 use Rattle.launcher.proofs.ProgramRuns.{fails_memory, no_job_missing, planned_fails, planned_memory, program_run, unseen_run}

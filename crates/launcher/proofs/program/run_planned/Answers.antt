@@ -6,7 +6,8 @@ use Rattle.live.specs.declared.live_feed.Outlet.{Outlet}
 use Rattle.launch_options.specs.Asked.{asked_by}
 use Rattle.launch_options.specs.declared.fault.LaunchFault.{LaunchFault}
 use Rattle.launcher.specs.Programs.{IsSeenPlanRun, IsSeenProgram}
-use Rattle.launcher.specs.Watched.{IsAllOf, IsBrokenOff, LacksBy, SeesRefusal, is_run}
+use Rattle.launcher.specs.Watched.{IsAllOf, IsBrokenOff, LacksBy, SeesRefusal}
+use Rattle.run_outputs.specs.Outputs.{is_run}
 use Rattle.launcher.proofs.BrokenOff.{broken, cut_short, quiet, uncut_by, whole}
 use Rattle.launcher.proofs.Showing.{all_carried, carried}
 use Rattle.launcher.proofs.program.run_planned.Goals as goal

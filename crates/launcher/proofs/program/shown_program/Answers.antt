@@ -2,7 +2,7 @@
 use Rattle.std.proofs.Common.{None}
 use Rattle.launch_options.specs.Asked.{asked_by}
 use Rattle.launcher.specs.Programs.{IsPrintedJobs, IsProgramOutput}
-use Rattle.launcher.specs.Watched.{is_run}
+use Rattle.run_outputs.specs.Outputs.{is_run}
 use Rattle.launcher.proofs.ProgramRuns.{jobs_feed_runs, jobs_text_of, program_output_of}
 use Rattle.launcher.proofs.Showing.{same_timings, same_observer, shown_broken, shown_front, shown_output, shown_refusal, still_same}
 use Rattle.launcher.proofs.program.shown_program.Goals as goal

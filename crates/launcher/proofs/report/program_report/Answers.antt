@@ -2,7 +2,8 @@
 use Rattle.std.proofs.Common.{◌≡◌, Bool, true, None, IfErr, sym, subst}
 use Rattle.launch_options.specs.Asked.{asked_by}
 use Rattle.launcher.specs.Programs.{IsPrintedJobs}
-use Rattle.launcher.specs.Watched.{LacksBy, WatchesBy, is_run}
+use Rattle.launcher.specs.Watched.{LacksBy, WatchesBy}
+use Rattle.run_outputs.specs.Outputs.{is_run}
 use Rattle.launcher.proofs.ProgramShown.{program_shown, runs}
 use Rattle.launcher.proofs.report.program_report.Goals as goal
 

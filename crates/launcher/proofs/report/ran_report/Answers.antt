@@ -5,10 +5,10 @@ use Rattle.resource_locks.specs.Plans.{PlanParts}
 use Rattle.job_times.specs.Timings.{times_asked}
 use Rattle.listeners.specs.Results.{tests_found, has_failed}
 use Rattle.launch_options.specs.Asked.{asked_by}
-use Rattle.launcher.specs.ExitStatuses.{status_of_run}
+use Rattle.run_outputs.specs.ExitStatuses.{status_of_run}
 use Rattle.launcher.specs.Programs.{IsPrintedJobs}
-use Rattle.launcher.specs.Reports.{details_of}
-use Rattle.launcher.specs.WarningTexts.{head_of}
+use Rattle.run_outputs.specs.Outputs.{details_of}
+use Rattle.run_outputs.specs.WarningTexts.{head_of}
 use Rattle.launcher.proofs.JobsRan.{jobs_in_vain, moved_behind, printed_jobs}
 use Rattle.launcher.proofs.Reporting.{unrun, watches_in_vain}
 use Rattle.launcher.proofs.report.ran_report.Goals as goal

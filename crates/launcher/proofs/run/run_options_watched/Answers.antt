@@ -4,7 +4,7 @@ use Rattle.job_times.specs.Timings.{times_of}
 use Rattle.launch_options.specs.Asked.{asked_by}
 use Rattle.suite_text.specs.Reading.Bytes.{suite_read}
 use Rattle.launcher.proofs.Launching.{run_read, run_unread, seen_read, seen_unread, takes_none, takes_run}
-use Rattle.launcher.proofs.Reading.{if_known}
+use Rattle.ready_runs.proofs.SuiteRead.{if_known}
 use Rattle.launcher.proofs.run.run_options_watched.Goals as goal
 
 pub returns-in_err-suite-clause-exact : goal.returns-in_err-suite-clause-exact

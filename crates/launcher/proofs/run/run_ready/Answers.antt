@@ -4,7 +4,8 @@ use Rattle.std.specs.Io.KnownBytes.{Appends, Keeps}
 use Rattle.job_times.specs.Timings.{times_of}
 use Rattle.live.specs.declared.live_feed.Outlet.{Outlet}
 use Rattle.launch_options.specs.Asked.{asked_by}
-use Rattle.launcher.specs.Runs.{IsReady, IsSeenOutput, IsSeenReadyRun, IsSuiteOutputBy}
+use Rattle.ready_runs.specs.Ready.{IsReady}
+use Rattle.launcher.specs.Runs.{IsSeenOutput, IsSeenReadyRun, IsSuiteOutputBy}
 use Rattle.suite_text.specs.Reading.Parts.{SuiteParts}
 use Rattle.launcher.specs.Watched.{IsAllOf, IsBrokenOff}
 use Rattle.launcher.proofs.BrokenOff.{quiet}

@@ -7,7 +7,7 @@ use Rattle.launch_options.specs.Asked.{asked_by}
 use Rattle.launch_options.specs.declared.fault.LaunchFault.TheVariants.{NoMemory}
 use Rattle.launcher.specs.Runs.{is_writing}
 use Rattle.launcher.proofs.Judging.{still_refused}
-use Rattle.launcher.proofs.Planning.{ready_takes}
+use Rattle.ready_runs.proofs.Planning.{ready_takes}
 use Rattle.launcher.proofs.Showing.{judged_run, memory, refused_suite, suite_run}
 use Rattle.launcher.proofs.run.run_suite.Goals as goal
 

@@ -1,7 +1,7 @@
 -- What the feed has printed is a front of the output, and who watches beside it has seen what is printed.
 use Rattle.launch_options.specs.Asked.{asked_by}
 use Rattle.launcher.specs.Reports.{IsOutput, IsPrintedRun}
-use Rattle.launcher.specs.Watched.{is_run}
+use Rattle.run_outputs.specs.Outputs.{is_run}
 use Rattle.launcher.proofs.Showing.{feed_runs, same_timings, same_observer, shown_broken, shown_front, shown_output, shown_refusal, still_same, suite_output_of, suite_text_of}
 use Rattle.launcher.proofs.run.shown_report.Goals as goal
 

@@ -3,7 +3,7 @@ use Rattle.std.proofs.Common.{rules}
 use Rattle.job_times.specs.Timings.{times_of}
 use Rattle.launch_options.specs.Asked.{asked_by}
 use Rattle.launcher.proofs.Showing.{carried}
-use Rattle.launcher.specs.Programs.{program_parts}
+use Rattle.ready_runs.specs.ReadyPrograms.{program_parts}
 use Rattle.report_files.specs.ReportedRuns.{HasSeenSome}
 use Rattle.test_programs.specs.JobsRuns.{RunsJobs}
 use Rattle.test_programs.proofs.filed_jobs.run_jobs_beside.Goals as goal

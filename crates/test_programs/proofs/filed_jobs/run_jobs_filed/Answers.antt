@@ -1,7 +1,7 @@
 -- Where no report and no times are asked for the run is as without; else the files are opened first.
 use Rattle.job_times.specs.Timings.{times_of}
 use Rattle.launch_options.specs.Asked.{asked_by}
-use Rattle.launcher.specs.Programs.{program_parts}
+use Rattle.ready_runs.specs.ReadyPrograms.{program_parts}
 use Rattle.test_programs.proofs.Filed.{jobs_unfiled, jobs_unlisted, jobs_unopened}
 use Rattle.test_programs.proofs.SeenJobs.{some_watched}
 use Rattle.test_programs.proofs.filed_jobs.run_jobs_filed.Goals as goal

@@ -3,7 +3,7 @@ use Rattle.std.proofs.Common.{string_bytes}
 use Rattle.std.specs.Prelude.{option_map}
 use Rattle.job_times.specs.Timings.{times_of}
 use Rattle.launch_options.specs.Asked.{asked_by}
-use Rattle.launcher.specs.Programs.{program_parts}
+use Rattle.ready_runs.specs.ReadyPrograms.{program_parts}
 use Rattle.test_programs.proofs.Filed.{jobs_listed}
 use Rattle.test_programs.proofs.filed_jobs.run_jobs_listed.Goals as goal
 

@@ -4,7 +4,7 @@ use Rattle.std.specs.Prelude.{option_map}
 use Rattle.job_times.specs.Timings.{times_of}
 use Rattle.launch_options.specs.Asked.{asked_by}
 use Rattle.launch_options.specs.ReportTexts.{parts_of}
-use Rattle.launcher.specs.Programs.{program_parts}
+use Rattle.ready_runs.specs.ReadyPrograms.{program_parts}
 use Rattle.report_files.proofs.FiledAnswers.{many_wanted}
 use Rattle.report_files.proofs.SlowestRuns.{still_listed}
 use Rattle.report_files.specs.FiledReports.{answer_with}

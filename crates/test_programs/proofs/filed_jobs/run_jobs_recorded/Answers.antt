@@ -1,7 +1,7 @@
 -- Who watches beside the recording has seen the run, and it is recorded.
 use Rattle.job_times.specs.Timings.{times_of}
 use Rattle.launch_options.specs.Asked.{asked_by}
-use Rattle.launcher.specs.Programs.{program_parts}
+use Rattle.ready_runs.specs.ReadyPrograms.{program_parts}
 use Rattle.report_files.specs.Recordings.{HasRecorded}
 use Rattle.test_programs.proofs.Filed.{jobs_recorded, jobs_unrecorded, some_seen, still_same}
 use Rattle.test_programs.proofs.SeenBeside.{first_saw}

@@ -1,7 +1,7 @@
 -- Each report is written of what was recorded, and that is what is printed.
 use Rattle.job_times.specs.Timings.{times_of}
 use Rattle.launch_options.specs.Asked.{asked_by}
-use Rattle.launcher.specs.Programs.{program_parts}
+use Rattle.ready_runs.specs.ReadyPrograms.{program_parts}
 use Rattle.test_programs.proofs.Filed.{jobs_reported}
 use Rattle.test_programs.proofs.filed_jobs.run_jobs_reported.Goals as goal
 

@@ -3,7 +3,7 @@ use Rattle.std.proofs.Common.{map, subst}
 use Rattle.job_times.specs.Timings.{times_of}
 use Rattle.launch_options.specs.Asked.{asked_by}
 use Rattle.launch_options.specs.ReportTexts.{parts_of}
-use Rattle.launcher.specs.Programs.{program_parts}
+use Rattle.ready_runs.specs.ReadyPrograms.{program_parts}
 use Rattle.test_programs.specs.FiledJobs.{JobsFiled}
 use Rattle.test_programs.proofs.SeenBeside.{other_filed}
 use Rattle.test_programs.proofs.SeenJobs.{pair_same, pair_same_other, pair_watched}

@@ -4,7 +4,7 @@ use Rattle.std.specs.Prelude.{option_map}
 use Rattle.launch_options.specs.Asked.{asked_by}
 use Rattle.launch_options.specs.ReportTexts.{parts_of}
 use Rattle.launcher.proofs.Showing.{carried}
-use Rattle.launcher.specs.Programs.{program_parts}
+use Rattle.ready_runs.specs.ReadyPrograms.{program_parts}
 use Rattle.report_files.specs.ReportedRuns.{HasSeenSome}
 use Rattle.test_programs.specs.FiledJobs.{IsTimedJobs}
 use Rattle.test_programs.proofs.shown_jobs.run_jobs_shown.Goals as goal

@@ -1,7 +1,7 @@
 -- Where the words are refused nothing is written, and no file is touched; else what they ask for is run.
 use Rattle.std.proofs.Common.{Err, Ok, refl, subst}
 use Rattle.launch_options.specs.Asked.{asked_by}
-use Rattle.launcher.specs.Programs.{program_parts}
+use Rattle.ready_runs.specs.ReadyPrograms.{program_parts}
 use Rattle.test_programs.specs.TestRuns.{IsRunOfTests}
 use Rattle.test_programs.proofs.test_program.run_filed_words.Goals as goal
 

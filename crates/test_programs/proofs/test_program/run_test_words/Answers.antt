@@ -2,7 +2,7 @@
 use Rattle.std.proofs.Common.{Err, None, Ok, map, refl, subst}
 use Rattle.launch_options.specs.Asked.{asked_by}
 use Rattle.launch_options.specs.ReportTexts.{parts_of}
-use Rattle.launcher.specs.Programs.{program_parts}
+use Rattle.ready_runs.specs.ReadyPrograms.{program_parts}
 use Rattle.test_programs.specs.TestRuns.{IsRunOfTests}
 use Rattle.test_programs.proofs.test_program.run_test_words.Goals as goal
 

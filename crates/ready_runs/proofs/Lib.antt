@@ -1,0 +1,5 @@
+pub mod Planning
+pub mod ProgramRefusals
+pub mod Selected
+pub mod SuiteRead
+pub mod Taking

@@ -1,0 +1,9 @@
+pub mod AfterRuns
+pub mod Beside
+pub mod ExitStatuses
+pub mod Missing
+pub mod Outputs
+pub mod ReplayTexts
+pub mod ScheduleLines
+pub mod ScheduleTexts
+pub mod WarningTexts
