@@ -1,8 +1,3 @@
--- Why what is recorded is what is printed, and what is kept is of that.
-pub mod FiledAnswers
+-- What is done with the files of reports, and what is recorded.
 pub mod Filing
-pub mod OneFiling
-pub mod OneHistory
 pub mod Recordings
-pub mod SlowestRuns
-pub mod Watched

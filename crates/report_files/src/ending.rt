@@ -9,7 +9,7 @@ ghost use Rattle.report_files.specs.FiledReports.{AreEnded, IsEnded, answer_with
 use crate::keeper::ReportFiles;
 use crate::report::{Outcome, Report};
 use launch_options::{LaunchFault, ReportAsked};
-use launcher::ExitStatus;
+use run_outputs::ExitStatus;
 
 /// Keeps a report if all of it was written, and else gives it up; tells whether it is kept.
 fn end_report<K: ReportFiles>(

@@ -18,18 +18,18 @@ use Rattle.report_files.specs.Deeds.{Deed, Does}
 use Rattle.report_files.specs.FiledReports.{Wanted, AreEnded, AreOpened, IsUnopened, answer_with, first_lost, openings}
 use Rattle.report_files.specs.Recordings.{HasRecorded, IsRecorded}
 use Rattle.report_files.specs.Reports.{IsRecordedIn}
-use Rattle.report_files.specs.ReportedRuns.{HasSeenSome}
+use Rattle.reported_runs.specs.ReportedRuns.{HasSeenSome}
 use Rattle.report_files.specs.SlowestTests.{IsSlowestIn, IsSlowestOf}
 use Rattle.report_files.specs.declared.beside.Beside.{Beside}
 use Rattle.report_files.specs.declared.recording.Recorded.{Recorded}
 use Rattle.report_files.specs.declared.recording.Recorded.TheVariants.{Nothing}
 use Rattle.report_files.specs.declared.recording.Recording.{Recording}
 use Rattle.report_files.specs.declared.report.Report.{Report}
-use Rattle.report_files.proofs.FiledAnswers.{opened_with}
+use Rattle.reported_runs.proofs.FiledAnswers.{opened_with}
 use Rattle.report_files.proofs.Filing.{does_more, does_nothing}
-use Rattle.report_files.proofs.OneFiling.{filed_of}
-use Rattle.report_files.proofs.OneHistory.{recorded_by, reports_of}
-use Rattle.report_files.proofs.SlowestRuns.{slowest_of_nothing, slowest_of_plan}
+use Rattle.reported_runs.proofs.OneFiling.{filed_of}
+use Rattle.reported_runs.proofs.OneHistory.{recorded_by, reports_of}
+use Rattle.reported_runs.proofs.SlowestRuns.{slowest_of_nothing, slowest_of_plan}
 use Rattle.test_programs.specs.FiledJobs.{FilesJobs, IsFiledJobs, IsRecordedJobs, IsReportedJobs, IsSlowestOfJobs, JobsFiled}
 use Rattle.test_programs.specs.JobsRuns.{RunsJobs}
 use Rattle.test_programs.proofs.SeenJobs.{jobs_with, of_jobs, pair_same, pair_watched, some_watched, unseen_jobs}

@@ -16,9 +16,9 @@ use Rattle.launcher.specs.Programs.{IsPrintedJobs, IsSeenProgramRun, IsSeenSelec
 use Rattle.ready_runs.specs.Ready.{plan_in}
 use Rattle.launcher.specs.Watched.{HasSeenPrinted, SeesRefusal, SeesTextBy}
 use Rattle.run_outputs.specs.Outputs.{is_run}
-use Rattle.report_files.proofs.Watched.{of_answer, of_fault, of_text}
+use Rattle.reported_runs.proofs.Watched.{of_answer, of_fault, of_text}
 use Rattle.report_files.specs.Besides.{BothSaw}
-use Rattle.report_files.specs.ReportedRuns.{HasSeenSome}
+use Rattle.reported_runs.specs.ReportedRuns.{HasSeenSome}
 use Rattle.report_files.specs.declared.beside.Beside.{Beside}
 use Rattle.test_programs.specs.JobsRuns.{IsJobsRunWith}
 

@@ -11,9 +11,9 @@ use Rattle.run_outputs.specs.declared.exit_status.ExitStatus.{ExitStatus}
 use Rattle.listeners.specs.Listeners.{Telling, tellings_of}
 use Rattle.report_files.specs.Deeds.{Deed, Does}
 use Rattle.report_files.specs.FiledReports.{Wanted, IsUnopened}
-use Rattle.report_files.specs.FiledRuns.{AreFiledOf, IsOpenedWith}
+use Rattle.reported_runs.specs.FiledRuns.{AreFiledOf, IsOpenedWith}
 use Rattle.report_files.specs.Recordings.{IsRecorded}
-use Rattle.report_files.specs.ReportedRuns.{AreReportsOf}
+use Rattle.reported_runs.specs.ReportedRuns.{AreReportsOf}
 use Rattle.report_files.specs.SlowestTests.{IsSlowestIn}
 use Rattle.report_files.specs.declared.recording.Recorded.{Recorded}
 use Rattle.report_files.specs.declared.report.Report.{Report}

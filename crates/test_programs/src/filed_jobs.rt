@@ -14,7 +14,7 @@ ghost use Rattle.ready_runs.specs.ReadyPrograms.{program_parts};
 ghost use Rattle.run_outputs.specs.Outputs.{is_run};
 ghost use Rattle.report_files.specs.Deeds.{Deed, Does};
 ghost use Rattle.report_files.specs.FiledReports.{AreOpened, IsUnopened, openings};
-ghost use Rattle.report_files.specs.ReportedRuns.{HasSeenSome};
+ghost use Rattle.reported_runs.specs.ReportedRuns.{HasSeenSome};
 ghost use Rattle.test_programs.specs.FiledJobs.{IsRecordedJobs, IsReportedJobs, IsSlowestOfJobs, JobsFiled};
 ghost use Rattle.test_programs.specs.JobsRuns.{RunsJobs};
 

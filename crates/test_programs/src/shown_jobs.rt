@@ -8,7 +8,7 @@ ghost use Rattle.launch_options.specs.Asked.{asked_by};
 ghost use Rattle.launch_options.specs.ReportTexts.{parts_of};
 ghost use Rattle.launcher.specs.Programs.{HasJobs};
 ghost use Rattle.ready_runs.specs.ReadyPrograms.{program_parts};
-ghost use Rattle.report_files.specs.ReportedRuns.{HasSeenSome};
+ghost use Rattle.reported_runs.specs.ReportedRuns.{HasSeenSome};
 ghost use Rattle.test_programs.specs.FiledJobs.{IsTimedJobs};
 
 use crate::filed_jobs::run_jobs_filed;

@@ -4,7 +4,7 @@ use Rattle.job_times.specs.Timings.{times_of}
 use Rattle.launch_options.specs.Asked.{asked_by}
 use Rattle.launcher.proofs.Showing.{carried}
 use Rattle.ready_runs.specs.ReadyPrograms.{program_parts}
-use Rattle.report_files.specs.ReportedRuns.{HasSeenSome}
+use Rattle.reported_runs.specs.ReportedRuns.{HasSeenSome}
 use Rattle.test_programs.specs.JobsRuns.{RunsJobs}
 use Rattle.test_programs.proofs.filed_jobs.run_jobs_beside.Goals as goal
 

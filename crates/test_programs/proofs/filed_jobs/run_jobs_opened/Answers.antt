@@ -5,8 +5,8 @@ use Rattle.job_times.specs.Timings.{times_of}
 use Rattle.launch_options.specs.Asked.{asked_by}
 use Rattle.launch_options.specs.ReportTexts.{parts_of}
 use Rattle.ready_runs.specs.ReadyPrograms.{program_parts}
-use Rattle.report_files.proofs.FiledAnswers.{many_wanted}
-use Rattle.report_files.proofs.SlowestRuns.{still_listed}
+use Rattle.reported_runs.proofs.FiledAnswers.{many_wanted}
+use Rattle.reported_runs.proofs.SlowestRuns.{still_listed}
 use Rattle.report_files.specs.FiledReports.{answer_with}
 use Rattle.test_programs.specs.FiledJobs.{IsSlowestOfJobs}
 use Rattle.test_programs.proofs.Filed.{jobs_filed}

@@ -5,7 +5,7 @@ use Rattle.launch_options.specs.Asked.{asked_by}
 use Rattle.launch_options.specs.ReportTexts.{parts_of}
 use Rattle.launcher.proofs.Showing.{carried}
 use Rattle.ready_runs.specs.ReadyPrograms.{program_parts}
-use Rattle.report_files.specs.ReportedRuns.{HasSeenSome}
+use Rattle.reported_runs.specs.ReportedRuns.{HasSeenSome}
 use Rattle.test_programs.specs.FiledJobs.{IsTimedJobs}
 use Rattle.test_programs.proofs.shown_jobs.run_jobs_shown.Goals as goal
 

@@ -1,8 +1,8 @@
 -- Who watches has seen what was seen beside the recording.
 use Rattle.std.proofs.Common.{rules}
 use Rattle.launcher.proofs.Showing.{carried}
-use Rattle.report_files.specs.ReportedRuns.{HasSeenSome}
-use Rattle.report_files.proofs.filed_run.run_beside.Goals as goal
+use Rattle.reported_runs.specs.ReportedRuns.{HasSeenSome}
+use Rattle.reported_runs.proofs.filed_run.run_beside.Goals as goal
 
 pub returns-clause-watched : goal.returns-clause-watched
 returns-clause-watched g c =

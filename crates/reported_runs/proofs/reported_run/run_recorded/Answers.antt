@@ -1,8 +1,8 @@
 -- What watched has seen the run, and recorded it.
 use Rattle.job_times.specs.Timings.{times_of}
 use Rattle.launch_options.specs.Asked.{asked_by}
-use Rattle.report_files.proofs.OneHistory.{run_recorded, run_unrecorded, some_seen, still_same}
-use Rattle.report_files.proofs.reported_run.run_recorded.Goals as goal
+use Rattle.reported_runs.proofs.OneHistory.{run_recorded, run_unrecorded, some_seen, still_same}
+use Rattle.reported_runs.proofs.reported_run.run_recorded.Goals as goal
 
 pub returns-clause-same : goal.returns-clause-same
 returns-clause-same g c =

@@ -29,9 +29,9 @@ use Rattle.report_files.specs.declared.recording.Recorded.TheVariants.{Nothing, 
 use Rattle.report_files.specs.declared.recording.Recording.{Recording}
 use Rattle.listeners.specs.Observing.{HasSeenMore}
 use Rattle.report_files.specs.Reports.{IsRecordedIn}
-use Rattle.report_files.specs.ReportedRuns.{AreReportsOf, HasSeenSome, IsRecordedRun, IsReportedRun, IsRunWith}
+use Rattle.reported_runs.specs.ReportedRuns.{AreReportsOf, HasSeenSome, IsRecordedRun, IsReportedRun, IsRunWith}
 use Rattle.report_files.specs.declared.report.Report.{Report}
-use Rattle.report_files.proofs.Watched.{of_run}
+use Rattle.reported_runs.proofs.Watched.{of_run}
 
 nothing_seen : {L : Type 0} (saw : PlanParts → L → L → List Telling → Type 0) (p : PlanParts) (a : L) → HasSeenMore saw p [] a a
 nothing_seen saw p a first before is = subst (saw p first a) (sym (append-nil before)) is

@@ -18,7 +18,7 @@ use Rattle.listeners.specs.declared.theme.Theme.{Theme}
 use Rattle.report_files.specs.Deeds.{Deed, Does, IsEmpty}
 use Rattle.report_files.specs.Deeds.Deed.{Opened, Kept, NotKept, GivenUp}
 use Rattle.report_files.specs.FiledReports.{Wanted, IsUnopened, answer_with, first_lost, givings_up, openings}
-use Rattle.report_files.specs.ReportedRuns.{IsOfHistory, IsRunWith}
+use Rattle.reported_runs.specs.ReportedRuns.{IsOfHistory, IsRunWith}
 use Rattle.report_files.specs.ReportTexts.{report_of}
 use Rattle.report_files.specs.Told.{ToldParts}
 

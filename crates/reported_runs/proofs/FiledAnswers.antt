@@ -16,13 +16,13 @@ use Rattle.run_outputs.specs.declared.exit_status.ExitStatus.{ExitStatus}
 use Rattle.listeners.specs.Listeners.{Telling}
 use Rattle.report_files.specs.Deeds.{Deed, Does}
 use Rattle.report_files.specs.FiledReports.{Wanted, AreEnded, AreOpened, IsUnopened, answer_with, first_lost, givings_up, openings}
-use Rattle.report_files.specs.FiledRuns.{AreFiledOf, FilesRun, IsFiledRun, IsOpenedRun, IsOpenedWith, RunsAsked, RunsFiled}
-use Rattle.report_files.specs.ReportedRuns.{HasSeenSome, IsReportedRun}
+use Rattle.reported_runs.specs.FiledRuns.{AreFiledOf, FilesRun, IsFiledRun, IsOpenedRun, IsOpenedWith, RunsAsked, RunsFiled}
+use Rattle.reported_runs.specs.ReportedRuns.{HasSeenSome, IsReportedRun}
 use Rattle.report_files.specs.declared.report.Report.{Report}
 use Rattle.report_files.proofs.Filing.{all_given_up, does_more, does_nothing}
-use Rattle.report_files.proofs.OneFiling.{filed_run}
-use Rattle.report_files.proofs.OneHistory.{judged_too, of_loaded_run}
-use Rattle.report_files.proofs.Watched.{of_run}
+use Rattle.reported_runs.proofs.OneFiling.{filed_run}
+use Rattle.reported_runs.proofs.OneHistory.{judged_too, of_loaded_run}
+use Rattle.reported_runs.proofs.Watched.{of_run}
 
 -- reports whose files were open are given up where something is refused, and else this is done with them
 pub opened_with : {F : Type 0} (contents : F → Option (List ℕ)) (Runs : Result ExitStatus LaunchFault → Type 0) (Files : Result ExitStatus LaunchFault → List Deed → Type 0) (ws : List Wanted) (account was now : Option (List Deed)) (b n : List (Report F)) (ran answer : Result ExitStatus LaunchFault) (ds : List Deed)

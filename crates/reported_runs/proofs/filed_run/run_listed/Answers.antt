@@ -3,8 +3,8 @@ use Rattle.std.proofs.Common.{string_bytes}
 use Rattle.std.specs.Prelude.{option_map}
 use Rattle.job_times.specs.Timings.{times_of}
 use Rattle.launch_options.specs.Asked.{asked_by}
-use Rattle.report_files.proofs.SlowestRuns.{listed_run}
-use Rattle.report_files.proofs.filed_run.run_listed.Goals as goal
+use Rattle.reported_runs.proofs.SlowestRuns.{listed_run}
+use Rattle.reported_runs.proofs.filed_run.run_listed.Goals as goal
 
 pub returns-clause-runs : goal.returns-clause-runs
 returns-clause-runs g c = record { exact = c.run_reported-answer.ensures.exact; reads = c.run_reported-answer.ensures.reads; quiet = c.run_reported-answer.ensures.quiet }

@@ -1,8 +1,8 @@
 -- Each report is written of what was recorded, and that is what is printed.
 use Rattle.job_times.specs.Timings.{times_of}
 use Rattle.launch_options.specs.Asked.{asked_by}
-use Rattle.report_files.proofs.OneHistory.{run_reported}
-use Rattle.report_files.proofs.reported_run.run_reported.Goals as goal
+use Rattle.reported_runs.proofs.OneHistory.{run_reported}
+use Rattle.reported_runs.proofs.reported_run.run_reported.Goals as goal
 
 pub returns-in-Ok-clause-reported : goal.returns-in-Ok-clause-reported
 returns-in-Ok-clause-reported g c runs =

@@ -14,11 +14,12 @@ use Rattle.run_outputs.specs.declared.exit_status.ExitStatus.{ExitStatus}
 use Rattle.listeners.specs.Listeners.{Telling, tellings_of}
 use Rattle.report_files.specs.FiledReports.{answer_with}
 use Rattle.report_files.specs.Recordings.{IsRecorded}
-use Rattle.report_files.specs.ReportedRuns.{IsRecordedRun, IsRunWith}
-use Rattle.report_files.specs.SlowestTests.{IsSlowestIn, IsSlowestOf, IsSlowestRun}
+use Rattle.reported_runs.specs.ReportedRuns.{IsRecordedRun, IsRunWith}
+use Rattle.report_files.specs.SlowestTests.{IsSlowestIn, IsSlowestOf}
+use Rattle.reported_runs.specs.SlowestRuns.{IsSlowestRun}
 use Rattle.report_files.specs.declared.recording.Recorded.{Recorded}
 use Rattle.report_files.specs.declared.recording.Recorded.TheVariants.{Nothing, Told, Lacking}
-use Rattle.report_files.proofs.OneHistory.{judged_too, of_loaded_run, run_with}
+use Rattle.reported_runs.proofs.OneHistory.{judged_too, of_loaded_run, run_with}
 
 -- a list that is made of what was recorded of a plan is of this plan
 pub slowest_of_plan : (is_asked : Bool) (times : Times) (p : PlanParts) (ts : List Telling) (recorded : Recorded) (slowest : Option (List ℕ)) → IsRecorded p ts recorded → IsSlowestOf is_asked times recorded slowest → IsSlowestIn is_asked times p slowest

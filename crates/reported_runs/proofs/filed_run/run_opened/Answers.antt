@@ -5,10 +5,10 @@ use Rattle.job_times.specs.Timings.{times_of}
 use Rattle.launch_options.specs.Asked.{asked_by}
 use Rattle.launch_options.specs.ReportTexts.{parts_of}
 use Rattle.report_files.specs.FiledReports.{answer_with}
-use Rattle.report_files.specs.SlowestTests.{IsSlowestRun}
-use Rattle.report_files.proofs.FiledAnswers.{many_wanted, opened_run}
-use Rattle.report_files.proofs.SlowestRuns.{still_listed}
-use Rattle.report_files.proofs.filed_run.run_opened.Goals as goal
+use Rattle.reported_runs.specs.SlowestRuns.{IsSlowestRun}
+use Rattle.reported_runs.proofs.FiledAnswers.{many_wanted, opened_run}
+use Rattle.reported_runs.proofs.SlowestRuns.{still_listed}
+use Rattle.reported_runs.proofs.filed_run.run_opened.Goals as goal
 
 pub returns-clause-filed : goal.returns-clause-filed
 returns-clause-filed g c account opening =

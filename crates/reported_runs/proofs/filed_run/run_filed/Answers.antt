@@ -3,9 +3,9 @@ use Rattle.std.proofs.Common.{inr, map}
 use Rattle.job_times.specs.Timings.{times_of}
 use Rattle.launch_options.specs.Asked.{asked_by}
 use Rattle.launch_options.specs.ReportTexts.{parts_of}
-use Rattle.report_files.proofs.FiledAnswers.{some_watched, unopened_run, unreported_run}
-use Rattle.report_files.proofs.SlowestRuns.{unlisted_run}
-use Rattle.report_files.proofs.filed_run.run_filed.Goals as goal
+use Rattle.reported_runs.proofs.FiledAnswers.{some_watched, unopened_run, unreported_run}
+use Rattle.reported_runs.proofs.SlowestRuns.{unlisted_run}
+use Rattle.reported_runs.proofs.filed_run.run_filed.Goals as goal
 
 pub returns-then-asks_no_more-clause-filed : goal.returns-then-asks_no_more-clause-filed
 returns-then-asks_no_more-clause-filed g c =

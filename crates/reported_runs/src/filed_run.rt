@@ -9,22 +9,18 @@ ghost use Rattle.run_outputs.specs.Outputs.{is_run};
 ghost use Rattle.suite_text.specs.Reading.Bytes.{suite_read};
 ghost use Rattle.report_files.specs.Deeds.{Deed, Does};
 ghost use Rattle.report_files.specs.FiledReports.{AreOpened, openings};
-ghost use Rattle.report_files.specs.FiledRuns.{IsOpenedRun, RunsAsked, RunsFiled};
-ghost use Rattle.report_files.specs.ReportedRuns.{HasSeenSome, IsReportedRun};
-ghost use Rattle.report_files.specs.SlowestTests.{IsSlowestRun};
+ghost use Rattle.reported_runs.specs.FiledRuns.{IsOpenedRun, RunsAsked, RunsFiled};
+ghost use Rattle.reported_runs.specs.ReportedRuns.{HasSeenSome, IsReportedRun};
+ghost use Rattle.reported_runs.specs.SlowestRuns.{IsSlowestRun};
 
-use crate::beside::Beside;
-use crate::ending::{answer_with, end_all};
-use crate::keeper::ReportFiles;
-use crate::opening::open_all;
-use crate::recording::{Recorded, Recording};
-use crate::report::Report;
 use crate::reported_run::run_reported;
-use crate::slowest_tests::slowest_in;
 use job_times::{RunTimes, Stopwatch};
 use launch_options::{LaunchFault, Options, ReportAsked};
 use launcher::{ExitStatus, run_options_watched};
 use listeners::Observer;
+use report_files::{
+    Beside, Recorded, Recording, Report, ReportFiles, answer_with, end_all, open_all, slowest_in,
+};
 use std::alloc::Global;
 use std::io::{Read, Write};
 use std::sync::Wait;

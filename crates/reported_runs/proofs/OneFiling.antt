@@ -16,15 +16,15 @@ use Rattle.listeners.specs.declared.theme.Theme.{Theme}
 use Rattle.report_files.specs.Deeds.{Deed}
 use Rattle.report_files.specs.Deeds.Deed.{Opened, Kept, NotKept, GivenUp}
 use Rattle.report_files.specs.FiledReports.{Wanted, AreEnded, AreOpened, IsEnded, IsOpened, givings_up, is_whole}
-use Rattle.report_files.specs.FiledRuns.{AreFiled, AreFiledOf, IsFiled, IsFiledRun}
-use Rattle.report_files.specs.ReportedRuns.{AreReportsOf, IsReportedRun}
+use Rattle.reported_runs.specs.FiledRuns.{AreFiled, AreFiledOf, IsFiled, IsFiledRun}
+use Rattle.reported_runs.specs.ReportedRuns.{AreReportsOf, IsReportedRun}
 use Rattle.report_files.specs.Reports.{IsLacking, IsReported, StandsBehind}
 use Rattle.report_files.specs.ReportTexts.{report_of}
 use Rattle.report_files.specs.Told.{ToldParts}
 use Rattle.report_files.specs.declared.report.Outcome.{Outcome}
 use Rattle.report_files.specs.declared.report.Outcome.TheVariants.{Waiting, Whole, Cut}
 use Rattle.report_files.specs.declared.report.Report.{Report}
-use Rattle.report_files.proofs.OneHistory.{run_with}
+use Rattle.reported_runs.proofs.OneHistory.{run_with}
 
 -- all of a text stands behind what was there, where the report is whole
 whole_stands : (o : Outcome) (old new : Option (List ℕ)) (text : List ℕ) → is_whole o ≡ true → StandsBehind o old new text → Appends old new text

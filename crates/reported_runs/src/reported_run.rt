@@ -8,15 +8,13 @@ ghost use Rattle.launcher.specs.Runs.{IsRun, is_writing};
 ghost use Rattle.ready_runs.specs.Reading.{TakesFrom, fault_in};
 ghost use Rattle.run_outputs.specs.Outputs.{is_run};
 ghost use Rattle.suite_text.specs.Reading.Bytes.{suite_read};
-ghost use Rattle.report_files.specs.ReportedRuns.{HasSeenSome, IsRecordedRun, IsReportedRun};
+ghost use Rattle.reported_runs.specs.ReportedRuns.{HasSeenSome, IsRecordedRun, IsReportedRun};
 
-use crate::beside::Beside;
-use crate::recording::{Recorded, Recording};
-use crate::report::{Report, write_reports};
 use job_times::{RunTimes, Stopwatch};
 use launch_options::{LaunchFault, Options};
 use launcher::{ExitStatus, run_options_watched};
 use listeners::Observer;
+use report_files::{Beside, Recorded, Recording, Report, write_reports};
 use std::alloc::Global;
 use std::io::{Read, Write};
 use std::sync::Wait;
