@@ -2,7 +2,7 @@
 
 ghost use Rattle.std.specs.Prelude.{◌≡◌, ℕ, IfOk};
 ghost use Rattle.descriptor.specs.Nodes.{Nodes};
-ghost use Rattle.harness.specs.Jobs.{gives_left, jobs_by, replies_left};
+ghost use Rattle.harness.specs.Jobs.{gives_left, jobs_by, replies_left, says_kept};
 ghost use Rattle.launcher.specs.Programs.{HasJobs};
 ghost use Rattle.resource_locks.specs.Plans.{PlanParts};
 ghost use Rattle.test_bodies.specs.Bodies.{is_spent, tests_left};
@@ -26,6 +26,8 @@ impl Job for TestJob {
     ghost answers = { replies_left };
 
     ghost gives = { gives_left };
+
+    ghost says = { says_kept };
 
     fn next(&mut self) -> Pull {
         self.body.next_test()

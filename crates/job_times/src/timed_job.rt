@@ -41,6 +41,8 @@ impl<'s, B: Job, S: Stopwatch> Job for TimedJob<'s, B, S> {
 
     ghost gives = { λ timed. B.gives timed.job };
 
+    ghost says = { λ timed. B.says timed.job };
+
     fn next(&mut self) -> Pull {
         self.job.next()
     }

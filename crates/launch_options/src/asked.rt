@@ -2,7 +2,7 @@
 
 ghost use Rattle.launch_options.specs.Parameters.{IsRightDrive};
 ghost use Rattle.launch_options.specs.Workers.{IsSpread};
-ghost use Rattle.run_table.specs.Prepared.{IsRightRing};
+ghost use Rattle.table_rule.specs.Limits.{IsRightRing};
 
 use crate::details::Details;
 use config_params::Params;

@@ -15,7 +15,7 @@ ghost use Rattle.launch_options.specs.SeedTexts.{seed_named as seed_of_name};
 ghost use Rattle.launch_options.specs.ShardTexts.{shard_named as shard_of_name};
 ghost use Rattle.launch_options.specs.Parameters.{processors_named as processors_of_name, ring_named as ring_of_name};
 ghost use Rattle.launch_options.specs.Workers.{in_long_words, workers_asked};
-ghost use Rattle.run_table.specs.Prepared.{IsRightRing};
+ghost use Rattle.table_rule.specs.Limits.{IsRightRing};
 
 use crate::asked::Options;
 use crate::details::Details;

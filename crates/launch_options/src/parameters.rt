@@ -11,7 +11,7 @@ ghost use Rattle.launch_options.specs.Parameters.{processors_named as processors
 ghost use Rattle.launch_options.specs.Parameters.{drive_named as drive_of_name, IsRightDrive};
 ghost use Rattle.launch_options.specs.Parameters.{pairs_in, pairs_refusal, params_refusal};
 ghost use Rattle.launch_options.specs.Workers.{params_said, words_for};
-ghost use Rattle.run_table.specs.Prepared.{IsRightRing};
+ghost use Rattle.table_rule.specs.Limits.{IsRightRing};
 
 use crate::fault::LaunchFault;
 use crate::given::Given;

@@ -88,10 +88,12 @@ fn push_ended(said: &mut Said, report: Report<Actor>) -> Plan {
     let Report {
         plan,
         unused_jobs: jobs,
+        used_jobs,
         events,
         mine,
         texts,
     } = report;
+    drop(used_jobs);
     drop(events);
     drop(mine);
     drop(texts);

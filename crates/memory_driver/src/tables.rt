@@ -63,7 +63,13 @@ fn push_closed(said: &mut Said, made: Prepared) -> Plan
 {
     match made {
         Ok((table, dispatcher_seat)) => {
-            let Closed { plan, jobs, notes } = table.close(dispatcher_seat);
+            let Closed {
+                plan,
+                jobs,
+                used,
+                notes,
+            } = table.close(dispatcher_seat);
+            drop(used);
             drop(notes);
             push_handed(said, &plan, jobs);
             plan

@@ -16,6 +16,7 @@ pub enum Pull {
 /// A body, which is run once. A factory's body is asked for dynamic tests before that, until it
 /// says that there are no more.
 pub trait Job: Drop {
+    ghost use Rattle.plan_events.specs.declared.outcome.Outcome.{Outcome};
     ghost use Rattle.plan_events.specs.declared.outcome.Reply.{Reply};
     ghost use Rattle.plan_events.specs.Jobs.{GivesAsPulled, GivesOutcome, IsPull, IsRun, unpulled};
 
@@ -24,6 +25,9 @@ pub trait Job: Drop {
 
     /// Whether it gives this reply when it is run: what its own code says of that.
     ghost gives: { Self → Reply → Type 0 };
+
+    /// Whether it says, once it was run, that it answered this.
+    ghost says: { Self → Outcome → Type 0 };
 
     /// Whether there is a dynamic test more. It is asked only while it may still give a reply.
     fn next(&mut self) -> Pull
@@ -37,6 +41,7 @@ pub trait Job: Drop {
         requires { 0 < length (unpulled (answers self.old)) }
         ensures outcome { IsRun (answers self.old) result }
         ensures given { GivesOutcome (gives self.old) result }
+        ensures said { says self.new result }
         ensures over { answers self.new ≡ [] };
 }
 
@@ -44,6 +49,8 @@ impl Job for Box<dyn Job + Send> {
     ghost answers = { λ b. (Job-box b).answers b.value };
 
     ghost gives = { λ b. (Job-box b).gives b.value };
+
+    ghost says = { λ b. (Job-box b).says b.value };
 
     fn next(&mut self) -> Pull {
         (**self).next()

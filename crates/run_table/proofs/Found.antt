@@ -1,5 +1,5 @@
 -- What a look has found, by the word that it read.
-use Rattle.std.proofs.Common.{◌≡◌, ◌⊎◌, inl, inr, ℕ, suc, ◌+◌, ◌*◌, ◌/◌, ◌%◌, ◌<◌, ◌==◌, nat_lt, Bool, true, false, cond, List, Option, Some, None, get_or, refl, sym, ap, ◌∙◌, subst, arith}
+use Rattle.std.proofs.Common.{◌≡◌, ◌⊎◌, inl, inr, ℕ, suc, ◌+◌, ◌*◌, ◌/◌, ◌%◌, ◌<◌, ◌==◌, nat_lt, Bool, false, List, Option, Some, None, refl, sym, ap, ◌∙◌, subst, arith}
 use Rattle.std.proofs.lemmas.Bool.{cond-false, ne_eqb}
 use Rattle.std.proofs.lemmas.Option.{same_Some}
 use Rattle.descriptor.specs.Nodes.{size}
@@ -11,7 +11,7 @@ use Rattle.scheduling.specs.State.{status_at}
 use Rattle.table_rule.specs.declared.view.View.{View}
 use Rattle.table_rule.specs.declared.view.WorkerFacts.{WorkerFacts}
 use Rattle.table_rule.specs.declared.view.SeatOwner.TheVariants.{Worker}
-use Rattle.table_rule.specs.Moments.{IsSight, HasFound, HasFoundRoom, FindsWord}
+use Rattle.table_rule.specs.Moments.{HasFound, HasFoundRoom, FindsWord}
 use Rattle.table_rule.specs.Picture.{replies_of}
 use Rattle.table_rule.specs.Words.{status_word, read_place}
 use Rattle.table_rule.proofs.Moments.{status_then, read_then, owner_few}

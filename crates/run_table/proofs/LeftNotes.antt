@@ -6,7 +6,7 @@ use Rattle.std.proofs.lemmas.List.{append-nil}
 use Rattle.plan_events.specs.declared.note.Note.{Note}
 use Rattle.plan_events.specs.declared.status.Status.{Status}
 use Rattle.table_rule.specs.declared.view.Slot.{Slot}
-use Rattle.table_rule.specs.declared.view.Slot.TheVariants.{Empty, Body, Answered}
+use Rattle.table_rule.specs.declared.view.Slot.TheVariants.{Empty, Body, Answered, Used}
 use Rattle.run_table.specs.LeftNotes.{note_at, notes_from}
 use Rattle.run_table.proofs.Filled.{one_taken, so_many}
 
@@ -24,13 +24,13 @@ module _ {B : Type 0} where
       ∙ (ap (notes_from 0) (one_taken slots i slot q) ∙ (notes_more 0 (take i slots) slot ∙ ap (λ (n : ℕ). notes_from 0 (take i slots) ++ note_at n slot) (let many = so_many slots i slot q in let e : 0 + length (take i slots) ≡ i = omega (arith, many) in e)))
 
   -- the note in a slot is one of them
-  note_among : (slots : List (Slot B)) (k j pulls : ℕ) (status : Status) (note : Note) → get_elem? slots j ≡ some (Answered pulls status note) → (i : ℕ) × (slice_get (notes_from k slots) i ≡ Some (k + j, note))
-  note_among [] k j pulls status note q = absurd (some-ne-none (Answered pulls status note) (sym q))
-  note_among (x ∷ slots) k zero pulls status note q = (
+  note_among : (slots : List (Slot B)) (k j pulls : ℕ) (status : Status) (note : Note) (job : B) → get_elem? slots j ≡ some (Answered pulls status note job) → (i : ℕ) × (slice_get (notes_from k slots) i ≡ Some (k + j, note))
+  note_among [] k j pulls status note job q = absurd (some-ne-none (Answered pulls status note job) (sym q))
+  note_among (x ∷ slots) k zero pulls status note job q = (
     0,
-    ap (λ y. slice_get (note_at k y ++ notes_from (suc k) slots) 0) (some-injective x (Answered pulls status note) q) ∙ ap (λ (n : ℕ). Some (n, note)) (let e : k ≡ k + 0 = omega arith in e),
+    ap (λ y. slice_get (note_at k y ++ notes_from (suc k) slots) 0) (some-injective x (Answered pulls status note job) q) ∙ ap (λ (n : ℕ). Some (n, note)) (let e : k ≡ k + 0 = omega arith in e),
   )
-  note_among (x ∷ slots) k (suc j) pulls status note q = behind x (note_among slots (suc k) j pulls status note q)
+  note_among (x ∷ slots) k (suc j) pulls status note job q = behind x (note_among slots (suc k) j pulls status note job q)
     where
       at : ℕ → ℕ × Note
       at n = (n, note)
@@ -40,11 +40,12 @@ module _ {B : Type 0} where
 
       behind : (y : Slot B) → (i : ℕ) × (slice_get (notes_from (suc k) slots) i ≡ Some (suc k + j, note)) → (i : ℕ) × (slice_get (note_at k y ++ notes_from (suc k) slots) i ≡ Some (k + suc j, note))
       behind Empty found = (found.0, found.1 ∙ on)
-      behind (Body job) found = (found.0, found.1 ∙ on)
-      behind (Answered more other first) found = (suc found.0, found.1 ∙ on)
+      behind (Body last) found = (found.0, found.1 ∙ on)
+      behind (Used last) found = (found.0, found.1 ∙ on)
+      behind (Answered more other first last) found = (suc found.0, found.1 ∙ on)
 
-  pub note_there : (slots : List (Slot B)) (k pulls : ℕ) (status : Status) (note : Note) → get_elem? slots k ≡ some (Answered pulls status note) → (i : ℕ) × (slice_get (notes_from 0 slots) i ≡ Some (k, note))
-  note_there slots k pulls status note q =
-      let found = note_among slots 0 k pulls status note q in
+  pub note_there : (slots : List (Slot B)) (k pulls : ℕ) (status : Status) (note : Note) (job : B) → get_elem? slots k ≡ some (Answered pulls status note job) → (i : ℕ) × (slice_get (notes_from 0 slots) i ≡ Some (k, note))
+  note_there slots k pulls status note job q =
+      let found = note_among slots 0 k pulls status note job q in
       let at : ℕ → ℕ × Note = λ n. (n, note) in
       (found.0, found.1 ∙ ap (λ (n : ℕ). Some (at n)) (let e : 0 + k ≡ k = omega arith in e))

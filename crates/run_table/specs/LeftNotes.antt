@@ -13,7 +13,7 @@ use Rattle.run_table.specs.Ended.{HasEnded}
 module _ {B : Type 0} where
   -- the notes that stand in these slots, the first of which is slot k, each with the number of its slot
   abbrev pub note_at : ℕ → Slot B → List (ℕ × Note)
-  note_at k (Answered pulls status note) = (k, note) ∷ []
+  note_at k (Answered pulls status note job) = (k, note) ∷ []
   note_at k _ = []
 
   abbrev pub notes_from : ℕ → List (Slot B) → List (ℕ × Note)

@@ -1,6 +1,7 @@
 -- The jobs that the scripts of a suite give a plan.
 use Rattle.std.specs.Prelude.{◌≡◌, ℕ, ◌<◌, ◌==◌, ◌&&◌, Bool, true, false, if◌then◌else◌, List, [], ◌∷◌, Option, Some, None, IfSome}
 use Rattle.std.specs.List.{All}
+use Rattle.plan_events.specs.declared.outcome.Outcome.{Outcome}
 use Rattle.plan_events.specs.declared.outcome.Reply.{Reply}
 use Rattle.resource_locks.specs.Plans.{PlanParts}
 use Rattle.event_history.specs.Plans.{pulls_job}
@@ -20,6 +21,10 @@ replies_left job = reply_left job.reply
 -- what it gives is what it is to say
 abbrev pub gives_left : ScriptedJob → Reply → Type 0
 gives_left job reply = IfSome job.reply (λ said. reply.outcome ≡ said.outcome)
+
+-- nothing stays of it that says what it answered
+abbrev pub says_nothing : Outcome → Type 0
+says_nothing outcome = Unit {0}
 
 -- what is asked of a job: of a factory's body its whole reply; no other job is asked for dynamic tests
 abbrev pub asked_reply : Bool → Reply → Reply

@@ -6,7 +6,7 @@ ghost use Rattle.event_history.specs.Plans.{pulls_job};
 ghost use Rattle.sched_core.specs.Replies.{reply_of};
 ghost use Rattle.table_rule.specs.Slots.{slot_count, job_at};
 ghost use Rattle.run_table.specs.Prepared.{HasAllJobs};
-ghost use Rattle.suite_jobs.specs.Scripted.{gives_left, replies_left, asked_reply, is_pulled_slot, spin_of, AreScripted};
+ghost use Rattle.suite_jobs.specs.Scripted.{gives_left, replies_left, says_nothing, asked_reply, is_pulled_slot, spin_of, AreScripted};
 
 use descriptor::{BodyId, NodeId, Role};
 use plan_events::{Job, Outcome, Pull, Reply, Status};
@@ -37,6 +37,8 @@ impl Job for ScriptedJob {
     ghost answers = { replies_left };
 
     ghost gives = { gives_left };
+
+    ghost says = { λ job. says_nothing };
 
     fn next(&mut self) -> Pull {
         let Some(reply) = &mut self.reply else {

@@ -10,6 +10,7 @@ use Rattle.descriptor.specs.Nodes.{size, is_spare_at}
 use Rattle.descriptor.proofs.Counts.{count_most}
 use Rattle.plan_events.specs.declared.event.Event.{Event}
 use Rattle.plan_events.specs.declared.event.EventKind.TheVariants.{Finished}
+use Rattle.plan_events.specs.declared.outcome.Outcome.{Outcome}
 use Rattle.plan_events.specs.declared.outcome.Reply.{Reply}
 use Rattle.plan_events.specs.Words.{is_lawful, word_of}
 use Rattle.resource_locks.specs.Plans.{IsPlan, most_events}
@@ -131,8 +132,8 @@ module _ {B : Type 0} where
         (let now = ap (λ (u : Me (Slot B) (View B)). length (dispatcher u.0).read) t in omega (arith, now)),
       )
 
-  module _ {given : ℕ → Reply → Type 0} (answers : B → List Reply) (key : About B) where
-    pub moment_at : (s : TableState (Slot B) (View B)) → Ruled given (replies_of answers key) key s → (id : ℕ) (v : View B) → get_elem? s.views id ≡ some v → IsMomentOf answers v
+  module _ {says : B → Outcome → Type 0} {given : ℕ → Reply → Type 0} (answers : B → List Reply) (key : About B) where
+    pub moment_at : (s : TableState (Slot B) (View B)) → Ruled says given (replies_of answers key) key s → (id : ℕ) (v : View B) → get_elem? s.views id ≡ some v → IsMomentOf answers v
     moment_at s rule id v at d is =
         let view = rule.picture.is.views id v at in
         let about : v.about ≡ key = subst (λ (owner : SeatOwner). Names key v.about owner) is view.names in
@@ -143,22 +144,22 @@ module _ {B : Type 0} where
         (moment_by (replies_of answers key) rule.told key rule.picture.core rule.picture.dealt s rule.among rule.once rule.picture.is d.dealt (sym fits.many) d.read (sym fits.read) told)
 
     -- So a step that the rule allows tells it besides.
-    pub allows_moment : (slots id : ℕ) (m : Me (Slot B) (View B)) (i : ℕ) (f : ℕ → ℕ) (told : ℕ → Me (Slot B) (View B) → Type 0) → Allows (Ruled given (replies_of answers key) key) slots id m i f told
-        → Allows (Ruled given (replies_of answers key) key) slots id m i f (λ r n. told r n × IsMomentOf answers n.0)
+    pub allows_moment : (slots id : ℕ) (m : Me (Slot B) (View B)) (i : ℕ) (f : ℕ → ℕ) (told : ℕ → Me (Slot B) (View B) → Type 0) → Allows (Ruled says given (replies_of answers key) key) slots id m i f told
+        → Allows (Ruled says given (replies_of answers key) key) slots id m i f (λ r n. told r n × IsMomentOf answers n.0)
     allows_moment slots id m i f told allows s r long at fits =
         let o = allows s r long at fits in
         (o.0, o.1, o.2, o.3, (o.4, moment_at _ o.3 id o.0 (here_after s.views id o.0 m.0 at)))
 
     -- A worker that is at the table where the rule holds, with what stands in a word then.
-    pub sight_at : (s : TableState (Slot B) (View B)) → Ruled given (replies_of answers key) key s → (id : ℕ) (v : View B) → get_elem? s.views id ≡ some v → (i word : ℕ) → get_or s.words i 0 ≡ word → FindsWord answers v i word
+    pub sight_at : (s : TableState (Slot B) (View B)) → Ruled says given (replies_of answers key) key s → (id : ℕ) (v : View B) → get_elem? s.views id ≡ some v → (i word : ℕ) → get_or s.words i 0 ≡ word → FindsWord answers v i word
     sight_at s rule id v at i word found w is =
         let about : v.about ≡ key = subst (λ (owner : SeatOwner). Names key v.about owner) is (rule.picture.is.views id v at).names in
         subst (λ (a : About B). (x : IsSight (replies_of answers a) a v) × (get_or x.table.words i 0 ≡ word)) (sym about)
         (record { table = s; core = rule.picture.core; dealt = rule.picture.dealt; told = rule.told; among = rule.among; once = rule.once; is = rule.picture.is; id = id; here = at }, found)
 
     -- So a look that the rule allows tells it besides.
-    pub allows_sight : (slots id : ℕ) (m : Me (Slot B) (View B)) (i : ℕ) (told : ℕ → Me (Slot B) (View B) → Type 0) → Allows (Ruled given (replies_of answers key) key) slots id m i (λ x. x) told
-        → Allows (Ruled given (replies_of answers key) key) slots id m i (λ x. x) (λ r n. told r n × FindsWord answers n.0 i r)
+    pub allows_sight : (slots id : ℕ) (m : Me (Slot B) (View B)) (i : ℕ) (told : ℕ → Me (Slot B) (View B) → Type 0) → Allows (Ruled says given (replies_of answers key) key) slots id m i (λ x. x) told
+        → Allows (Ruled says given (replies_of answers key) key) slots id m i (λ x. x) (λ r n. told r n × FindsWord answers n.0 i r)
     allows_sight slots id m i told allows s r long at fits =
         let o = allows s r long at fits in
         (o.0, o.1, o.2, o.3, (o.4, sight_at _ o.3 id o.0 (here_after s.views id o.0 m.0 at) i (get_or s.words i 0) (ap (λ (l : List ℕ). get_or l i 0) (word_same s.words i (get_or s.words i 0) refl))))

@@ -22,7 +22,7 @@ use Rattle.table_rule.specs.declared.view.Slot.{Slot}
 use Rattle.table_rule.specs.declared.view.View.{View}
 use Rattle.table_rule.specs.Endings.{AllHaveRoom, CanEndWithin}
 use Rattle.table_rule.specs.Picture.{Dealt, IsIdle, IsPictureOf, free_seat}
-use Rattle.table_rule.proofs.RingEnds.{Ends, ends_within}
+use Rattle.table_rule.proofs.RingEnds.{ends_within}
 
 not_empty : (x : Event) (l : List Event) → x ∷ l ≡ [] → ⊥
 not_empty x l q = cc

@@ -1,6 +1,7 @@
 -- What contracts see of a body.
-use Rattle.std.specs.Prelude.{◌≡◌, ℕ, ◌+◌, min, Bool, true, false, Result, Ok}
+use Rattle.std.specs.Prelude.{◌≡◌, ℕ, ◌+◌, min, Bool, true, false, Some, Result, Ok}
 use Rattle.plan_events.specs.declared.outcome.Outcome.{Outcome}
+use Rattle.test_bodies.specs.Stops.{IsTold}
 use Rattle.test_bodies.specs.declared.body.Body.{Body}
 use Rattle.test_bodies.specs.declared.code.Code.{Code}
 use Rattle.test_bodies.specs.declared.code.Code.TheVariants.{Spent, Plain, Boxed}
@@ -22,7 +23,11 @@ module _ {X Y : Type 0} {Z : Y → Type 0} {f : _} {g : _} where
 
   -- the same body, which registers one dynamic test more, or as many as before if these are 65,535
   abbrev pub with_test : Body X Y Z f g → Body X Y Z f g
-  with_test body = record { alloc = body.alloc; code = body.code; tests = min (body.tests + 1) 65535 }
+  with_test body = record { alloc = body.alloc; code = body.code; tests = min (body.tests + 1) 65535; answered = body.answered }
+
+  -- it has kept what is told of this answer of its code
+  abbrev pub HasKept : Body X Y Z f g → Result (Unit {0}) Outcome → Type 0
+  HasKept body answer = (kept : Outcome) × (body.answered ≡ Some kept) × IsTold answer kept
 
   -- what its code may answer
   abbrev pub may_answer : Body X Y Z f g → Result (Unit {0}) Outcome → Type 0

@@ -4,7 +4,7 @@ ghost use Rattle.std.specs.Prelude.{◌≡◌, ◌+◌, ◌≤◌, ◌⊎◌, �
 ghost use Rattle.std.specs.Str.{IsUtf8};
 ghost use Rattle.plan_events.specs.Jobs.{IsPull, IsRun};
 ghost use Rattle.plan_events.specs.declared.outcome.Outcome.{Outcome as Told};
-ghost use Rattle.test_bodies.specs.Bodies.{is_spent, may_answer, tests_left, with_test};
+ghost use Rattle.test_bodies.specs.Bodies.{HasKept, is_spent, may_answer, tests_left, with_test};
 ghost use Rattle.test_bodies.specs.Replies.{IsSayable, replies_by};
 ghost use Rattle.test_bodies.specs.Stops.{IsTold};
 
@@ -22,6 +22,8 @@ pub struct Body {
     code: Code,
     // how many dynamic tests are still to be registered
     tests: u16,
+    // what its code answered, once it was run
+    answered: Option<Outcome>,
 }
 
 /// A text of the same bytes. Where there is no memory for it, it is empty.
@@ -35,8 +37,8 @@ fn text_of(alloc: Global, said: &str) -> Text
 }
 
 /// What is told of a test that answered so.
-fn told_of(alloc: Global, answer: Checked) -> Outcome
-    ensures told { IsTold answer result }
+fn told_of(alloc: Global, answer: &Checked) -> Outcome
+    ensures told { IsTold answer.now result }
     ensures sayable { IsSayable result }
 {
     match answer {
@@ -63,6 +65,7 @@ impl Body {
             alloc,
             code: Code::Plain(Plain::new(run)),
             tests: 0,
+            answered: None,
         }
     }
 
@@ -77,6 +80,7 @@ impl Body {
             alloc,
             code: Code::Boxed(Boxed::new(run)),
             tests: 0,
+            answered: None,
         }
     }
 
@@ -102,13 +106,14 @@ impl Body {
         Pull::More
     }
 
-    /// Runs its code, unless it was run, and answers how it ended.
+    /// Runs its code, unless it was run, and answers how it ended, which it keeps.
     #[tactic(auto, using(crate::proofs::Replying::runs))]
     pub fn finish(&mut self) -> Outcome
         ensures outcome { IsRun (replies_by (is_spent self.old) (tests_left self.old)) result }
         ensures over { replies_by (is_spent self.new) (tests_left self.new) ≡ [] }
         // What is told is what its code answered, which is gone from it.
-        ensures said { (answer : Result (Unit {0}) Told) × may_answer self.old answer × IsTold answer result }
+        ensures said { (answer : Result (Unit {0}) Told) × may_answer self.old answer × IsTold answer result
+            × HasKept self.new answer }
         ensures spent { is_spent self.new ≡ true }
     {
         let answer = match std::mem::replace(&mut self.code, Code::Spent) {
@@ -116,6 +121,7 @@ impl Body {
             Code::Plain(plain) => plain.call(self.alloc),
             Code::Boxed(boxed) => boxed.call(self.alloc),
         };
-        told_of(self.alloc, answer)
+        self.answered = Some(told_of(self.alloc, &answer));
+        told_of(self.alloc, &answer)
     }
 }

@@ -22,6 +22,10 @@ replies_left job = left_of job.ends job.fresh job.pulls
 abbrev pub gives_any : Reply → Type 0
 gives_any reply = Unit {0}
 
+-- nor of what it says once it was run
+abbrev pub says_any : Outcome → Type 0
+says_any outcome = Unit {0}
+
 module _ {B : Type 0} (answers : B → List Reply) where
   -- each of these jobs, of whatever kinds, may end without being asked
   abbrev pub AreFresh : List (ℕ × B) → Type 0

@@ -2,7 +2,7 @@
 
 ghost use Rattle.std.specs.Prelude.{◌≡◌, []};
 ghost use Rattle.plan_events.specs.Jobs.{IsRun};
-ghost use Rattle.test_jobs.specs.Acting.{gives_any, replies_left};
+ghost use Rattle.test_jobs.specs.Acting.{gives_any, replies_left, says_any};
 
 use crate::board::Board;
 use plan_events::{Job, Outcome, Pull, Status};
@@ -140,6 +140,8 @@ impl Job for Actor {
     ghost answers = { replies_left };
 
     ghost gives = { λ job. gives_any };
+
+    ghost says = { λ job. says_any };
 
     fn next(&mut self) -> Pull {
         self.board.ask();

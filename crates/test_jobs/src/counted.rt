@@ -1,7 +1,7 @@
 //! Jobs of a second kind, which count how often they are run.
 
 ghost use Rattle.std.specs.Prelude.{◌≡◌};
-ghost use Rattle.test_jobs.specs.Acting.{gives_any, replies_left};
+ghost use Rattle.test_jobs.specs.Acting.{gives_any, replies_left, says_any};
 ghost use Rattle.test_jobs.specs.Counting.{replies_counted};
 
 use crate::acting::Actor;
@@ -26,6 +26,8 @@ impl Job for Counted {
     ghost answers = { replies_counted };
 
     ghost gives = { λ job. gives_any };
+
+    ghost says = { λ job. says_any };
 
     fn next(&mut self) -> Pull {
         self.actor.next()

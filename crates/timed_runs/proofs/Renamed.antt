@@ -8,23 +8,24 @@ use mathlib.Core.Option.{some, none, some-injective, some-ne-none}
 use mathlib.Core.Option as plain
 use lib.ListN.{get_elem?}
 use Rattle.plan_events.specs.declared.event.Event.{Event}
+use Rattle.plan_events.specs.declared.outcome.Outcome.{Outcome}
 use Rattle.plan_events.specs.declared.outcome.Reply.{Reply}
 use Rattle.plan_events.specs.Texts.{TextParts}
 use Rattle.resource_locks.specs.Plans.{PlanParts}
 use Rattle.table_rule.specs.declared.view.DispatcherFacts.{DispatcherFacts}
 use Rattle.table_rule.specs.declared.view.Slot.{Slot}
-use Rattle.table_rule.specs.declared.view.Slot.TheVariants.{Empty, Body, Answered}
+use Rattle.table_rule.specs.declared.view.Slot.TheVariants.{Empty, Body, Answered, Used}
 use Rattle.table_rule.specs.declared.view.SlotState.{SlotState}
 use Rattle.table_rule.specs.declared.view.SlotState.TheVariants.{Unmoved, Out, Left, Noted, Taking, Taken}
-use Rattle.table_rule.specs.Picture.{given_by, that_count, replies_in, replies_of}
-use Rattle.table_rule.specs.Slots.{job_at, job_with, slot_with, slot_for, home_by}
+use Rattle.table_rule.specs.Picture.{SaysSo, given_by, that_count, replies_in, replies_of}
+use Rattle.table_rule.specs.Slots.{job_at, job_with, slot_with, slot_for, IsHome}
 use Rattle.run_table.specs.Balance.{IsBalanced}
 use Rattle.run_table.specs.Ended.{HasEnded}
 use Rattle.run_table.specs.Prepared.{slot_of, goes_in, unused_after, unused_of, job_in, jobs_from, IsMissing, HasAllJobs, IsRefused}
 use Rattle.run_table.specs.declared.fault.TableFault.{TableFault}
 use Rattle.run_table.specs.declared.fault.TableFault.TheVariants.{NoMemory, NoWorkers, TooManyWorkers, BadRing, JobsMissing}
 use Rattle.worker_pool.specs.Premises.{JobsMayAnswer}
-use Rattle.worker_pool.specs.Reports.{run_of, AreTexts, EndsAsReplied, IsLeft, IsReport, IsRefusedRun, IsToldAsGiven}
+use Rattle.worker_pool.specs.Reports.{run_of, AreTexts, EndsAsReplied, IsLeft, IsReport, IsRefusedRun, IsToldAsGiven, IsToldAsSaid}
 use Rattle.worker_pool.specs.declared.report.RunCause.{RunCause}
 use Rattle.worker_pool.specs.declared.report.RunCause.TheVariants.{Table, NoWorker}
 
@@ -81,15 +82,18 @@ module _ {J B : Type 0} (job : J → B) where
   abbrev slot_as : Slot J → Slot B
   slot_as Empty = Empty
   slot_as (Body j) = Body (job j)
-  slot_as (Answered pulls status note) = Answered pulls status note
+  slot_as (Answered pulls status note j) = Answered pulls status note (job j)
+  slot_as (Used j) = Used (job j)
 
   in_slot : (number : Option ℕ) (slot : Slot J) → job_in number (slot_as slot) ≡ map stands_for (job_in number slot)
   in_slot None Empty = refl
   in_slot None (Body j) = refl
-  in_slot None (Answered pulls status note) = refl
+  in_slot None (Answered pulls status note j) = refl
+  in_slot None (Used j) = refl
   in_slot (Some number) Empty = refl
   in_slot (Some number) (Body j) = refl
-  in_slot (Some number) (Answered pulls status note) = refl
+  in_slot (Some number) (Answered pulls status note j) = refl
+  in_slot (Some number) (Used j) = refl
 
   in_slots : (p : PlanParts) (k : ℕ) (slots : List (Slot J)) → jobs_from p k (map slot_as slots) ≡ map stands_for (jobs_from p k slots)
   in_slots p k [] = refl
@@ -105,13 +109,13 @@ module _ {J B : Type 0} (job : J → B) where
   fresh_slot jobs (Some number) = ap slot_with (found jobs number) ∙ slot_found (job_with jobs number)
 
   module _ (p : PlanParts) (workers ring : ℕ) (jobs : List (ℕ × J)) where
-    at_home : (k : ℕ) (state : SlotState) → home_by (run_of p workers ring (map stands_for jobs)) k state ≡ lift slot_as (home_by (run_of p workers ring jobs) k state)
-    at_home k Unmoved = ap (λ (slot : Slot B). some slot) (fresh_slot jobs (job_at p k))
-    at_home k Out = refl
-    at_home k Left = refl
-    at_home k (Noted reply) = refl
-    at_home k (Taking reply) = refl
-    at_home k (Taken reply) = refl
+    at_home : (k : ℕ) (state : SlotState) (home : plain.Option (Slot J)) → IsHome (run_of p workers ring jobs) k state home → IsHome (run_of p workers ring (map stands_for jobs)) k state (lift slot_as home)
+    at_home k Unmoved home is = ap (lift slot_as) is ∙ ap (λ (slot : Slot B). some slot) (sym (fresh_slot jobs (job_at p k)))
+    at_home k Out home is = ap (lift slot_as) is
+    at_home k Left home is = ap (lift slot_as) is
+    at_home k (Noted reply) home is = (job is.0, ap (lift slot_as) is.1)
+    at_home k (Taking reply) home is = ap (lift slot_as) is
+    at_home k (Taken reply) home is = (job is.0, ap (lift slot_as) is.1)
 
   stands_as : (slots : List (Slot J)) (k : ℕ) (slot : Slot J) → get_elem? slots k ≡ some slot → get_elem? (map slot_as slots) k ≡ some (slot_as slot)
   stands_as [] k slot is = absurd (some-ne-none slot (sym is))
@@ -134,7 +138,7 @@ module _ {J B : Type 0} (job : J → B) where
     many = length-map e.slots slot_as ∙ e.many;
     left = ap (map stands_for) e.left ∙ (map-append stands_for (unused_of (run_of p workers ring jobs)) (jobs_from p 0 e.slots) ∙ (λ i. sym (unused_then p [] jobs) i ++ sym (in_slots p 0 e.slots) i));
     slot_state = e.slot_state;
-    homes = λ k y low is. home_as (home_by (run_of p workers ring jobs) k (e.slot_state k)) e.slots k (λ x at. e.homes k x low at) y (sym (at_home p workers ring jobs k (e.slot_state k)) ∙ is);
+    homes = λ k low. (let home = e.homes k low in (lift slot_as home.0, at_home p workers ring jobs k (e.slot_state k) home.0 home.1, home_as home.0 e.slots k home.2));
     waits = e.waits;
     taken = e.taken;
     undealt = e.undealt;
@@ -209,11 +213,22 @@ module _ {J B : Type 0} (job : J → B) where
     abbrev given : J → Reply → Type 0
     given j = gives (job j)
 
-    given_job : (number : ℕ) (reply : Reply) → given_by given (run_of p workers ring jobs) number reply → given_by gives (run_of p workers ring (map stands_for jobs)) number reply
+    pub given_job : (number : ℕ) (reply : Reply) → given_by given (run_of p workers ring jobs) number reply → given_by gives (run_of p workers ring (map stands_for jobs)) number reply
     given_job number reply is = elim is [ inl x ↦ inl (job x.0, found_some jobs number x.0 x.1, x.2) | inr many ↦ inr many ]
 
-    pub told_given : (events : List Event) (texts : TextParts) → IsToldAsGiven (given_by given (run_of p workers ring jobs)) p workers events texts → IsToldAsGiven (given_by gives (run_of p workers ring (map stands_for jobs))) p workers events texts
+    abbrev pub told_given : (events : List Event) (texts : TextParts) → IsToldAsGiven (given_by given (run_of p workers ring jobs)) p workers events texts → IsToldAsGiven (given_by gives (run_of p workers ring (map stands_for jobs))) p workers events texts
     told_given events texts is = record { told = is.told; given_so = λ number i reply at. given_job number reply (is.given_so number i reply at); once = is.once; legal = is.legal; texts_are = is.texts_are }
+
+    -- and what the job says, so does the one that it stands for
+    pub told_said : (says : B → Outcome → Type 0) (events : List Event) (texts : TextParts) (used : List (ℕ × J)) → IsToldAsSaid (λ j. says (job j)) (given_by given (run_of p workers ring jobs)) p workers events texts used
+        → IsToldAsSaid says (given_by gives (run_of p workers ring (map stands_for jobs))) p workers events texts (map stands_for used)
+    told_said says events texts used said = record {
+      is = told_given events texts said.is;
+      says_so = λ i number b at. (let x = back used i number b at in let was = said.says_so i number x.of x.stands in (was.0, was.1, subst (SaysSo says p number was.0) x.is was.2));
+      alone = λ i number b at. (let x = back used i number b at in said.alone i number x.of x.stands);
+      few = (let few = said.few in let long = length-map used stands_for in omega (arith, few, long));
+      each = λ number ran. (let x = said.each number ran in (x.0, job x.1, there used x.0 number x.1 x.2));
+    }
 
   -- What is said by the replies of the jobs.
   module _ (answers : B → List Reply) where

@@ -7,11 +7,12 @@ ghost use Rattle.job_times.specs.TimedJobs.{untimed};
 ghost use Rattle.listeners.specs.Listeners.{tellings_of};
 ghost use Rattle.table_rule.specs.Moments.{KeepsApart};
 ghost use Rattle.table_rule.specs.Picture.{given_by, replies_of};
+ghost use Rattle.table_rule.specs.Slots.{slot_count};
 ghost use Rattle.run_table.specs.Balance.{IsBalanced};
 ghost use Rattle.run_table.specs.Prepared.{HasAllJobs, IsRightCount, IsRightRing};
 ghost use Rattle.worker_pool.specs.Premises.{JobsMayAnswer};
 ghost use Rattle.worker_pool.specs.Reports.{run_of, AreParts, AreTexts, IsReport, IsRefusedRun};
-ghost use Rattle.worker_pool.specs.Reports.{EndsAsReplied, IsLeft, IsToldAsGiven};
+ghost use Rattle.worker_pool.specs.Reports.{EndsAsReplied, IsLeft, IsToldAsGiven, IsToldAsSaid};
 ghost use Rattle.listeners.specs.Observing.{HasSeenMore};
 
 use job_times::{Stopwatch, TimedJob, timed_jobs, untimed_jobs};
@@ -62,17 +63,22 @@ fn without_memory<B: Job>(plan: Plan, jobs: Jobs<B>, workers: u32, ring: u32) ->
 fn untimed_report<'s, B: Job, S: Stopwatch>(
     report: Report<TimedJob<'s, B, S>>,
     room: Jobs<B>,
+    used_room: Jobs<B>,
 ) -> Report<B>
     requires empty { room.items ≡ [] }
     requires room { vec_len report.unused_jobs ≤ vec_capacity room }
+    requires none_used { used_room.items ≡ [] }
+    requires used_room { vec_len report.used_jobs ≤ vec_capacity used_room }
     ensures same { result ≡ record {
       plan = report.entry.plan;
       events = report.entry.events;
       mine = report.entry.mine;
       texts = report.entry.texts;
       unused_jobs = result.unused_jobs;
+      used_jobs = result.used_jobs;
     } }
     ensures jobs { result.unused_jobs.items ≡ untimed report.entry.unused_jobs.items }
+    ensures used { result.used_jobs.items ≡ untimed report.entry.used_jobs.items }
 {
     let Report {
         plan,
@@ -80,6 +86,7 @@ fn untimed_report<'s, B: Job, S: Stopwatch>(
         mine,
         texts,
         unused_jobs,
+        used_jobs,
     } = report;
     Report {
         plan,
@@ -87,6 +94,7 @@ fn untimed_report<'s, B: Job, S: Stopwatch>(
         mine,
         texts,
         unused_jobs: untimed_jobs(unused_jobs, room),
+        used_jobs: untimed_jobs(used_jobs, used_room),
     }
 }
 
@@ -109,19 +117,23 @@ fn untimed_fault<'s, B: Job, S: Stopwatch>(
     }
 }
 
-/// Runs a plan as `run_watched` does, with these jobs that are timed, and puts them back into this room.
+/// Runs a plan as `run_watched` does, with these jobs that are timed, and puts them back into this room, and those that
+/// have answered into the other.
 fn run_noted<'s, B: Job + Send, O: Observer, R: Threads + Wait + Sync, S: Stopwatch + Sync>(
     rt: &R,
     alloc: Global,
     plan: Plan,
     timed: Jobs<TimedJob<'s, B, S>>,
     room: Jobs<B>,
+    used_room: Jobs<B>,
     workers: u32,
     ring: u32,
     observer: &mut O,
 ) -> Result<Report<B>, RunFault<B>>
     requires empty { room.items ≡ [] }
     requires room { vec_len timed ≤ vec_capacity room }
+    requires none_used { used_room.items ≡ [] }
+    requires used_room { slot_count plan ≤ vec_capacity used_room }
     requires jobs { JobsMayAnswer B.answers (run_of plan workers ring (untimed timed.items)) }
     ensures plan { IfOk result (λ report. report.plan ≡ plan) }
     ensures report { IfOk result (λ report. IsReport (run_of plan workers ring (untimed timed.entry.items))
@@ -134,6 +146,9 @@ fn run_noted<'s, B: Job + Send, O: Observer, R: Threads + Wait + Sync, S: Stopwa
         (replies_of B.answers (run_of plan workers ring (untimed timed.entry.items))) report.events.items report.texts) }
     ensures given { IfOk result (λ report. IsToldAsGiven (given_by B.gives (run_of plan workers ring (untimed timed.entry.items)))
         plan workers report.events.items report.texts) }
+    ensures said { IfOk result (λ report. IsToldAsSaid B.says
+        (given_by B.gives (run_of plan workers ring (untimed timed.entry.items))) plan workers report.events.items
+        report.texts report.used_jobs.items) }
     ensures left { IfOk result (λ report. IsLeft (replies_of B.answers (run_of plan workers ring (untimed timed.entry.items)))
         (run_of plan workers ring (untimed timed.entry.items)) report.events.items report.unused_jobs.items) }
     ensures balanced { IfOk result (λ report. IsBalanced plan (untimed timed.entry.items) report.events.items
@@ -147,7 +162,7 @@ fn run_noted<'s, B: Job + Send, O: Observer, R: Threads + Wait + Sync, S: Stopwa
     ensures unseen { IfErr result (λ _. observer.new ≡ observer.old) }
 {
     match run_watched(rt, alloc, plan, timed, workers, ring, observer) {
-        Ok(report) => Ok(untimed_report(report, room)),
+        Ok(report) => Ok(untimed_report(report, room, used_room)),
         Err(fault) => Err(untimed_fault(fault, room)),
     }
 }
@@ -176,6 +191,8 @@ pub fn run_timed<B: Job + Send, O: Observer, R: Threads + Wait + Sync, S: Stopwa
         report.events.items report.texts) }
     ensures given { IfOk result (λ report. IsToldAsGiven (given_by B.gives (run_of plan workers ring jobs.items)) plan
         workers report.events.items report.texts) }
+    ensures said { IfOk result (λ report. IsToldAsSaid B.says (given_by B.gives (run_of plan workers ring jobs.items))
+        plan workers report.events.items report.texts report.used_jobs.items) }
     ensures left { IfOk result (λ report. IsLeft (replies_of B.answers (run_of plan workers ring jobs.items))
         (run_of plan workers ring jobs.items) report.events.items report.unused_jobs.items) }
     ensures balanced { IfOk result (λ report. IsBalanced plan jobs.items report.events.items report.unused_jobs.items) }
@@ -190,8 +207,13 @@ pub fn run_timed<B: Job + Send, O: Observer, R: Threads + Wait + Sync, S: Stopwa
     let Ok(room) = Vec::with_capacity(alloc, jobs.len()) else {
         return Err(without_memory(plan, jobs, workers, ring));
     };
+    let Ok(used_room) = Vec::with_capacity(alloc, 2 * plan.tree().len()) else {
+        return Err(without_memory(plan, jobs, workers, ring));
+    };
     match timed_jobs(alloc, jobs, stopwatch) {
-        Ok(timed) => run_noted(rt, alloc, plan, timed, room, workers, ring, observer),
+        Ok(timed) => run_noted(
+            rt, alloc, plan, timed, room, used_room, workers, ring, observer,
+        ),
         Err(jobs) => Err(without_memory(plan, jobs, workers, ring)),
     }
 }

@@ -1,5 +1,6 @@
 -- What a job that passes may answer.
 use Rattle.std.specs.Prelude.{◌≡◌, ℕ, Bool, true, false, List, [], ◌∷◌}
+use Rattle.plan_events.specs.declared.outcome.Outcome.{Outcome}
 use Rattle.plan_events.specs.declared.outcome.Reply.{Reply}
 use Rattle.plan_events.specs.declared.status.Status.TheVariants.{Successful}
 use Rattle.uses.specs.declared.threaded_run.Passing.{Passing}
@@ -19,6 +20,10 @@ passes job = replies_by job.is_done
 -- what it gives is that it passes
 abbrev pub gives_passing : Passing → Reply → Type 0
 gives_passing job reply = reply.outcome ≡ passing.outcome
+
+-- and it says that, once it was run
+abbrev pub says_passing : Passing → Outcome → Type 0
+says_passing job outcome = (job.is_done ≡ true) × (outcome ≡ passing.outcome)
 
 -- each of these jobs, with the number of its body, may still pass
 abbrev pub AllPass : List (ℕ × Passing) → Type 0

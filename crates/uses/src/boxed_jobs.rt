@@ -3,7 +3,7 @@
 ghost use Rattle.std.specs.Prelude.{◌≡◌, ◌∷◌, [], IfOk, IfSome};
 ghost use Rattle.event_history.specs.Exclusion.{IsExclusive};
 ghost use Rattle.event_history.specs.History.{IsComplete};
-ghost use Rattle.uses.specs.Ending.{failing, fails as failing_replies, gives_failing, AllEnd};
+ghost use Rattle.uses.specs.Ending.{failing, fails as failing_replies, gives_failing, says_failing, AllEnd};
 ghost use Rattle.uses.specs.Passing.{passing};
 
 use crate::threaded_run::Passing;
@@ -27,6 +27,8 @@ impl Job for Failing {
     ghost answers = { failing_replies };
 
     ghost gives = { gives_failing };
+
+    ghost says = { says_failing };
 
     fn next(&mut self) -> Pull {
         Pull::End

@@ -1,7 +1,7 @@
 //! Calls `worker_pool`: four threads run a plan with two jobs of one's own, and two listeners are told what happens.
 
 ghost use Rattle.std.specs.Prelude.{◌≡◌, IfOk, IfSome};
-ghost use Rattle.uses.specs.Passing.{gives_passing, passes, AllPass};
+ghost use Rattle.uses.specs.Passing.{gives_passing, passes, says_passing, AllPass};
 ghost use Rattle.event_history.specs.Exclusion.{IsExclusive};
 ghost use Rattle.event_history.specs.History.{IsComplete};
 
@@ -26,6 +26,8 @@ impl Job for Passing {
     ghost answers = { passes };
 
     ghost gives = { gives_passing };
+
+    ghost says = { says_passing };
 
     fn next(&mut self) -> Pull {
         Pull::End

@@ -12,7 +12,7 @@ ghost use Rattle.run_table.specs.Handles.{about_at, plan_at, worker_at, IsUnchan
 ghost use Rattle.run_table.specs.Moved.{is_moved, job_slot as job_slot_of};
 ghost use Rattle.run_table.specs.Seats.{IsSeatOf, SameSeat, seated};
 ghost use Rattle.plan_events.specs.declared.outcome.Reply.{Reply as ReplyValue};
-ghost use Rattle.run_table.specs.Answering.{registered_by, noted_pulls, IsToldAs, MayTell};
+ghost use Rattle.run_table.specs.Answering.{registered_by, noted_pulls, IsToldAs, MayTell, SaysTold};
 
 use crate::fault::NotEnabled;
 use crate::table::RunTable;
@@ -152,7 +152,7 @@ fn told_pulls(registered: usize, note: &Note) -> u16
 
 impl<B: Job> WorkerSeat<B> {
     /// Puts this answer into the slot, the job of which has left: it takes the slot, which is
-    /// empty, and gives it back with the note.
+    /// empty, and gives it back with the note and the job.
     fn put_answer(
         &mut self,
         table: &RunTable<B>,
@@ -160,6 +160,7 @@ impl<B: Job> WorkerSeat<B> {
         pulls: u16,
         status: Status,
         note: Note,
+        job: B,
     )
         requires table { IsSeatOf table.now.table self.old.seat }
         requires small { slot < 8192 }
@@ -168,6 +169,7 @@ impl<B: Job> WorkerSeat<B> {
             self.old.task ≡ Some slot }
         requires answer { MayTell (plan_at self.old.seat) (replies_in B.answers (about_at self.old.seat).jobs)
             (given_by B.gives (about_at self.old.seat)) (worker_at self.old.seat).slots (seated self.old.task self.old.hand) slot status note }
+        requires said { SaysTold B.says (plan_at self.old.seat) (seated self.old.task self.old.hand) status note job }
         requires pulls { pulls ≡ noted_pulls (registered_by self.old.task self.old.hand) note }
         ensures same { SameSeat self.old.seat self.new.seat }
         ensures told { (reply : ReplyValue) × IsToldAs (plan_at self.old.seat)
@@ -178,32 +180,35 @@ impl<B: Job> WorkerSeat<B> {
         ensures hand { self.new.hand ≡ self.old.hand }
     {
         table.table.shared.load::<Lifts>(&mut self.seat, 0);
-        table
-            .table
-            .shared
-            .exchange(&mut self.seat, slot, Slot::Answered(pulls, status, note));
+        table.table.shared.exchange(
+            &mut self.seat,
+            slot,
+            Slot::Answered(pulls, status, note, job),
+        );
         table.table.shared.load::<AnswersIn>(&mut self.seat, 0);
         self.moved.put(slot);
         self.answer = Some(Answer { pulls, status });
     }
 
     /// Puts the answer of this node's job, which has left, into the job's slot, if the seat waits
-    /// for it: how it ended, and its note. It is for the caller that the job has answered so: by
+    /// for it: how it ended, and its note; and the job. It is for the caller that the job has answered so: by
     /// one of the replies that it may give, which it gave, after as many answers that there is one more dynamic
     /// test as are registered; or, of a factory all of whose tests are registered, by one answer
-    /// more.
+    /// more; and that the job says so.
     pub fn text_in(
         &mut self,
         table: &RunTable<B>,
         node: NodeId,
         status: Status,
         note: Note,
+        job: B,
     ) -> Result<(), NotEnabled>
         requires table { IsSeatOf table.now.table self.old.seat }
         requires answer { (slot : ℕ) → job_slot_of (plan_at self.old.seat) self.old.task self.old.hand
             node ≡ Some slot → MayTell (plan_at self.old.seat)
             (replies_in B.answers (about_at self.old.seat).jobs) (given_by B.gives (about_at self.old.seat))
             (worker_at self.old.seat).slots (seated self.old.task self.old.hand) slot status note }
+        requires said { SaysTold B.says (plan_at self.old.seat) (seated self.old.task self.old.hand) status note job }
         ensures same { SameSeat self.old.seat self.new.seat }
         ensures task { self.new.task ≡ self.old.task }
         ensures hand { self.new.hand ≡ self.old.hand }
@@ -219,7 +224,7 @@ impl<B: Job> WorkerSeat<B> {
             return Err(NotEnabled);
         };
         let pulls = told_pulls(registered(self.task, self.hand), &note);
-        self.put_answer(table, slot, pulls, status, note);
+        self.put_answer(table, slot, pulls, status, note, job);
         Ok(())
     }
 }

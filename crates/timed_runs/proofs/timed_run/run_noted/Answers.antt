@@ -6,10 +6,10 @@ use Rattle.table_rule.specs.Moments.{KeepsApart}
 use Rattle.table_rule.specs.Picture.{given_by, replies_of}
 use Rattle.run_table.specs.Balance.{IsBalanced}
 use Rattle.job_times.specs.TimedJobs.{job_of, untimed}
-use Rattle.worker_pool.specs.Reports.{run_of, AreParts, AreTexts, EndsAsReplied, IsLeft, IsReport, IsRefusedRun, IsToldAsGiven}
+use Rattle.worker_pool.specs.Reports.{run_of, AreParts, AreTexts, EndsAsReplied, IsLeft, IsReport, IsRefusedRun, IsToldAsGiven, IsToldAsSaid}
 use Rattle.listeners.specs.Observing.{HasSeenMore}
 use Rattle.worker_pool.proofs.Reported.{carried}
-use Rattle.timed_runs.proofs.Renamed.{all_there, balanced, few_left, left_over, may_answer, refused, replied, reported, texts_are, told_given}
+use Rattle.timed_runs.proofs.Renamed.{all_there, balanced, few_left, left_over, may_answer, refused, replied, reported, texts_are, told_given, told_said}
 use Rattle.timed_runs.proofs.timed_run.run_noted.Goals as goal
 
 pub run_watched-requires-clause-jobs : goal.run_watched-requires-clause-jobs
@@ -53,6 +53,16 @@ returns-in-Ok-clause-given g c =
     let key = run_of c.args.plan c.args.workers c.args.ring (untimed c.args.timed.items) in
     carried c.untimed_report.ensures.same (λ r. IsToldAsGiven (given_by g.B.Job.gives key) c.args.plan c.args.workers r.events.items r.texts)
     (told_given (λ t. t.job) g.B.Job.gives c.args.plan c.args.workers c.args.ring c.args.timed.items c.in-Ok.report.events.items c.in-Ok.report.texts c.in-Ok.ensures.given)
+
+pub untimed_report-requires-clause-used_room : goal.untimed_report-requires-clause-used_room
+untimed_report-requires-clause-used_room g c = (let few = c.in-Ok.ensures.said.few in omega (arith, few, c.requires.used_room))
+
+pub returns-in-Ok-clause-said : goal.returns-in-Ok-clause-said
+returns-in-Ok-clause-said g c =
+    let key = run_of c.args.plan c.args.workers c.args.ring (untimed c.args.timed.items) in
+    carried c.untimed_report.ensures.same (λ r. IsToldAsSaid g.B.Job.says (given_by g.B.Job.gives key) c.args.plan c.args.workers r.events.items r.texts c.untimed_report.result.used_jobs.items)
+    (carried c.untimed_report.ensures.used (λ js. IsToldAsSaid g.B.Job.says (given_by g.B.Job.gives key) c.args.plan c.args.workers c.in-Ok.report.events.items c.in-Ok.report.texts js)
+    (told_said (λ t. t.job) g.B.Job.gives c.args.plan c.args.workers c.args.ring c.args.timed.items g.B.Job.says c.in-Ok.report.events.items c.in-Ok.report.texts c.in-Ok.report.used_jobs.items c.in-Ok.ensures.said))
 
 pub returns-in-Ok-clause-left : goal.returns-in-Ok-clause-left
 returns-in-Ok-clause-left g c =

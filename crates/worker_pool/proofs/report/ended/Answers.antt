@@ -5,9 +5,10 @@ use Rattle.resource_locks.specs.Plans.{most_events}
 use Rattle.event_history.proofs.EventBound.{legal_few}
 use Rattle.table_rule.specs.Picture.{about_of, given_by, replies_of}
 use Rattle.table_rule.specs.Plays.{dispatcher}
+use Rattle.run_table.specs.UsedJobs.{HasSaid}
 use Rattle.worker_pool.specs.Telling.{AreTextsRead}
-use Rattle.worker_pool.proofs.Balance.{balance_reported}
-use Rattle.worker_pool.proofs.TextsRead.{given_reported, texts_reported}
+use Rattle.worker_pool.proofs.Balance.{at_the_end, balance_reported}
+use Rattle.worker_pool.proofs.TextsRead.{given_reported, said_reported, texts_reported}
 use Rattle.worker_pool.proofs.Reported.{carried, ended_so, kept_apart, reported}
 use Rattle.worker_pool.proofs.Shares.{fits_all}
 use Rattle.worker_pool.proofs.report.ended.Goals as goal
@@ -43,6 +44,8 @@ returns-clause-report g c =
       texts = texts_reported key.plan replies key.workers state.slots state.read events after.texts q.noted is.legal
           are;
       given = given_reported (given_by g.B.Job.gives key) key replies state events after.texts q.noted is.legal are c.close-plan.ensures.given;
+      said = said_reported g.B.Job.says (given_by g.B.Job.gives key) key replies state events after.texts c.close-plan.result.used.items q.noted is.legal are
+          (at_the_end state.read q.over (HasSaid g.B.Job.says (given_by g.B.Job.gives key) key state c.close-plan.result.used.items) c.close-plan.ensures.said);
       left = record { state = state; read = sym q.noted; ended = c.close-plan.ensures.ends };
       balanced = balance_reported key.plan key.jobs jobs state.read events q.noted q.over c.close-plan.ensures.balanced;
     }

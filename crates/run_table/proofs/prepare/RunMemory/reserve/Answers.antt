@@ -13,5 +13,8 @@ returns-clause-slots g c =
     start_filled c.args.plan.now slots c.in_ok-self-4.field-0.items (let e : length slots ≡ slot_count c.args.plan.now = omega (arith, nodes, many) in e)
     (λ k low. c.in_ok-self-3.ensures.empty k (omega (arith, nodes, low))) c.in_ok-self-4.ensures.items
 
+pub returns-clause-used : goal.returns-clause-used
+returns-clause-used g c = omega (arith, c.in_ok-self-5.ensures.capacity, c.len-count.ensures.len, ap size c.tree.ensures.same)
+
 pub returns-clause-notes : goal.returns-clause-notes
-returns-clause-notes g c = omega (arith, c.in_ok-self-5.ensures.capacity, c.len-count.ensures.len, ap size c.tree.ensures.same)
+returns-clause-notes g c = omega (arith, c.in_ok-self-6.ensures.capacity, c.len-count.ensures.len, ap size c.tree.ensures.same)
