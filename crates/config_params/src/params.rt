@@ -19,11 +19,21 @@ use std::alloc::{AllocError, Global};
 use std::marker::Model;
 
 /// Parameters: what a request, the system and a text of properties say of keys.
-#[derive(Drop)]
 pub struct Params {
     request: Table,
     system: Table,
     file: Table,
+}
+
+// A crate that lets one go takes this call, and proves the drops of the parts no second time.
+impl Drop for Params {
+    fn drop(self) {
+        let Params {
+            request: _,
+            system: _,
+            file: _,
+        } = self;
+    }
 }
 
 impl Model for Params {

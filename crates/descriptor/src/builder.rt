@@ -21,13 +21,23 @@ pub const MOST_NODES: usize = 4096;
 const MOST_DEPTH: u8 = 64;
 
 /// A tree that grows at its end: each node comes right after the nodes below its elder sibling.
-#[derive(Drop)]
 pub struct TreeBuilder {
     tree: Tree,
     // the hashes of the nodes' unique ids: only if it has that of an id are the nodes looked through for it
     hashes: HashSet<u64>,
     // the bodies of the tree
     bodies: BodyMarks,
+}
+
+// A crate that lets one go takes this call, and proves the drops of the parts no second time.
+impl Drop for TreeBuilder {
+    fn drop(self) {
+        let TreeBuilder {
+            tree: _,
+            hashes: _,
+            bodies: _,
+        } = self;
+    }
 }
 
 impl Model for TreeBuilder {
@@ -150,7 +160,12 @@ impl TreeBuilder {
     {
         // the contract of `len` tells that it is a tree
         let _ = self.tree.len();
-        self.tree
+        let TreeBuilder {
+            tree,
+            hashes: _,
+            bodies: _,
+        } = self;
+        tree
     }
 
     /// Why a node is refused, whose unique id has this hash.

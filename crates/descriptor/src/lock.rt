@@ -7,12 +7,19 @@ use std::alloc::{AllocError, Global};
 use unique_id::Text;
 
 /// A declaration that a node uses a shared resource, which is named by a key, and how it uses it.
-#[derive(Debug, Drop)]
+#[derive(Debug)]
 pub struct Lock {
     /// What the resource is called.
     pub key: Text,
     /// Whether the resource is only read.
     pub mode: LockMode,
+}
+
+// A crate that lets one go takes this call, and proves the drops of the parts no second time.
+impl Drop for Lock {
+    fn drop(self) {
+        let Lock { key: _, mode: _ } = self;
+    }
 }
 
 impl Lock {

@@ -9,11 +9,21 @@ use std::sync::Arc;
 
 /// The resource locks that a node declares, in the order of their declaration. All copies share them until one gets a
 /// further lock.
-#[derive(Debug, Drop)]
+#[derive(Debug)]
 pub struct Locks {
     alloc: Global,
     // None: no locks
     shared: Option<Arc<Vec<Lock>>>,
+}
+
+// A crate that lets one go takes this call, and proves the drops of the parts no second time.
+impl Drop for Locks {
+    fn drop(self) {
+        let Locks {
+            alloc: _,
+            shared: _,
+        } = self;
+    }
 }
 
 impl Model for Locks {

@@ -19,7 +19,7 @@ const LONGEST_TEXT: usize = 1024;
 const MOST_LOCKS: usize = 16;
 
 /// A node other than the plan.
-#[derive(Debug, Drop)]
+#[derive(Debug)]
 pub struct Node {
     /// Where the node stands; no two nodes of a tree have the same.
     pub id: UniqueId,
@@ -44,6 +44,25 @@ pub struct Node {
     pub disabled: Option<Text>,
     /// The tags of the node itself, not of those above.
     pub tags: TagSet,
+}
+
+// A crate that lets one go takes this call, and proves the drops of the parts no second time.
+impl Drop for Node {
+    fn drop(self) {
+        let Node {
+            id: _,
+            name: _,
+            kind: _,
+            role: _,
+            mode: _,
+            locks: _,
+            isolated: _,
+            body: _,
+            after: _,
+            disabled: _,
+            tags: _,
+        } = self;
+    }
 }
 
 impl Node {

@@ -16,7 +16,7 @@ use tag_expr::TagSet;
 use unique_id::{Text, both};
 
 /// A tree of nodes, numbered in preorder. Node 0 is the plan.
-#[derive(Debug, Drop)]
+#[derive(Debug)]
 pub struct Tree {
     // one place for each node, the plan included
     parents: Vec<NodeId>,
@@ -24,6 +24,18 @@ pub struct Tree {
     children: Vec<Vec<NodeId>>,
     // from node 1
     nodes: Vec<Node>,
+}
+
+// A crate that lets one go takes this call, and proves the drops of the parts no second time.
+impl Drop for Tree {
+    fn drop(self) {
+        let Tree {
+            parents: _,
+            depths: _,
+            children: _,
+            nodes: _,
+        } = self;
+    }
 }
 
 impl Model for Tree {

@@ -11,7 +11,6 @@ use scheduling::Step;
 use selectors::Request;
 
 /// The options of a run.
-#[derive(Drop)]
 pub struct Options {
     /// What is to run: the options for selectors, which share one numbering, and those for tags.
     pub request: Request,
@@ -51,4 +50,28 @@ pub struct Options {
     pub ghost right_ring: { IsRightRing ring },
     pub ghost right_drive: { IsRightDrive drive },
     pub ghost is_spread: { IsSpread params workers spread },
+}
+
+// A crate that lets one go takes this call, and proves the drops of the parts no second time.
+impl Drop for Options {
+    fn drop(self) {
+        let Options {
+            request: _,
+            params: _,
+            processors: _,
+            workers: _,
+            spread: _,
+            ring: _,
+            details: _,
+            theme: _,
+            fail_if_no_tests: _,
+            fail_if_nothing_selected: _,
+            fail_fast: _,
+            tolerated: _,
+            schedule: _,
+            times: _,
+            replay: _,
+            drive: _,
+        } = self;
+    }
 }

@@ -4,7 +4,7 @@ use selectors::SelectorKind;
 
 /// The values of the options, as texts that mean nothing yet: one field for each option, but for
 /// those that select or leave out, which share one numbering.
-#[derive(Debug, Drop)]
+#[derive(Debug)]
 pub struct Given<'a> {
     /// `--select-unique-id`, `--select-class`, `--select-method` and `--select-package`: all of the
     /// first, then all of the next, each option's in the order of the words.
@@ -54,4 +54,35 @@ pub struct Given<'a> {
     pub schedule: bool,
     /// `--times`.
     pub times: bool,
+}
+
+// A crate that lets one go takes this call, and proves the drops of the parts no second time.
+impl Drop for Given<'_> {
+    fn drop(self) {
+        let Given {
+            selectors: _,
+            names: _,
+            exclusions: _,
+            rerun: _,
+            include_tags: _,
+            exclude_tags: _,
+            config: _,
+            system: _,
+            reports: _,
+            processors: _,
+            workers: _,
+            ring: _,
+            shard: _,
+            seed: _,
+            details: _,
+            theme: _,
+            replay: _,
+            drive: _,
+            fail_if_no_tests: _,
+            fail_fast: _,
+            max_fail: _,
+            schedule: _,
+            times: _,
+        } = self;
+    }
 }

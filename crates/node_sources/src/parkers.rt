@@ -18,7 +18,6 @@ fn bit_of(slot: usize) -> u64
 /// A parker for each worker and one for the dispatcher. Who is about to park says so before it looks
 /// for the last time whether there is something to do: so whoever makes something to do either sees
 /// that it parks, or is seen. Each sleep ends by itself too.
-#[derive(Drop)]
 pub struct Parkers {
     // a bit for each worker that parks for want of a node
     idle: AtomicU64,
@@ -30,6 +29,20 @@ pub struct Parkers {
     waiting_for_events: AtomicU64,
     workers: Vec<Parker>,
     state: Parker,
+}
+
+// A crate that lets one go takes this call, and proves the drops of the parts no second time.
+impl Drop for Parkers {
+    fn drop(self) {
+        let Parkers {
+            idle: _,
+            waiting_for_keys: _,
+            waiting_for_room: _,
+            waiting_for_events: _,
+            workers: _,
+            state: _,
+        } = self;
+    }
 }
 
 impl Parkers {

@@ -16,10 +16,20 @@ const CANCELLED: &str = "cancelled";
 const TOO_MANY: &str = "too many dynamic tests";
 
 /// A place for each node of a tree, empty or with a note, and the reasons of its disabled nodes.
-#[derive(Debug, Drop)]
+#[derive(Debug)]
 pub struct Texts {
     notes: Vec<Option<Note>>,
     reasons: Vec<Option<Text>>,
+}
+
+// A crate that lets one go takes this call, and proves the drops of the parts no second time.
+impl Drop for Texts {
+    fn drop(self) {
+        let Texts {
+            notes: _,
+            reasons: _,
+        } = self;
+    }
 }
 
 impl Model for Texts {

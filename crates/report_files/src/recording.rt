@@ -25,11 +25,21 @@ fn is_over(kind: EventKind) -> bool
 }
 
 /// What was told of a run: its plan, the events in their order, and the texts that were told with them.
-#[derive(Drop)]
 pub struct ToldRun {
     plan: Plan,
     events: Vec<Event>,
     texts: Texts,
+}
+
+// A crate that lets one go takes this call, and proves the drops of the parts no second time.
+impl Drop for ToldRun {
+    fn drop(self) {
+        let ToldRun {
+            plan: _,
+            events: _,
+            texts: _,
+        } = self;
+    }
 }
 
 impl Model for ToldRun {

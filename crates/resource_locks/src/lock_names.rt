@@ -18,9 +18,15 @@ use unique_id::Text;
 pub const GLOBAL: &str = "GLOBAL";
 
 /// The global lock, and then those that the nodes of a tree declare, each once.
-#[derive(Drop)]
 pub struct LockNames {
     names: IndexSet<String>,
+}
+
+// A crate that lets one go takes this call, and proves the drops of the parts no second time.
+impl Drop for LockNames {
+    fn drop(self) {
+        let LockNames { names: _ } = self;
+    }
 }
 
 impl Model for LockNames {

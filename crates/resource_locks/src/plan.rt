@@ -25,7 +25,6 @@ use unique_id::{Text, both};
 
 /// A tree that is to be executed, the execution mode of each node, and the locks that it holds
 /// while it runs. Node 0 is the plan itself.
-#[derive(Drop)]
 pub struct Plan {
     tree: Tree,
     // one place for each node
@@ -38,6 +37,22 @@ pub struct Plan {
     numbers: Vec<Vec<u8>>,
     fail_fast: bool,
     tolerated: u16,
+}
+
+// A crate that lets one go takes this call, and proves the drops of the parts no second time.
+impl Drop for Plan {
+    fn drop(self) {
+        let Plan {
+            tree: _,
+            modes: _,
+            held: _,
+            keys: _,
+            limits: _,
+            numbers: _,
+            fail_fast: _,
+            tolerated: _,
+        } = self;
+    }
 }
 
 impl Model for Plan {

@@ -18,11 +18,20 @@ const SILENT: Answer = Answer {
 };
 
 /// What each body answers, wherever it runs. A body without a reply is successful, without text and without pulls.
-#[derive(Drop)]
 pub struct Answers {
     replies: Vec<(BodyId, Reply)>,
     // whether the bodies are known to rise along the replies, so that no search goes over all of them
     in_order: bool,
+}
+
+// A crate that lets one go takes this call, and proves the drops of the parts no second time.
+impl Drop for Answers {
+    fn drop(self) {
+        let Answers {
+            replies: _,
+            in_order: _,
+        } = self;
+    }
 }
 
 impl Model for Answers {

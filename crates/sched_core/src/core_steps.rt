@@ -51,12 +51,23 @@ pub(crate) fn started(
 }
 
 /// A run of a plan with the answers of its jobs, a step at a time.
-#[derive(Drop)]
 pub struct Core {
     plan: Plan,
     answers: Answers,
     turns: Turns,
     machine: Machine,
+}
+
+// A crate that lets one go takes this call, and proves the drops of the parts no second time.
+impl Drop for Core {
+    fn drop(self) {
+        let Core {
+            plan: _,
+            answers: _,
+            turns: _,
+            machine: _,
+        } = self;
+    }
 }
 
 impl Model for Core {

@@ -28,7 +28,6 @@ use scheduling::{
 use std::alloc::{AllocError, Global};
 
 /// The words of a run. The worker with number k stands at place k - 1 of the seats.
-#[derive(Drop)]
 pub(crate) struct Machine {
     pub(crate) workers: u8,
     pub(crate) statuses: Vec<NodeStatus>,
@@ -41,6 +40,24 @@ pub(crate) struct Machine {
     pub(crate) published: Vec<Event>,
     pub(crate) shown: Vec<bool>,
     pub(crate) given: usize,
+}
+
+// A crate that lets one go takes this call, and proves the drops of the parts no second time.
+impl Drop for Machine {
+    fn drop(self) {
+        let Machine {
+            workers: _,
+            statuses: _,
+            counters: _,
+            results: _,
+            locks: _,
+            cancel: _,
+            seats: _,
+            published: _,
+            shown: _,
+            given: _,
+        } = self;
+    }
 }
 
 /// The words of the nodes at the start: their statuses, their counters and their results.

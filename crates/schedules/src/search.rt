@@ -45,7 +45,6 @@ fn free_worker(next: usize, starts_end: usize) -> Worker {
 }
 
 /// The steps so far, and what they have made.
-#[derive(Drop)]
 pub(crate) struct Search {
     pub(crate) steps: Vec<Step>,
     /// The greatest number of a worker.
@@ -67,6 +66,24 @@ pub(crate) struct Search {
     pub(crate) is_incomplete: bool,
 }
 
+// A crate that lets one go takes this call, and proves the drops of the parts no second time.
+impl Drop for Search {
+    fn drop(self) {
+        let Search {
+            steps: _,
+            last: _,
+            workers: _,
+            follows: _,
+            turns: _,
+            offered: _,
+            holders: _,
+            raised: _,
+            is_cancelled: _,
+            is_incomplete: _,
+        } = self;
+    }
+}
+
 /// Workers whose next events stand at these places, and that start no node from these ends on.
 fn workers_at(alloc: Global, places: &[usize], ends: &[usize]) -> Result<Vec<Worker>, AllocError> {
     let mut workers = Vec::new(alloc);
@@ -86,6 +103,23 @@ fn root_offered(alloc: Global, nodes: usize) -> Result<Vec<bool>, AllocError> {
 }
 
 impl Search {
+    /// The steps that were found.
+    fn into_steps(self) -> Vec<Step> {
+        let Search {
+            steps,
+            last: _,
+            workers: _,
+            follows: _,
+            turns: _,
+            offered: _,
+            holders: _,
+            raised: _,
+            is_cancelled: _,
+            is_incomplete: _,
+        } = self;
+        steps
+    }
+
     /// No step so far.
     fn new(alloc: Global, plan: &Plan, last: u8, history: &[Event]) -> Result<Search, AllocError> {
         let turns = next_in_turn(alloc, plan)?;
@@ -193,5 +227,5 @@ pub(crate) fn steps_toward(
             return Err(AllocError);
         }
     }
-    Ok(search.steps)
+    Ok(search.into_steps())
 }

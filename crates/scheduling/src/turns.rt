@@ -21,12 +21,18 @@ use resource_locks::Plan;
 use std::alloc::{AllocError, Global};
 
 /// Which child of a node is to be offered next, and which sibling takes its turn after it.
-#[derive(Drop)]
 pub struct Turns {
     // the children that a node offers itself
     batch: Links,
     // those that are executed in the same thread
     same: Links,
+}
+
+// A crate that lets one go takes this call, and proves the drops of the parts no second time.
+impl Drop for Turns {
+    fn drop(self) {
+        let Turns { batch: _, same: _ } = self;
+    }
 }
 
 /// How a node goes on whose next child to be offered is this one, if there is one.

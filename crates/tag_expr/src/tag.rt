@@ -10,9 +10,16 @@ use std::alloc::{AllocError, Global};
 use std::marker::Model;
 
 /// A tag: a text that is not blank, without white space, control characters and any of `,()&|!`.
-#[derive(Debug, Drop)]
+#[derive(Debug)]
 pub struct Tag {
     text: String,
+}
+
+// A crate that lets one go takes this call, and proves the drops of the parts no second time.
+impl Drop for Tag {
+    fn drop(self) {
+        let Tag { text: _ } = self;
+    }
 }
 
 impl Model for Tag {

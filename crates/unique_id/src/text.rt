@@ -21,9 +21,15 @@ enum Bytes {
 
 /// A text that contracts see as its bytes. It is cheap to copy: a text of at most 24 bytes takes no
 /// memory of its own, and all copies of a longer one share their bytes.
-#[derive(Drop)]
 pub struct Text {
     bytes: Bytes,
+}
+
+// A crate that lets one go takes this call, and proves the drops of the parts no second time.
+impl Drop for Text {
+    fn drop(self) {
+        let Text { bytes: _ } = self;
+    }
 }
 
 impl Model for Text {

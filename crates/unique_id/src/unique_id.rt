@@ -49,9 +49,15 @@ struct Named {
 
 /// One step down the tree: the kind of the node there, and what tells it from its siblings. All ids
 /// that lead through it share its parts.
-#[derive(Drop)]
 pub struct Segment {
     named: Arc<Named>,
+}
+
+// A crate that lets one go takes this call, and proves the drops of the parts no second time.
+impl Drop for Segment {
+    fn drop(self) {
+        let Segment { named: _ } = self;
+    }
 }
 
 impl Model for Segment {
@@ -128,11 +134,17 @@ impl Segment {
 }
 
 /// Where a node stands: one segment for each step down the tree.
-#[derive(Drop)]
 pub struct UniqueId {
     path: Path,
     // holds the text; mostly it is the block of the last segment
     named: Arc<Named>,
+}
+
+// A crate that lets one go takes this call, and proves the drops of the parts no second time.
+impl Drop for UniqueId {
+    fn drop(self) {
+        let UniqueId { path: _, named: _ } = self;
+    }
 }
 
 impl Model for UniqueId {

@@ -31,7 +31,6 @@ pub(crate) struct Opened {
 
 /// The tree, the scripts and the properties of the lines so far, and the last node with those
 /// above it.
-#[derive(Drop)]
 pub(crate) struct SuiteBuilder {
     tree: TreeBuilder,
     path: Vec<Opened>,
@@ -39,6 +38,19 @@ pub(crate) struct SuiteBuilder {
     // those of after-bodies, in the order of their lines
     afters: Vec<Script>,
     properties: Params,
+}
+
+// A crate that lets one go takes this call, and proves the drops of the parts no second time.
+impl Drop for SuiteBuilder {
+    fn drop(self) {
+        let SuiteBuilder {
+            tree: _,
+            path: _,
+            scripts: _,
+            afters: _,
+            properties: _,
+        } = self;
+    }
 }
 
 impl Model for SuiteBuilder {
@@ -717,8 +729,13 @@ impl SuiteBuilder {
         ensures ids { IfOk result (λ suite. IdsFollow suite.tree) }
         ensures answered { IfOk result (λ suite. AreBodiesOf suite.tree.nodes (bodies_answered suite.scripts.items)) }
     {
-        let tree = self.tree.finish();
-        let suite = suite_with(alloc, tree, self.scripts, self.afters, self.properties)?;
-        Ok(suite)
+        let SuiteBuilder {
+            tree,
+            path: _,
+            scripts,
+            afters,
+            properties,
+        } = self;
+        suite_with(alloc, tree.finish(), scripts, afters, properties)
     }
 }
