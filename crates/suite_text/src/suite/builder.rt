@@ -736,6 +736,8 @@ impl SuiteBuilder {
             afters,
             properties,
         } = self;
-        suite_with(alloc, tree.finish(), scripts, afters, properties)
+        let tree = tree.finish();
+        let suite = suite_with(alloc, tree, scripts, afters, properties)?;
+        Ok(suite)
     }
 }
