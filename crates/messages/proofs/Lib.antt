@@ -1,3 +1,1 @@
-pub mod Nearing
-pub mod Printing
 pub mod Settled

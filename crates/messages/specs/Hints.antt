@@ -6,7 +6,6 @@ use Rattle.std.specs.Str.{bytes_eq}
 use Rattle.config_params.specs.LockKeys.{lock_limited}
 use Rattle.config_params.specs.LockLimits.{limited_as_said}
 use Rattle.config_params.specs.Settings.{Answers, classes_mode_key, enabled_key, factor_key, mode_key, parallelism_key, settings_of, slow_key, strategy_key}
-use Rattle.messages.specs.Marks.{shown}
 use Rattle.messages.specs.declared.hint.Cause.{Cause}
 use Rattle.messages.specs.declared.hint.Cause.TheVariants.{UnreadKey, IdleSetting, LockKey, InnerReturn}
 use Rattle.messages.specs.declared.hint.Hint.{Hint}
@@ -14,6 +13,7 @@ use Rattle.messages.specs.declared.hint.Hints.{Hints}
 use Rattle.messages.specs.declared.hint.Place.{Place}
 use Rattle.messages.specs.declared.hint.Place.TheVariants.{Config, System, Line}
 use Rattle.resource_locks.specs.Plans.{PlanParts}
+use Rattle.suite_messages.specs.Marks.{shown}
 
 -- the keys that say how nodes run in parallel, where that is enabled
 abbrev pub is_setting : List ℕ → Bool

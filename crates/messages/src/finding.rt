@@ -1,12 +1,11 @@
 //! What of a configuration and of a suite has another effect than it seems to have.
 
-use crate::bytes::text_of;
 use crate::hint::{Cause, Hints, Place};
 use crate::keys::{ENABLED, cause_of_key};
-use crate::line::{cut, without_front};
 use config_params::{pair_of, property_of};
 use launch_options::{Given, Options};
 use std::alloc::{AllocError, Global};
+use suite_messages::{cut, text_of, without_front};
 use suite_text::{Attribute, LineWord, Word, key_and_mode, key_and_value};
 
 /// The key and the value of a property, if this line of a suite is one.

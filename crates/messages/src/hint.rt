@@ -1,8 +1,8 @@
 //! A hint: something that a configuration or a suite says, and that has another effect than it seems to have.
 
 use crate::keys::read_keys;
-use crate::nearest::nearest_known;
 use std::alloc::{AllocError, Global};
+use suite_messages::nearest_known;
 
 /// How many hints are kept at most.
 const MOST_KEPT: usize = 10;

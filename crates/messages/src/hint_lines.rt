@@ -6,8 +6,8 @@ ghost use Rattle.std.specs.List.{flat_map};
 ghost use Rattle.messages.specs.Hints.{hint_line, hints_text, meant_text, more_line, place_text, quoted, said_text};
 
 use crate::hint::{Cause, Hint, Hints, Place};
-use crate::marked::push_shown;
 use std::alloc::{AllocError, Global};
+use suite_messages::push_shown;
 
 /// Appends a text between quotes, as it is shown.
 fn push_quoted(text: &mut String, piece: &str) -> Result<(), AllocError>

@@ -3,25 +3,15 @@
 //! bytes of the suite, or what there is to say of a program's own tests.
 #![tactic(auto)]
 
-mod attributes;
-mod bytes;
 mod finding;
 mod hint;
 mod hint_lines;
 mod keys;
-mod limits;
-mod line;
-mod lines;
-mod marked;
 mod message;
-mod near_names;
-mod nearest;
 mod options;
-mod printable;
 mod sentence;
 mod settings;
 mod subject;
-mod suite;
 mod values;
 
 pub use finding::hints_of;

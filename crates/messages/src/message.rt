@@ -1,15 +1,13 @@
 //! The message of a refusal.
 
 ghost use Rattle.std.specs.Prelude.{◌≡◌, string_bytes};
-ghost use Rattle.messages.specs.Printable.{HasNoControl};
 ghost use Rattle.messages.specs.Messages.{message_text};
 ghost use Rattle.messages.specs.Sentences.{sentence_by};
+ghost use Rattle.suite_messages.specs.Printable.{HasNoControl};
 
-use crate::printable::printable;
 use crate::sentence::sentence_by;
 use crate::settings::push_settings;
 use crate::subject::Subject;
-use crate::suite::push_suite;
 use crate::values::{
     push_covering, push_pair, push_report, push_selector, push_step, push_step_option, push_tags,
     push_words,
@@ -18,6 +16,7 @@ use config_params::SettingsFault;
 use launch_options::{CutCause, CutOutput, Given, LaunchFault};
 use std::alloc::{AllocError, Global};
 use std::fmt;
+use suite_messages::{printable, push_suite};
 use suite_text::SuiteFault;
 
 /// The message of a refusal. `{}` writes its sentence, and on the lines below what is known

@@ -1,12 +1,11 @@
 //! What is wrong with what the configuration asks for.
 
-use crate::limits::push_limit;
-use crate::nearest::push_nearest;
 use config_params::{LimitsFault, Params, Settings, SettingsFault, get_over, lock_limits};
 use descriptor::Tree;
 use launch_options::{Given, Options, key_judged, strategy_names};
 use plan_events::MOST_WORKERS;
 use std::alloc::{AllocError, Global};
+use suite_messages::{push_limit, push_nearest};
 use suite_text::Suite;
 
 /// Appends what the value of a key that this refusal is about may be.

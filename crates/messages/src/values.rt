@@ -4,9 +4,6 @@ ghost use Rattle.std.specs.Prelude.{◌≡◌};
 ghost use Rattle.std.specs.Option.{is_some};
 ghost use Rattle.tag_expr.specs.ExpressionFaults.{expression_refusal};
 
-use crate::marked::push_marked;
-use crate::near_names::push_nearest_name;
-use crate::nearest::push_nearest;
 use crate::options::{exclusion_of, form_of, option_of, pair_option};
 use crate::subject::Subject;
 use config_params::ParamsFault;
@@ -21,6 +18,7 @@ use launch_options::{
 use selectors::SelectorKind;
 use std::alloc::{AllocError, Global};
 use step_text::step_forms;
+use suite_messages::{push_marked, push_nearest, push_nearest_name};
 use tag_expr::{TagExpr, TagFault};
 use unique_id::{UidFault, UniqueId};
 

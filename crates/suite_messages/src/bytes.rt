@@ -4,7 +4,7 @@ use suite_text::without_mark;
 
 /// The lines of a suite's bytes before the first that is no text, without a byte order mark, and
 /// whether all are text.
-pub(crate) fn text_of(bytes: &[u8]) -> (&str, bool) {
+pub fn text_of(bytes: &[u8]) -> (&str, bool) {
     match std::str::from_utf8(bytes) {
         Ok(text) => (without_mark(text), true),
         Err(fault) => {

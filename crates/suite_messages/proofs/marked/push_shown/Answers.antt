@@ -3,8 +3,8 @@ use Rattle.std.proofs.Common.{◌++◌, List, ℕ, string_bytes, sym, ap, ◌∙
 use Rattle.std.specs.List.{flat_map}
 use Rattle.std.proofs.lemmas.Iterator.{YieldsList-from_chars}
 use Rattle.std.proofs.lemmas.Iterator.Consumers.{YieldsList-end}
-use Rattle.messages.specs.Marks.{shown_char}
-use Rattle.messages.proofs.marked.push_shown.Goals as goal
+use Rattle.suite_messages.specs.Marks.{shown_char}
+use Rattle.suite_messages.proofs.marked.push_shown.Goals as goal
 
 pub returns : goal.returns
 returns c =

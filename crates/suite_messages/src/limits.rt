@@ -103,7 +103,7 @@ fn push_unknown(
 
 /// Appends which key this refusal of the limits of locks is about, and what would be right, where some
 /// parameters stand over others, and the nodes are those of this tree.
-pub(crate) fn push_limit(
+pub fn push_limit(
     alloc: Global,
     text: &mut String,
     fault: SettingsFault,

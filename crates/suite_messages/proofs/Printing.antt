@@ -3,7 +3,7 @@ use Rattle.std.proofs.Common.{◌≡◌, ℕ, Bool, true, false, List, [], ◌�
 use Rattle.std.specs.Prelude.{encode_utf8, encode_utf8_all}
 use Rattle.std.specs.List.{list_all}
 use Rattle.std.proofs.lemmas.Str.{encodes-append}
-use Rattle.messages.specs.Printable.{HasNoControl, is_of_lines}
+use Rattle.suite_messages.specs.Printable.{HasNoControl, is_of_lines}
 
 -- there is none where there is nothing
 pub nothing : HasNoControl []

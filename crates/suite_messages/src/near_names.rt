@@ -53,7 +53,7 @@ fn push_class(
 }
 
 /// Appends the name that is nearest to that of a selector of this kind, where one is near enough.
-pub(crate) fn push_nearest_name(
+pub fn push_nearest_name(
     alloc: Global,
     text: &mut String,
     kind: SelectorKind,

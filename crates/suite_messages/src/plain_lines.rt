@@ -1,7 +1,7 @@
 //! Lines without what a terminal would take for more than text.
 
 ghost use Rattle.std.specs.Prelude.{◌≡◌, string_bytes, true};
-ghost use Rattle.messages.specs.Printable.{HasNoControl, is_of_lines};
+ghost use Rattle.suite_messages.specs.Printable.{HasNoControl, is_of_lines};
 
 use std::alloc::{AllocError, Global};
 
@@ -24,7 +24,7 @@ fn push_printable(text: &mut String, lines: &str) -> Result<(), AllocError>
 
 /// Lines as they are printed, with a question mark for each control character but the ends of lines;
 /// as much of them as there is memory for.
-pub(crate) fn printable(alloc: Global, lines: &str) -> String
+pub fn printable(alloc: Global, lines: &str) -> String
     ensures { HasNoControl (string_bytes result) }
 {
     let mut text = String::new(alloc);

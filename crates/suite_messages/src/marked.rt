@@ -1,7 +1,7 @@
 //! A text with a mark below one of its places.
 
 ghost use Rattle.std.specs.Prelude.{◌≡◌, ◌≤◌, ◌++◌, IfOk, OnOk, length, string_bytes};
-ghost use Rattle.messages.specs.Marks.{marked_of, shown, shown_char};
+ghost use Rattle.suite_messages.specs.Marks.{marked_of, shown, shown_char};
 
 use std::alloc::{AllocError, Global};
 use unicode_width::UnicodeWidthStr;
@@ -17,7 +17,7 @@ fn push_shown_char(text: &mut String, c: char) -> Result<(), AllocError>
 }
 
 /// Appends a text as it is shown.
-pub(crate) fn push_shown(text: &mut String, piece: &str) -> Result<(), AllocError>
+pub fn push_shown(text: &mut String, piece: &str) -> Result<(), AllocError>
     ensures { OnOk result (string_bytes text.new ≡ string_bytes text.old ++ shown piece.now) }
 {
     for c in piece.chars() {
@@ -68,7 +68,7 @@ fn front_shown(text: &str) -> &str
 
 /// Appends a text, or what of it is near to this byte, and a mark below the byte. Where no
 /// character begins there, the mark stands behind the text.
-pub(crate) fn push_marked(
+pub fn push_marked(
     alloc: Global,
     text: &mut String,
     line: &str,

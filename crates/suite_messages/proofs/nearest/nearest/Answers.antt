@@ -2,9 +2,9 @@
 use Rattle.std.proofs.Common.{ℕ, ◌<◌, ◌≤◌, ◌∙◌, ap, subst, arith}
 use Rattle.std.specs.Prelude.{option_map}
 use Rattle.std.proofs.lemmas.Grind.{common_steps}
-use Rattle.messages.proofs.Nearing.{after_farther, after_nearer}
-use Rattle.messages.proofs.nearest.nearest.Goals.{then-apart-least, else-apart-least}
-use Rattle.messages.proofs.nearest.nearest.Goals as goal
+use Rattle.suite_messages.proofs.Nearing.{after_farther, after_nearer}
+use Rattle.suite_messages.proofs.nearest.nearest.Goals.{then-apart-least, else-apart-least}
+use Rattle.suite_messages.proofs.nearest.nearest.Goals as goal
 
 pub loop-name-preserved : goal.loop-name-preserved
 loop-name-preserved c =

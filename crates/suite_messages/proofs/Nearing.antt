@@ -4,7 +4,7 @@ use Rattle.std.specs.List.{All, Contains}
 use Rattle.std.proofs.lemmas.List.{map-append, take_more}
 use Rattle.std.proofs.lemmas.List.Elements.{All-push, All-weaker, Contains-append_left, Contains-push}
 use Rattle.unique_id.specs.Answers.{texts}
-use Rattle.messages.specs.Near.{IsNearest, apart, most_apart}
+use Rattle.suite_messages.specs.Near.{IsNearest, apart, most_apart}
 
 -- how far what was found is
 abbrev pub Held : List ℕ → List (List ℕ) → ℕ → Option (List ℕ) → Type 0

@@ -40,7 +40,7 @@ pub(crate) fn verdict_forms(alloc: Global, verdicts: &[Verdict]) -> Result<Strin
 }
 
 /// A line without the spaces in front.
-pub(crate) fn without_front(line: &str) -> &str {
+pub fn without_front(line: &str) -> &str {
     line.trim_start_matches(' ')
 }
 
@@ -50,7 +50,7 @@ pub(crate) fn indentation(line: &str) -> usize {
 }
 
 /// The first word of a text, and what follows it, from its next word on.
-pub(crate) fn cut(text: &str) -> (&str, &str) {
+pub fn cut(text: &str) -> (&str, &str) {
     match text.split_once(' ') {
         Some((word, rest)) => (word, without_front(rest)),
         None => (text, ""),

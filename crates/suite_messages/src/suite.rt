@@ -299,7 +299,7 @@ fn push_line(
 }
 
 /// Appends what is wrong with the suite of these bytes.
-pub(crate) fn push_suite(
+pub fn push_suite(
     alloc: Global,
     text: &mut String,
     fault: SuiteFault,

@@ -2,7 +2,7 @@
 
 ghost use Rattle.std.specs.Prelude.{◌≡◌, IfOk, option_map};
 ghost use Rattle.unique_id.specs.Answers.{texts};
-ghost use Rattle.messages.specs.Near.{IsNearest, most_apart};
+ghost use Rattle.suite_messages.specs.Near.{IsNearest, most_apart};
 
 use std::alloc::{AllocError, Global};
 use strsim::levenshtein;
@@ -49,7 +49,7 @@ pub(crate) fn is_known(known: &[&str], word: &str) -> bool {
 }
 
 /// The known word that is nearest, where one is near enough; for a long word none is looked for.
-pub(crate) fn nearest_known<'a>(
+pub fn nearest_known<'a>(
     alloc: Global,
     known: &[&'a str],
     word: &str,
@@ -61,7 +61,7 @@ pub(crate) fn nearest_known<'a>(
 }
 
 /// Appends the known word that is nearest, where one is near enough.
-pub(crate) fn push_nearest(
+pub fn push_nearest(
     alloc: Global,
     text: &mut String,
     known: &[&str],

@@ -1,0 +1,22 @@
+//! What is said of a suite or of a lock's limit that is refused, and the known word that is nearest to another.
+#![tactic(auto)]
+
+mod attributes;
+mod bytes;
+mod limits;
+mod line;
+mod lines;
+mod marked;
+mod near_names;
+mod nearest;
+mod plain_lines;
+mod suite;
+
+pub use bytes::text_of;
+pub use limits::push_limit;
+pub use line::{cut, without_front};
+pub use marked::{push_marked, push_shown};
+pub use near_names::push_nearest_name;
+pub use nearest::{nearest_known, push_nearest};
+pub use plain_lines::printable;
+pub use suite::push_suite;
