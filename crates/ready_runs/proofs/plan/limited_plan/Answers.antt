@@ -26,6 +26,6 @@ returns-in_err-plan-clause-refused c = keys_refused c.args.tree c.in_err-plan.fi
 pub returns-clause-never_stuck : goal.returns-clause-never_stuck
 returns-clause-never_stuck c bare =
     let options = c.args.options.now in
-    never_stuck c.in_ok-plan-2.plan c.tree-2.ensures.plan
+    never_stuck c.in_ok-plan-2.plan c.tree.ensures.plan
     (limited_free c.args.tree c.in_ok-modes.modes.items options.fail_fast options.tolerated c.in_ok-plan.plan c.with_fail_fast-plan.result c.with_tolerated-plan.result c.in_ok-plan.ensures.same c.with_fail_fast-plan.ensures.same c.with_tolerated-plan.ensures.same
     c.args.limits.now c.in_ok-plan-2.plan c.in_ok-plan-2.ensures.same (c.in_ok-plan.ensures.free bare))
