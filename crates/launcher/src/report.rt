@@ -160,6 +160,8 @@ fn run_report<T: Threads + Wait + Sync, V: Observer + NotesTimes, S: Stopwatch +
         observer.old observer.new (V.noted observer.new) result }
     ensures refused { IfErr result LacksMeans }
 {
+    // the contract of `tree` tells that it is one
+    let _ = plan.tree();
     let jobs = scripted_jobs(alloc, &plan, answers, spins)?;
     ran_report(
         rt,
