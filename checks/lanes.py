@@ -3,8 +3,8 @@
 
 rt's own lanes reckon with twice the memory that a proof of this repository takes, keep processors free for the tests of
 crates that have none, and give each crate one job while others wait. Here the crate that the longest chain of others
-waits for gets a second job beside them. What is proved and kept is the same. Where RT_JOBS is set, or the kit's rt has
-no such lanes, rt's own are taken.
+waits for gets one job more than its share. What is proved and kept is the same. Where RT_JOBS is set, or the kit's rt
+has no such lanes, rt's own are taken.
 """
 
 import os
@@ -15,7 +15,7 @@ sys.dont_write_bytecode = True
 
 from kit import load_rt
 
-# What a proof was seen to take of the memory that rt reckons with: a third to a half, on clap 0.85 (docs/GATE.md).
+# Of the memory that rt reckons with a proof was seen to take a third to two thirds, and one, on clap, 0.85.
 SEEN = 0.7
 # What each further job takes of the memory of the first, and the most jobs that are worth it.
 FURTHER, MOST = 0.4, 4
@@ -89,7 +89,7 @@ def run_tasks(tasks, lanes):
 
 def main():
     rt = load_rt()
-    if "RT_JOBS" not in os.environ and all(hasattr(rt, it) for it in ("in_lanes", "processors", "free")):
+    if "RT_JOBS" not in os.environ and all(hasattr(rt, it) for it in ("in_lanes", "processors", "free", "ending")):
         own = rt.in_lanes
 
         def in_lanes(given):
@@ -97,7 +97,8 @@ def main():
                 tasks = read_tasks(given)
             except (TypeError, ValueError):
                 return own(given)
-            return run_tasks(tasks, Lanes(rt.processors(), 0.85 * rt.free()))
+            with rt.ending():
+                return run_tasks(tasks, Lanes(rt.processors(), 0.85 * rt.free()))
 
         rt.in_lanes = in_lanes
     return rt.main(["ci"])
