@@ -1,10 +1,14 @@
 #!/usr/bin/env python3
-"""Runs `rt ci` with lanes of its own, for ./build: how many crates are proved side by side, and by how many jobs each.
+"""Runs `rt ci` for ./build: with lanes of its own, which say how many crates are proved side by side and by how many
+jobs each, and with one of the two compilers of a program.
 
 rt's own lanes reckon with twice the memory that a proof of this repository takes, keep processors free for the tests of
 crates that have none, and give each crate one job while others wait. Here the crate that the longest chain of others
-waits for gets one job more than its share. What is proved and kept is the same. Where RT_JOBS is set, or the kit's rt
-has no such lanes, rt's own are taken.
+waits for gets one job more than its share. What is proved of crates is kept as by `rt ci`. Where RT_JOBS is set, or the
+kit's rt has no such lanes, rt's own are taken.
+
+A program is built by LLVM alone, so who waits for it waits for one compiler. It is kept for the next ./build; `rt ci`
+takes only what both compilers built, and proves and builds the program again.
 """
 
 import os
@@ -87,8 +91,22 @@ def run_tasks(tasks, lanes):
     return given
 
 
+def build_by_one(crates, kept):
+    """Has rt build programs by LLVM alone, and keep them so."""
+    compile_by, is_whole = crates.compile_by, kept.is_whole
+
+    def is_built(kept, crate, tests, files):
+        is_llvm = crate.is_program and not tests and files == [crate.name]
+        return is_llvm or is_whole(kept, crate, tests, files)
+
+    crates.compile_by = lambda crate, backend, *how: compile_by(crate, backend, *how) if backend == "llvm" else 0
+    kept.is_whole = is_built
+
+
 def main():
     rt = load_rt()
+    if hasattr(rt, "Crate") and hasattr(rt, "Kept"):
+        build_by_one(rt.Crate, rt.Kept)
     if "RT_JOBS" not in os.environ and all(hasattr(rt, it) for it in ("in_lanes", "processors", "free", "ending")):
         own = rt.in_lanes
 
