@@ -1,7 +1,8 @@
 //! Answers questions from standard input, one a line, in three sections: `=== texts`, `=== trees` and
 //! `=== runs`. Each line is printed with its answer behind it or below it, so the output is a table that
 //! a person can read. Answers are judged by what is printed, so a part for which there is no memory is
-//! left out and not told.
+//! left out and not told. The last section, `=== calls`, names calls of memory_driver, which prints what
+//! is said of them.
 #![tactic(auto)]
 
 mod adding;
@@ -33,8 +34,12 @@ mod words;
 use crate::repeats::push_answer;
 use crate::table::Table;
 use crate::words::{say, show};
+use memory_driver::make_calls;
 use std::alloc::Global;
 use std::io;
+
+/// The line above the calls.
+const CALLS: &str = "=== calls\n";
 
 /// Adds a line with its answer.
 fn push_line(alloc: Global, answers: &mut String, table: &mut Table, line: &str) {
@@ -62,8 +67,9 @@ fn push_answers(alloc: Global, answers: &mut String, text: &str) {
 fn main(rt: HostRuntime) -> io::Result<()> {
     let alloc = rt.alloc();
     let text = io::read_to_string(alloc, rt.reader())?;
+    let (asked, calls) = text.split_once(CALLS).unwrap_or((text.as_str(), ""));
     let mut answers = String::new(alloc);
-    push_answers(alloc, &mut answers, text.as_str());
-    print!(rt; "{answers}")?;
-    Ok(())
+    push_answers(alloc, &mut answers, asked);
+    print!(rt; "{answers}{CALLS}")?;
+    make_calls(&rt, alloc, calls, &mut io::writer(&rt))
 }
