@@ -1,14 +1,14 @@
 -- A command grows by one option after the other.
-use Rattle.std.proofs.Common.{◌≡◌, IfOk, Result, Ok, Err, ◌∙◌, ap₂}
-use Rattle.clap.specs.Words.{App, Rule, app_of, with_rule}
-use Rattle.clap.specs.declared.builder.command.Command.{Command}
+use Rattle.std.proofs.Common.{◌≡◌, ℕ, List, ◌+◌, ◌<◌, ◌∙◌, ap, fold, get_or, length, map, sym, take}
+use Rattle.std.proofs.lemmas.List.Folds.{fold-map}
+use Rattle.std.proofs.lemmas.List.Sums.{fold_more}
+use Rattle.clap.specs.Words.{App, with_rule}
+use Rattle.command_words.specs.Commands.{rule_told}
+use Rattle.command_words.specs.declared.option_names.ProgramOption.{ProgramOption}
 
--- one more option, of a command that is known
-pub one_more : (now was app : App) (option rule : Rule) → now ≡ with_rule was option → was ≡ app → option ≡ rule → now ≡ with_rule app rule
-one_more now was app option rule is was_is option_is = is ∙ ap₂ with_rule was_is option_is
-
--- the last option
-pub last_one : {E : Type 0} (result : Result Command E) (was app : App) (option rule : Rule) → IfOk result (λ (c : Command). app_of c ≡ with_rule was option) → was ≡ app → option ≡ rule
-    → IfOk result (λ (c : Command). app_of c ≡ with_rule app rule)
-last_one (Ok c) was app option rule is was_is option_is = is ∙ ap₂ with_rule was_is option_is
-last_one (Err e) was app option rule is was_is option_is = tt
+-- one more option of a list
+pub one_more : (app : App) (options : List ProgramOption) (i : ℕ) (d : ProgramOption) → i < length options → fold with_rule app (map rule_told (take (i + 1) options))
+    ≡ with_rule (fold with_rule app (map rule_told (take i options))) (rule_told (get_or options i d))
+one_more app options i d is_in = fold-map with_rule rule_told app (take (i + 1) options)
+    ∙ fold_more (λ was told. with_rule was (rule_told told)) app options i d is_in
+    ∙ ap (λ was. with_rule was (rule_told (get_or options i d))) (sym (fold-map with_rule rule_told app (take i options)))

@@ -2,6 +2,9 @@
 use Rattle.std.specs.Prelude.{ℕ, List, [], ◌∷◌, codes, fold, Some}
 use Rattle.clap.specs.Words.{App, Rule, new_app, new_rule, with_rule}
 use Rattle.clap.specs.declared.builder.action.ArgAction.TheVariants.{Append, SetTrue}
+use Rattle.command_words.specs.declared.option_names.OptionForm.{OptionForm}
+use Rattle.command_words.specs.declared.option_names.OptionForm.TheVariants.{Flag, Single, Repeated}
+use Rattle.command_words.specs.declared.option_names.ProgramOption.{ProgramOption}
 
 -- an option with one value, for which help has a name, that is given once
 abbrev pub single : List ℕ → Rule
@@ -15,80 +18,74 @@ repeated name = record (new_rule name) { long = Some name; action = Some Append;
 abbrev pub flag : List ℕ → Rule
 flag name = record (new_rule name) { long = Some name; action = Some SetTrue }
 
--- the program and the options that say which nodes run
-abbrev pub selecting : App
-selecting = fold with_rule (new_app (codes "console")) (
-    repeated (codes "select-unique-id")
+-- an option of this name and form
+abbrev pub rule_by : List ℕ → OptionForm → Rule
+rule_by name Flag = flag name
+rule_by name (Single value) = single name
+rule_by name (Repeated value) = repeated name
+
+-- an option as the program tells it
+abbrev pub rule_told : ProgramOption → Rule
+rule_told told = rule_by told.name.now told.form
+
+-- the options that say which nodes run, and those that look at the names of tests
+abbrev pub selecting : List Rule
+selecting = repeated (codes "select-unique-id")
     ∷ repeated (codes "select-class")
     ∷ repeated (codes "select-method")
     ∷ repeated (codes "select-package")
-    ∷ [])
-
--- and those that look at the names of tests
-abbrev pub naming : App
-naming = fold with_rule selecting (
-    repeated (codes "include-name")
+    ∷ repeated (codes "include-name")
     ∷ repeated (codes "exclude-name")
-    ∷ [])
+    ∷ []
 
--- and those that leave nodes out
-abbrev pub excluding : App
-excluding = fold with_rule naming (
-    repeated (codes "exclude-unique-id")
+-- those that leave nodes out, and all but what is to be run again
+abbrev pub excluding : List Rule
+excluding = repeated (codes "exclude-unique-id")
     ∷ repeated (codes "exclude-class")
     ∷ repeated (codes "exclude-method")
     ∷ repeated (codes "exclude-package")
-    ∷ [])
+    ∷ repeated (codes "rerun")
+    ∷ []
 
--- and the one that leaves out all but what is to be run again
-abbrev pub rerunning : App
-rerunning = fold with_rule excluding (repeated (codes "rerun") ∷ [])
-
--- and those that say which tags run, which shard, and in which order
-abbrev pub filtering : App
-filtering = fold with_rule rerunning (
-    repeated (codes "include-tag")
+-- those that say which tags run, which shard, and in which order
+abbrev pub filtering : List Rule
+filtering = repeated (codes "include-tag")
     ∷ repeated (codes "exclude-tag")
     ∷ single (codes "shard")
     ∷ single (codes "seed")
-    ∷ [])
+    ∷ []
 
--- and those that say with which settings
-abbrev pub configuring : App
-configuring = fold with_rule filtering (
-    repeated (codes "config")
+-- those that say with which settings, and how much runs side by side
+abbrev pub configuring : List Rule
+configuring = repeated (codes "config")
     ∷ repeated (codes "system")
-    ∷ [])
-
--- and those that say how much runs side by side
-abbrev pub sizing : App
-sizing = fold with_rule configuring (
-    single (codes "processors")
+    ∷ single (codes "processors")
     ∷ single (codes "workers")
     ∷ single (codes "ring")
-    ∷ [])
+    ∷ []
 
--- and those that say what is printed of what happened
-abbrev pub printing : App
-printing = fold with_rule sizing (
-    single (codes "details")
+-- those that say what is printed of what happened
+abbrev pub printing : List Rule
+printing = single (codes "details")
     ∷ single (codes "details-theme")
     ∷ repeated (codes "report")
     ∷ flag (codes "times")
-    ∷ [])
+    ∷ []
 
--- and those that say how it ends
-abbrev pub ending : App
-ending = fold with_rule printing (
-    flag (codes "fail-if-no-tests")
+-- those that say how a run ends, which steps are told, and which are taken
+abbrev pub ending : List Rule
+ending = flag (codes "fail-if-no-tests")
     ∷ flag (codes "fail-fast")
     ∷ single (codes "max-fail")
-    ∷ [])
-
--- the program and its options: the others say which steps are told, and which are taken
-abbrev pub program : App
-program = fold with_rule ending (
-    flag (codes "schedule")
+    ∷ flag (codes "schedule")
     ∷ single (codes "replay")
     ∷ single (codes "drive")
-    ∷ [])
+    ∷ []
+
+-- the command with some more options
+abbrev pub with_rules : App → List Rule → App
+with_rules app rules = fold with_rule app rules
+
+-- the program and all of its options
+abbrev pub program : App
+program = fold with_rules (new_app (codes "console")) (selecting ∷ excluding ∷ filtering ∷ configuring ∷ printing ∷ ending ∷ [])

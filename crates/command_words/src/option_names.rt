@@ -1,9 +1,9 @@
 //! The program's options, as clap is told of them, each with its help.
 
-ghost use Rattle.std.specs.Prelude.{◌≡◌, IfOk, false};
+ghost use Rattle.std.specs.Prelude.{◌≡◌, IfOk, false, fold, map};
 ghost use Rattle.clap.specs.Words.{app_of, rule_of, with_rule};
-ghost use Rattle.command_words.specs.Commands.{program, printing, configuring, filtering, selecting, single, repeated};
-ghost use Rattle.command_words.specs.Commands.{ending, excluding, flag, naming, rerunning, sizing};
+ghost use Rattle.command_words.specs.Commands.{configuring, ending, excluding, filtering, printing, selecting};
+ghost use Rattle.command_words.specs.Commands.{flag, program, repeated, rule_told, single};
 
 use clap::{Arg, ArgAction, Command};
 use launch_options::option_names::{
@@ -15,47 +15,53 @@ use launch_options::option_names::{
 use messages::Subject;
 use std::alloc::{AllocError, Global};
 
-/// An option that is given once, with what help calls its value. Its help stands on the next line.
-fn single<'a>(alloc: Global, name: &'a str, value: &'a str, help: &'a str) -> Arg<'a>
-    ensures rule { rule_of result ≡ single name.now }
-    ensures local { result.global ≡ false }
-{
-    Arg::new(alloc, name)
-        .long(name)
-        .value_name(value)
-        .next_line_help(true)
-        .help(help)
+/// What stands behind an option: a value, with what help calls it, or none.
+#[derive(Clone, Copy)]
+pub(crate) enum OptionForm<'a> {
+    /// It has no value.
+    Flag,
+    /// It is given once.
+    Single(&'a str),
+    /// It may be given again.
+    Repeated(&'a str),
 }
 
-/// An option that may be given again, in the same way.
-fn repeated<'a>(alloc: Global, name: &'a str, value: &'a str, help: &'a str) -> Arg<'a>
-    ensures rule { rule_of result ≡ repeated name.now }
-    ensures local { result.global ≡ false }
-{
-    Arg::new(alloc, name)
-        .long(name)
-        .value_name(value)
-        .next_line_help(true)
-        .action(ArgAction::Append)
-        .help(help)
+/// An option of the program, with its name and its help.
+#[derive(Clone, Copy)]
+pub(crate) struct ProgramOption<'a> {
+    pub(crate) name: &'a str,
+    pub(crate) form: OptionForm<'a>,
+    pub(crate) help: &'a str,
 }
 
-fn flag<'a>(alloc: Global, name: &'a str, help: &'a str) -> Arg<'a>
-    ensures rule { rule_of result ≡ flag name.now }
-    ensures local { result.global ≡ false }
+fn single<'a>(name: &'a str, value: &'a str, help: &'a str) -> ProgramOption<'a>
+    ensures { rule_told result ≡ single name.now }
 {
-    Arg::new(alloc, name)
-        .long(name)
-        .action(ArgAction::SetTrue)
-        .help(help)
+    ProgramOption {
+        name,
+        form: OptionForm::Single(value),
+        help,
+    }
 }
 
-/// The command with one more option.
-fn with<'a>(command: Command<'a>, option: Arg<'a>) -> Result<Command<'a>, AllocError>
-    requires { option.global ≡ false }
-    ensures { IfOk result (λ longer. app_of longer ≡ with_rule (app_of command.entry) (rule_of option.entry)) }
+fn repeated<'a>(name: &'a str, value: &'a str, help: &'a str) -> ProgramOption<'a>
+    ensures { rule_told result ≡ repeated name.now }
 {
-    command.arg(option)
+    ProgramOption {
+        name,
+        form: OptionForm::Repeated(value),
+        help,
+    }
+}
+
+fn flag<'a>(name: &'a str, help: &'a str) -> ProgramOption<'a>
+    ensures { rule_told result ≡ flag name.now }
+{
+    ProgramOption {
+        name,
+        form: OptionForm::Flag,
+        help,
+    }
 }
 
 /// The help of an option where a suite is run, and where a program's own tests are.
@@ -66,185 +72,114 @@ fn help_by<'a>(subject: Subject<'_>, suite: &'a str, tests: &'a str) -> &'a str 
     }
 }
 
-/// The program and the options that say which nodes run.
-fn selecting<'a>(alloc: Global) -> Result<Command<'a>, AllocError>
-    ensures { IfOk result (λ command. app_of command ≡ selecting) }
+/// Why a program's own tests have no option by which steps are taken.
+const IS_REFUSED: &str = "Is refused: what real tests answer nobody knows before they have run";
+
+/// The options that say which nodes run, and those that look at the names of tests.
+fn selecting<'a>() -> [ProgramOption<'a>; 6]
+    ensures { map rule_told result ≡ selecting }
 {
-    let command = Command::new(alloc, "console");
-    let command = with(
-        command,
+    [
         repeated(
-            alloc,
             SELECT_UNIQUE_ID,
             "ID",
             "Runs the node of this id, as in [engine:e]/[class:a.B], and all below",
         ),
-    )?;
-    let command = with(
-        command,
         repeated(
-            alloc,
             SELECT_CLASS,
             "CLASS",
             "Runs the classes of this name, as in a.B",
         ),
-    )?;
-    let command = with(
-        command,
         repeated(
-            alloc,
             SELECT_METHOD,
             "CLASS#METHOD",
             "Runs the test or factory of this name, as in a.B#t()",
         ),
-    )?;
-    with(
-        command,
         repeated(
-            alloc,
             SELECT_PACKAGE,
             "PACKAGE",
             "Runs the classes of this package, as in a.b",
         ),
-    )
-}
-
-/// The same, and the options that look at the names of tests.
-fn naming<'a>(alloc: Global) -> Result<Command<'a>, AllocError>
-    ensures { IfOk result (λ command. app_of command ≡ naming) }
-{
-    let command = selecting(alloc)?;
-    let command = with(
-        command,
         repeated(
-            alloc,
             INCLUDE_NAME,
             "PATTERN",
             "Runs only what has a CLASS#METHOD like this, as in *#order*",
         ),
-    )?;
-    with(
-        command,
         repeated(
-            alloc,
             EXCLUDE_NAME,
             "PATTERN",
             "Runs nothing that has a CLASS#METHOD like this",
         ),
-    )
+    ]
 }
 
-/// The same, and the options that leave nodes out.
-fn excluding<'a>(alloc: Global) -> Result<Command<'a>, AllocError>
-    ensures { IfOk result (λ command. app_of command ≡ excluding) }
+/// Those that leave nodes out, and all but what is to be run again.
+fn excluding<'a>() -> [ProgramOption<'a>; 5]
+    ensures { map rule_told result ≡ excluding }
 {
-    let command = naming(alloc)?;
-    let command = with(
-        command,
+    [
         repeated(
-            alloc,
             EXCLUDE_UNIQUE_ID,
             "ID",
             "Leaves out the node of this id, and all below",
         ),
-    )?;
-    let command = with(
-        command,
         repeated(
-            alloc,
             EXCLUDE_CLASS,
             "CLASS",
             "Leaves out the classes of this name",
         ),
-    )?;
-    let command = with(
-        command,
         repeated(
-            alloc,
             EXCLUDE_METHOD,
             "CLASS#METHOD",
             "Leaves out the test or factory of this name",
         ),
-    )?;
-    with(
-        command,
         repeated(
-            alloc,
             EXCLUDE_PACKAGE,
             "PACKAGE",
             "Leaves out the classes of this package",
         ),
-    )
-}
-
-/// The same, and the option that leaves out all but what is to be run again.
-fn rerunning<'a>(alloc: Global) -> Result<Command<'a>, AllocError>
-    ensures { IfOk result (λ command. app_of command ≡ rerunning) }
-{
-    let command = excluding(alloc)?;
-    with(
-        command,
         repeated(
-            alloc,
             RERUN,
             "ID",
             "Runs only nodes of these ids; --rerun-failed FILE: what failed there",
         ),
-    )
+    ]
 }
 
-/// The same, and the options that say which tags run, which shard, and in which order.
-fn filtering<'a>(alloc: Global) -> Result<Command<'a>, AllocError>
-    ensures { IfOk result (λ command. app_of command ≡ filtering) }
+/// Those that say which tags run, which shard, and in which order.
+fn filtering<'a>() -> [ProgramOption<'a>; 4]
+    ensures { map rule_told result ≡ filtering }
 {
-    let command = rerunning(alloc)?;
-    let command = with(
-        command,
+    [
         repeated(
-            alloc,
             INCLUDE_TAG,
             "EXPRESSION",
             "Runs only what has tags that make this true, as in \"slow & !db\"",
         ),
-    )?;
-    let command = with(
-        command,
         repeated(
-            alloc,
             EXCLUDE_TAG,
             "EXPRESSION",
             "Runs nothing that has tags that make this true",
         ),
-    )?;
-    let command = with(
-        command,
         single(
-            alloc,
             SHARD,
             "[hash:]K/N",
             "Runs each N-th test from the K-th, or by hash; shards share no locks",
         ),
-    )?;
-    with(
-        command,
         single(
-            alloc,
             SEED,
             "N|random",
             "Runs the children of each container in an order drawn from N",
         ),
-    )
+    ]
 }
 
-/// The same, and the options that say with which settings.
-fn configuring<'a>(alloc: Global, subject: Subject<'_>) -> Result<Command<'a>, AllocError>
-    ensures { IfOk result (λ command. app_of command ≡ configuring) }
+/// Those that say with which settings, and how much runs side by side.
+fn configuring<'a>(subject: Subject<'_>) -> [ProgramOption<'a>; 5]
+    ensures { map rule_told result ≡ configuring }
 {
-    let command = filtering(alloc)?;
-    let command = with(
-        command,
+    [
         repeated(
-            alloc,
             CONFIG,
             "KEY=VALUE",
             help_by(
@@ -253,11 +188,7 @@ fn configuring<'a>(alloc: Global, subject: Subject<'_>) -> Result<Command<'a>, A
                 "Sets a parameter over the system and the tests",
             ),
         ),
-    )?;
-    with(
-        command,
         repeated(
-            alloc,
             SYSTEM,
             "KEY=VALUE",
             help_by(
@@ -266,129 +197,67 @@ fn configuring<'a>(alloc: Global, subject: Subject<'_>) -> Result<Command<'a>, A
                 "Sets a parameter over the tests",
             ),
         ),
-    )
-}
-
-/// The same, and the options that say how much runs side by side.
-fn sizing<'a>(alloc: Global, subject: Subject<'_>) -> Result<Command<'a>, AllocError>
-    ensures { IfOk result (λ command. app_of command ≡ sizing) }
-{
-    let command = configuring(alloc, subject)?;
-    let command = with(
-        command,
         single(
-            alloc,
             PROCESSORS,
             "N",
             "How many processors there are, 1 to 1024 [default: 1]",
         ),
-    )?;
-    let command = with(
-        command,
         single(
-            alloc,
             WORKERS,
             "N|auto",
             "Runs side by side on so many workers, 1 to 64; auto: --processors",
         ),
-    )?;
-    with(
-        command,
         single(
-            alloc,
             RING,
             "N",
             "Most events shown before they are told, 1 to 16384 [default: 1024]",
         ),
-    )
+    ]
 }
 
-/// The same, and the options that say what is printed of what happened.
-fn printing<'a>(alloc: Global, subject: Subject<'_>) -> Result<Command<'a>, AllocError>
-    ensures { IfOk result (λ command. app_of command ≡ printing) }
+/// Those that say what is printed of what happened.
+fn printing<'a>() -> [ProgramOption<'a>; 4]
+    ensures { map rule_told result ≡ printing }
 {
-    let command = sizing(alloc, subject)?;
-    let command = with(
-        command,
+    [
         single(
-            alloc,
             DETAILS,
             "FORM",
             "none, summary, tree, testfeed, json, xml, list or plan [default: tree]",
         ),
-    )?;
-    let command = with(
-        command,
         single(
-            alloc,
             DETAILS_THEME,
             "THEME",
             "The signs of the tree: unicode or ascii [default: unicode]",
         ),
-    )?;
-    let command = with(
-        command,
         repeated(
-            alloc,
             REPORT,
             "FORM=FILE",
             "Writes the run into a file besides, as in xml=run.xml",
         ),
-    )?;
-    with(
-        command,
         flag(
-            alloc,
             TIMES,
             "Tells how long tests took: in XML and JSON, and of the ten slowest",
         ),
-    )
+    ]
 }
 
-/// The same, and the options that say how it ends.
-fn ending<'a>(alloc: Global, subject: Subject<'_>) -> Result<Command<'a>, AllocError>
-    ensures { IfOk result (λ command. app_of command ≡ ending) }
+/// Those that say how a run ends, which steps are told, and which are taken.
+fn ending<'a>(subject: Subject<'_>) -> [ProgramOption<'a>; 6]
+    ensures { map rule_told result ≡ ending }
 {
-    let command = printing(alloc, subject)?;
-    let command = with(
-        command,
+    [
         flag(
-            alloc,
             FAIL_IF_NO_TESTS,
             "Ends with status 2 where there is no test",
         ),
-    )?;
-    let command = with(
-        command,
-        flag(
-            alloc,
-            FAIL_FAST,
-            "Starts nothing more once a node has failed",
-        ),
-    )?;
-    with(
-        command,
+        flag(FAIL_FAST, "Starts nothing more once a node has failed"),
         single(
-            alloc,
             MAX_FAIL,
             "N",
             "Starts nothing more once N nodes have failed, 1 to 4095",
         ),
-    )
-}
-
-/// Why a program's own tests have no option by which steps are taken.
-const IS_REFUSED: &str = "Is refused: what real tests answer nobody knows before they have run";
-
-/// The program and its options, with the helps that they have where this is run.
-pub(crate) fn command<'a>(alloc: Global, subject: Subject<'_>) -> Result<Command<'a>, AllocError>
-    ensures { IfOk result (λ command. app_of command ≡ program) }
-{
-    let command = ending(alloc, subject)?;
-    let command = with(
-        command,
         flag(
-            alloc,
             SCHEDULE,
             help_by(
                 subject,
@@ -396,11 +265,7 @@ pub(crate) fn command<'a>(alloc: Global, subject: Subject<'_>) -> Result<Command
                 "Prints, behind a run, steps that lead to just what happened",
             ),
         ),
-    )?;
-    let command = with(
-        command,
         single(
-            alloc,
             REPLAY,
             "STEPS",
             help_by(
@@ -409,11 +274,7 @@ pub(crate) fn command<'a>(alloc: Global, subject: Subject<'_>) -> Result<Command
                 IS_REFUSED,
             ),
         ),
-    )?;
-    with(
-        command,
         single(
-            alloc,
             DRIVE,
             "N",
             help_by(
@@ -422,5 +283,57 @@ pub(crate) fn command<'a>(alloc: Global, subject: Subject<'_>) -> Result<Command
                 IS_REFUSED,
             ),
         ),
-    )
+    ]
+}
+
+/// The option as clap takes it. Where it has a value its help stands on the next line.
+fn option_of<'a>(alloc: Global, told: &ProgramOption<'a>) -> Arg<'a>
+    ensures rule { rule_of result ≡ rule_told told.now }
+    ensures local { result.global ≡ false }
+{
+    let option = Arg::new(alloc, told.name).long(told.name).help(told.help);
+    match told.form {
+        OptionForm::Flag => option.action(ArgAction::SetTrue),
+        OptionForm::Single(value) => option.value_name(value).next_line_help(true),
+        OptionForm::Repeated(value) => option
+            .value_name(value)
+            .next_line_help(true)
+            .action(ArgAction::Append),
+    }
+}
+
+/// The command with one more option.
+fn with<'a>(command: Command<'a>, option: Arg<'a>) -> Result<Command<'a>, AllocError>
+    requires { option.global ≡ false }
+    ensures { IfOk result (λ longer. app_of longer ≡ with_rule (app_of command.entry) (rule_of option.entry)) }
+{
+    command.arg(option)
+}
+
+/// The command with all of these options too.
+fn with_all<'a>(
+    alloc: Global,
+    command: Command<'a>,
+    options: &[ProgramOption<'a>],
+) -> Result<Command<'a>, AllocError>
+    ensures { IfOk result (λ longer. app_of longer ≡ fold with_rule (app_of command.entry) (map rule_told options.now)) }
+{
+    let mut longer = command;
+    for told in options {
+        longer = with(longer, option_of(alloc, told))?;
+    }
+    Ok(longer)
+}
+
+/// The program and its options, with the helps that they have where this is run.
+pub(crate) fn command<'a>(alloc: Global, subject: Subject<'_>) -> Result<Command<'a>, AllocError>
+    ensures { IfOk result (λ command. app_of command ≡ program) }
+{
+    let command = Command::new(alloc, "console");
+    let command = with_all(alloc, command, selecting().as_slice())?;
+    let command = with_all(alloc, command, excluding().as_slice())?;
+    let command = with_all(alloc, command, filtering().as_slice())?;
+    let command = with_all(alloc, command, configuring(subject).as_slice())?;
+    let command = with_all(alloc, command, printing().as_slice())?;
+    with_all(alloc, command, ending(subject).as_slice())
 }
