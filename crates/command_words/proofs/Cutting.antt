@@ -1,5 +1,5 @@
 -- What the cut words ask for, or why they are refused.
-use Rattle.std.proofs.Common.{◌≡◌, ◌≢◌, ◌∙◌, map, IfErr, IfOk, List, Result, Ok, Err, refl, ap}
+use Rattle.std.proofs.Common.{◌≡◌, ◌≢◌, ◌∙◌, map, IfErr, IfOk, List, Result, Ok, Err, ap}
 use Rattle.std.specs.Prelude.{None, Some}
 use Rattle.std.specs.List.{filter_map}
 use Rattle.std.specs.Result.{IsErrAnd}

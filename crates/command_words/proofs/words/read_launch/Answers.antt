@@ -1,6 +1,5 @@
 -- Words that clap refuses are refused; others are judged as their values are.
-use Rattle.std.proofs.Common.{◌∙◌, ap, map, string_bytes}
-use Rattle.std.specs.List.{filter_map}
+use Rattle.std.proofs.Common.{map, string_bytes}
 use Rattle.launch_options.specs.Given.{values_of}
 use Rattle.command_words.proofs.Cutting.{launch_cut, launch_uncut, reports_of}
 use Rattle.command_words.proofs.words.read_launch.Goals as goal
