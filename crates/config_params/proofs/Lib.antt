@@ -3,6 +3,7 @@ pub mod Cuts
 pub mod Digits
 pub mod Laws
 pub mod Lines
+pub mod Places
 pub mod Tables
 pub mod Belows
 pub mod Lists

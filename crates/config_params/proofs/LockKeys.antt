@@ -16,7 +16,6 @@ use Rattle.config_params.specs.LockKeys.{holders_key, lock_before_end, lock_limi
 use Rattle.config_params.specs.Pairs.{Pair}
 use Rattle.config_params.specs.Parameters.{Parameters, answer, answer_over}
 use Rattle.config_params.specs.Tables.{value_in}
-use Rattle.config_params.proofs.Tables.{bytes_of}
 
 abbrev front : List ℕ
 front = codes "nelborugy.lock."
@@ -119,14 +118,14 @@ said_over over under key limits =
     ∙ sym (list_any-append (bytes_eq key) (limiting_keys over) (limiting_keys under))
 
 -- the keys of the first pairs, with one pair more
-next : (pairs : List Pair) (i : ℕ) (pair : Pair) → slice_get pairs i ≡ Some pair → limiting (take (suc i) pairs) ≡ limiting (take i pairs) ++ cond (is_some (lock_limited pair.0)) (pair.0 ∷ []) []
-next [] zero pair e = absurd (none-some pair e)
-next [] (suc i) pair e = absurd (none-some pair e)
-next (p ∷ ps) zero pair e = ap (λ (q : Pair). cond (is_some (lock_limited q.0)) (q.0 ∷ []) []) (same_Some p pair e)
-next (p ∷ ps) (suc i) pair e = by (is_some (lock_limited p.0)) (next ps i pair e)
+next : (pairs : List Pair) (i : ℕ) (key : List ℕ) → option_map (λ pair. pair.0) (slice_get pairs i) ≡ Some key → limiting (take (suc i) pairs) ≡ limiting (take i pairs) ++ cond (is_some (lock_limited key)) (key ∷ []) []
+next [] zero key e = absurd (none-some key e)
+next [] (suc i) key e = absurd (none-some key e)
+next (p ∷ ps) zero key e = ap (λ (k : List ℕ). cond (is_some (lock_limited k)) (k ∷ []) []) (same_Some p.0 key e)
+next (p ∷ ps) (suc i) key e = by (is_some (lock_limited p.0)) (next ps i key e)
   where
-    by : (b : Bool) → limiting (take (suc i) ps) ≡ limiting (take i ps) ++ cond (is_some (lock_limited pair.0)) (pair.0 ∷ []) []
-        → cond b (p.0 ∷ limiting (take (suc i) ps)) (limiting (take (suc i) ps)) ≡ cond b (p.0 ∷ limiting (take i ps)) (limiting (take i ps)) ++ cond (is_some (lock_limited pair.0)) (pair.0 ∷ []) []
+    by : (b : Bool) → limiting (take (suc i) ps) ≡ limiting (take i ps) ++ cond (is_some (lock_limited key)) (key ∷ []) []
+        → cond b (p.0 ∷ limiting (take (suc i) ps)) (limiting (take (suc i) ps)) ≡ cond b (p.0 ∷ limiting (take i ps)) (limiting (take i ps)) ++ cond (is_some (lock_limited key)) (key ∷ []) []
     by true more = ap (λ l. p.0 ∷ l) more
     by false more = more
 
@@ -134,22 +133,20 @@ append_assoc : {A : Type 0} (a b c : List A) → (a ++ b) ++ c ≡ a ++ (b ++ c)
 append_assoc [] b c = refl
 append_assoc (x ∷ a) b c = ap (λ l. x ∷ l) (append_assoc a b c)
 
--- the same of a table's entries, behind other keys
-pub one_more : (entries : List (String Global × String Global)) (i : ℕ) (entry : String Global × String Global) (first before after : List (List ℕ)) → Some entry ≡ slice_get entries i → before ≡ first ++ limiting (take i (map bytes_of entries))
-    → after ≡ before ++ cond (is_some (lock_limited (string_bytes entry.0))) (string_bytes entry.0 ∷ []) [] → after ≡ first ++ limiting (take (i + 1) (map bytes_of entries))
-one_more entries i entry first before after at so_far now =
-    let there : slice_get (map bytes_of entries) i ≡ Some (bytes_of entry) = slice_get-map bytes_of entries i ∙ ap (option_map bytes_of) (sym at) in
-    let key : List (List ℕ) = cond (is_some (lock_limited (string_bytes entry.0))) (string_bytes entry.0 ∷ []) [] in
-    rw add-one (now ∙ ap (λ l. l ++ key) so_far ∙ append_assoc first (limiting (take i (map bytes_of entries))) key ∙ ap (λ l. first ++ l) (sym (next (map bytes_of entries) i (bytes_of entry) there)))
+-- the same behind other keys
+pub one_more : (pairs : List Pair) (i : ℕ) (key : List ℕ) (first before after : List (List ℕ)) → Some key ≡ option_map (λ pair. pair.0) (slice_get pairs i) → before ≡ first ++ limiting (take i pairs)
+    → after ≡ before ++ cond (is_some (lock_limited key)) (key ∷ []) [] → after ≡ first ++ limiting (take (i + 1) pairs)
+one_more pairs i key first before after at so_far now =
+    let more : List (List ℕ) = cond (is_some (lock_limited key)) (key ∷ []) [] in
+    rw add-one (now ∙ ap (λ l. l ++ more) so_far ∙ append_assoc first (limiting (take i pairs)) more ∙ ap (λ l. first ++ l) (sym (next pairs i key (sym at))))
 
 -- there is no place behind the last
-pub none_more : (entries : List (String Global × String Global)) (i : ℕ) (first before : List (List ℕ)) → None ≡ slice_get entries i → before ≡ first ++ limiting (take i (map bytes_of entries))
-    → before ≡ first ++ limiting (take (i + 1) (map bytes_of entries))
-none_more entries i first before past so_far =
-    rw add-one (so_far ∙ ap (λ l. first ++ limiting l) (same (map bytes_of entries) i (slice_get-map bytes_of entries i ∙ ap (option_map bytes_of) (sym past))))
+pub none_more : (pairs : List Pair) (i : ℕ) (first before : List (List ℕ)) → None ≡ option_map (λ pair. pair.0) (slice_get pairs i) → before ≡ first ++ limiting (take i pairs)
+    → before ≡ first ++ limiting (take (i + 1) pairs)
+none_more pairs i first before past so_far = rw add-one (so_far ∙ ap (λ l. first ++ limiting l) (same pairs i (sym past)))
   where
-    same : (pairs : List Pair) (i : ℕ) → slice_get pairs i ≡ None → take i pairs ≡ take (suc i) pairs
+    same : (pairs : List Pair) (i : ℕ) → option_map (λ pair. pair.0) (slice_get pairs i) ≡ None → take i pairs ≡ take (suc i) pairs
     same [] zero e = refl
     same [] (suc i) e = refl
-    same (p ∷ ps) zero e = absurd (none-some p (sym e))
+    same (p ∷ ps) zero e = absurd (none-some p.0 (sym e))
     same (p ∷ ps) (suc i) e = ap (λ l. p ∷ l) (same ps i e)

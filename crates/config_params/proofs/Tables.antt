@@ -8,36 +8,8 @@ use Rattle.std.specs.String.{string_eq}
 use Rattle.std.proofs.lemmas.Bool.{false_from_ne_true}
 use Rattle.std.proofs.lemmas.List.{reverse-append}
 use Rattle.std.proofs.lemmas.Slice.Eq.{bytes_eq-Decides}
-use Rattle.indexmap.specs.IndexMap.{insert_entry}
 use Rattle.config_params.specs.Pairs.{Pair}
 use Rattle.config_params.specs.Tables.{with_pair, table_of, value_in, last_value}
-
--- the bytes of an entry
-abbrev pub bytes_of : String Global × String Global → Pair
-bytes_of entry = (string_bytes entry.0, string_bytes entry.1)
-
--- an insert, by bytes
-pub inserted : (entries : List (String Global × String Global)) (key value : String Global)
-    → map bytes_of (insert_entry string_eq entries key value) ≡ with_pair (map bytes_of entries) (string_bytes key, string_bytes value)
-inserted [] key value = refl
-inserted (e ∷ es) key value = by (bytes_eq (string_bytes key) (string_bytes e.0)) refl (inserted es key value)
-  where
-    by : (b : Bool) → bytes_eq (string_bytes key) (string_bytes e.0) ≡ b
-        → map bytes_of (insert_entry string_eq es key value) ≡ with_pair (map bytes_of es) (string_bytes key, string_bytes value)
-        → map bytes_of (insert_entry string_eq (e ∷ es) key value) ≡ with_pair (map bytes_of (e ∷ es)) (string_bytes key, string_bytes value)
-    by true t more = rw t refl
-    by false t more = rw t (ap (λ l. bytes_of e ∷ l) more)
-
--- a look-up, by bytes
-pub found : (entries : List (String Global × String Global)) (key : List ℕ)
-    → option_map (λ v. string_bytes v) (lookup (λ k. bytes_eq key (string_bytes k)) entries) ≡ value_in (map bytes_of entries) key
-found [] key = refl
-found (e ∷ es) key = by (bytes_eq key (string_bytes e.0)) refl (found es key)
-  where
-    by : (b : Bool) → bytes_eq key (string_bytes e.0) ≡ b → option_map (λ v. string_bytes v) (lookup (λ k. bytes_eq key (string_bytes k)) es) ≡ value_in (map bytes_of es) key
-        → option_map (λ v. string_bytes v) (lookup (λ k. bytes_eq key (string_bytes k)) (e ∷ es)) ≡ value_in (map bytes_of (e ∷ es)) key
-    by true t more = rw t refl
-    by false t more = rw t more
 
 same_bytes : (a : List ℕ) → bytes_eq a a ≡ true
 same_bytes a = (bytes_eq-Decides a a).1 refl

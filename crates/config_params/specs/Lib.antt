@@ -8,6 +8,7 @@ pub mod Settings
 pub mod SettingsFaults
 pub mod LockKeys
 pub mod LockLimits
+pub mod Places
 pub mod Tables
 pub mod Nearest
 pub mod GivenModes

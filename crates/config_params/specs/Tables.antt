@@ -1,10 +1,7 @@
 -- Tables of keys and values, each key once.
-use Rattle.std.specs.Prelude.{ℕ, List, [], ◌∷◌, fold, map, reverse, if◌then◌else◌, Option}
-use Rattle.std.specs.Global.{Global}
+use Rattle.std.specs.Prelude.{ℕ, List, [], ◌∷◌, fold, reverse, if◌then◌else◌, Option}
 use Rattle.std.specs.Map.{lookup}
 use Rattle.std.specs.Str.{bytes_eq}
-use Rattle.std.specs.Prelude.{String, string_bytes}
-use Rattle.indexmap.specs.IndexMap.{IndexMap}
 use Rattle.config_params.specs.Pairs.{Pair}
 
 -- a table with one more pair: a key that is there takes the new value, another comes last
@@ -23,7 +20,3 @@ value_in pairs key = lookup (λ other. bytes_eq key other) pairs
 -- the value of the last pair with this key
 abbrev pub last_value : List Pair → List ℕ → Option (List ℕ)
 last_value pairs key = value_in (reverse pairs) key
-
--- the pairs of a map, as bytes
-abbrev pub pairs_in : {S : Type 0} → IndexMap (String Global) (String Global) S → List Pair
-pairs_in table = map (λ entry. (string_bytes entry.0, string_bytes entry.1)) table.entries

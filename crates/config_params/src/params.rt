@@ -7,14 +7,14 @@ ghost use Rattle.config_params.specs.Parameters.{nothing_said, with_value, with_
 ghost use Rattle.config_params.specs.Parameters.{answer_over};
 ghost use Rattle.config_params.specs.LockKeys.{limiting, limiting_keys, lock_limited};
 ghost use Rattle.config_params.specs.Properties.{refusal_of, pairs_of};
-ghost use Rattle.config_params.specs.Tables.{table_of, value_in, last_value, pairs_in};
+ghost use Rattle.config_params.specs.Tables.{table_of, value_in, last_value};
 ghost use Rattle.config_params.specs.declared.source.Source.TheVariants.{File};
 
 use crate::fault::ParamsFault;
 use crate::lock_key::lock_limited;
 use crate::properties::{refusal_of, table_of};
 use crate::source::Source;
-use crate::table::{Table, new_table, put, value_of};
+use crate::table::Table;
 use std::alloc::{AllocError, Global};
 use std::marker::Model;
 
@@ -38,11 +38,10 @@ impl Drop for Params {
 
 impl Model for Params {
     ghost use Rattle.config_params.specs.Parameters.{Parameters};
-    ghost use Rattle.config_params.specs.Tables.{pairs_in};
 
     ghost Value = { Parameters };
 
-    ghost view = { λ p. record { request = pairs_in p.request; system = pairs_in p.system; file = pairs_in p.file } };
+    ghost view = { λ p. record { request = p.request; system = p.system; file = p.file } };
 }
 
 impl Params {
@@ -58,9 +57,9 @@ impl Params {
         ensures err { OnErr result (self.new ≡ self.old) }
     {
         match source {
-            Source::Request => put(alloc, &mut self.request, key, value),
-            Source::System => put(alloc, &mut self.system, key, value),
-            Source::File => put(alloc, &mut self.file, key, value),
+            Source::Request => self.request.put(alloc, key, value),
+            Source::System => self.system.put(alloc, key, value),
+            Source::File => self.file.put(alloc, key, value),
         }
     }
 }
@@ -71,9 +70,9 @@ impl Params {
         ensures { result ≡ nothing_said }
     {
         Params {
-            request: new_table(alloc),
-            system: new_table(alloc),
-            file: new_table(alloc),
+            request: Table::new(alloc),
+            system: Table::new(alloc),
+            file: Table::new(alloc),
         }
     }
 
@@ -130,13 +129,13 @@ impl Params {
     pub fn get(&self, key: &str) -> Option<&str>
         ensures { option_map (λ value. value.now) result ≡ answer self.now key.now }
     {
-        if let Some(value) = value_of(&self.request, key) {
+        if let Some(value) = self.request.value_of(key) {
             return Some(value);
         }
-        if let Some(value) = value_of(&self.system, key) {
+        if let Some(value) = self.system.value_of(key) {
             return Some(value);
         }
-        value_of(&self.file, key)
+        self.file.value_of(key)
     }
 }
 
@@ -154,11 +153,11 @@ fn push_if_limiting<'a>(keys: &mut Vec<&'a str>, key: &'a str) -> Result<(), All
 /// Appends the keys of a table that limit a lock.
 fn push_limiting<'a>(keys: &mut Vec<&'a str>, table: &'a Table) -> Result<(), AllocError>
     ensures { OnOk result (map (λ key. key.now) keys.new.items ≡ map (λ key. key.now) keys.old.items
-        ++ limiting (pairs_in table.now)) }
+        ++ limiting table.now) }
 {
     for place in 0..table.len() {
-        if let Some((key, _)) = table.get_index(place) {
-            push_if_limiting(keys, key.as_str())?;
+        if let Some(key) = table.key_at(place) {
+            push_if_limiting(keys, key)?;
         }
     }
     Ok(())

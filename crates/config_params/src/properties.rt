@@ -2,12 +2,12 @@
 
 ghost use Rattle.std.specs.Prelude.{◌≡◌, fold, IfOk, OnOk};
 ghost use Rattle.config_params.specs.Properties.{refusal_of, pairs_said, pairs_of};
-ghost use Rattle.config_params.specs.Tables.{with_pair, table_of, pairs_in};
+ghost use Rattle.config_params.specs.Tables.{with_pair, table_of};
 ghost use Rattle.config_params.specs.Pairs.{property_of};
 
 use crate::fault::ParamsFault;
 use crate::pair::property_of;
-use crate::table::{Table, new_table, put};
+use crate::table::Table;
 use std::alloc::{AllocError, Global};
 
 /// Why the text is refused: the fault of its first faulty line. Takes no memory.
@@ -26,20 +26,20 @@ pub(crate) fn refusal_of(text: &str) -> Option<ParamsFault>
 
 /// Puts the pair of a line into a table, where the line says one.
 fn put_line(alloc: Global, table: &mut Table, line: &str) -> Result<(), AllocError>
-    ensures { OnOk result (pairs_in table.new ≡ fold with_pair (pairs_in table.old)
+    ensures { OnOk result (table.new ≡ fold with_pair table.old
         (pairs_said (property_of 1 line.now))) }
 {
     match property_of(1, line) {
-        Ok(Some(pair)) => put(alloc, table, pair.key, pair.value),
+        Ok(Some(pair)) => table.put(alloc, pair.key, pair.value),
         Ok(None) | Err(_) => Ok(()),
     }
 }
 
 /// The table of a text's pairs; of a repeated key the last value counts.
 pub(crate) fn table_of(alloc: Global, text: &str) -> Result<Table, AllocError>
-    ensures { IfOk result (λ table. pairs_in table ≡ table_of (pairs_of text.now)) }
+    ensures { IfOk result (λ table. table ≡ table_of (pairs_of text.now)) }
 {
-    let mut table = new_table(alloc);
+    let mut table = Table::new(alloc);
     for line in text.lines() {
         put_line(alloc, &mut table, line)?;
     }

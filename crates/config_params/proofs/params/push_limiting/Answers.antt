@@ -10,11 +10,11 @@ pub loop-place-preserved : goal.loop-place-preserved
 loop-place-preserved c =
     let first : List (List ℕ) = map (λ key. key.now) c.args.keys.now.items in
     let before : List (List ℕ) = map (λ key. key.now) c.loop-place.keys.items in
-    elim c.match-get_index.branch [
+    elim c.match-key_at.branch [
       | in-Some+in_ok-push_if_limiting w ↦
-          one_more c.args.table.now.entries c.loop-place.place (w.in-Some.key.now, w.in-Some.field-0-1.now) first before (map (λ key. key.now) c.match-get_index.keys.items) w.in-Some.ensures.entry c.loop-place.invariant
-          (ap (λ k. map (λ key. key.now) k.items) w.keys-is ∙ w.in_ok-push_if_limiting.ensures ∙ ap (λ (k : List ℕ). before ++ cond (is_some (lock_limited k)) (k ∷ []) []) w.as_str.ensures.value)
+          one_more c.args.table.now c.loop-place.place w.in-Some.key.now first before (map (λ key. key.now) c.match-key_at.keys.items) w.in-Some.ensures c.loop-place.invariant
+          (ap (λ k. map (λ key. key.now) k.items) w.keys-is ∙ w.in_ok-push_if_limiting.ensures)
       | in_default w ↦
           ap (λ k. map (λ key. key.now) k.items) w.keys-is
-          ∙ none_more c.args.table.now.entries c.loop-place.place first before w.in_default.ensures.entry c.loop-place.invariant
+          ∙ none_more c.args.table.now c.loop-place.place first before w.in_default.ensures c.loop-place.invariant
     ]
