@@ -1,13 +1,13 @@
 -- Where the pair of a key is in a table, after a value at a place, and after one more pair.
-use Rattle.std.proofs.Common.{◌≡◌, ℕ, zero, suc, Bool, true, false, cond, List, [], ◌∷◌, ◌++◌, length, map, slice_get, slice_set, Option, None, Some, refl, ap, sym, ◌∙◌, true≢false, String, Global, string_bytes, arith}
+use Rattle.std.proofs.Common.{◌≡◌, ℕ, zero, suc, Bool, true, false, cond, List, [], ◌∷◌, ◌++◌, length, map, slice_get, slice_set, Option, None, Some, refl, ap, sym, ◌∙◌, String, Global, string_bytes, arith}
 use Rattle.std.specs.HashMap.{HashMap, UpdatesBy}
+use Rattle.std.proofs.lemmas.List.{length-map, map_push}
+use Rattle.resource_locks.proofs.NamePlaces as names
 use Rattle.std.specs.Option.{option_map}
 use Rattle.std.specs.Str.{bytes_eq}
 use Rattle.std.specs.String.{string_eq}
 use Rattle.std.proofs.Math.Nat.{suc_inj}
-use Rattle.std.proofs.lemmas.Map.Text.{hash_map_updates_text}
 use Rattle.std.proofs.lemmas.Option.{none-some, same_Some}
-use Rattle.std.proofs.lemmas.Slice.Eq.{bytes_eq-Decides}
 use Rattle.config_params.specs.Pairs.{Pair}
 use Rattle.config_params.specs.Places.{bytes_of, place_in, HasPlaces, with_value_at}
 use Rattle.config_params.specs.Tables.{with_pair, value_in}
@@ -69,40 +69,15 @@ kept [] place value key = refl
 kept (pair ∷ pairs) zero value key = refl
 kept (pair ∷ pairs) (suc place) value key = ap (λ o. cond (bytes_eq key pair.0) (Some 0) (option_map suc o)) (kept pairs place value key)
 
-bytes_eq_flip : (a b : List ℕ) → bytes_eq a b ≡ bytes_eq b a
-bytes_eq_flip a b = by (bytes_eq a b) (bytes_eq b a) refl refl
-  where
-    by : (s t : Bool) → bytes_eq a b ≡ s → bytes_eq b a ≡ t → s ≡ t
-    by true true p q = refl
-    by false false p q = refl
-    by true false p q = absurd (true≢false (sym ((bytes_eq-Decides b a).1 (sym ((bytes_eq-Decides a b).0 p))) ∙ q))
-    by false true p q = absurd (true≢false (sym ((bytes_eq-Decides a b).1 (sym ((bytes_eq-Decides b a).0 q))) ∙ p))
-
--- one more pair, of a key that no pair has
-placed : (pairs : List Pair) (key value other : List ℕ) → place_in pairs key ≡ None
-    → place_in (pairs ++ (key, value) ∷ []) other ≡ cond (bytes_eq key other) (Some (length pairs)) (place_in pairs other)
-placed [] key value other e = rw (bytes_eq_flip other key) refl
-placed (pair ∷ pairs) key value other e =
-    nowhere (bytes_eq key pair.0) (place_in pairs key) (place_in (pair ∷ (pairs ++ (key, value) ∷ [])) other ≡ cond (bytes_eq key other) (Some (suc (length pairs))) (place_in (pair ∷ pairs) other))
-    (λ t more. by (bytes_eq other pair.0) (bytes_eq key other) t refl refl (placed pairs key value other more)) e
-  where
-    later : (b : Bool) (n : ℕ) (o : Option ℕ) → option_map suc (cond b (Some n) o) ≡ cond b (Some (suc n)) (option_map suc o)
-    later true n o = refl
-    later false n o = refl
-
-    by : (o b : Bool) → bytes_eq key pair.0 ≡ false → bytes_eq other pair.0 ≡ o → bytes_eq key other ≡ b → place_in (pairs ++ (key, value) ∷ []) other ≡ cond b (Some (length pairs)) (place_in pairs other)
-        → cond o (Some 0) (option_map suc (place_in (pairs ++ (key, value) ∷ []) other)) ≡ cond b (Some (suc (length pairs))) (cond o (Some 0) (option_map suc (place_in pairs other)))
-    by true true s t u more = absurd (true≢false (sym ((bytes_eq-Decides key pair.0).1 ((bytes_eq-Decides key other).0 u ∙ (bytes_eq-Decides other pair.0).0 t)) ∙ s))
-    by true false s t u more = refl
-    by false b s t u more = ap (option_map suc) more ∙ later b (length pairs) (place_in pairs other)
-
 module _ {S : Type 0} where
   -- the places with that of the last pair
   pub grown : (pairs more : List Pair) (name key value : List ℕ) (place : ℕ) (m n : HashMap (String Global) ℕ S) → more ≡ pairs ++ (key, value) ∷ [] → name ≡ key → place ≡ length pairs
       → place_in pairs key ≡ None → HasPlaces pairs m → UpdatesBy string_eq (λ k. bytes_eq name (string_bytes k)) m n (Some place) → HasPlaces more n
-  grown pairs more name key value place m n is same last new was updates other =
-      hash_map_updates_text name m n (Some place) updates other ∙ ap (cond (bytes_eq name other) (Some place)) (was other)
-      ∙ (λ i. cond (bytes_eq (same i) other) (Some (last i)) (place_in pairs other)) ∙ sym (placed pairs key value other new) ∙ ap (λ l. place_in l other) (sym is)
+  grown pairs more name key value place m n is same last new was updates =
+      names.grown (keys pairs) (keys more) name key place m n (ap keys is ∙ map_push (λ pair. pair.0) pairs (key, value)) same (last ∙ sym (length-map pairs (λ pair. pair.0))) new was updates
+    where
+      keys : List Pair → List (List ℕ)
+      keys l = map (λ pair. pair.0) l
 
 -- a value at a place, of the bytes and of the strings
 pub set_bytes : (items : List (String Global × String Global)) (place : ℕ) (was : String Global × String Global) (value : String Global) → slice_get items place ≡ Some was

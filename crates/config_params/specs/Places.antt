@@ -1,9 +1,8 @@
 -- Where the pair of a key is in a table, which only proofs need.
-use Rattle.std.specs.Prelude.{◌≡◌, ℕ, zero, suc, List, [], ◌∷◌, cond, Option, None, Some, String, string_bytes}
+use Rattle.std.specs.Prelude.{ℕ, zero, suc, List, [], ◌∷◌, map, Option, String, string_bytes}
 use Rattle.std.specs.Global.{Global}
-use Rattle.std.specs.HashMap.{HashMap, get_by_text}
-use Rattle.std.specs.Option.{option_map}
-use Rattle.std.specs.Str.{bytes_eq}
+use Rattle.std.specs.HashMap.{HashMap}
+use Rattle.resource_locks.specs.NamePlaces as names
 use Rattle.config_params.specs.Pairs.{Pair}
 
 -- the bytes of a key and a value
@@ -12,12 +11,11 @@ bytes_of pair = (string_bytes pair.0, string_bytes pair.1)
 
 -- the place of the pair with this key, from 0
 abbrev pub place_in : List Pair → List ℕ → Option ℕ
-place_in [] key = None
-place_in (pair ∷ pairs) key = cond (bytes_eq key pair.0) (Some 0) (option_map suc (place_in pairs key))
+place_in pairs key = names.place_in (map (λ pair. pair.0) pairs) key
 
 -- the places are those of the pairs
 abbrev pub HasPlaces : {S : Type 0} → List Pair → HashMap (String Global) ℕ S → Type 0
-HasPlaces pairs places = (key : List ℕ) → get_by_text places key ≡ place_in pairs key
+HasPlaces pairs places = names.HasPlaces (map (λ pair. pair.0) pairs) places
 
 -- another value at a place
 abbrev pub with_value_at : List Pair → ℕ → List ℕ → List Pair

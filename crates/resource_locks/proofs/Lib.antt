@@ -1,6 +1,7 @@
 -- The lemmas.
 pub mod Plans
 pub mod Wants
+pub mod NamePlaces
 pub mod Numbering
 pub mod SetLaws
 pub mod Places

@@ -8,5 +8,6 @@ pub mod Hoisted
 pub mod Held
 pub mod Limits
 pub mod Keys
+pub mod NamePlaces
 pub mod Spares
 pub mod Inside

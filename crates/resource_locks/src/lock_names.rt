@@ -1,16 +1,17 @@
 //! The locks that a tree names.
 
-ghost use Rattle.std.specs.Prelude.{◌≡◌, ◌<◌, ◌≤◌, IfOk, OnOk, IfSome, IsNone, length};
+ghost use Rattle.std.specs.Prelude.{◌≡◌, ◌<◌, ◌≤◌, ◌++◌, ◌∷◌, [], false, IfOk, OnOk, IfSome, IsNone, length};
 ghost use Rattle.std.specs.List.{list_any};
 ghost use Rattle.std.specs.Str.{bytes_eq};
 ghost use Rattle.descriptor.specs.Nodes.{IsTree};
 ghost use Rattle.resource_locks.specs.Declarations.{declared_of};
 ghost use Rattle.resource_locks.specs.Keys.{with_key, with_keys, keys_of};
+ghost use Rattle.resource_locks.specs.NamePlaces.{place_in};
 ghost use Rattle.resource_locks.specs.Plans.{number_of};
 
 use descriptor::{Lock, NodeId, Tree};
-use indexmap::IndexSet;
 use std::alloc::{AllocError, Global};
+use std::collections::HashMap;
 use std::marker::Model;
 use unique_id::Text;
 
@@ -19,22 +20,30 @@ pub const GLOBAL: &str = "GLOBAL";
 
 /// The global lock, and then those that the nodes of a tree declare, each once.
 pub struct LockNames {
-    names: IndexSet<String>,
+    names: Vec<Text>,
+    // where each name is among them, so that no search goes over all of them
+    places: HashMap<String, usize>,
 }
 
 // A crate that lets one go takes this call, and proves the drops of the parts no second time.
 impl Drop for LockNames {
     fn drop(self) {
-        let LockNames { names: _ } = self;
+        let LockNames {
+            names: _,
+            places: _,
+        } = self;
     }
 }
 
 impl Model for LockNames {
-    ghost use Rattle.std.specs.Prelude.{List, ℕ, map, string_bytes};
+    ghost use Rattle.std.specs.Prelude.{List, ℕ};
+    ghost use Rattle.resource_locks.specs.NamePlaces.{HasPlaces};
 
     ghost Value = { List (List ℕ) };
 
-    ghost view = { λ n. map string_bytes n.names.keys };
+    ghost view = { λ n. n.names.items };
+
+    ghost invariant = { λ n. HasPlaces n.names.items n.places };
 }
 
 impl LockNames {
@@ -44,7 +53,8 @@ impl LockNames {
         ensures tree { OnOk result (IsTree tree.now) }
     {
         let mut names = LockNames {
-            names: IndexSet::new(alloc),
+            names: Vec::new(alloc),
+            places: HashMap::new(alloc),
         };
         names.add(alloc, GLOBAL)?;
         for node in 0..tree.len() {
@@ -65,18 +75,44 @@ impl LockNames {
     fn add(&mut self, alloc: Global, name: &str) -> Result<(), AllocError>
         ensures { OnOk result (self.new ≡ with_key self.old name.now) }
     {
-        if self.names.contains(name) {
+        if self.has(name) {
             return Ok(());
         }
-        self.names.insert(String::from_str(alloc, name)?)?;
-        Ok(())
+        self.append(alloc, name)
+    }
+
+    /// Adds a last name, which is none of these.
+    fn append(&mut self, alloc: Global, name: &str) -> Result<(), AllocError>
+        requires { list_any (bytes_eq name.now) self.old ≡ false }
+        ensures { OnOk result (self.new ≡ self.old ++ name.now ∷ []) }
+    {
+        let place = self.names.len();
+        let key = String::from_str(alloc, name)?;
+        self.names.push(Text::new(alloc, name)?)?;
+        match self.places.insert(key, place) {
+            Ok(_) => Ok(()),
+            Err(_) => {
+                self.names.pop();
+                Err(AllocError)
+            }
+        }
+    }
+
+    /// Where a name is among these.
+    fn place_of(&self, name: &str) -> Option<usize>
+        ensures { result ≡ place_in self.now name.now }
+    {
+        match self.places.get(name) {
+            Some(place) => Some(*place),
+            None => None,
+        }
     }
 
     /// Whether a lock is one of these.
     pub fn has(&self, name: &str) -> bool
         ensures { result ≡ list_any (bytes_eq name.now) self.now }
     {
-        self.names.contains(name)
+        self.place_of(name).is_some()
     }
 
     /// How many these are.
@@ -92,7 +128,7 @@ impl LockNames {
         ensures inside { IfSome result (λ number. number < length self.now) }
         ensures none { IsNone result → length self.now ≤ number_of self.now name.now }
     {
-        self.names.get_index_of(name)
+        self.place_of(name)
     }
 
     /// The same names, as texts.
@@ -101,7 +137,7 @@ impl LockNames {
     {
         let mut texts = Vec::new(alloc);
         for name in self.names.as_slice() {
-            texts.push(Text::new(alloc, name.as_str())?)?;
+            texts.push(name.copy()?)?;
         }
         Ok(texts)
     }

@@ -1,7 +1,5 @@
 -- One place more.
-use Rattle.std.proofs.Common.{◌∙◌, ◌++◌, ◌∷◌, [], List, ℕ, ap, map, cond}
-use Rattle.std.specs.Prelude.{is_some}
-use Rattle.config_params.specs.LockKeys.{lock_limited}
+use Rattle.std.proofs.Common.{◌∙◌, List, ℕ, ap, map}
 use Rattle.config_params.proofs.LockKeys.{none_more, one_more}
 use Rattle.config_params.proofs.params.push_limiting.Goals.{in-Some+in_ok-push_if_limiting, in_default}
 use Rattle.config_params.proofs.params.push_limiting.Goals as goal

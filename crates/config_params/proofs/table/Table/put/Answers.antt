@@ -1,6 +1,5 @@
 -- A key that is there has another value, one that is not comes last.
-use Rattle.std.proofs.Common.{◌≡◌, ◌∙◌, ap, sym}
-use Rattle.config_params.specs.Places.{with_value_at}
+use Rattle.std.proofs.Common.{◌∙◌, ap, sym}
 use Rattle.config_params.specs.Tables.{with_pair}
 use Rattle.config_params.proofs.Places.{set_is, append_is}
 use Rattle.config_params.proofs.table.Table.put.Goals as goal

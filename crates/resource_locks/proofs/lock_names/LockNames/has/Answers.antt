@@ -1,7 +1,8 @@
--- A look-up tells whether the name is one of these.
-use Rattle.std.proofs.Common.{sym}
-use Rattle.resource_locks.proofs.Numbering.{found}
+-- A name has a place just where it is one of these.
+use Rattle.std.proofs.Common.{◌∙◌, ap}
+use Rattle.std.specs.Option.{is_some}
+use Rattle.resource_locks.proofs.NamePlaces.{is_there}
 use Rattle.resource_locks.proofs.lock_names.LockNames.has.Goals as goal
 
 pub returns : goal.returns
-returns c = sym (found c.self.inside.names.keys c.args.self.now c.args.name.now c.self.view_is c.contains.result c.contains.ensures)
+returns c = c.is_some.ensures ∙ ap is_some c.place_of.ensures ∙ is_there c.args.self.now c.args.name.now
