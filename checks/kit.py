@@ -1,5 +1,6 @@
 """The kit's own `rt`, as a module: for what its commands do not offer."""
 
+import functools
 import importlib.machinery
 import importlib.util
 import os
@@ -14,4 +15,16 @@ def load_rt():
     made = importlib.util.module_from_spec(importlib.util.spec_from_loader("rt_of_kit", loader))
     sys.modules["rt_of_kit"] = made
     loader.exec_module(made)
+    ask_once(made)
     return made
+
+
+def ask_once(rt):
+    """Has each crate asked once for the crates below it and for the sum of its files, and not once for each path of
+    crates.txt that leads to it. rattle-kit-13b does the latter, and reads all files each time: of this repository's
+    crates that takes as long as a third of the proofs. A kit that keeps what it has proved asks once by itself."""
+    crates = getattr(getattr(rt, "rtlib", None), "Crate", None)
+    if crates is None or hasattr(rt, "Kept"):
+        return
+    below, crates.stamp = functools.cache(crates.below), functools.cache(crates.stamp)
+    crates.below = lambda crate: [*below(crate)]

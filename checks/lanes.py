@@ -4,13 +4,14 @@ jobs each, and with one of the two compilers of a program.
 
 rt's own lanes reckon with twice the memory that a proof of this repository takes, keep processors free for the tests of
 crates that have none, and give each crate one job while others wait. Here the crate that the longest chain of others
-waits for gets one job more than its share. What is proved of crates is kept as by `rt ci`. Where RT_JOBS is set, or the
-kit's rt has no such lanes, rt's own are taken.
+waits for gets one job more than its share. What is proved of crates is kept as by `rt ci`, by a kit that keeps it. Where
+RT_JOBS is set, or the kit's rt has no such lanes, rt's own are taken.
 
 A program is built by LLVM alone, so who waits for it waits for one compiler. It is kept for the next ./build; `rt ci`
 takes only what both compilers built, and proves and builds the program again.
 """
 
+import contextlib
 import os
 import sys
 from concurrent.futures import FIRST_COMPLETED, ThreadPoolExecutor, wait
@@ -91,31 +92,40 @@ def run_tasks(tasks, lanes):
     return given
 
 
-def build_by_one(crates, kept):
-    """Has rt build programs by LLVM alone, and keep them so."""
-    compile_by, is_whole = crates.compile_by, kept.is_whole
+def build_by_one(crates):
+    """Has rt build programs by LLVM alone."""
+    compile_by = crates.compile_by
+    crates.compile_by = lambda crate, backend, *how: compile_by(crate, backend, *how) if backend == "llvm" else 0
+
+
+def keep_by_one(kept):
+    """Has rt keep programs that LLVM alone built."""
+    is_whole = kept.is_whole
 
     def is_built(kept, crate, tests, files):
         is_llvm = crate.is_program and not tests and files == [crate.name]
         return is_llvm or is_whole(kept, crate, tests, files)
 
-    crates.compile_by = lambda crate, backend, *how: compile_by(crate, backend, *how) if backend == "llvm" else 0
     kept.is_whole = is_built
 
 
 def main():
     rt = load_rt()
-    if hasattr(rt, "Crate") and hasattr(rt, "Kept"):
-        build_by_one(rt.Crate, rt.Kept)
-    if "RT_JOBS" not in os.environ and all(hasattr(rt, it) for it in ("in_lanes", "processors", "free", "ending")):
+    if hasattr(rt, "Crate") and hasattr(rt.Crate, "compile_by"):
+        build_by_one(rt.Crate)
+        if hasattr(rt, "Kept"):
+            keep_by_one(rt.Kept)
+    if "RT_JOBS" not in os.environ and all(hasattr(rt, it) for it in ("in_lanes", "processors", "free")):
         own = rt.in_lanes
+        # (what a kit does with the proofs that run where it is stopped)
+        ending = getattr(rt, "ending", contextlib.nullcontext)
 
         def in_lanes(given):
             try:
                 tasks = read_tasks(given)
             except (TypeError, ValueError):
                 return own(given)
-            with rt.ending():
+            with ending():
                 return run_tasks(tasks, Lanes(rt.processors(), 0.85 * rt.free()))
 
         rt.in_lanes = in_lanes
