@@ -8,7 +8,7 @@ use Rattle.command_line.specs.Runs.{Closes}
 use Rattle.messages.specs.Sentences.{sentence_of}
 use Rattle.command_line.specs.declared.closing.Ending.{Ending}
 use Rattle.report_files.specs.Deeds.{Deed}
-use Rattle.rerun_words.specs.Expansions.{IsWhole, StandsFor}
+use Rattle.command_words.specs.Expansions.{IsWhole, StandsFor}
 use Rattle.word_files.specs.declared.facts.Facts.{Facts}
 
 module _ {R W E K G X F : Type 0} (remaining : R → Option (List ℕ)) (contents : W → Option (List ℕ)) (said : E → Option (List ℕ)) (deeds : K → Option (List Deed)) (is_terminal : Bool) (facts : Facts) (given : G → List X) (text : X → Text) where

@@ -12,7 +12,7 @@ use Rattle.live.specs.SlowNames.{AreNamedBehind, HasNamed, IsWrittenOn}
 use Rattle.live.specs.SlowNaming.{Slow, slow_line}
 use Rattle.live.specs.declared.progress.Progress.{Progress}
 use Rattle.live.specs.declared.slow_lines.SlowLines.{SlowLines}
-use Rattle.reported_runs.specs.ReportedRuns.{HasSeenSome}
+use Rattle.launcher.specs.ReportedRuns.{HasSeenSome}
 use Rattle.command_line.specs.Runs.{IsToldMeanwhile}
 
 -- nothing was named

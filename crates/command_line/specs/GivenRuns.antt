@@ -4,7 +4,7 @@ use Rattle.launch_options.specs.Given.{Text}
 use Rattle.launch_options.specs.declared.fault.LaunchFault.{LaunchFault}
 use Rattle.messages.specs.Sentences.{sentence_of}
 use Rattle.report_files.specs.Deeds.{Deed}
-use Rattle.rerun_words.specs.Expansions.{StandsFor}
+use Rattle.command_words.specs.Expansions.{StandsFor}
 use Rattle.word_files.specs.declared.facts.Facts.{Facts}
 use Rattle.command_line.specs.Runs.{Closes, IsMainRun}
 use Rattle.command_line.specs.declared.closing.Ending.{Ending}

@@ -22,8 +22,8 @@ use Rattle.live.specs.Terminals.{IsDrawnBehind}
 use Rattle.live.specs.declared.failures.Failures.{Failures}
 use Rattle.report_files.specs.Deeds.{Deed}
 use Rattle.report_files.specs.FiledReports.{Wanted}
-use Rattle.reported_runs.specs.FiledRuns.{RunsAsked, RunsFiled}
-use Rattle.reported_runs.specs.SlowestRuns.{IsSlowestRun}
+use Rattle.launcher.specs.FiledRuns.{RunsAsked, RunsFiled}
+use Rattle.launcher.specs.SlowestRuns.{IsSlowestRun}
 use Rattle.command_words.specs.Words.{ReadsWords, reports_wanted}
 use Rattle.command_line.specs.declared.closing.Ending.{Ending}
 

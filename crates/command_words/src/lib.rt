@@ -2,14 +2,19 @@
 //! that are refused.
 #![tactic(auto)]
 
+mod again;
 mod found;
 mod launch;
 mod message;
 mod option_names;
+mod rerun;
+mod rerun_role;
 mod system_words;
 mod words;
 
+pub use again::all_words;
 pub use launch::Launch;
 pub use message::message_of;
+pub use rerun::rerun_words;
 pub use system_words::given_words;
 pub use words::{given_by, read_launch, read_options};

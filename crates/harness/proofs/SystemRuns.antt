@@ -11,7 +11,7 @@ use Rattle.plan_events.specs.declared.outcome.Reply.{Reply}
 use Rattle.resource_locks.specs.Plans.{PlanParts}
 use Rattle.report_files.specs.FiledReports.{Wanted}
 use Rattle.suite_text.specs.Reading.Parts.{SuiteParts}
-use Rattle.test_programs.specs.TestRuns.{FilesTests, IsTestMainRun, RunsExpandedTests}
+use Rattle.harness.specs.TestRuns.{FilesTests, IsTestMainRun, RunsExpandedTests}
 use Rattle.word_files.specs.declared.facts.Facts.{Facts}
 use Rattle.harness.specs.SystemRuns.{IsRunHere}
 

@@ -1,3 +1,7 @@
 -- The definitions that contracts cite.
+pub mod FiledJobs
 pub mod Jobs
+pub mod JobsRuns
 pub mod SystemRuns
+pub mod TestRuns
+pub mod UnreportedWords

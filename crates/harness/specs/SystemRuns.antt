@@ -9,7 +9,7 @@ use Rattle.listeners.specs.Listeners.{Telling}
 use Rattle.plan_events.specs.declared.outcome.Reply.{Reply}
 use Rattle.resource_locks.specs.Plans.{PlanParts}
 use Rattle.suite_text.specs.Reading.Parts.{SuiteParts}
-use Rattle.test_programs.specs.TestRuns.{IsTestMainRun}
+use Rattle.harness.specs.TestRuns.{IsTestMainRun}
 use Rattle.word_files.specs.declared.facts.Facts.{Facts}
 
 module _ {B V W E : Type 0} (answers : B → List Reply) (gives : B → Reply → Type 0) (saw : PlanParts → V → V → List Telling → Type 0) (contents : W → Option (List ℕ)) (said : E → Option (List ℕ)) (parts : SuiteParts) (jobs : List (ℕ × B)) (begun ended : V) where

@@ -2,9 +2,15 @@
 #![tactic(auto)]
 
 mod exit;
+mod filed_jobs;
 mod here;
 mod job;
+mod meanwhile;
+mod no_files;
 mod run;
+mod shown_jobs;
+mod test_program;
+mod unreported;
 
 pub use command_line::{Ending, is_drawn_on};
 pub use descriptor::{LockMode, Mode, NodeId};

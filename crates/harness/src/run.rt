@@ -10,12 +10,13 @@ ghost use Rattle.ready_runs.specs.ReadyPrograms.{program_parts};
 ghost use Rattle.messages.specs.Sentences.{tests_sentence_of};
 ghost use Rattle.command_line.specs.Runs.{Closes};
 ghost use Rattle.command_words.specs.GivenWords.{IsGivenFault};
-ghost use Rattle.test_programs.specs.TestRuns.{IsTestMainRun, IsTestRun};
+ghost use Rattle.harness.specs.TestRuns.{IsTestMainRun, IsTestRun};
 ghost use Rattle.test_tree.specs.Building.{held, properties_of};
 ghost use Rattle.test_tree.specs.Growing.{IsPending};
 ghost use Rattle.test_tree.specs.declared.cause.BuildCause.TheVariants.{NoMemory};
 
 use crate::job::jobs_of;
+use crate::test_program::{run_test_main, run_test_program};
 use command_line::Ending;
 use launcher::Program;
 use listeners::Observer;
@@ -26,7 +27,6 @@ use std::io::{self, Write};
 use std::sync::Wait;
 use std::thread::Threads;
 use std::time::Clock;
-use test_programs::{run_test_main, run_test_program};
 use test_tree::{BuildFault, Tests};
 use word_files::{Facts, TextFiles};
 

@@ -31,13 +31,13 @@ use Rattle.run_table.specs.declared.fault.TableFault.TheVariants.{NoMemory, NoWo
 use Rattle.launch_options.specs.declared.details.Details.{Details}
 use Rattle.launch_options.specs.declared.details.Details.TheVariants as details
 use Rattle.run_outputs.specs.declared.exit_status.ExitStatus.{ExitStatus}
-use Rattle.suite_jobs.specs.declared.scripted.ScriptedJob.{ScriptedJob}
+use Rattle.ready_runs.specs.declared.scripted.ScriptedJob.{ScriptedJob}
 use Rattle.launch_options.specs.Asked.{Asked}
 use Rattle.run_outputs.specs.ExitStatuses.{status_of_run}
 use Rattle.run_outputs.specs.Outputs.{details_of, expected_details, IsExpectedOutput}
 use Rattle.run_outputs.specs.ScheduleLines.{IsBehindDetails}
 use Rattle.launcher.specs.Reports.{IsHistory, IsPrintedRun}
-use Rattle.suite_jobs.specs.Scripted.{replies_left, AreScripted}
+use Rattle.ready_runs.specs.Scripted.{replies_left, AreScripted}
 use Rattle.run_outputs.specs.WarningTexts.{head_of}
 use Rattle.run_outputs.specs.ScheduleTexts.{schedule_line}
 use Rattle.launcher.specs.Watched.{HasSeenPrinted, SomeOutput, Watches}

@@ -29,8 +29,8 @@ use Rattle.run_table.specs.Prepared.{HasAllJobs}
 use Rattle.worker_pool.proofs.Handed.{body_inside, after_inside, replies_found}
 use Rattle.worker_pool.specs.Premises.{JobsMayAnswer}
 use Rattle.worker_pool.specs.Reports.{run_of}
-use Rattle.suite_jobs.specs.declared.scripted.ScriptedJob.{ScriptedJob}
-use Rattle.suite_jobs.specs.Scripted.{replies_left, asked_reply, is_pulled_slot, IsScripted, AreScripted}
+use Rattle.ready_runs.specs.declared.scripted.ScriptedJob.{ScriptedJob}
+use Rattle.ready_runs.specs.Scripted.{replies_left, asked_reply, is_pulled_slot, IsScripted, AreScripted}
 
 -- the job that was found with a number
 module _ {B : Type 0} where

@@ -18,10 +18,10 @@ use Rattle.launch_options.specs.Asked.{Asked}
 use Rattle.launch_options.specs.declared.fault.LaunchFault.{LaunchFault}
 use Rattle.run_outputs.specs.declared.exit_status.ExitStatus.{ExitStatus}
 use Rattle.run_outputs.specs.declared.output.Output.{Output}
-use Rattle.suite_jobs.specs.declared.scripted.ScriptedJob.{ScriptedJob}
+use Rattle.ready_runs.specs.declared.scripted.ScriptedJob.{ScriptedJob}
 use Rattle.launcher.specs.Programs.{IsPrintedJobs}
 use Rattle.launcher.specs.Reports.{HasHistory, IsPrintedRun, IsRunOutput}
-use Rattle.suite_jobs.specs.Scripted.{gives_left, replies_left, AreScripted}
+use Rattle.ready_runs.specs.Scripted.{gives_left, replies_left, AreScripted}
 use Rattle.launcher.specs.Watched.{HasSeenPrinted, Watches}
 use Rattle.launcher.proofs.Reporting.{printed_run, told_of}
 

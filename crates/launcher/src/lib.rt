@@ -3,15 +3,21 @@
 #![tactic(auto)]
 
 mod driven;
+mod filed_run;
 mod program;
 mod report;
+mod reported_run;
 mod run;
+mod timed_run;
 
+pub use filed_run::run_filed;
 pub use launch_options::{
     Details, Given, LaunchFault, Options, key_judged, option_names, processors_named, ring_named,
     strategy_names, theme_names, theme_of,
 };
 pub use program::{Program, run_jobs};
 pub use ready_runs::{ReadFault, read_front, read_suite};
+pub use reported_run::run_reported;
 pub use run::{run_options, run_options_watched, run_suite};
 pub use run_outputs::{AfterRun, ExitStatus};
+pub use timed_run::run_timed;

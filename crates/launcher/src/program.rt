@@ -31,7 +31,7 @@ use launch_options::{LaunchFault, Options};
 use listeners::Observer;
 use live::LiveFeed;
 use plan_events::Job;
-use ready_runs::{PlannedProgram, planned_program};
+use ready_runs::{PlannedProgram, planned_program, set_default_limits, set_limits};
 use resource_locks::Plan;
 use run_outputs::{ExitStatus, Output, WatchedFeed, answer_unless};
 use run_table::Jobs;
@@ -39,7 +39,6 @@ use std::alloc::Global;
 use std::io::Write;
 use std::sync::Wait;
 use std::thread::Threads;
-use suite_jobs::{set_default_limits, set_limits};
 
 /// What a program has to be run: a tree, what it says of the configuration below the options, a job
 /// for each body and each after-body of the tree, and from how many milliseconds on bodies of these

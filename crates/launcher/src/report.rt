@@ -22,11 +22,13 @@ ghost use Rattle.worker_pool.specs.Premises.{JobsMayAnswer};
 ghost use Rattle.worker_pool.specs.Reports.{run_of};
 
 use crate::driven::drive_report;
+use crate::timed_run::run_timed;
 use config_params::Settings;
 use job_times::{Stopwatch, Timings};
 use launch_options::{Details, LaunchFault, Options};
 use listeners::Observer;
 use plan_events::Job;
+use ready_runs::scripted_jobs;
 use resource_locks::Plan;
 use run_outputs::{NotesTimes, Output, listing, planned, replay_report, told_report};
 use run_table::{Jobs, TableFault};
@@ -34,8 +36,6 @@ use sched_core::Answers;
 use std::alloc::{AllocError, Global};
 use std::sync::Wait;
 use std::thread::Threads;
-use suite_jobs::scripted_jobs;
-use timed_runs::run_timed;
 use worker_pool::{Report, RunCause};
 
 /// The refusal of a run that was not begun.

@@ -26,13 +26,12 @@ use job_times::{NoStopwatch, RunTimes, Stopwatch, Timings};
 use launch_options::{CutCause, CutOutput, Details, LaunchFault, Options};
 use listeners::Observer;
 use live::{LineForm, LiveFeed, Outlet};
-use ready_runs::{ReadyRun, read_suite, ready_run};
+use ready_runs::{ReadyRun, read_suite, ready_run, set_default_limits, set_script_limits};
 use run_outputs::{ExitStatus, Output, WatchedFeed, answer_unless, head_of_run};
 use std::alloc::Global;
 use std::io::{Read, Write};
 use std::sync::Wait;
 use std::thread::Threads;
-use suite_jobs::{set_default_limits, set_script_limits};
 use suite_text::Suite;
 
 /// Whether lines are printed while a run on threads goes on: those of events are.

@@ -1,5 +1,6 @@
 pub mod Planning
 pub mod ProgramRefusals
+pub mod Scripting
 pub mod Selected
 pub mod SuiteRead
 pub mod Taking

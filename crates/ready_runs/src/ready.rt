@@ -7,13 +7,13 @@ ghost use Rattle.run_outputs.specs.Missing.{is_missing as is_missing_in};
 ghost use Rattle.launch_options.specs.Asked.{asked_by};
 
 use crate::plan::{SelectedPlan, crewed_plan};
+use crate::scripted::spins_of;
 use crate::settings::settings_over;
 use config_params::Settings;
 use launch_options::{LaunchFault, Options};
 use resource_locks::Plan;
 use sched_core::Answers;
 use std::alloc::{AllocError, Global};
-use suite_jobs::spins_of;
 use suite_text::{Script, Suite};
 
 /// The answers that the scripts give.

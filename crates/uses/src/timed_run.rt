@@ -1,4 +1,4 @@
-//! Calls `timed_runs` and `job_times`: two threads run a plan with two jobs of one's own, and a clock says how long its
+//! Calls `run_timed` of `launcher`: two threads run a plan with two jobs of one's own, and a clock says how long its
 //! nodes took.
 
 ghost use Rattle.std.specs.Prelude.{◌≡◌, ◌<◌, IfOk, IfSome, ℕ, true};
@@ -9,13 +9,13 @@ ghost use Rattle.job_times.specs.Timings.{is_noted};
 use crate::threaded_run::two_jobs;
 use descriptor::{BodyId, NodeId, Tree};
 use job_times::{JobTimes, RunTimes, Stopwatch, Timings};
+use launcher::run_timed;
 use plan_events::Event;
 use resource_locks::Plan;
 use std::alloc::{AllocError, Global};
 use std::sync::Wait;
 use std::thread::Threads;
 use std::time::Clock;
-use timed_runs::run_timed;
 
 /// How long each node of a tree took, as this stopwatch has it now.
 fn noted<S: Stopwatch>(alloc: Global, tree: &Tree, stopwatch: &S) -> Result<Timings, AllocError>

@@ -3,7 +3,7 @@ use Rattle.std.proofs.Common.{map, subst}
 use Rattle.job_times.specs.Timings.{times_of}
 use Rattle.launch_options.specs.Asked.{asked_by}
 use Rattle.launch_options.specs.ReportTexts.{parts_of}
-use Rattle.reported_runs.specs.FiledRuns.{RunsFiled}
+use Rattle.launcher.specs.FiledRuns.{RunsFiled}
 use Rattle.command_line.proofs.Watched.{drawn_behind_it, drawn_by_some}
 use Rattle.command_line.proofs.terminal.run_followed.Goals as goal
 

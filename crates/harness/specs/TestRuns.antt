@@ -1,0 +1,70 @@
+-- What a program with tests of its own does by the words of its command line.
+use Rattle.std.specs.Prelude.{◌≡◌, ℕ, Bool, List, [], Option, None, Result, Ok, Err}
+use Rattle.command_line.specs.Runs.{Closes, ClosesRun, IsToldMeanwhile}
+use Rattle.command_line.specs.declared.closing.Ending.{Ending}
+use Rattle.command_words.specs.Words.{ReadsWords, reports_wanted}
+use Rattle.launch_options.specs.Asked.{Asked, asked_by}
+use Rattle.launch_options.specs.Given.{Text}
+use Rattle.launch_options.specs.declared.asked.Options.{Options}
+use Rattle.launch_options.specs.declared.fault.LaunchFault.{LaunchFault}
+use Rattle.run_outputs.specs.declared.exit_status.ExitStatus.{ExitStatus}
+use Rattle.messages.specs.Sentences.{tests_sentence_of}
+use Rattle.listeners.specs.Listeners.{Telling}
+use Rattle.plan_events.specs.declared.outcome.Reply.{Reply}
+use Rattle.resource_locks.specs.Plans.{PlanParts}
+use Rattle.report_files.specs.Deeds.{Deed}
+use Rattle.report_files.specs.FiledReports.{Wanted}
+use Rattle.command_words.specs.Expansions.{StandsFor}
+use Rattle.suite_text.specs.Reading.Parts.{SuiteParts}
+use Rattle.word_files.specs.declared.facts.Facts.{Facts}
+use Rattle.harness.specs.FiledJobs.{IsTimedJobs}
+use Rattle.harness.specs.UnreportedWords.{ReadsUnreported}
+
+-- of jobs that may answer so, and of who watches, who was like this when the program began and is like this when it has ended
+module _ {B V W E : Type 0} (answers : B → List Reply) (gives : B → Reply → Type 0) (saw : PlanParts → V → V → List Telling → Type 0) (contents : W → Option (List ℕ)) (said : E → Option (List ℕ)) (parts : SuiteParts) (jobs : List (ℕ × B)) (begun ended : V) where
+  -- What is asked for is run with these reports, and whoever watches has seen the history that is printed. On the other writer, which may
+  -- be a terminal, stands what is told meanwhile, and behind that what is said of the answer, as of that of a suite, and the list of the
+  -- slowest tests, if times are asked for.
+  pub record IsRunOfTests (is_terminal : Bool) (asked : Asked) (wanted : List Wanted) (old new : W) (first last : E) (was now : Option (List Deed)) (ending : Ending) : Type 0 where
+    pub answer : Result ExitStatus LaunchFault
+    pub between : W
+    pub slowest : Option (List ℕ)
+    pub during : E
+    pub run : IsTimedJobs answers gives asked parts jobs saw begun ended wanted (contents old) (contents between) was now answer slowest
+    pub tells : IsToldMeanwhile is_terminal (said first) (said during)
+    pub closed : ClosesRun tests_sentence_of contents said answer slowest between new during last ending
+
+  -- that is done with what the words gave, without reports; a refusal is told, nothing is run, and nothing is seen
+  abbrev pub RunsTests : (is_terminal : Bool) → Result Options LaunchFault → (old new : W) → (first last : E) → Ending → Type 0
+  RunsTests is_terminal (Ok options) old new first last ending = IsRunOfTests is_terminal (asked_by options) [] old new first last None None ending
+  RunsTests is_terminal (Err fault) old new first last ending = (ended ≡ begun) × Closes tests_sentence_of contents said (Err fault) old new first last ending
+
+  -- the program, where there are no reports: the words are read, and what that gave is run
+  pub record IsTestRun (is_terminal : Bool) (words : List Text) (old new : W) (first last : E) (ending : Ending) : Type 0 where
+    pub options : Result Options LaunchFault
+    pub reads : ReadsUnreported words options
+    pub runs : RunsTests is_terminal options old new first last ending
+
+  module _ {K : Type 0} (deeds : K → Option (List Deed)) where
+    -- what is done with what the words gave, and with the reports that they ask for: of what is refused no file is touched, and nothing is seen
+    abbrev pub FilesTests : (is_terminal : Bool) → Result Options LaunchFault → List Wanted → (old new : W) → (first last : E) → (was now : K) → Ending → Type 0
+    FilesTests is_terminal (Ok options) wanted old new first last was now ending = IsRunOfTests is_terminal (asked_by options) wanted old new first last (deeds was) (deeds now) ending
+    FilesTests is_terminal (Err fault) wanted old new first last was now ending = (ended ≡ begun) × (now ≡ was) × Closes tests_sentence_of contents said (Err fault) old new first last ending
+
+    -- the words are read, and what that gave is run, with the reports that they ask for
+    pub record IsFiledTestRun (is_terminal : Bool) (words : List Text) (old new : W) (first last : E) (was now : K) (ending : Ending) : Type 0 where
+      pub options : Result Options LaunchFault
+      pub reads : ReadsWords words options
+      pub runs : FilesTests is_terminal options (reports_wanted words) old new first last was now ending
+
+    -- what is done with the words that others stand for: they are run; or, where a file of words, or a saved run, is refused, that is said, no
+    -- file is touched, and nothing is seen
+    abbrev pub RunsExpandedTests : (is_terminal : Bool) → Result (List Text) LaunchFault → (old new : W) → (first last : E) → (was now : K) → Ending → Type 0
+    RunsExpandedTests is_terminal (Ok words) old new first last was now ending = IsFiledTestRun is_terminal words old new first last was now ending
+    RunsExpandedTests is_terminal (Err fault) old new first last was now ending = (ended ≡ begun) × (now ≡ was) × Closes tests_sentence_of contents said (Err fault) old new first last ending
+
+    -- the program, whose words stand for others by the files that they name and by what the system tells
+    pub record IsTestMainRun (is_terminal : Bool) (facts : Facts) (words : List Text) (old new : W) (first last : E) (was now : K) (ending : Ending) : Type 0 where
+      pub expanded : Result (List Text) LaunchFault
+      pub expands : StandsFor facts words expanded
+      pub runs : RunsExpandedTests is_terminal expanded old new first last was now ending
