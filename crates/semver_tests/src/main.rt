@@ -70,8 +70,7 @@ fn run<S: System, W: Write, E: Write + IsTerminal>(
     )?;
     let engine = tests.engine("semver")?;
     let versions = tests.class(engine, "semver.Versions")?;
-    tests.test(versions, "reads()", reads)?;
-    tests.test(versions, "refuses()", refuses)?;
+    tests.functions(versions, &[("reads()", reads), ("refuses()", refuses)])?;
     tests.tag("wrong")?;
     tests.test(versions, "reads_wrongly()", reads_wrongly)?;
     tests.tag("wrong")?;

@@ -2,3 +2,4 @@
 pub mod Answering
 pub mod Grown
 pub mod Having
+pub mod Listing

@@ -4,5 +4,6 @@ pub mod Causes
 pub mod Growing
 pub mod Handles
 pub mod Jobs
+pub mod Lists
 pub mod Marks
 pub mod Sorts

@@ -102,6 +102,7 @@ impl Tests {
         ensures refused { IfErr result (λ cause. IsBodyRefused (held self.old) parent sort name.now cause) }
         ensures err { OnErr result (held self.new ≡ held self.old) }
         ensures properties { properties_of self.new ≡ properties_of self.old }
+        ensures memory { memory_of self.new ≡ memory_of self.old }
     {
         if self.body.is_some() {
             return Err(BuildCause::NoClass);

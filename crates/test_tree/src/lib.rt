@@ -5,6 +5,7 @@ mod adding;
 mod cause;
 mod declaring;
 mod fault;
+mod functions;
 mod growing;
 mod handles;
 mod marks;

@@ -84,6 +84,7 @@ impl Tests {
             IsBodyRefused (held self.old) (class_node class) Sort.Test name.now fault.cause) }
         ensures err { OnErr result (held self.new ≡ held self.old) }
         ensures properties { properties_of self.new ≡ properties_of self.old }
+        ensures memory { memory_of self.new ≡ memory_of self.old }
     {
         let parent = NodeId::new(class.number);
         let body = Body::of_function(self.alloc, run);
