@@ -116,7 +116,7 @@ class Bench:
 
     def turns(self, row, **how):
         """The two turns of the driver's row, and the report."""
-        status, output, said, report = self.ran((), f"=== calls\n{row}\n".encode(), **how)
+        status, output, said, report = self.ran((), f"=== texts\n=== calls\n{row}\n".encode(), **how)
         if status or said:
             raise Wrong(f"status {status}: {said.decode(errors='replace')[:200]}")
         return turns_of(output.decode()), report

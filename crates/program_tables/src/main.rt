@@ -7,7 +7,7 @@
 //! table's own are run, and what stands on standard error follows. From a line `=@ NAME TEXT` on the file
 //! NAME has TEXT, in which `\n` stands for an end of line, and so has a variable of that name; behind
 //! `=@ NAME` there is none. Below what the program writes stand the reports that are kept, each below a
-//! line `-- ` with its name.
+//! line `-- ` with its name. From a line `=== texts` on stand questions, which answer_tables answers.
 #![tactic(auto)]
 
 mod answers;
@@ -20,14 +20,38 @@ mod table_clock;
 mod texts;
 
 use crate::table::Table;
-use std::io;
+use answer_tables::print_answers;
+use std::alloc::Global;
+use std::io::{self, Write};
+use std::sync::Wait;
+use std::thread::Threads;
+
+/// The line above the questions.
+const QUESTIONS: &str = "=== texts\n";
+
+/// Prints the rows of a text with what they ask for.
+fn print_rows<T: Threads + Wait + Sync, W: Write>(
+    rt: &T,
+    alloc: Global,
+    text: &str,
+    writer: &mut W,
+) -> io::Result<()> {
+    let mut table = Table::new(alloc);
+    for line in text.lines() {
+        table.take(rt, alloc, line)?;
+    }
+    table.run(rt, alloc)?;
+    writer.write_all(table.answers())
+}
 
 fn main(rt: HostRuntime) -> io::Result<()> {
     let alloc = rt.alloc();
-    let mut table = Table::new(alloc);
-    for line in rt.lines(alloc) {
-        table.take(&rt, alloc, line?.as_str())?;
-    }
-    table.run(&rt, alloc)?;
-    io::Write::write_all(&mut io::writer(&rt), table.answers())
+    let text = io::read_to_string(alloc, rt.reader())?;
+    let writer = &mut io::writer(&rt);
+    let Some((rows, asked)) = text.split_once(QUESTIONS) else {
+        return print_rows(&rt, alloc, text.as_str(), writer);
+    };
+    print_rows(&rt, alloc, rows, writer)?;
+    writer.write_all(QUESTIONS.as_bytes())?;
+    print_answers(&rt, alloc, asked, writer)
 }

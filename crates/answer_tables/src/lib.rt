@@ -1,8 +1,7 @@
-//! Answers questions from standard input, one a line, in three sections: `=== texts`, `=== trees` and
-//! `=== runs`. Each line is printed with its answer behind it or below it, so the output is a table that
-//! a person can read. Answers are judged by what is printed, so a part for which there is no memory is
-//! left out and not told. The last section, `=== calls`, names calls of memory_driver, which prints what
-//! is said of them.
+//! Answers questions, one a line, in three sections: about texts, `=== trees` and `=== runs`. Each line is
+//! printed with its answer behind it or below it, so what is printed is a table that a person can read.
+//! Answers are judged by what is printed, so a part for which there is no memory is left out and not told.
+//! The last section, `=== calls`, names calls of memory_driver, which prints what is said of them.
 #![tactic(auto)]
 
 mod adding;
@@ -36,7 +35,9 @@ use crate::table::Table;
 use crate::words::{say, show};
 use memory_driver::make_calls;
 use std::alloc::Global;
-use std::io;
+use std::io::{Result, Write};
+use std::sync::Wait;
+use std::thread::Threads;
 
 /// The line above the calls.
 const CALLS: &str = "=== calls\n";
@@ -64,12 +65,21 @@ fn push_answers(alloc: Global, answers: &mut String, text: &str) {
     }
 }
 
-fn main(rt: HostRuntime) -> io::Result<()> {
-    let alloc = rt.alloc();
-    let text = io::read_to_string(alloc, rt.reader())?;
-    let (asked, calls) = text.split_once(CALLS).unwrap_or((text.as_str(), ""));
+/// Prints each line of a text with its answer, and what is said of the calls that it names.
+///
+/// # Errors
+///
+/// If there is no memory for what a call is given, or the writer fails.
+pub fn print_answers<T: Threads + Wait + Sync, W: Write>(
+    rt: &T,
+    alloc: Global,
+    text: &str,
+    writer: &mut W,
+) -> Result<()> {
+    let (asked, calls) = text.split_once(CALLS).unwrap_or((text, ""));
     let mut answers = String::new(alloc);
     push_answers(alloc, &mut answers, asked);
-    print!(rt; "{answers}{CALLS}")?;
-    make_calls(&rt, alloc, calls, &mut io::writer(&rt))
+    writer.write_fmt(format_args!("{answers}{CALLS}"))?;
+    drop(answers);
+    make_calls(rt, alloc, calls, writer)
 }
