@@ -21,8 +21,8 @@ def load_rt():
 
 def ask_once(rt):
     """Has each crate asked once for the crates below it and for the sum of its files, and not once for each path of
-    crates.txt that leads to it. rattle-kit-13b does the latter, and reads all files each time: of this repository's
-    crates that takes as long as a third of the proofs. A kit that keeps what it has proved asks once by itself."""
+    crates.txt that leads to it. rattle-kit-13b does the latter, and reads all files each time (docs/GATE.md). A kit that
+    keeps what it has proved is left as it is."""
     crates = getattr(getattr(rt, "rtlib", None), "Crate", None)
     if crates is None or hasattr(rt, "Kept"):
         return
