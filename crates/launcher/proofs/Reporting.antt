@@ -15,8 +15,8 @@ use Rattle.event_history.proofs.Apart.{apart}
 use Rattle.job_times.specs.Timings.{Times, times_asked}
 use Rattle.listeners.specs.Results.{tests_found, has_failed}
 use Rattle.listeners.specs.SummaryTexts.{summary_of}
-use Rattle.reports.specs.Expectations.{IsPrintedAsExpected}
-use Rattle.reports.proofs.PrintedAsExpected.{printed_as_expected}
+use Rattle.junit_report.specs.Expectations.{IsPrintedAsExpected}
+use Rattle.junit_report.proofs.PrintedAsExpected.{printed_as_expected}
 use Rattle.scheduling.proofs.OnlyHistory.{only_history, as_expected}
 use Rattle.sched_core.specs.Replies.{reply_of, replies_of as replies_by}
 use Rattle.table_rule.specs.Picture.{replies_in, replies_of}

@@ -10,10 +10,11 @@ ghost use Rattle.report_files.specs.ReportTexts.{report_of};
 
 use crate::recording::ToldRun;
 use job_times::Timings;
+use junit_report::timed_junit_text;
 use launch_options::Details;
 use listeners::{Results, Theme, feed_text};
 use plan_events::Texts;
-use reports::{list_text, plan_text, timed_json_text, timed_junit_text};
+use reports::{list_text, plan_text, timed_json_text};
 use run_outputs::beginning;
 use std::alloc::{AllocError, Global};
 

@@ -9,18 +9,6 @@ use Rattle.std.proofs.lemmas.List.{take_more}
 pub then : {A : Type 0} (old a b : List A) {mid new : List A} → mid ≡ old ++ a → new ≡ mid ++ b → new ≡ old ++ (a ++ b)
 then {A} old a b first second = second ∙ ap (λ (l : List A). l ++ b) first ∙ append_assoc old a b
 
--- a piece behind what is known whole
-pub behind : (whole a : List ℕ) {old new : List ℕ} → old ≡ whole → new ≡ old ++ a → new ≡ whole ++ a
-behind whole a is more = more ∙ ap (λ (l : List ℕ). l ++ a) is
-
--- a list that ends in two pieces, told apart
-pub ends : {A : Type 0} (a g c e n : List A) → ((a ++ g) ++ c) ++ (e ++ n) ≡ (a ++ (g ++ (c ++ e))) ++ n
-ends a g c e n = simp append_assoc
-
--- and in three
-pub ends_three : {A : Type 0} (a g c s e n : List A) → ((a ++ g) ++ c) ++ (s ++ (e ++ n)) ≡ (a ++ (g ++ ((c ++ s) ++ e))) ++ n
-ends_three a g c s e n = simp append_assoc
-
 -- what one element more gives
 pub element_more : {X A : Type 0} (f : X → List A) (xs : List X) (i : ℕ) (d : X) (old : List A) {text new : List A} → i < length xs → text ≡ old ++ flat_map f (take i xs) → new ≡ text ++ f (get_or xs i d) → new ≡ old ++ flat_map f (take (i + 1) xs)
 element_more {X} {A} f xs i d old inside before grown =

@@ -1,7 +1,7 @@
 //! What a plan says of a node, also of one that it lacks.
 
-ghost use Rattle.std.specs.Prelude.{◌≡◌, ◌<◌, cond, None, Some, IfSome};
-ghost use Rattle.descriptor.specs.Nodes.{is_spare_at, kind_of, parent_of, role_of};
+ghost use Rattle.std.specs.Prelude.{◌≡◌};
+ghost use Rattle.descriptor.specs.Nodes.{kind_of, role_of};
 ghost use Rattle.listeners.specs.Feed.{id_at, text_or};
 ghost use Rattle.listeners.specs.TreeTexts.{name_at};
 ghost use Rattle.plan_events.specs.Texts.{text_at};
@@ -11,7 +11,7 @@ use plan_events::Texts;
 use resource_locks::Plan;
 
 /// What a node may hold; one that the tree lacks may hold others, as the plan may.
-pub(crate) fn kind_of(tree: &Tree, node: NodeId) -> Kind
+pub fn kind_of(tree: &Tree, node: NodeId) -> Kind
     ensures { result ≡ kind_of tree.now node }
 {
     if node.index() >= tree.len() {
@@ -21,24 +21,13 @@ pub(crate) fn kind_of(tree: &Tree, node: NodeId) -> Kind
 }
 
 /// The role of a node; one that the tree lacks has no special one.
-pub(crate) fn role_of(tree: &Tree, node: NodeId) -> Role
+pub fn role_of(tree: &Tree, node: NodeId) -> Role
     ensures { result ≡ role_of tree.now node }
 {
     if node.index() >= tree.len() {
         return Role::Plain;
     }
     tree.role(node)
-}
-
-/// The factory of a dynamic test; no other node has one.
-pub(crate) fn factory_of(tree: &Tree, node: NodeId) -> Option<NodeId>
-    ensures value { result ≡ cond (is_spare_at tree.now node) (Some (parent_of tree.now node)) None }
-    ensures smaller { IfSome result (λ factory. factory < node) }
-{
-    if node.index() >= tree.len() || !tree.role(node).is_spare() {
-        return None;
-    }
-    tree.parent(node)
 }
 
 /// The name of a node; nothing for node 0, and for a node that the tree lacks.
@@ -62,7 +51,7 @@ pub fn id_of(plan: &Plan, node: NodeId) -> &str
 }
 
 /// The text of a node; nothing where it has none.
-pub(crate) fn text_of(texts: &Texts, node: NodeId) -> &str
+pub fn text_of(texts: &Texts, node: NodeId) -> &str
     ensures { result.now ≡ text_or (text_at texts.now node) }
 {
     texts.of(node).unwrap_or("")

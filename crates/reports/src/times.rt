@@ -1,9 +1,8 @@
 //! How long nodes took, as it is written.
 
 ghost use Rattle.std.specs.Prelude.{◌≡◌, ◌++◌, OnOk, string_bytes};
-ghost use Rattle.reports.specs.TimeTexts.{seconds_text, time_of_cases, time_or_none};
+ghost use Rattle.reports.specs.TimeTexts.{seconds_text, time_or_none};
 
-use crate::cases::Case;
 use descriptor::NodeId;
 use job_times::Timings;
 use std::alloc::AllocError;
@@ -24,15 +23,4 @@ pub fn time_or_none(timings: &Timings, node: NodeId) -> u64
     ensures { result ≡ time_or_none timings.now.took.items node }
 {
     timings.of_node(node).unwrap_or(0)
-}
-
-/// The microseconds of the nodes of these cases.
-pub(crate) fn time_of_cases(timings: &Timings, cases: &[Case]) -> u128
-    ensures { result ≡ time_of_cases timings.now.took.items cases.now }
-{
-    let mut micros = 0;
-    for case in cases {
-        micros += u128::from(time_or_none(timings, case.node));
-    }
-    micros
 }

@@ -19,14 +19,14 @@ use Rattle.listeners.specs.Feed.{feed_of}
 use Rattle.listeners.specs.SummaryTexts.{summary_of}
 use Rattle.listeners.specs.TreeTexts.{tree_of}
 use Rattle.reports.specs.Json.{timed_json_of}
-use Rattle.reports.specs.Junit.{timed_junit_of}
+use Rattle.junit_report.specs.Junit.{timed_junit_of}
 use Rattle.reports.specs.Lists.{list_of}
 use Rattle.reports.specs.PlanNodes.{plan_lines}
 use Rattle.launch_options.specs.declared.details.Details.{Details}
 use Rattle.run_outputs.specs.declared.exit_status.ExitStatus.{ExitStatus}
 use Rattle.run_outputs.specs.declared.exit_status.ExitStatus.TheVariants.{Success}
 use Rattle.run_outputs.specs.ExitStatuses.{status_of_run}
-use Rattle.reports.specs.Expectations.{expected_tree, expected_xml, expected_counts, expected_tests, expects_failure}
+use Rattle.junit_report.specs.Expectations.{expected_tree, expected_xml, expected_counts, expected_tests, expects_failure}
 use Rattle.launch_options.specs.declared.details.Details.TheVariants as details
 use Rattle.run_outputs.specs.declared.replay.ReplayCounts.{ReplayCounts}
 use Rattle.run_outputs.specs.ReplayTexts.{replay_line}

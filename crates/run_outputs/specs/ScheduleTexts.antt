@@ -3,7 +3,7 @@ use Rattle.std.specs.Prelude.{ℕ, List, ◌++◌, codes, Option, Some, None}
 use Rattle.scheduling.specs.declared.step.Step.{Step}
 use Rattle.step_text.specs.StepSpelling.{steps_text}
 use Rattle.reports.specs.Json.{note_line}
-use Rattle.reports.specs.XmlStrings.{comment_line}
+use Rattle.junit_report.specs.XmlStrings.{comment_line}
 use Rattle.launch_options.specs.declared.details.Details.{Details}
 use Rattle.launch_options.specs.declared.details.Details.TheVariants as details
 

@@ -4,7 +4,7 @@ use Rattle.std.specs.List.{flat_map}
 use Rattle.config_params.specs.Settings.{keys_of}
 use Rattle.config_params.specs.declared.warnings.Warnings.{Warnings}
 use Rattle.reports.specs.Json.{note_line}
-use Rattle.reports.specs.XmlStrings.{comment_line, declaration}
+use Rattle.junit_report.specs.XmlStrings.{comment_line, declaration}
 use Rattle.launch_options.specs.declared.details.Details.{Details}
 use Rattle.launch_options.specs.declared.details.Details.TheVariants as details
 

@@ -11,7 +11,7 @@ use Rattle.event_history.specs.Expected.{Expected, Silent, Skips, expected_by, b
 use Rattle.event_history.specs.Plans.{has_child, is_spare_of, spare_count, rank, sort_of, sort_by}
 use Rattle.event_history.specs.Results.{Jobs, jobs_by, jobs_of}
 use Rattle.plan_events.specs.declared.outcome.Reply.{Reply}
-use Rattle.reports.specs.Expectations.{plan_on}
+use Rattle.junit_report.specs.Expectations.{plan_on}
 use Rattle.selectors.proofs.Marks.{and_parts}
 use Rattle.selectors.proofs.Truths.{never, same_truth}
 use Rattle.tree_orders.specs.Draws.{draw}

@@ -13,7 +13,7 @@ use Rattle.event_history.specs.Expected.{Expected, Silent, Skips, expected_by, b
 use Rattle.event_history.specs.Plans.{has_child, is_spare_of, spare_count, rank, sort_of, sort_by}
 use Rattle.event_history.specs.Results.{Jobs, jobs_by, jobs_of, after_run}
 use Rattle.plan_events.specs.declared.outcome.Reply.{Reply}
-use Rattle.reports.specs.Expectations.{plan_on, result_at}
+use Rattle.junit_report.specs.Expectations.{plan_on, result_at}
 use Rattle.resource_locks.specs.Plans.{PlanParts}
 use Rattle.selectors.proofs.Marks.{and_both, and_parts, is_or_is_not}
 use Rattle.selectors.proofs.Truths.{never, same_truth}

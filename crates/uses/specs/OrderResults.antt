@@ -2,7 +2,7 @@
 use Rattle.std.specs.Prelude.{◌≡◌, ℕ, ◌<◌}
 use Rattle.descriptor.specs.Nodes.{Nodes, size}
 use Rattle.plan_events.specs.declared.outcome.Reply.{Reply}
-use Rattle.reports.specs.Expectations.{result_at}
+use Rattle.junit_report.specs.Expectations.{result_at}
 use Rattle.tree_orders.specs.Orders.{place_in, seeded_order}
 
 -- each node is expected to end at its place in the seed's order as at its own, whatever the bodies answer

@@ -3,7 +3,7 @@ use Rattle.std.specs.Prelude.{◌≡◌, ℕ, ◌<◌, ◌≤◌, true, List, Bo
 use Rattle.descriptor.specs.Nodes.{Nodes, size, after_of}
 use Rattle.descriptor.specs.Pruned.{is_kept, new_number}
 use Rattle.plan_events.specs.declared.outcome.Reply.{Reply}
-use Rattle.reports.specs.Expectations.{result_at}
+use Rattle.junit_report.specs.Expectations.{result_at}
 use Rattle.selectors.specs.Covered.{truths}
 use Rattle.selectors.specs.Keeping.{stays, Stays}
 use Rattle.selectors.specs.Shards.{Part, is_unit_of}

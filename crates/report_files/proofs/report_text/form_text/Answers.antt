@@ -5,7 +5,7 @@ use Rattle.job_times.specs.Timings.{times_of}
 use Rattle.plan_events.specs.declared.event.Event.{Event}
 use Rattle.plan_events.specs.Texts.{TextParts}
 use Rattle.resource_locks.specs.Plans.{PlanParts}
-use Rattle.reports.specs.Junit.{timed_junit_of}
+use Rattle.junit_report.specs.Junit.{timed_junit_of}
 use Rattle.report_files.proofs.report_text.form_text.Goals as goal
 
 pub returns-in-Xml : goal.returns-in-Xml

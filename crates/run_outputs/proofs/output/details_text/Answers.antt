@@ -4,7 +4,7 @@ use Rattle.std.specs.Prelude.{string_bytes}
 use Rattle.job_times.specs.Timings.{times_of}
 use Rattle.plan_events.specs.declared.event.Event.{Event}
 use Rattle.resource_locks.specs.Plans.{PlanParts}
-use Rattle.reports.specs.Junit.{timed_junit_of}
+use Rattle.junit_report.specs.Junit.{timed_junit_of}
 use Rattle.run_outputs.proofs.output.details_text.Goals as goal
 
 pub returns-in-Xml : goal.returns-in-Xml

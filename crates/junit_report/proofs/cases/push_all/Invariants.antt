@@ -1,0 +1,8 @@
+-- The cases of the children so far.
+use Rattle.std.proofs.Common.{◌≡◌, ◌++◌, take}
+use Rattle.std.specs.List.{flat_map}
+use Rattle.junit_report.specs.Cases.{child_cases}
+use Rattle.junit_report.proofs.cases.push_all.Given as goal
+
+abbrev pub invariant-loop-child : goal.invariant-loop-child
+invariant-loop-child l = l.cases.items ≡ l.fn.cases.items ++ flat_map (child_cases l.tree l.told) (take l.child-index l.children)

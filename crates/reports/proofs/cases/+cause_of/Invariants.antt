@@ -1,5 +1,0 @@
--- A parent has a smaller number.
-use Rattle.reports.proofs.cases.+cause_of.Given as goal
-
-abbrev pub decreases-cause_of : goal.decreases-cause_of
-decreases-cause_of l = l.node
