@@ -3,9 +3,10 @@
 use crate::events::kind_word;
 use crate::words::{quote, say, show};
 use descriptor::NodeId;
-use listeners::{Listener, Summary, Theme, feed_text, summary_text, tree_text};
+use listeners::Listener;
 use plan_events::{Event, EventKind, Texts};
 use resource_locks::Plan;
+use run_results::{Summary, Theme, feed_text, summary_text, tree_text};
 use sched_core::{Answers, texts_of};
 use std::alloc::{AllocError, Global};
 

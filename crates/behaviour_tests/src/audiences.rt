@@ -3,9 +3,10 @@
 ghost use Rattle.std.specs.Prelude.{◌+◌, ◌≤◌, length, vec_capacity};
 
 use crate::plans::{finished, plan_of, started};
-use listeners::{Audience, Listener, Recorder, Summary};
+use listeners::{Audience, Listener, Recorder};
 use plan_events::{Event, Status};
 use resource_locks::Plan;
+use run_results::Summary;
 use std::alloc::{AllocError, Global};
 use std::cell::Cell;
 use std::rc::Rc;

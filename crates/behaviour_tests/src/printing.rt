@@ -3,9 +3,9 @@
 use crate::failing::{Failing, Full};
 use crate::plans::{event, finished, plan_of_one, started};
 use descriptor::{Kind, NodeId};
-use listeners::{Theme, feed_text, print_to, tree_text};
 use plan_events::{EventKind, Note, Status, Texts};
 use resource_locks::Plan;
+use run_results::{Theme, feed_text, print_to, tree_text};
 use std::alloc::Global;
 use unique_id::Text;
 

@@ -3,7 +3,7 @@
 use crate::failing::{Failing, Full};
 use config_params::Params;
 use launcher::{Details, ExitStatus, LaunchFault, Options, ReadFault, read_front, run_options};
-use listeners::Theme;
+use run_results::Theme;
 use selectors::Request;
 use std::alloc::Global;
 use std::io::{Error, ErrorKind, Read, Result as IoResult};

@@ -2,8 +2,9 @@
 
 use crate::failing::{Failing, Full};
 use job_times::JobTimes;
-use listeners::{Observer, Summary};
+use listeners::Observer;
 use live::{Failures, Progress, Running, SlowTests};
+use run_results::Summary;
 use std::alloc::Global;
 use std::cell::Cell;
 use std::io::{Result as IoResult, Write};

@@ -3,9 +3,10 @@
 
 use crate::plans::{event, factory_plan, finished, plan_of, plan_of_one, started};
 use descriptor::Kind;
-use listeners::{Listener, Summary};
+use listeners::Listener;
 use plan_events::{Event, EventKind, Status};
 use resource_locks::Plan;
+use run_results::Summary;
 use std::alloc::Global;
 
 /// Tells a summary these events, as far as it has room.

@@ -4,8 +4,8 @@ use Rattle.std.specs.Prelude.{option_map}
 use Rattle.std.specs.Io.KnownBytes.{Appends}
 use Rattle.std.specs.Result.{result_ok}
 use Rattle.std.proofs.Math.Seq.{take-length}
-use Rattle.listeners.specs.Sending.{SendsExactly}
-use Rattle.listeners.specs.declared.to_writer.WriteFault.{WriteFault}
+use Rattle.run_results.specs.Sending.{SendsExactly}
+use Rattle.run_results.specs.declared.to_writer.WriteFault.{WriteFault}
 use Rattle.run_outputs.specs.declared.exit_status.ExitStatus.{ExitStatus}
 use Rattle.launch_options.specs.declared.fault.LaunchFault.{LaunchFault}
 use Rattle.messages.specs.Messages.{message_text}

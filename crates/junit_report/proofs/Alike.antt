@@ -6,13 +6,13 @@ use Rattle.std.proofs.lemmas.Option.{slice_get-get_or}
 use Rattle.descriptor.specs.Nodes.{Nodes, size, children_of, count_below}
 use Rattle.descriptor.proofs.Children.{children_listed}
 use Rattle.plan_events.specs.Texts.{TextParts, text_at}
-use Rattle.listeners.specs.declared.theme.Theme.{Theme}
-use Rattle.listeners.specs.declared.told.NodeEvents.{NodeEvents}
-use Rattle.listeners.specs.Told.{has_line}
-use Rattle.listeners.specs.TreeSigns.{item}
-use Rattle.listeners.specs.TreeTexts.{Drawn, each_sibling, lines_below}
-use Rattle.listeners.proofs.SameTold.{same_below}
-use Rattle.listeners.proofs.Siblings.{sibling}
+use Rattle.run_results.specs.declared.theme.Theme.{Theme}
+use Rattle.run_results.specs.declared.told.NodeEvents.{NodeEvents}
+use Rattle.run_results.specs.Told.{has_line}
+use Rattle.run_results.specs.TreeSigns.{item}
+use Rattle.run_results.specs.TreeTexts.{Drawn, each_sibling, lines_below}
+use Rattle.run_results.proofs.SameTold.{same_below}
+use Rattle.run_results.proofs.Siblings.{sibling}
 
 pub same_map : {X : Type 0} (f g : ℕ → X) (a n : ℕ) → ((k : ℕ) → a ≤ k → k < a + n → f k ≡ g k) → map f (range_with_len a n) ≡ map g (range_with_len a n)
 same_map f g a zero same = refl

@@ -8,7 +8,7 @@ use Rattle.descriptor.specs.declared.role.Role.{Role}
 use Rattle.descriptor.specs.declared.role.Role.TheVariants.{Plain, Factory, Spare}
 use Rattle.descriptor.specs.Nodes.{Nodes}
 use Rattle.descriptor.specs.PlainNodes.{plain}
-use Rattle.listeners.specs.declared.theme.Theme.TheVariants.{Ascii}
+use Rattle.run_results.specs.declared.theme.Theme.TheVariants.{Ascii}
 use Rattle.plan_events.specs.declared.outcome.Reply.{Reply}
 use Rattle.plan_events.specs.declared.status.Status.{Status}
 use Rattle.plan_events.specs.declared.status.Status.TheVariants.{Successful, Aborted, Failed}

@@ -1,7 +1,7 @@
 -- Class names, whatever number of steps is allowed.
 use Rattle.std.proofs.Common.{◌≡◌, ℕ, zero, suc, ◌<◌, ◌≤◌, Bool, true, false, cond, List, ◌++◌, codes, ap, sym, ◌∙◌, subst, arith}
 use Rattle.descriptor.specs.Nodes.{Nodes, parent_of, is_high}
-use Rattle.listeners.specs.TreeTexts.{name_at}
+use Rattle.run_results.specs.TreeTexts.{name_at}
 use Rattle.junit_report.specs.ClassNames.{class_name_within, top_name}
 
 -- what a test decides

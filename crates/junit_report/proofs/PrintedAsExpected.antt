@@ -12,13 +12,13 @@ use Rattle.junit_report.proofs.SameReports.{same_report}
 use Rattle.resource_locks.specs.Plans.{PlanParts}
 use Rattle.event_history.specs.Expected.{HasOneReply}
 use Rattle.event_history.specs.History.{IsLegal, IsComplete, IsTextOf}
-use Rattle.listeners.specs.declared.theme.Theme.{Theme}
-use Rattle.listeners.specs.declared.told.NodeEvents.{NodeEvents}
-use Rattle.listeners.specs.Counts.{outline_of, counts_in, counts_of, was_found}
-use Rattle.listeners.specs.Results.{is_failure, tests_found, has_failed}
-use Rattle.listeners.specs.Told.{ended, told_of, all_told}
-use Rattle.listeners.specs.TreeTexts.{tree_of}
-use Rattle.listeners.proofs.Places.{places_len}
+use Rattle.run_results.specs.declared.theme.Theme.{Theme}
+use Rattle.run_results.specs.declared.told.NodeEvents.{NodeEvents}
+use Rattle.run_results.specs.Counts.{outline_of, counts_in, counts_of, was_found}
+use Rattle.run_results.specs.Results.{is_failure, tests_found, has_failed}
+use Rattle.run_results.specs.Told.{ended, told_of, all_told}
+use Rattle.run_results.specs.TreeTexts.{tree_of}
+use Rattle.run_results.proofs.Places.{places_len}
 use Rattle.junit_report.specs.Expectations.{expected_told, all_expected, expected_texts, expected_tree, expected_xml, expected_counts, is_expected_found, expected_tests, is_expected_failure, expects_failure, IsPrintedAsExpected}
 use Rattle.junit_report.proofs.Alike.{same_map, same_any, same_count, same_lines}
 use Rattle.junit_report.proofs.ToldAsExpected.{told_is, text_is}

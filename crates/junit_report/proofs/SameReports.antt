@@ -11,9 +11,9 @@ use Rattle.descriptor.specs.Nodes.{Nodes, IsTree, size, children_of, parent_of, 
 use Rattle.job_times.specs.Timings.{no_times}
 use Rattle.plan_events.specs.Texts.{TextParts, text_at}
 use Rattle.plan_events.specs.declared.event.Event.{Event}
-use Rattle.listeners.specs.declared.told.NodeEvents.{NodeEvents}
-use Rattle.listeners.specs.Feed.{text_or}
-use Rattle.listeners.specs.Told.{told_of}
+use Rattle.run_results.specs.declared.told.NodeEvents.{NodeEvents}
+use Rattle.run_results.specs.Feed.{text_or}
+use Rattle.run_results.specs.Told.{told_of}
 use Rattle.junit_report.specs.Cases.{own_cause, cause_within, case_of, is_case, own_case, dynamic_cases, child_cases, cases_of}
 use Rattle.junit_report.specs.ClassNames.{class_name}
 use Rattle.junit_report.specs.Junit.{end_elements, output_element, case_attributes, case_line, suite_attributes, suite_of, suites_element, junit_of}

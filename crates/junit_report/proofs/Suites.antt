@@ -3,7 +3,7 @@ use Rattle.std.proofs.Common.{◌≡◌, ℕ, ◌==◌, Bool, false, cond, List,
 use Rattle.descriptor.specs.Nodes.{Nodes}
 use Rattle.job_times.specs.Timings.{Times}
 use Rattle.plan_events.specs.Texts.{TextParts}
-use Rattle.listeners.specs.declared.told.NodeEvents.{NodeEvents}
+use Rattle.run_results.specs.declared.told.NodeEvents.{NodeEvents}
 use Rattle.resource_locks.specs.Plans.{PlanParts}
 use Rattle.junit_report.specs.Cases.{cases_of}
 use Rattle.junit_report.specs.ClassNames.{class_name}

@@ -21,8 +21,8 @@ use Rattle.event_history.proofs.Expectation.{as_expected}
 use Rattle.event_history.proofs.Flags.{flag_by}
 use Rattle.event_history.proofs.Spares.{plan_tree}
 use Rattle.event_history.proofs.Told.{told, text_expected}
-use Rattle.listeners.specs.declared.told.NodeEvents.{NodeEvents}
-use Rattle.listeners.specs.Told.{is_start, is_skip, is_registration, status_by, status_told, status_of, is_started, is_skipped, is_registered, told_of}
+use Rattle.run_results.specs.declared.told.NodeEvents.{NodeEvents}
+use Rattle.run_results.specs.Told.{is_start, is_skip, is_registration, status_by, status_told, status_of, is_started, is_skipped, is_registered, told_of}
 use Rattle.junit_report.specs.Expectations.{plan_on, result_at, told_by, expected_told, note_by, expected_texts}
 
 -- of a plan the tree alone counts

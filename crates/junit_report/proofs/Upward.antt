@@ -1,7 +1,7 @@
 -- What is told of a node by the way up from it, whatever number of steps is allowed.
 use Rattle.std.proofs.Common.{◌≡◌, ℕ, zero, suc, ◌<◌, ◌≤◌, List, ap, refl, ◌∙◌, arith}
 use Rattle.descriptor.specs.Nodes.{Nodes, parent_of}
-use Rattle.listeners.specs.declared.told.NodeEvents.{NodeEvents}
+use Rattle.run_results.specs.declared.told.NodeEvents.{NodeEvents}
 use Rattle.junit_report.specs.Cases.{cause_within, own_cause, worse_of}
 use Rattle.junit_report.specs.declared.cases.Cause.{Cause}
 

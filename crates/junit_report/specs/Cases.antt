@@ -3,8 +3,8 @@ use Rattle.std.specs.Prelude.{ℕ, zero, suc, ◌==◌, ◌&&◌, ◌||◌, nat_
 use Rattle.std.specs.List.{flat_map, list_any}
 use Rattle.descriptor.specs.Kinds.{is_test}
 use Rattle.descriptor.specs.Nodes.{Nodes, kind_of, parent_of, children_of, is_spare_at, is_factory_at}
-use Rattle.listeners.specs.Told.{told_at}
-use Rattle.listeners.specs.declared.told.NodeEvents.{NodeEvents}
+use Rattle.run_results.specs.Told.{told_at}
+use Rattle.run_results.specs.declared.told.NodeEvents.{NodeEvents}
 use Rattle.junit_report.specs.Told.{badness, end_of, is_failure, is_pass}
 use Rattle.junit_report.specs.declared.cases.Case.{Case}
 use Rattle.junit_report.specs.declared.cases.Cause.{Cause}

@@ -2,7 +2,7 @@
 use Rattle.std.specs.Prelude.{ℕ, zero, suc, ◌-◌, ◌==◌, ◌&&◌, nat_lt, not, Bool, cond, List, [], ◌++◌, codes, length}
 use Rattle.std.specs.Fmt.{decimal}
 use Rattle.descriptor.specs.Nodes.{Nodes, children_of, parent_of, is_high, is_spare_at}
-use Rattle.listeners.specs.TreeTexts.{name_at}
+use Rattle.run_results.specs.TreeTexts.{name_at}
 use Rattle.junit_report.specs.XmlStrings.{escaped}
 
 -- whether there is more than one engine

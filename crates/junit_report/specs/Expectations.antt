@@ -5,12 +5,12 @@ use Rattle.std.specs.List.{list_any, range_with_len}
 use Rattle.descriptor.specs.Kinds.{is_test}
 use Rattle.descriptor.specs.Nodes.{Nodes, size, kind_of, is_spare_at, count_below}
 use Rattle.event_history.specs.Expected.{Expected, Silent, Skips, Finishes, expected}
-use Rattle.listeners.specs.declared.theme.Theme.{Theme}
-use Rattle.listeners.specs.declared.told.NodeEvents.{NodeEvents}
-use Rattle.listeners.specs.Counts.{outline_of, counts_in, counts_of}
-use Rattle.listeners.specs.Results.{tests_found, has_failed}
-use Rattle.listeners.specs.Told.{nothing, ended}
-use Rattle.listeners.specs.TreeTexts.{lines_below, tree_of}
+use Rattle.run_results.specs.declared.theme.Theme.{Theme}
+use Rattle.run_results.specs.declared.told.NodeEvents.{NodeEvents}
+use Rattle.run_results.specs.Counts.{outline_of, counts_in, counts_of}
+use Rattle.run_results.specs.Results.{tests_found, has_failed}
+use Rattle.run_results.specs.Told.{nothing, ended}
+use Rattle.run_results.specs.TreeTexts.{lines_below, tree_of}
 use Rattle.plan_events.specs.declared.event.Event.{Event}
 use Rattle.plan_events.specs.declared.note.Note.{Note}
 use Rattle.plan_events.specs.declared.note.Note.TheVariants.{Reason, Own}

@@ -6,10 +6,10 @@ use Rattle.job_times.specs.Timings.{Took, Times, no_times}
 use Rattle.resource_locks.specs.Plans.{PlanParts}
 use Rattle.plan_events.specs.Texts.{TextParts, text_at}
 use Rattle.plan_events.specs.declared.event.Event.{Event}
-use Rattle.listeners.specs.Feed.{id_at, text_or}
-use Rattle.listeners.specs.Told.{all_told}
-use Rattle.listeners.specs.TreeTexts.{name_at}
-use Rattle.listeners.specs.declared.told.NodeEvents.{NodeEvents}
+use Rattle.run_results.specs.Feed.{id_at, text_or}
+use Rattle.run_results.specs.Told.{all_told}
+use Rattle.run_results.specs.TreeTexts.{name_at}
+use Rattle.run_results.specs.declared.told.NodeEvents.{NodeEvents}
 use Rattle.junit_report.specs.Cases.{cases_of, has_error, has_failed, is_left_out}
 use Rattle.junit_report.specs.ClassNames.{class_name, reported_name}
 use Rattle.junit_report.specs.CaseTimes.{time_text, time_of_cases}

@@ -3,7 +3,7 @@ use Rattle.std.specs.Prelude.{ℕ, List, map}
 use Rattle.std.specs.List.{range_with_len}
 use Rattle.descriptor.specs.Nodes.{size}
 use Rattle.job_times.specs.Timings.{no_times}
-use Rattle.listeners.specs.declared.told.NodeEvents.{NodeEvents}
+use Rattle.run_results.specs.declared.told.NodeEvents.{NodeEvents}
 use Rattle.plan_events.specs.Texts.{TextParts}
 use Rattle.junit_report.specs.Junit.{suites_element}
 use Rattle.resource_locks.specs.Plans.{PlanParts}

@@ -2,7 +2,7 @@
 use Rattle.std.specs.Prelude.{ℕ, Bool, true, false, cond, Option, Some, None}
 use Rattle.plan_events.specs.declared.status.Status.{Status}
 use Rattle.plan_events.specs.declared.status.Status.TheVariants as statuses
-use Rattle.listeners.specs.declared.told.NodeEvents.{NodeEvents}
+use Rattle.run_results.specs.declared.told.NodeEvents.{NodeEvents}
 use Rattle.junit_report.specs.declared.told.NodeEnd.{NodeEnd}
 use Rattle.junit_report.specs.declared.told.NodeEnd.TheVariants.{Passed, Failed, Aborted, Skipped, NotRun}
 

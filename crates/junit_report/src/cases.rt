@@ -9,8 +9,8 @@ ghost use Rattle.junit_report.specs.Cases.{own_cause, was_found, worse_of};
 
 use crate::told::{NodeEnd, end_of, told_at};
 use descriptor::{NodeId, Tree};
-use listeners::NodeEvents;
 use reports::{kind_of, role_of};
+use run_results::NodeEvents;
 use std::alloc::{AllocError, Global};
 
 /// What is told of a case: what became of a node.

@@ -15,9 +15,9 @@ use crate::junit_case::{push_case, push_time};
 use crate::xml_strings::{push_attribute, push_number};
 use descriptor::NodeId;
 use job_times::Timings;
-use listeners::{NodeEvents, node_events};
 use plan_events::{Event, Texts};
 use resource_locks::Plan;
+use run_results::{NodeEvents, node_events};
 use std::alloc::{AllocError, Global};
 
 /// Appends the lines of the cases in a class.

@@ -1,12 +1,12 @@
 //! What became of each node, by what events tell of it.
 
 ghost use Rattle.std.specs.Prelude.{◌≡◌};
-ghost use Rattle.listeners.specs.Told.{told_at};
+ghost use Rattle.run_results.specs.Told.{told_at};
 ghost use Rattle.junit_report.specs.Told.{badness, end_by, end_of, is_failure, is_pass};
 
 use descriptor::NodeId;
-use listeners::NodeEvents;
 use plan_events::Status;
+use run_results::NodeEvents;
 
 /// What became of a node.
 #[derive(Clone, Copy)]

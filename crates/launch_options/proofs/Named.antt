@@ -2,8 +2,8 @@
 use Rattle.std.proofs.Common.{◌≡◌, ◌||◌, Bool, true, false, if◌then◌else◌, map, Ok, Err, refl, arith}
 use Rattle.std.specs.List.{Contains}
 use Rattle.std.specs.Result.{is_ok}
-use Rattle.listeners.specs.declared.theme.Theme.{Theme}
-use Rattle.listeners.specs.declared.theme.Theme.TheVariants as themes
+use Rattle.run_results.specs.declared.theme.Theme.{Theme}
+use Rattle.run_results.specs.declared.theme.Theme.TheVariants as themes
 use Rattle.launch_options.specs.declared.details.Details.{Details}
 use Rattle.launch_options.specs.declared.details.Details.TheVariants as details
 use Rattle.launch_options.specs.Asked.{all_themes, theme_text}

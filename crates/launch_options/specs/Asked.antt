@@ -4,8 +4,8 @@ use Rattle.std.specs.List.{filter_map}
 use Rattle.std.specs.Option.{is_some, option_or}
 use Rattle.std.specs.Str.{bytes_eq}
 use Rattle.config_params.specs.Parameters.{Parameters}
-use Rattle.listeners.specs.declared.theme.Theme.{Theme}
-use Rattle.listeners.specs.declared.theme.Theme.TheVariants as themes
+use Rattle.run_results.specs.declared.theme.Theme.{Theme}
+use Rattle.run_results.specs.declared.theme.Theme.TheVariants as themes
 use Rattle.scheduling.specs.declared.step.Step.{Step}
 use Rattle.selectors.specs.declared.request.Request.{Request}
 use Rattle.selectors.specs.declared.selector.Selector.{Selector}

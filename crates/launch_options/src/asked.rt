@@ -6,7 +6,7 @@ ghost use Rattle.table_rule.specs.Limits.{IsRightRing};
 
 use crate::details::Details;
 use config_params::Params;
-use listeners::Theme;
+use run_results::Theme;
 use scheduling::Step;
 use selectors::Request;
 

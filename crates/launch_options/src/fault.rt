@@ -6,8 +6,8 @@ ghost use Rattle.launch_options.specs.Faults.{IsLimitsFault, IsSuiteFault, IsTag
 ghost use Rattle.launch_options.specs.declared.fault.LaunchFault.TheVariants.{NoMemory, BadSettings, Writing};
 
 use config_params::{LimitsFault, ParamsFault, SettingsFault};
-use listeners::WriteFault;
 use resource_locks::PlanFault;
+use run_results::WriteFault;
 use selectors::{SelectFault, SelectorFault};
 use std::alloc::{AllocError, AllocFailed};
 use std::error::Error;

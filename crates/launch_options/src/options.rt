@@ -30,7 +30,7 @@ use crate::shards::shard_named;
 use crate::themes::theme_of;
 use crate::workers::{spread_given, workers_given};
 use config_params::Params;
-use listeners::Theme;
+use run_results::Theme;
 use scheduling::Step;
 use selectors::{Request, Selector, SelectorKind, Shard};
 use std::alloc::{AllocError, Global};

@@ -3,10 +3,10 @@
 ghost use Rattle.std.specs.Prelude.{◌≡◌, Some, map};
 ghost use Rattle.std.specs.List.{Contains};
 ghost use Rattle.unique_id.specs.Answers.{texts};
-ghost use Rattle.listeners.specs.declared.theme.Theme.{Theme};
+ghost use Rattle.run_results.specs.declared.theme.Theme.{Theme};
 ghost use Rattle.launch_options.specs.Asked.{all_themes, theme_text, theme_named};
 
-use listeners::Theme;
+use run_results::Theme;
 
 const UNICODE: &str = "unicode";
 

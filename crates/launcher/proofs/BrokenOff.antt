@@ -3,7 +3,7 @@ use Rattle.std.proofs.Common.{◌≡◌, ◌≢◌, ◌∙◌, ℕ, zero, suc, �
 use Rattle.std.specs.Io.KnownBytes.{Appends, Keeps}
 use Rattle.std.proofs.lemmas.Bool.{true≢false}
 use Rattle.std.specs.Result.{IsErrAnd}
-use Rattle.listeners.specs.declared.to_writer.WriteFault.{WriteFault}
+use Rattle.run_results.specs.declared.to_writer.WriteFault.{WriteFault}
 use Rattle.live.specs.declared.live_feed.Outlet.{Outlet}
 use Rattle.live.specs.declared.live_feed.Outlet.TheVariants.{Waiting, Open, Closed, Failed}
 use Rattle.launch_options.specs.Asked.{Asked}

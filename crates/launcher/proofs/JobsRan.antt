@@ -12,7 +12,7 @@ use Rattle.event_history.specs.History.{IsLegal}
 use Rattle.event_history.proofs.Apart.{apart}
 use Rattle.job_times.specs.Timings.{Times, times_asked}
 use Rattle.listeners.specs.Listeners.{Telling, tellings_of}
-use Rattle.listeners.specs.Results.{tests_found, has_failed}
+use Rattle.run_results.specs.Results.{tests_found, has_failed}
 use Rattle.junit_report.specs.Expectations.{IsPrintedAsExpected}
 use Rattle.junit_report.proofs.PrintedAsExpected.{printed_as_expected}
 use Rattle.scheduling.proofs.OnlyHistory.{only_history, as_expected}

@@ -12,7 +12,7 @@ use Rattle.launch_options.specs.Asked.{Asked}
 use Rattle.launch_options.specs.declared.details.Details.{Details}
 use Rattle.run_outputs.specs.declared.exit_status.ExitStatus.{ExitStatus}
 use Rattle.listeners.specs.Listeners.{EachPlace}
-use Rattle.listeners.specs.declared.theme.Theme.{Theme}
+use Rattle.run_results.specs.declared.theme.Theme.{Theme}
 use Rattle.report_files.specs.Deeds.{Deed}
 use Rattle.report_files.specs.Deeds.Deed.{Opened, Kept, NotKept, GivenUp}
 use Rattle.report_files.specs.FiledReports.{Wanted, AreEnded, AreOpened, IsEnded, IsOpened, givings_up, is_whole}

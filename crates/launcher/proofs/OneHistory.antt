@@ -20,7 +20,7 @@ use Rattle.ready_runs.specs.Ready.{answers_of, plan_in}
 use Rattle.launcher.specs.Watched.{SeesTextBy, HasSeenPrinted}
 use Rattle.run_outputs.specs.Outputs.{is_run}
 use Rattle.listeners.specs.Listeners.{Telling, tellings_of}
-use Rattle.listeners.specs.declared.theme.Theme.{Theme}
+use Rattle.run_results.specs.declared.theme.Theme.{Theme}
 use Rattle.report_files.specs.Besides.{BothSaw}
 use Rattle.report_files.specs.Recordings.{HasRecorded, IsRecorded}
 use Rattle.report_files.specs.declared.beside.Beside.{Beside}

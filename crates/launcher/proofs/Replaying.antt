@@ -15,7 +15,7 @@ use Rattle.event_history.proofs.Expectation.{text_in, result_is}
 use Rattle.event_history.proofs.Places.{has_stands, has_at}
 use Rattle.event_history.proofs.Spares.{plan_tree}
 use Rattle.event_history.proofs.Texts.{text_told}
-use Rattle.listeners.specs.Feed.{event_line, feed_of, id_at, text_or}
+use Rattle.run_results.specs.Feed.{event_line, feed_of, id_at, text_or}
 use Rattle.scheduling.specs.declared.step.Step.{Step}
 use Rattle.sched_core.specs.Replies.{reply_of, replies_of}
 use Rattle.sched_core.specs.Texts.{AreTexts}

@@ -13,8 +13,8 @@ use Rattle.resource_locks.specs.Plans.{PlanParts}
 use Rattle.event_history.specs.History.{IsLegal}
 use Rattle.event_history.proofs.Apart.{apart}
 use Rattle.job_times.specs.Timings.{Times, times_asked}
-use Rattle.listeners.specs.Results.{tests_found, has_failed}
-use Rattle.listeners.specs.SummaryTexts.{summary_of}
+use Rattle.run_results.specs.Results.{tests_found, has_failed}
+use Rattle.run_results.specs.SummaryTexts.{summary_of}
 use Rattle.junit_report.specs.Expectations.{IsPrintedAsExpected}
 use Rattle.junit_report.proofs.PrintedAsExpected.{printed_as_expected}
 use Rattle.scheduling.proofs.OnlyHistory.{only_history, as_expected}

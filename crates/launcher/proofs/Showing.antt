@@ -15,8 +15,8 @@ use Rattle.event_history.specs.Parts.{EndsInPlan}
 use Rattle.scheduling.specs.declared.step.Step.{Step}
 use Rattle.job_times.specs.Timings.{Times, times_asked, times_of}
 use Rattle.listeners.specs.Listeners.{Telling, tellings_of}
-use Rattle.listeners.specs.declared.theme.Theme.{Theme}
-use Rattle.listeners.specs.declared.to_writer.WriteFault.{WriteFault}
+use Rattle.run_results.specs.declared.theme.Theme.{Theme}
+use Rattle.run_results.specs.declared.to_writer.WriteFault.{WriteFault}
 use Rattle.live.specs.LiveFeeds.{lines_of, output_of, shown_times, IsNotedIn, IsSoFar, IsPrinted, IsFront, is_stopped}
 use Rattle.live.specs.declared.line_form.LineForm.{LineForm}
 use Rattle.live.specs.declared.live_feed.LiveFeed.{LiveFeed}

@@ -14,7 +14,7 @@ use Rattle.launcher.specs.Runs.{IsRun, is_writing}
 use Rattle.ready_runs.specs.Reading.{TakesFrom, fault_in}
 use Rattle.run_outputs.specs.Outputs.{is_run}
 use Rattle.run_outputs.specs.declared.exit_status.ExitStatus.{ExitStatus}
-use Rattle.listeners.specs.declared.theme.Theme.{Theme}
+use Rattle.run_results.specs.declared.theme.Theme.{Theme}
 use Rattle.report_files.specs.Deeds.{Deed, Does, IsEmpty}
 use Rattle.report_files.specs.Deeds.Deed.{Opened, Kept, NotKept, GivenUp}
 use Rattle.report_files.specs.FiledReports.{Wanted, IsUnopened, answer_with, first_lost, givings_up, openings}

@@ -24,7 +24,7 @@ use Rattle.run_table.specs.Balance.{IsBalanced, IsUsed}
 use Rattle.worker_pool.specs.Reports.{run_of, AreTexts, IsToldAsGiven}
 use Rattle.job_times.specs.Timings.{Times, times_asked}
 use Rattle.listeners.specs.Listeners.{Telling}
-use Rattle.listeners.specs.Results.{tests_found, has_failed}
+use Rattle.run_results.specs.Results.{tests_found, has_failed}
 use Rattle.launch_options.specs.Asked.{Asked}
 use Rattle.launch_options.specs.declared.details.Details.{Details}
 use Rattle.launch_options.specs.declared.details.Details.TheVariants as details

@@ -14,7 +14,7 @@ use Rattle.run_outputs.specs.Missing.{is_missing, status_unless}
 use Rattle.launcher.specs.Reports.{IsPrintedRun}
 use Rattle.ready_runs.specs.Ready.{answers_of, plan_in, settings_in}
 use Rattle.listeners.specs.Listeners.{EachPlace, Telling, tellings_of}
-use Rattle.listeners.specs.declared.theme.Theme.{Theme}
+use Rattle.run_results.specs.declared.theme.Theme.{Theme}
 use Rattle.report_files.specs.Recordings.{IsRecorded, text_in}
 use Rattle.report_files.specs.Told.{ToldParts}
 use Rattle.report_files.specs.declared.recording.Recorded.{Recorded}

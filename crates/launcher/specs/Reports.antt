@@ -18,7 +18,7 @@ use Rattle.scheduling.specs.declared.step.Step.{Step}
 use Rattle.sched_core.specs.Replies.{reply_of, replies_of}
 use Rattle.worker_pool.specs.Reports.{AreTexts as AreRunTexts}
 use Rattle.job_times.specs.Timings.{Times, times_asked}
-use Rattle.listeners.specs.Results.{tests_found, has_failed}
+use Rattle.run_results.specs.Results.{tests_found, has_failed}
 use Rattle.launch_options.specs.declared.details.Details.{Details}
 use Rattle.run_outputs.specs.declared.exit_status.ExitStatus.{ExitStatus}
 use Rattle.run_outputs.specs.ExitStatuses.{status_of_run}

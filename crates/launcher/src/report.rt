@@ -3,7 +3,7 @@
 ghost use Rattle.std.specs.Prelude.{◌≡◌, ℕ, ◌≤◌, List, ◌++◌, ◌⊎◌, None, option_map, IfOk, IfErr, string_bytes};
 ghost use Rattle.descriptor.specs.Nodes.{IsTree};
 ghost use Rattle.job_times.specs.Timings.{times_asked, times_of};
-ghost use Rattle.listeners.specs.Results.{tests_found, has_failed};
+ghost use Rattle.run_results.specs.Results.{tests_found, has_failed};
 ghost use Rattle.launch_options.specs.Asked.{asked_by};
 ghost use Rattle.launcher.specs.Faults.{unrun_fault};
 ghost use Rattle.launcher.specs.Programs.{IsJobsOutput, IsPrintedJobs, IsProgramOutput};

@@ -8,7 +8,7 @@ use std::marker::Model;
 
 /// Events, and room for so many more that is used up as they come.
 #[derive(Drop)]
-pub(crate) struct EventList {
+pub struct EventList {
     events: Vec<Event>,
     room: usize,
 }
@@ -26,7 +26,7 @@ impl Model for EventList {
 
 impl EventList {
     /// No events, and no room.
-    pub(crate) fn new(alloc: Global) -> EventList
+    pub fn new(alloc: Global) -> EventList
         ensures { result ≡ record { got = []; room = 0 } }
     {
         EventList {
@@ -36,7 +36,7 @@ impl EventList {
     }
 
     /// Makes room for so many more events.
-    pub(crate) fn reserve(&mut self, most: usize) -> Result<(), AllocError>
+    pub fn reserve(&mut self, most: usize) -> Result<(), AllocError>
         ensures got { self.new.got ≡ self.old.got }
         ensures room { OnOk result (most ≤ self.new.room) }
         ensures grown { self.old.room ≤ self.new.room }
@@ -48,7 +48,7 @@ impl EventList {
     }
 
     /// Adds an event. It takes no memory.
-    pub(crate) fn push(&mut self, event: Event)
+    pub fn push(&mut self, event: Event)
         requires { 0 < self.old.room }
         ensures { self.new ≡ record { got = self.old.got ++ event ∷ []; room = self.old.room - 1 } }
     {
@@ -57,14 +57,14 @@ impl EventList {
     }
 
     /// The events, in order.
-    pub(crate) fn events(&self) -> &[Event]
+    pub fn events(&self) -> &[Event]
         ensures { result.now ≡ self.now.got }
     {
         self.events.as_slice()
     }
 
     /// How many more events may be added.
-    pub(crate) fn room(&self) -> usize
+    pub fn room(&self) -> usize
         ensures { result ≡ self.now.room }
     {
         self.room

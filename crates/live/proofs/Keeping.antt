@@ -7,7 +7,7 @@ use Rattle.plan_events.specs.declared.event.EventKind.TheVariants.{Started, Fini
 use Rattle.plan_events.specs.declared.status.Status.{Status}
 use Rattle.resource_locks.specs.Plans.{PlanParts}
 use Rattle.listeners.specs.Listeners.{Telling, text_by}
-use Rattle.listeners.specs.Told.{ended, status_by, tells_failure}
+use Rattle.run_results.specs.Told.{ended, status_by, tells_failure}
 use Rattle.live.specs.Failing.{AreFailuresOf, HasKept, IsFailureOf, Keeps, KeepsNode, failures_in}
 use Rattle.live.specs.declared.failure.Failure.{Failure}
 use Rattle.live.specs.declared.failures.Failures.{Failures}

@@ -8,9 +8,9 @@ use Rattle.plan_events.specs.declared.event.EventKind.TheVariants.{Started, Fini
 use Rattle.plan_events.specs.declared.status.Status.{Status}
 use Rattle.plan_events.specs.Texts.{TextParts, text_at}
 use Rattle.resource_locks.specs.Plans.{PlanParts}
-use Rattle.listeners.specs.Feed.{kind_word, ending, event_line, id_at, text_or, feed_of}
+use Rattle.run_results.specs.Feed.{kind_word, ending, event_line, id_at, text_or, feed_of}
 use Rattle.listeners.specs.Listeners.{Telling, text_by, telling, tellings_of}
-use Rattle.listeners.specs.TreeTexts.{name_at}
+use Rattle.run_results.specs.TreeTexts.{name_at}
 use Rattle.job_times.specs.Timings.{took_of, Times}
 use Rattle.json.specs.Json.{Members, no_members, object}
 use Rattle.reports.specs.Json.{event_json, number_member, text_member, timed_ending_members, timed_json_of, type_word, written}

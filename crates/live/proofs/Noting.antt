@@ -11,7 +11,7 @@ use Rattle.plan_events.specs.declared.status.Status.{Status}
 use Rattle.resource_locks.specs.Plans.{PlanParts}
 use Rattle.job_times.specs.Timings.{Took, Times, is_noted, is_told, micros_of, times_asked, times_of, took_of}
 use Rattle.job_times.specs.declared.timings.Noted.TheVariants.{NotYet}
-use Rattle.listeners.specs.Feed.{text_or}
+use Rattle.run_results.specs.Feed.{text_or}
 use Rattle.listeners.specs.Listeners.{Telling}
 use Rattle.reports.specs.Json.{timed_ending_members}
 use Rattle.listeners.specs.Endings.{is_finish}

@@ -6,7 +6,7 @@ use Rattle.std.proofs.lemmas.List.Folds.{list_any-append}
 use Rattle.descriptor.specs.Nodes.{Nodes}
 use Rattle.listeners.specs.Endings.{is_finish}
 use Rattle.listeners.specs.Listeners.{Telling}
-use Rattle.listeners.specs.Told.{is_start}
+use Rattle.run_results.specs.Told.{is_start}
 use Rattle.plan_events.specs.declared.event.EventKind.{EventKind}
 use Rattle.plan_events.specs.declared.event.EventKind.TheVariants.{Started, Finished, Skipped, Registered}
 use Rattle.live.specs.RunningTests.{Follows, HasFollowedTests, IsLongest, IsNamed, began, finishes, is_plain_test, nodes_of, running_by, running_in, starts_test}

@@ -7,7 +7,7 @@ use Rattle.std.proofs.lemmas.List.Sums.{sum_by-append, sum_by-cons}
 use Rattle.descriptor.specs.Nodes.{Nodes}
 use Rattle.listeners.specs.Endings.{is_finish}
 use Rattle.listeners.specs.Listeners.{Telling}
-use Rattle.listeners.specs.Told.{is_start}
+use Rattle.run_results.specs.Told.{is_start}
 use Rattle.plan_events.specs.declared.event.EventKind.{EventKind}
 use Rattle.plan_events.specs.declared.event.EventKind.TheVariants.{Started, Finished, Skipped, Registered}
 use Rattle.live.specs.RunningTests.{finishes, is_plain_test, name_in, starts_test}

@@ -6,7 +6,7 @@ use Rattle.std.proofs.lemmas.Grind.{flat_map-append}
 use Rattle.std.specs.List.{flat_map}
 use Rattle.std.specs.Io.KnownBytes.{Appends, Keeps}
 use Rattle.std.proofs.KnownBytes.{Appends-kept, Appends-nil, Appends-trans}
-use Rattle.listeners.specs.declared.to_writer.WriteFault.{WriteFault}
+use Rattle.run_results.specs.declared.to_writer.WriteFault.{WriteFault}
 use Rattle.live.specs.Written.{AreWritten, IsSent}
 
 -- all of a text was written, and then nothing more

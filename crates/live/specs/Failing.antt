@@ -4,10 +4,10 @@ use Rattle.std.specs.List.{filter}
 use Rattle.descriptor.specs.Kinds.{is_container}
 use Rattle.descriptor.specs.Nodes.{kind_of}
 use Rattle.resource_locks.specs.Plans.{PlanParts}
-use Rattle.listeners.specs.Feed.{id_at, text_or}
+use Rattle.run_results.specs.Feed.{id_at, text_or}
 use Rattle.listeners.specs.Listeners.{Telling}
-use Rattle.listeners.specs.Told.{tells_failure}
-use Rattle.listeners.specs.TreeTexts.{name_at}
+use Rattle.run_results.specs.Told.{tells_failure}
+use Rattle.run_results.specs.TreeTexts.{name_at}
 use Rattle.live.specs.declared.failure.Failure.{Failure}
 use Rattle.live.specs.declared.failures.Failures.{Failures}
 

@@ -5,7 +5,7 @@ use Rattle.std.specs.Io.KnownBytes.{Appends}
 use Rattle.plan_events.specs.declared.event.Event.{Event}
 use Rattle.plan_events.specs.Texts.{TextParts}
 use Rattle.resource_locks.specs.Plans.{PlanParts}
-use Rattle.listeners.specs.Feed.{event_line, feed_of, id_at, text_or}
+use Rattle.run_results.specs.Feed.{event_line, feed_of, id_at, text_or}
 use Rattle.listeners.specs.Listeners.{Telling}
 use Rattle.job_times.specs.Timings.{Took, took_of, is_noted, IsNotedWith, Times, times_of, times_asked}
 use Rattle.reports.specs.Json.{event_json, timed_json_of, written}

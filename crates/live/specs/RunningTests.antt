@@ -6,8 +6,8 @@ use Rattle.std.specs.Time.{instant_nanos}
 use Rattle.descriptor.specs.Nodes.{Nodes, is_leaf_at, parent_of, size}
 use Rattle.listeners.specs.Endings.{is_finish}
 use Rattle.listeners.specs.Listeners.{Telling}
-use Rattle.listeners.specs.Told.{is_start}
-use Rattle.listeners.specs.TreeTexts.{name_at}
+use Rattle.run_results.specs.Told.{is_start}
+use Rattle.run_results.specs.TreeTexts.{name_at}
 use Rattle.plan_events.specs.declared.event.Event.{Event}
 use Rattle.plan_events.specs.declared.event.EventKind.{EventKind}
 use Rattle.plan_events.specs.declared.event.EventKind.TheVariants.{Started, Finished, Skipped, Registered}

@@ -5,8 +5,8 @@ use Rattle.std.specs.List.{flat_map}
 use Rattle.std.specs.Option.{is_some}
 use Rattle.descriptor.specs.Nodes.{Nodes, size}
 use Rattle.job_times.specs.Timings.{Took, took_of}
-use Rattle.listeners.specs.Feed.{id_at}
-use Rattle.listeners.specs.TreeTexts.{name_at}
+use Rattle.run_results.specs.Feed.{id_at}
+use Rattle.run_results.specs.TreeTexts.{name_at}
 use Rattle.live.specs.RunningTests.{is_plain_test}
 use Rattle.live.specs.Shown.{shown}
 use Rattle.reports.specs.TimeTexts.{seconds_text, time_or_none}

@@ -3,8 +3,8 @@
 ghost use Rattle.std.specs.Prelude.{◌≡◌, ◌<◌, IfOk, string_bytes};
 ghost use Rattle.descriptor.specs.Kinds.{is_container};
 ghost use Rattle.descriptor.specs.Nodes.{kind_of, size};
-ghost use Rattle.listeners.specs.Feed.{id_at, text_or};
-ghost use Rattle.listeners.specs.TreeTexts.{name_at};
+ghost use Rattle.run_results.specs.Feed.{id_at, text_or};
+ghost use Rattle.run_results.specs.TreeTexts.{name_at};
 ghost use Rattle.plan_events.specs.Texts.{text_at};
 ghost use Rattle.live.specs.FailedTexts.{is_left_out, is_named, selects_below};
 

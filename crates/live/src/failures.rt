@@ -8,9 +8,10 @@ ghost use Rattle.live.specs.Failing.{Keeps, KeepsNode, Misses};
 
 use crate::failure::{Failure, Naming};
 use descriptor::NodeId;
-use listeners::{Observer, tells_failure};
+use listeners::Observer;
 use plan_events::{Event, Texts};
 use resource_locks::Plan;
+use run_results::tells_failure;
 use std::alloc::Global;
 
 /// How many failures are kept.

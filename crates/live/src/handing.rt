@@ -2,7 +2,7 @@
 
 ghost use Rattle.live.specs.Written.{IsSent};
 
-use listeners::print_to;
+use run_results::print_to;
 use std::io::Write;
 
 /// Hands this text to a writer; tells whether all of it stands there.

@@ -3,17 +3,18 @@
 ghost use Rattle.std.specs.Prelude.{◌≡◌, ◌≤◌, ◌<◌, ◌&&◌, ◌++◌, [], ◌∷◌, ℕ, false, List, Option, IfOk, length, take, string_bytes};
 ghost use Rattle.std.specs.Io.KnownBytes.{Appends};
 ghost use Rattle.listeners.specs.Listeners.{telling};
-ghost use Rattle.listeners.specs.Sending.{SendsExactly};
+ghost use Rattle.run_results.specs.Sending.{SendsExactly};
 ghost use Rattle.live.specs.LiveFeeds.{NotesIf, front_of, is_stopped, lines_of, telling_line};
 ghost use Rattle.reports.specs.Json.{timed_json_of};
 ghost use Rattle.listeners.specs.Endings.{is_finish};
 
 use crate::line_form::LineForm;
 use job_times::{Stopwatch, Timings};
-use listeners::{Observer, WriteFault, ends_plan, feed_text, is_finish, print_to};
+use listeners::{Observer, ends_plan, is_finish};
 use plan_events::{Event, Texts};
 use reports::{json_text, timed_json_text};
 use resource_locks::Plan;
+use run_results::{WriteFault, feed_text, print_to};
 use std::alloc::{AllocError, Global};
 use std::io::Write;
 

@@ -19,7 +19,7 @@ pub struct TestCounts {
 }
 
 impl TestCounts {
-    /// The tests of the twelve counts of a summary, as `Summary::counts` of listeners gives them.
+    /// The tests of the twelve counts of a summary, as `Summary::counts` of run_results gives them.
     pub fn of(counts: [u32; 12]) -> TestCounts
         ensures found { result.found ≡ count_at counts 6 }
         ensures running { result.running ≡ are_running counts }

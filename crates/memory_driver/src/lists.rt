@@ -4,9 +4,10 @@ use crate::inputs::{PAIR, SHOP, plan_of};
 use crate::printer::Printer;
 use crate::said::Said;
 use descriptor::NodeId;
-use listeners::{Audience, Listener, Recorder, Summary};
+use listeners::{Audience, Listener, Recorder};
 use plan_events::{Event, EventKind};
 use resource_locks::Plan;
+use run_results::Summary;
 use std::alloc::{AllocError, Global};
 use std::io::Write;
 

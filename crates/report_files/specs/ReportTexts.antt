@@ -4,7 +4,7 @@ use Rattle.job_times.specs.Timings.{Times}
 use Rattle.launch_options.specs.declared.details.Details.{Details}
 use Rattle.run_outputs.specs.Outputs.{details_of}
 use Rattle.run_outputs.specs.WarningTexts.{beginning}
-use Rattle.listeners.specs.declared.theme.Theme.{Theme}
+use Rattle.run_results.specs.declared.theme.Theme.{Theme}
 use Rattle.report_files.specs.Told.{ToldParts}
 
 -- what an output of this form begins with, as a document of XML with its declaration, and the run in this form, with these times; no

@@ -4,7 +4,7 @@ use Rattle.std.specs.Io.KnownBytes.{Appends}
 use Rattle.launch_options.specs.declared.fault.CutCause.TheVariants.{Writer, Memory}
 use Rattle.job_times.specs.Timings.{Times}
 use Rattle.listeners.specs.Listeners.{EachPlace}
-use Rattle.listeners.specs.declared.theme.Theme.{Theme}
+use Rattle.run_results.specs.declared.theme.Theme.{Theme}
 use Rattle.report_files.specs.ReportTexts.{report_of}
 use Rattle.report_files.specs.Told.{ToldParts}
 use Rattle.report_files.specs.declared.recording.Recorded.{Recorded}

@@ -9,7 +9,7 @@ use crate::recording::{Recorded, ToldRun};
 use crate::report_text::report_text;
 use job_times::Timings;
 use launch_options::{CutCause, Details, Options};
-use listeners::{Theme, print_to};
+use run_results::{Theme, print_to};
 use std::alloc::Global;
 use std::io::Write;
 

@@ -3,19 +3,19 @@
 ghost use Rattle.std.specs.Prelude.{◌≡◌, ◌++◌, IfOk, string_bytes};
 ghost use Rattle.job_times.specs.Timings.{times_of};
 ghost use Rattle.run_outputs.specs.Outputs.{details_of};
-ghost use Rattle.listeners.specs.Counts.{counts_of};
-ghost use Rattle.listeners.specs.SummaryTexts.{summary_of};
-ghost use Rattle.listeners.specs.TreeTexts.{tree_of};
+ghost use Rattle.run_results.specs.Counts.{counts_of};
+ghost use Rattle.run_results.specs.SummaryTexts.{summary_of};
+ghost use Rattle.run_results.specs.TreeTexts.{tree_of};
 ghost use Rattle.report_files.specs.ReportTexts.{report_of};
 
 use crate::recording::ToldRun;
 use job_times::Timings;
 use junit_report::timed_junit_text;
 use launch_options::Details;
-use listeners::{Results, Theme, feed_text};
 use plan_events::Texts;
 use reports::{list_text, plan_text, timed_json_text};
 use run_outputs::beginning;
+use run_results::{Results, Theme, feed_text};
 use std::alloc::{AllocError, Global};
 
 /// The counts of a run.

@@ -13,7 +13,7 @@ use Rattle.plan_events.specs.declared.event.EventKind.{EventKind}
 use Rattle.plan_events.specs.declared.event.EventKind.TheVariants.{Started, Finished, Skipped, Registered}
 use Rattle.plan_events.specs.declared.status.Status.{Status}
 use Rattle.plan_events.specs.declared.status.Status.TheVariants.{Successful, Aborted, Failed}
-use Rattle.listeners.specs.Feed.{text_or}
+use Rattle.run_results.specs.Feed.{text_or}
 use Rattle.reports.specs.Json.{ReadsAs, text_member, time_members, status_members, timed_ending_members, node_members, event_json, timed_object_told, note_json, note_line, timed_json_of}
 use Rattle.reports.proofs.JsonLines.{MembersHaveDecimals, IsLine, lines_read}
 

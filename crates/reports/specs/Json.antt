@@ -19,8 +19,8 @@ use Rattle.plan_events.specs.declared.event.EventKind.{EventKind}
 use Rattle.plan_events.specs.declared.event.EventKind.TheVariants.{Finished, Skipped}
 use Rattle.plan_events.specs.declared.status.Status.{Status}
 use Rattle.plan_events.specs.declared.status.Status.TheVariants.{Successful}
-use Rattle.listeners.specs.Feed.{kind_word, id_at, text_or}
-use Rattle.listeners.specs.TreeTexts.{name_at}
+use Rattle.run_results.specs.Feed.{kind_word, id_at, text_or}
+use Rattle.run_results.specs.TreeTexts.{name_at}
 use Rattle.reports.specs.TimeTexts.{milliseconds}
 
 -- the text of a value: no space, and the shortest escapes

@@ -4,7 +4,7 @@ use Rattle.std.specs.List.{flat_map, range_with_len}
 use Rattle.descriptor.specs.Kinds.{is_test}
 use Rattle.descriptor.specs.Nodes.{Nodes, size, parent_of, kind_of, is_disabled, is_spare_at, is_factory_at}
 use Rattle.resource_locks.specs.Plans.{PlanParts}
-use Rattle.listeners.specs.Feed.{id_at}
+use Rattle.run_results.specs.Feed.{id_at}
 
 -- whether node n is disabled, or a node that it is below by so many steps at most
 abbrev pub is_ruled_out_within : Nodes → ℕ → ℕ → Bool

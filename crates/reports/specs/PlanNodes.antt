@@ -9,8 +9,8 @@ use Rattle.descriptor.specs.declared.mode.Mode.{Mode}
 use Rattle.descriptor.specs.declared.mode.Mode.TheVariants.{SameThread, Concurrent}
 use Rattle.json.specs.Json.{Json, array, object, Items, no_items, item, Members, no_members, member}
 use Rattle.resource_locks.specs.Plans.{PlanParts, held_of, limit_for, mode_of}
-use Rattle.listeners.specs.Feed.{id_at}
-use Rattle.listeners.specs.TreeTexts.{name_at}
+use Rattle.run_results.specs.Feed.{id_at}
+use Rattle.run_results.specs.TreeTexts.{name_at}
 use Rattle.reports.specs.Json.{number_member, text_member, type_word, written}
 
 -- an execution mode, in a word

@@ -2,7 +2,7 @@
 
 ghost use Rattle.std.specs.Prelude.{◌≡◌, ◌<◌, ◌^◌, ◌∷◌, ◌++◌, [], OnOk, IfOk, IfSome, codes, map, string_bytes};
 ghost use Rattle.job_times.specs.Timings.{took_of};
-ghost use Rattle.listeners.specs.Feed.{kind_word, text_or};
+ghost use Rattle.run_results.specs.Feed.{kind_word, text_or};
 ghost use Rattle.plan_events.specs.Texts.{text_at};
 ghost use Rattle.reports.specs.Json.{type_word, time_members, status_members, timed_ending_members, node_members};
 ghost use Rattle.reports.specs.Json.{note_line, note_json, timed_event_object, timed_object_told, object_told, ReadsAs};

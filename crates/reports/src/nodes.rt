@@ -2,8 +2,8 @@
 
 ghost use Rattle.std.specs.Prelude.{◌≡◌};
 ghost use Rattle.descriptor.specs.Nodes.{kind_of, role_of};
-ghost use Rattle.listeners.specs.Feed.{id_at, text_or};
-ghost use Rattle.listeners.specs.TreeTexts.{name_at};
+ghost use Rattle.run_results.specs.Feed.{id_at, text_or};
+ghost use Rattle.run_results.specs.TreeTexts.{name_at};
 ghost use Rattle.plan_events.specs.Texts.{text_at};
 
 use descriptor::{Kind, NodeId, Role, Tree};

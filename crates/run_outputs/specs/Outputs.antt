@@ -13,11 +13,11 @@ use Rattle.scheduling.specs.State.{State}
 use Rattle.sched_core.specs.Runs.{run, passed_over}
 use Rattle.sched_core.specs.Texts.{AreTexts}
 use Rattle.job_times.specs.Timings.{Times}
-use Rattle.listeners.specs.declared.theme.Theme.{Theme}
-use Rattle.listeners.specs.Counts.{counts_of as node_counts}
-use Rattle.listeners.specs.Feed.{feed_of}
-use Rattle.listeners.specs.SummaryTexts.{summary_of}
-use Rattle.listeners.specs.TreeTexts.{tree_of}
+use Rattle.run_results.specs.declared.theme.Theme.{Theme}
+use Rattle.run_results.specs.Counts.{counts_of as node_counts}
+use Rattle.run_results.specs.Feed.{feed_of}
+use Rattle.run_results.specs.SummaryTexts.{summary_of}
+use Rattle.run_results.specs.TreeTexts.{tree_of}
 use Rattle.reports.specs.Json.{timed_json_of}
 use Rattle.junit_report.specs.Junit.{timed_junit_of}
 use Rattle.reports.specs.Lists.{list_of}

@@ -2,10 +2,10 @@
 
 ghost use Rattle.std.specs.Prelude.{◌≡◌, ℕ, List, ◌++◌, option_map, IfOk, string_bytes};
 ghost use Rattle.job_times.specs.Timings.{times_asked, times_of};
-ghost use Rattle.listeners.specs.Counts.{counts_of};
-ghost use Rattle.listeners.specs.Results.{tests_found, has_failed};
-ghost use Rattle.listeners.specs.SummaryTexts.{summary_of};
-ghost use Rattle.listeners.specs.TreeTexts.{tree_of};
+ghost use Rattle.run_results.specs.Counts.{counts_of};
+ghost use Rattle.run_results.specs.Results.{tests_found, has_failed};
+ghost use Rattle.run_results.specs.SummaryTexts.{summary_of};
+ghost use Rattle.run_results.specs.TreeTexts.{tree_of};
 ghost use Rattle.run_outputs.specs.ExitStatuses.{status_of_run};
 ghost use Rattle.run_outputs.specs.Outputs.{IsListing, IsPlanned, IsReplayOutput, details_of};
 ghost use Rattle.run_outputs.specs.ScheduleLines.{IsBehindRun};
@@ -20,10 +20,10 @@ use config_params::{Settings, Warnings};
 use job_times::Timings;
 use junit_report::timed_junit_text;
 use launch_options::{Details, Options};
-use listeners::{Results, Theme, feed_text};
 use plan_events::{Event, Texts};
 use reports::{list_text, plan_text, timed_json_text};
 use resource_locks::Plan;
+use run_results::{Results, Theme, feed_text};
 use sched_core::{Answers, run_steps, texts_of};
 use scheduling::Step;
 use std::alloc::{AllocError, Global};

@@ -6,9 +6,9 @@ ghost use Rattle.plan_events.specs.Texts.{text_at};
 ghost use Rattle.run_outputs.specs.ScheduleLines.{HasTextsBy};
 
 use descriptor::{BodyId, NodeId};
-use listeners::{NodeEvents, node_events};
 use plan_events::{Event, Outcome, Reply, Status, Texts};
 use resource_locks::Plan;
+use run_results::{NodeEvents, node_events};
 use sched_core::{Answers, texts_of};
 use scheduling::{NodeJobs, jobs_of};
 use std::alloc::{AllocError, Global};

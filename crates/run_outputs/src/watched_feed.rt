@@ -4,14 +4,15 @@ ghost use Rattle.std.specs.Prelude.{◌≡◌, ◌≤◌, ◌<◌, ◌∷◌, []
 ghost use Rattle.std.specs.Io.KnownBytes.{Appends};
 ghost use Rattle.job_times.specs.Timings.{times_of};
 ghost use Rattle.listeners.specs.Listeners.{telling};
-ghost use Rattle.listeners.specs.Sending.{SendsExactly};
+ghost use Rattle.run_results.specs.Sending.{SendsExactly};
 ghost use Rattle.listeners.specs.Observing.{HasSeenMore};
 
 use job_times::{Stopwatch, Timings};
-use listeners::{Observer, WriteFault};
+use listeners::Observer;
 use live::{LiveFeed, Outlet};
 use plan_events::{Event, Texts};
 use resource_locks::Plan;
+use run_results::WriteFault;
 use std::io::Write;
 
 /// Knows what was noted of how long the nodes of a run took.

@@ -18,8 +18,8 @@ use Rattle.plan_events.specs.declared.event.EventKind.{EventKind}
 use Rattle.plan_events.specs.declared.event.EventKind.TheVariants.{Started, Finished, Skipped, Registered}
 use Rattle.plan_events.specs.declared.status.Status.{Status}
 use Rattle.plan_events.specs.declared.status.Status.TheVariants.{Successful, Aborted, Failed}
-use Rattle.listeners.specs.Feed.{kind_word, ending, event_line, plan_line, node_line as printed_line, id_at, id_or, text_or, feed_of}
-use Rattle.listeners.specs.Printed.{printed_byte, cleaned, text_after}
+use Rattle.run_results.specs.Feed.{kind_word, ending, event_line, plan_line, node_line as printed_line, id_at, id_or, text_or, feed_of}
+use Rattle.run_results.specs.Printed.{printed_byte, cleaned, text_after}
 use Rattle.saved_runs.specs.FeedLines.{after_word, is_worker, node_ended, node_line, behind_worker, note_line}
 use Rattle.saved_runs.specs.Histories.{what_of, plan_event, segments_or, event_told, IsUid, HasUid, HasUids, HasFlatIds, IsOf, TellsFirst}
 use Rattle.saved_runs.specs.Lines.{whole_lines, line_told, Tell}

@@ -26,8 +26,8 @@ use Rattle.plan_events.specs.declared.event.EventKind.{EventKind}
 use Rattle.plan_events.specs.declared.event.EventKind.TheVariants.{Started, Finished, Skipped, Registered}
 use Rattle.plan_events.specs.declared.status.Status.{Status}
 use Rattle.plan_events.specs.declared.status.Status.TheVariants.{Successful, Aborted, Failed}
-use Rattle.listeners.specs.Feed.{kind_word, id_at, id_or, text_or}
-use Rattle.listeners.specs.TreeTexts.{name_at}
+use Rattle.run_results.specs.Feed.{kind_word, id_at, id_or, text_or}
+use Rattle.run_results.specs.TreeTexts.{name_at}
 use Rattle.reports.specs.Json.{written, text_member, number_member, type_word, time_members, timed_ending_members, event_json, timed_event_object, timed_json_of}
 use Rattle.reports.specs.TimeTexts.{AreTimes}
 use Rattle.reports.proofs.JsonEvents.{IsTime, text_reads}

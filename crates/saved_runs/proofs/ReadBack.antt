@@ -16,7 +16,7 @@ use Rattle.plan_events.specs.declared.event.EventKind.TheVariants.{Started, Fini
 use Rattle.plan_events.specs.declared.outcome.Reply.{Reply}
 use Rattle.plan_events.specs.declared.status.Status.{Status}
 use Rattle.plan_events.specs.declared.status.Status.TheVariants.{Successful, Aborted, Failed}
-use Rattle.listeners.specs.Feed.{feed_of}
+use Rattle.run_results.specs.Feed.{feed_of}
 use Rattle.reports.specs.Json.{timed_json_of}
 use Rattle.reports.specs.TimeTexts.{AreTimes}
 use Rattle.saved_runs.specs.RunAgain.{failed_ids}

@@ -4,7 +4,7 @@ use Rattle.std.specs.Option.{option_and_then}
 use Rattle.std.specs.Str.{bytes_eq}
 use Rattle.json.specs.Find.{get, as_str}
 use Rattle.json.specs.Json.{Json, document}
-use Rattle.listeners.specs.Feed.{text_or}
+use Rattle.run_results.specs.Feed.{text_or}
 use Rattle.saved_runs.specs.declared.told.Told.{Told}
 use Rattle.saved_runs.specs.declared.told.Told.TheVariants.{Note}
 use Rattle.saved_runs.specs.Telling.{plan_told, node_told}

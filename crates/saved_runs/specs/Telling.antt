@@ -2,7 +2,7 @@
 use Rattle.std.specs.Prelude.{ℕ, ◌==◌, cond, List, length, Bool, true, false, Option, Some, None, Result, Ok, Err}
 use Rattle.std.specs.Option.{option_map, option_and_then}
 use Rattle.std.specs.Str.{bytes_eq}
-use Rattle.listeners.specs.Feed.{kind_word}
+use Rattle.run_results.specs.Feed.{kind_word}
 use Rattle.plan_events.specs.Statuses.{status_text}
 use Rattle.plan_events.specs.declared.event.EventKind.TheVariants as kinds
 use Rattle.plan_events.specs.declared.status.Status.{Status}

@@ -4,7 +4,7 @@
 ghost use Rattle.std.specs.Prelude.{ℕ, List};
 ghost use Rattle.event_history.specs.History.{IsLegal};
 ghost use Rattle.job_times.specs.Timings.{Took};
-ghost use Rattle.listeners.specs.Feed.{feed_of};
+ghost use Rattle.run_results.specs.Feed.{feed_of};
 ghost use Rattle.plan_events.specs.Texts.{TextParts};
 ghost use Rattle.plan_events.specs.declared.event.Event.{Event};
 ghost use Rattle.plan_events.specs.declared.outcome.Reply.{Reply};

@@ -1,13 +1,13 @@
-//! Calls `listeners`: what is printed of a run.
+//! Calls `run_results`: what is printed of a run.
 
 ghost use Rattle.std.specs.Prelude.{◌≡◌, IfOk, MatchOption, false, string_bytes};
-ghost use Rattle.listeners.specs.Counts.{counts_of};
-ghost use Rattle.listeners.specs.Results.{has_failed};
-ghost use Rattle.listeners.specs.SummaryTexts.{summary_of};
+ghost use Rattle.run_results.specs.Counts.{counts_of};
+ghost use Rattle.run_results.specs.Results.{has_failed};
+ghost use Rattle.run_results.specs.SummaryTexts.{summary_of};
 
-use listeners::Results;
 use plan_events::Event;
 use resource_locks::Plan;
+use run_results::Results;
 use std::alloc::{AllocError, Global};
 
 /// The summary of a run in which a container or a test failed, and none of another.

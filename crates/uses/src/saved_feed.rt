@@ -5,9 +5,9 @@ ghost use Rattle.event_history.specs.History.{IsLegal};
 ghost use Rattle.plan_events.specs.declared.outcome.Reply.{Reply};
 ghost use Rattle.saved_runs.specs.Histories.{HasFlatIds, event_told};
 
-use listeners::feed_text;
 use plan_events::{Event, Texts};
 use resource_locks::Plan;
+use run_results::feed_text;
 use saved_runs::{SavedFault, SavedRun, has_uids};
 use std::alloc::Global;
 

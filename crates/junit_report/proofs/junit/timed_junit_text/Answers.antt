@@ -4,8 +4,8 @@ use Rattle.std.specs.List.{flat_map, range_with_len}
 use Rattle.std.proofs.lemmas.Grind.{common_steps}
 use Rattle.descriptor.specs.Nodes.{size}
 use Rattle.job_times.specs.Timings.{times_of}
-use Rattle.listeners.specs.Told.{all_told}
-use Rattle.listeners.specs.declared.told.NodeEvents.{NodeEvents}
+use Rattle.run_results.specs.Told.{all_told}
+use Rattle.run_results.specs.declared.told.NodeEvents.{NodeEvents}
 use Rattle.junit_report.specs.Junit.{suite_of, suites_element}
 use Rattle.junit_report.proofs.Pieces.{behind}
 use Rattle.junit_report.proofs.junit.timed_junit_text.Goals as goal

@@ -2,7 +2,7 @@
 use Rattle.std.proofs.Common.{◌∙◌, ◌++◌, List, ℕ, codes, string_bytes, ap}
 use Rattle.std.proofs.lemmas.Result.{on_ok_weaker}
 use Rattle.descriptor.specs.Nodes.{Nodes}
-use Rattle.listeners.specs.TreeTexts.{name_at}
+use Rattle.run_results.specs.TreeTexts.{name_at}
 use Rattle.junit_report.specs.XmlStrings.{escaped}
 use Rattle.reports.proofs.Growing.{then}
 use Rattle.reports.proofs.Pushing.{pushed}

@@ -3,7 +3,7 @@ use Rattle.std.proofs.Common.{◌≡◌, ◌++◌, subst}
 use Rattle.std.specs.Prelude.{string_bytes}
 use Rattle.resource_locks.specs.Plans.{PlanParts}
 use Rattle.job_times.specs.Timings.{times_asked}
-use Rattle.listeners.specs.Results.{tests_found, has_failed}
+use Rattle.run_results.specs.Results.{tests_found, has_failed}
 use Rattle.launch_options.specs.Asked.{asked_by}
 use Rattle.run_outputs.specs.ExitStatuses.{status_of_run}
 use Rattle.launcher.specs.Programs.{IsPrintedJobs}

@@ -2,7 +2,7 @@
 use Rattle.std.proofs.Common.{◌∙◌, ◌++◌, List, ℕ, codes, string_bytes, ap}
 use Rattle.std.proofs.lemmas.Result.{on_ok_weaker}
 use Rattle.descriptor.specs.Nodes.{Nodes}
-use Rattle.listeners.specs.TreeTexts.{name_at}
+use Rattle.run_results.specs.TreeTexts.{name_at}
 use Rattle.live.specs.Shown.{shown}
 use Rattle.live.proofs.Growing.{then}
 use Rattle.live.proofs.Pushing.{pushed}

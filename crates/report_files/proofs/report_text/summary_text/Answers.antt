@@ -3,8 +3,8 @@ use Rattle.std.proofs.Common.{◌≡◌, ◌∙◌, List, IfOk, subst}
 use Rattle.std.specs.Prelude.{string_bytes}
 use Rattle.plan_events.specs.declared.event.Event.{Event}
 use Rattle.resource_locks.specs.Plans.{PlanParts}
-use Rattle.listeners.specs.Counts.{counts_of}
-use Rattle.listeners.specs.SummaryTexts.{summary_of}
+use Rattle.run_results.specs.Counts.{counts_of}
+use Rattle.run_results.specs.SummaryTexts.{summary_of}
 use Rattle.report_files.proofs.report_text.summary_text.Goals as goal
 
 pub returns : goal.returns

@@ -5,7 +5,7 @@ use Rattle.json.specs.Json.{string}
 use Rattle.json.specs.Print.{quoted}
 use Rattle.job_times.specs.Timings.{took_of}
 use Rattle.plan_events.specs.Texts.{text_at}
-use Rattle.listeners.specs.Feed.{kind_word, text_or}
+use Rattle.run_results.specs.Feed.{kind_word, text_or}
 use Rattle.reports.specs.Json.{node_members, number_member}
 use Rattle.reports.specs.JsonPieces.{members_behind}
 use Rattle.reports.proofs.Growing.{then}

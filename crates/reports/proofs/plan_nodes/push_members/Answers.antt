@@ -3,8 +3,8 @@ use Rattle.std.proofs.Common.{◌++◌, ◌∙◌, List, ℕ, codes, ap, string_
 use Rattle.std.proofs.lemmas.Result.{on_ok_weaker}
 use Rattle.descriptor.specs.Nodes.{parent_of}
 use Rattle.json.specs.Print.{quoted}
-use Rattle.listeners.specs.Feed.{id_at}
-use Rattle.listeners.specs.TreeTexts.{name_at}
+use Rattle.run_results.specs.Feed.{id_at}
+use Rattle.run_results.specs.TreeTexts.{name_at}
 use Rattle.reports.specs.JsonPieces.{members_behind}
 use Rattle.reports.specs.PlanNodes.{way_members}
 use Rattle.reports.proofs.Growing.{then}

@@ -1,7 +1,7 @@
 -- The results are those of this plan and these events.
 use Rattle.std.proofs.Common.{ap₂, ◌∙◌}
-use Rattle.listeners.specs.Counts.{counts_of}
-use Rattle.listeners.specs.SummaryTexts.{summary_of}
+use Rattle.run_results.specs.Counts.{counts_of}
+use Rattle.run_results.specs.SummaryTexts.{summary_of}
 use Rattle.uses.proofs.failed_run.failed_summary.Goals as goal
 
 pub returns : goal.returns

@@ -3,7 +3,7 @@ use Rattle.std.proofs.Common.{◌==◌, not, subst, sym}
 use Rattle.listeners.specs.Listeners.{telling}
 use Rattle.plan_events.specs.Statuses.{is_failed}
 use Rattle.plan_events.specs.Texts.{text_at}
-use Rattle.listeners.specs.Told.{ended, status_by}
+use Rattle.run_results.specs.Told.{ended, status_by}
 use Rattle.live.specs.Failing.{KeepsNode}
 use Rattle.live.proofs.Keeping.{both_true, failed_text_is, keeps}
 use Rattle.live.proofs.failures.FailuresObserver.see.Goals as goal

@@ -1,6 +1,6 @@
 -- What is sent of the rest stands behind what was sent before.
 use Rattle.std.proofs.Common.{ℕ, ◌<◌, ◌≤◌, ◌+◌, ◌-◌, List, length, take, drop, arith, length-take}
-use Rattle.listeners.proofs.Sending.{send_more}
+use Rattle.run_results.proofs.Sending.{send_more}
 use Rattle.live.proofs.live_feed.LiveFeed.finish.Goals as goal
 
 less : (xs : List ℕ) (done n : ℕ) → done ≤ length xs → n < length (take (length xs - done) (drop done xs)) → done + n < length xs

@@ -1,6 +1,0 @@
--- The search proves it. Written out, it spares a wrong body the printing of what is left to show.
-use Rattle.std.proofs.Common.{rules}
-use Rattle.listeners.proofs.feed.id_of.Goals as goal
-
-pub returns : goal.returns
-returns c = search rules

@@ -1,8 +1,0 @@
--- The places of the nodes so far.
-use Rattle.std.proofs.Common.{◌≡◌, map}
-use Rattle.std.specs.List.{range_with_len}
-use Rattle.listeners.specs.Counts.{place_of}
-use Rattle.listeners.proofs.node_places.outline_of.Given as goal
-
-abbrev pub invariant-loop-number : goal.invariant-loop-number
-invariant-loop-number l = l.outline.items ≡ map (place_of l.tree) (range_with_len 0 l.number)
