@@ -7,7 +7,8 @@ ghost use Rattle.scheduling.specs.declared.task.Task.TheVariants.{Free};
 ghost use Rattle.run_table.specs.Handles.{about_in, view_at};
 ghost use Rattle.run_table.specs.Seats.{IsSeatOf};
 ghost use Rattle.test_jobs.specs.Acting.{replies_left};
-ghost use Rattle.worker_pool.specs.Premises.{JobsMayAnswer, MayAnswer};
+ghost use Rattle.workers.specs.Premises.{MayAnswer};
+ghost use Rattle.worker_pool.specs.Premises.{JobsMayAnswer};
 ghost use Rattle.worker_pool.specs.Reports.{run_of};
 ghost use Rattle.worker_pool.specs.Telling.{AreTextsRead, KeepsTexts};
 

@@ -4,7 +4,7 @@ ghost use Rattle.std.specs.Prelude.{◌≡◌, ◌<◌, ◌≤◌, ◌+◌, ◌�
 ghost use Rattle.std.specs.Prelude.{vec_capacity};
 ghost use Rattle.run_table.specs.Handles.{about_at, about_in, dispatcher_at};
 ghost use Rattle.run_table.specs.Seats.{IsSeatOf, IsOf};
-ghost use Rattle.worker_pool.specs.Premises.{MayAnswer};
+ghost use Rattle.workers.specs.Premises.{MayAnswer};
 
 use crate::gate::{FinishedSeat, FreeSeat, Gate, SharedTable, TableBrand};
 use crate::serving::serve;

@@ -5,7 +5,7 @@ use Rattle.table_rule.specs.Picture.{replies_of}
 use Rattle.table_rule.specs.declared.view.SlotState.{SlotState}
 use Rattle.table_rule.specs.Plays.{dispatcher}
 use Rattle.test_jobs.specs.Acting.{replies_left}
-use Rattle.worker_pool.specs.Premises.{MayAnswer}
+use Rattle.workers.specs.Premises.{MayAnswer}
 use Rattle.worker_pool.specs.Reports.{run_of}
 use Rattle.worker_pool.specs.Telling.{AreTextsRead}
 use Rattle.worker_pool.proofs.Handed.{may_answer}

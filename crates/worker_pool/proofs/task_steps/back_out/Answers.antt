@@ -1,7 +1,0 @@
-use Rattle.worker_pool.proofs.Due.{gives}
-use Rattle.worker_pool.proofs.task_steps.back_out.Goals as goal
-
-pub returns-clause-steady : goal.returns-clause-steady
-returns-clause-steady g c =
-    let self = c.args.seat.now in
-    gives self.seat c.give_due.new.self.seat c.give_due.ensures.same.about self.task _ self.hand self.at_work.seat_is c.give_due.ensures.done

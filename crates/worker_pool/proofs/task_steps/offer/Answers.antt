@@ -1,5 +1,0 @@
-use Rattle.worker_pool.proofs.Due.{admits}
-use Rattle.worker_pool.proofs.task_steps.offer.Goals as goal
-
-pub returns-clause-steady : goal.returns-clause-steady
-returns-clause-steady g c = admits c.args.seat.now.seat c.admit_due.new.self.seat c.admit_due.ensures.same.about _ c.admit_due.ensures.done

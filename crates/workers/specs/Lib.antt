@@ -1,0 +1,4 @@
+-- What clauses say of workers.
+pub mod Going
+pub mod Premises
+pub mod Inside
