@@ -18,9 +18,9 @@ use Rattle.event_history.proofs.Places.{has_at, has_stands, stands_has}
 use Rattle.scheduling.specs.Choices.{after_job}
 use Rattle.table_rule.specs.Slots.{is_body_slot, after_slot}
 use Rattle.table_rule.proofs.Jobs.{body_job, after_job_at, after_is, far}
+use Rattle.table_contents.specs.Prepared.{slot_of}
+use Rattle.table_contents.proofs.Filled.{slot_found}
 use Rattle.run_table.specs.Balance.{IsUsed}
-use Rattle.run_table.specs.Prepared.{slot_of}
-use Rattle.run_table.proofs.Filled.{slot_found}
 use Rattle.worker_pool.proofs.Handed.{body_inside, after_inside}
 use Rattle.worker_pool.specs.Reports.{AreTexts}
 use Rattle.launcher.specs.Programs.{one_each}

@@ -11,7 +11,7 @@ use Rattle.listeners.specs.Listeners.{Telling}
 use Rattle.job_times.specs.Timings.{Times}
 use Rattle.resource_locks.specs.Plans.{PlanParts}
 use Rattle.never_stuck.specs.Reaching.{NeverStuck}
-use Rattle.run_table.specs.Prepared.{HasAllJobs}
+use Rattle.table_contents.specs.Prepared.{HasAllJobs}
 use Rattle.selectors.specs.Selections.{answer}
 use Rattle.suite_text.specs.Reading.Parts.{SuiteParts}
 use Rattle.launch_options.specs.Asked.{Asked}

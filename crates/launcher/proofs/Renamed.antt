@@ -19,11 +19,11 @@ use Rattle.table_rule.specs.declared.view.SlotState.{SlotState}
 use Rattle.table_rule.specs.declared.view.SlotState.TheVariants.{Unmoved, Out, Left, Noted, Taking, Taken}
 use Rattle.table_rule.specs.Picture.{SaysSo, given_by, that_count, replies_in, replies_of}
 use Rattle.table_rule.specs.Slots.{job_at, job_with, slot_with, slot_for, IsHome}
+use Rattle.table_contents.specs.Prepared.{slot_of, goes_in, unused_after, unused_of, job_in, jobs_from, IsMissing, HasAllJobs, IsRefused}
+use Rattle.table_contents.specs.declared.fault.TableFault.{TableFault}
+use Rattle.table_contents.specs.declared.fault.TableFault.TheVariants.{NoMemory, NoWorkers, TooManyWorkers, BadRing, JobsMissing}
 use Rattle.run_table.specs.Balance.{IsBalanced}
 use Rattle.run_table.specs.Ended.{HasEnded}
-use Rattle.run_table.specs.Prepared.{slot_of, goes_in, unused_after, unused_of, job_in, jobs_from, IsMissing, HasAllJobs, IsRefused}
-use Rattle.run_table.specs.declared.fault.TableFault.{TableFault}
-use Rattle.run_table.specs.declared.fault.TableFault.TheVariants.{NoMemory, NoWorkers, TooManyWorkers, BadRing, JobsMissing}
 use Rattle.worker_pool.specs.Premises.{JobsMayAnswer}
 use Rattle.worker_pool.specs.Reports.{run_of, AreTexts, EndsAsReplied, IsLeft, IsReport, IsRefusedRun, IsToldAsGiven, IsToldAsSaid}
 use Rattle.worker_pool.specs.declared.report.RunCause.{RunCause}

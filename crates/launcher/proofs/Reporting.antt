@@ -26,8 +26,8 @@ use Rattle.table_rule.proofs.MoreReplies.{wide_legal, wide_text}
 use Rattle.worker_pool.specs.Reports.{run_of, AreTexts, IsReport, IsRefusedRun}
 use Rattle.worker_pool.specs.declared.report.RunCause.{RunCause}
 use Rattle.worker_pool.specs.declared.report.RunCause.TheVariants.{Table, NoWorker}
-use Rattle.run_table.specs.Prepared.{HasAllJobs, IsRightRing}
-use Rattle.run_table.specs.declared.fault.TableFault.TheVariants.{NoMemory, NoWorkers, TooManyWorkers, BadRing, JobsMissing}
+use Rattle.table_contents.specs.Prepared.{HasAllJobs, IsRightRing}
+use Rattle.table_contents.specs.declared.fault.TableFault.TheVariants.{NoMemory, NoWorkers, TooManyWorkers, BadRing, JobsMissing}
 use Rattle.launch_options.specs.declared.details.Details.{Details}
 use Rattle.launch_options.specs.declared.details.Details.TheVariants as details
 use Rattle.run_outputs.specs.declared.exit_status.ExitStatus.{ExitStatus}

@@ -25,7 +25,7 @@ use Rattle.sched_core.specs.Replies.{reply_of, replies_of as replies_by}
 use Rattle.table_rule.specs.Picture.{replies_in}
 use Rattle.table_rule.specs.Slots.{slot_count, is_body_slot, after_slot, job_at, job_with}
 use Rattle.table_rule.proofs.Jobs.{body_job, after_job_at, after_is, one_slot_each, far}
-use Rattle.run_table.specs.Prepared.{HasAllJobs}
+use Rattle.table_contents.specs.Prepared.{HasAllJobs}
 use Rattle.worker_pool.proofs.Handed.{body_inside, after_inside, replies_found}
 use Rattle.worker_pool.specs.Premises.{JobsMayAnswer}
 use Rattle.worker_pool.specs.Reports.{run_of}

@@ -5,7 +5,7 @@ use Rattle.std.specs.Option.{is_some}
 use Rattle.descriptor.specs.Nodes.{Nodes, IsTree, size, node_at, body_or, after_or, body_of, after_of}
 use Rattle.descriptor.specs.Pruned.{pruned}
 use Rattle.resource_locks.specs.Plans.{PlanParts}
-use Rattle.run_table.specs.Prepared.{HasAllJobs}
+use Rattle.table_contents.specs.Prepared.{HasAllJobs}
 use Rattle.table_rule.specs.Slots.{is_body_slot, job_with}
 use Rattle.worker_pool.proofs.Handed.{body_inside, after_inside}
 use Rattle.launcher.specs.Programs.{HasJobs}

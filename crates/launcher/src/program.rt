@@ -18,7 +18,7 @@ ghost use Rattle.live.specs.LiveFeeds.{IsFront};
 ghost use Rattle.resource_locks.specs.Declarations.{declared_of};
 ghost use Rattle.resource_locks.specs.Hoisted.{IsGuarded};
 ghost use Rattle.resource_locks.specs.Plans.{PlanParts};
-ghost use Rattle.run_table.specs.Prepared.{HasAllJobs};
+ghost use Rattle.table_contents.specs.Prepared.{HasAllJobs};
 ghost use Rattle.worker_pool.specs.Premises.{JobsMayAnswer};
 ghost use Rattle.worker_pool.specs.Reports.{run_of};
 

@@ -17,7 +17,7 @@ ghost use Rattle.run_outputs.specs.ExitStatuses.{status_of_run};
 ghost use Rattle.run_outputs.specs.Outputs.{details_of};
 ghost use Rattle.run_outputs.specs.ScheduleLines.{IsBehindRun};
 ghost use Rattle.run_outputs.specs.WarningTexts.{head_of};
-ghost use Rattle.run_table.specs.Prepared.{HasAllJobs};
+ghost use Rattle.table_contents.specs.Prepared.{HasAllJobs};
 ghost use Rattle.worker_pool.specs.Premises.{JobsMayAnswer};
 ghost use Rattle.worker_pool.specs.Reports.{run_of};
 

@@ -10,7 +10,7 @@ use Rattle.plan_events.specs.declared.outcome.Reply.{Reply}
 use Rattle.resource_locks.specs.Plans.{PlanParts}
 use Rattle.sched_core.specs.Replies.{reply_of}
 use Rattle.table_rule.specs.Slots.{slot_count, job_at, job_with}
-use Rattle.run_table.proofs.Filled.{first_counts, one_more}
+use Rattle.table_contents.proofs.Filled.{first_counts, one_more}
 use Rattle.ready_runs.specs.declared.scripted.ScriptedJob.{ScriptedJob}
 use Rattle.ready_runs.specs.Scripted.{reply_left, replies_left, asked_reply, is_pulled_slot, IsScripted, AreScripted}
 

@@ -5,7 +5,7 @@ ghost use Rattle.resource_locks.specs.Plans.{PlanParts};
 ghost use Rattle.event_history.specs.Plans.{pulls_job};
 ghost use Rattle.sched_core.specs.Replies.{reply_of};
 ghost use Rattle.table_rule.specs.Slots.{slot_count, job_at};
-ghost use Rattle.run_table.specs.Prepared.{HasAllJobs};
+ghost use Rattle.table_contents.specs.Prepared.{HasAllJobs};
 ghost use Rattle.ready_runs.specs.Scripted.{gives_left, replies_left, says_nothing, asked_reply, is_pulled_slot, spin_of, AreScripted};
 
 use descriptor::{BodyId, NodeId, Role};

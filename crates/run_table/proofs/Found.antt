@@ -15,7 +15,7 @@ use Rattle.table_rule.specs.Moments.{HasFound, HasFoundRoom, FindsWord}
 use Rattle.table_rule.specs.Picture.{replies_of}
 use Rattle.table_rule.specs.Words.{status_word, read_place}
 use Rattle.table_rule.proofs.Moments.{status_then, read_then, owner_few}
-use Rattle.run_table.specs.Reading.{status_by, status_read}
+use Rattle.table_contents.specs.Reading.{status_by, status_read}
 
 by_parts : (word kind owner : ℕ) → (word == 1) ≡ false → word % 4 ≡ kind → word / 4 % 256 ≡ owner → status_read word ≡ status_by kind owner
 by_parts word kind owner other is_kind is_owner = cond-false (word == 1) Settled (status_by (word % 4) (word / 4 % 256)) other ∙ (λ k. status_by (is_kind k) (is_owner k))

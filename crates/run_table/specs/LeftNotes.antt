@@ -1,25 +1,15 @@
 -- Which notes are still in slots once the table is taken apart.
-use Rattle.std.specs.Prelude.{◌≡◌, ℕ, suc, ◌<◌, List, [], ◌∷◌, ◌++◌, Some, slice_get}
+use Rattle.std.specs.Prelude.{◌≡◌, ℕ, ◌<◌, List, Some, slice_get}
 use Rattle.plan_events.specs.declared.note.Note.{Note}
 use Rattle.plan_events.specs.declared.outcome.Reply.{Reply}
 use Rattle.table_rule.specs.declared.view.About.{About}
 use Rattle.table_rule.specs.declared.view.DispatcherFacts.{DispatcherFacts}
 use Rattle.table_rule.specs.declared.view.SlotState.TheVariants.{Noted}
-use Rattle.table_rule.specs.declared.view.Slot.{Slot}
-use Rattle.table_rule.specs.declared.view.Slot.TheVariants.{Answered}
 use Rattle.table_rule.specs.Slots.{slot_count, jobs_at, told_note}
+use Rattle.table_contents.specs.Remains.{notes_from}
 use Rattle.run_table.specs.Ended.{HasEnded}
 
 module _ {B : Type 0} where
-  -- the notes that stand in these slots, the first of which is slot k, each with the number of its slot
-  abbrev pub note_at : ℕ → Slot B → List (ℕ × Note)
-  note_at k (Answered pulls status note job) = (k, note) ∷ []
-  note_at k _ = []
-
-  abbrev pub notes_from : ℕ → List (Slot B) → List (ℕ × Note)
-  notes_from k [] = []
-  notes_from k (slot ∷ slots) = note_at k slot ++ notes_from (suc k) slots
-
   -- Where the run has ended so, the notes that are left are just those in the slots, in the order of the slots. So the note of each
   -- answer that is noted, which is one that the dispatcher has not taken, is there, with its slot.
   pub record HasLeftNotes (replies : ℕ → List Reply) (key : About B) (d : DispatcherFacts) (jobs : List (ℕ × B)) (notes : List (ℕ × Note)) : Type 0 where

@@ -2,8 +2,8 @@
 use Rattle.std.proofs.Common.{◌≡◌, ℕ, List, Result, Ok, Err, IfOk, IfErr, inl, inr, sym, subst}
 use Rattle.std.specs.Prelude.{◌⊎◌}
 use Rattle.resource_locks.specs.Plans.{PlanParts}
-use Rattle.run_table.specs.declared.fault.TableFault.TheVariants.{NoMemory}
-use Rattle.run_table.specs.Prepared.{HasAllJobs, IsRightCount, IsRightRing}
+use Rattle.table_contents.specs.declared.fault.TableFault.TheVariants.{NoMemory}
+use Rattle.table_contents.specs.Prepared.{HasAllJobs, IsRightCount, IsRightRing}
 use Rattle.worker_pool.specs.declared.report.RunCause.{RunCause}
 use Rattle.worker_pool.specs.declared.report.RunCause.TheVariants.{Table, NoWorker}
 use Rattle.worker_pool.specs.declared.report.RunFault.{RunFault}

@@ -10,8 +10,8 @@ use Rattle.table_rule.specs.declared.view.Slot.{Slot}
 use Rattle.table_rule.specs.declared.view.WorkerFacts.{WorkerFacts}
 use Rattle.scheduling.specs.declared.status.NodeStatus.{NodeStatus}
 use Rattle.table_rule.specs.Plays.{worker, finds_over}
-use Rattle.run_table.specs.Reading.{status_read}
-use Rattle.run_table.specs.declared.fault.NotEnabled.{NotEnabled}
+use Rattle.table_contents.specs.Reading.{status_read}
+use Rattle.table_contents.specs.declared.fault.NotEnabled.{NotEnabled}
 use Rattle.run_table.specs.Seats.{IsSeatOf, SameSeat}
 use Rattle.workers.specs.Going.{GoesOn}
 

@@ -7,17 +7,16 @@ ghost use Rattle.scheduling.specs.declared.status.NodeStatus.TheVariants.{Settle
 ghost use Rattle.scheduling.specs.declared.task.Task.TheVariants.{Free};
 ghost use Rattle.table_rule.specs.Moments.{HasFound};
 ghost use Rattle.table_rule.specs.Plays.{claimed_seat, finds_over};
+ghost use Rattle.table_contents.specs.Reading.{status_read};
 ghost use Rattle.run_table.specs.Handles.{plan_at, view_at, worker_at, IsUnchanged};
-ghost use Rattle.run_table.specs.Reading.{status_read};
 ghost use Rattle.run_table.specs.Seats.{IsSeatOf, IsMove, SameSeat, seated};
 
-use crate::fault::NotEnabled;
 use crate::table::RunTable;
-use crate::words::{status_from_word, status_to_word};
 use crate::worker::WorkerSeat;
 use descriptor::NodeId;
 use plan_events::Job;
 use scheduling::{NodeStatus, Task, claims, is_of_hand};
+use table_contents::{NotEnabled, status_from_word, status_to_word};
 use table_rule::{Claims, LooksAt};
 
 impl<B: Job> WorkerSeat<B> {

@@ -18,13 +18,12 @@ ghost use Rattle.run_table.specs.Seats.{IsSeatOf, IsMove, SameSeat, seated, IsRe
 ghost use Rattle.plan_events.specs.declared.status.Status.TheVariants.{Successful};
 ghost use Rattle.table_rule.specs.Words.{result_number};
 
-use crate::fault::NotEnabled;
 use crate::table::RunTable;
-use crate::words::{outstanding_from_word, result_from_word};
 use crate::worker::WorkerSeat;
 use descriptor::NodeId;
 use plan_events::{Job, Status};
 use scheduling::{Hand, Opening, Task, counted_off, due_child, due_guard, ends_or_free};
+use table_contents::{NotEnabled, outstanding_from_word, result_from_word};
 use table_rule::{AddsChild, CountsOff, GivesGuard};
 
 impl<B: Job> WorkerSeat<B> {

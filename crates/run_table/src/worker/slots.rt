@@ -14,12 +14,12 @@ ghost use Rattle.run_table.specs.Seats.{IsSeatOf, SameSeat, seated};
 ghost use Rattle.plan_events.specs.declared.outcome.Reply.{Reply as ReplyValue};
 ghost use Rattle.run_table.specs.Answering.{registered_by, noted_pulls, IsToldAs, MayTell, SaysTold};
 
-use crate::fault::NotEnabled;
 use crate::table::RunTable;
 use crate::worker::WorkerSeat;
 use descriptor::NodeId;
 use plan_events::{Job, Note, Status};
 use scheduling::{Answer, Closing, Hand, Opening, Seat, Task, awaited};
+use table_contents::NotEnabled;
 use table_rule::{AnswersIn, Leaves, Lifts, Slot};
 
 /// The slot of this node's job, if it is the one whose answer the seat waits for.

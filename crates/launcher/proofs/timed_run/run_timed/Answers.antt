@@ -1,8 +1,8 @@
 -- The jobs that are timed are the caller's.
 use Rattle.std.proofs.Common.{IfOk, IfErr, IsPermutation, sym}
 use Rattle.table_rule.specs.Picture.{given_by, replies_of}
+use Rattle.table_contents.specs.Prepared.{HasAllJobs, IsRightCount, IsRightRing}
 use Rattle.run_table.specs.Balance.{IsBalanced}
-use Rattle.run_table.specs.Prepared.{HasAllJobs, IsRightCount, IsRightRing}
 use Rattle.worker_pool.specs.Premises.{JobsMayAnswer}
 use Rattle.worker_pool.specs.Reports.{run_of, AreTexts, EndsAsReplied, IsLeft, IsReport, IsRefusedRun, IsToldAsGiven, IsToldAsSaid}
 use Rattle.worker_pool.proofs.Reported.{carried}
