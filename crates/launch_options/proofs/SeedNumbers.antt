@@ -3,8 +3,8 @@ use Rattle.std.proofs.Common.{◌≡◌, ℕ, ◌<◌, ◌^◌, List, length, tr
 use Rattle.std.proofs.lemmas.Bool.{cases_lt}
 use Rattle.std.specs.Str.Parse.{ParsesUnsigned, digits_value}
 use Rattle.std.proofs.lemmas.Str.Parse.{parse_digits}
-use Rattle.suite_text.specs.Numbers.{is_number, number_up_to}
-use Rattle.suite_text.proofs.Numbers.{own, number_parts}
+use Rattle.suite_words.specs.Numbers.{is_number, number_up_to}
+use Rattle.suite_words.proofs.Numbers.{own, number_parts}
 
 -- what std does not read is too large
 pub unread : {E : Type 0} (ds : List ℕ) (r : Result ℕ E) (e : E) → ParsesUnsigned 64 10 ds r → r ≡ Err e → is_number ds ≡ true → None ≡ number_up_to 18446744073709551615 ds

@@ -1,7 +1,7 @@
 -- What `--fail-fast` and `--max-fail` ask for.
 use Rattle.std.specs.Prelude.{ℕ, ◌-◌, ◌||◌, Bool, true, false, Option, Some, None, option_map}
 use Rattle.std.specs.Option.{is_some}
-use Rattle.suite_text.specs.Numbers.{number_up_to}
+use Rattle.suite_words.specs.Numbers.{number_up_to}
 use Rattle.launch_options.specs.declared.fault.LaunchFault.{LaunchFault}
 use Rattle.launch_options.specs.declared.fault.LaunchFault.TheVariants.{BadWords}
 use Rattle.launch_options.specs.Given.{Text, Values}

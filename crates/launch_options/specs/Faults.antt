@@ -10,9 +10,9 @@ use Rattle.resource_locks.specs.declared.fault.PlanFault.TheVariants as plans
 use Rattle.selectors.specs.Faults.{selector_number}
 use Rattle.selectors.specs.declared.select_fault.SelectFault.{SelectFault}
 use Rattle.selectors.specs.declared.select_fault.SelectFault.TheVariants as selections
-use Rattle.suite_text.specs.Reading.Faults as suite_faults
-use Rattle.suite_text.specs.declared.suite.fault.SuiteFault.{SuiteFault}
-use Rattle.suite_text.specs.declared.suite.fault.SuiteFault.TheVariants as suites
+use Rattle.suite_words.specs.Reading.Faults as suite_faults
+use Rattle.suite_words.specs.declared.suite.fault.SuiteFault.{SuiteFault}
+use Rattle.suite_words.specs.declared.suite.fault.SuiteFault.TheVariants as suites
 use Rattle.step_text.specs.declared.steps.StepsFault.{StepsFault}
 use Rattle.step_text.specs.declared.steps.StepsFault.TheVariants as steps
 use Rattle.tag_expr.specs.Faults as tag_faults

@@ -4,7 +4,7 @@ use Rattle.std.specs.Option.{option_or}
 use Rattle.config_params.specs.Pairs.{Pair, key_of, value_of, pair_of}
 use Rattle.config_params.specs.declared.fault.ParamsFault.{ParamsFault}
 use Rattle.table_rule.specs.Limits.{IsRightCount}
-use Rattle.suite_text.specs.Numbers.{number_up_to}
+use Rattle.suite_words.specs.Numbers.{number_up_to}
 use Rattle.launch_options.specs.declared.fault.LaunchFault.{LaunchFault}
 use Rattle.launch_options.specs.declared.fault.LaunchFault.TheVariants.{BadPair}
 use Rattle.launch_options.specs.Given.{Text, Values}

@@ -1,6 +1,6 @@
 -- What `--seed` asks for.
 use Rattle.std.specs.Prelude.{ℕ, Option, Some, None, option_map}
-use Rattle.suite_text.specs.Numbers.{number_up_to}
+use Rattle.suite_words.specs.Numbers.{number_up_to}
 use Rattle.launch_options.specs.Given.{Text}
 
 -- what `--seed` asks for: this number, below 2 ^ 64, or, where it is not given, none

@@ -5,7 +5,7 @@ use Rattle.std.specs.Str.{bytes_eq}
 use Rattle.selectors.specs.declared.dealing.Dealing.{Dealing}
 use Rattle.selectors.specs.declared.dealing.Dealing.TheVariants.{InTurn, ByHash}
 use Rattle.selectors.specs.Shards.{Part, part_of}
-use Rattle.suite_text.specs.Numbers.{number_up_to}
+use Rattle.suite_words.specs.Numbers.{number_up_to}
 use Rattle.launch_options.specs.Given.{Text}
 
 abbrev pub is_slash : ℕ → Bool

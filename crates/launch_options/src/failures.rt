@@ -9,7 +9,7 @@ ghost use Rattle.launch_options.specs.Given.{maybe_behind, values_of};
 
 use crate::fault::LaunchFault;
 use crate::given::Given;
-use suite_text::number_up_to;
+use suite_words::number_up_to;
 
 /// The greatest number of failures after which a run may be asked to stop.
 const MOST_FAILURES: u32 = 4095;

@@ -13,7 +13,7 @@ use std::alloc::{AllocError, AllocFailed};
 use std::error::Error;
 use std::fmt;
 use step_text::StepsFault;
-use suite_text::SuiteFault;
+use suite_words::SuiteFault;
 use tag_expr::TagFault;
 
 /// Why a writer has the first bytes of an output alone.

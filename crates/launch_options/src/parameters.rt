@@ -18,7 +18,7 @@ use crate::given::Given;
 use crate::workers::add_workers;
 use config_params::{Params, Source, pair_of};
 use std::alloc::{AllocError, Global};
-use suite_text::number_up_to;
+use suite_words::number_up_to;
 
 /// The greatest number of processors.
 const MOST_PROCESSORS: u32 = 1024;

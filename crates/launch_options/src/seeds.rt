@@ -5,10 +5,10 @@ ghost use Rattle.launch_options.specs.declared.fault.LaunchFault.TheVariants.{No
 ghost use Rattle.launch_options.specs.Asked.{unless_named};
 ghost use Rattle.launch_options.specs.Given.{maybe_behind};
 ghost use Rattle.launch_options.specs.SeedTexts.{seed_named as seed_of_name};
-ghost use Rattle.suite_text.specs.Numbers.{number_up_to};
+ghost use Rattle.suite_words.specs.Numbers.{number_up_to};
 
 use crate::fault::LaunchFault;
-use suite_text::is_number;
+use suite_words::is_number;
 
 /// The number that a text of digits is in decimal, if it is below 2 to the 64th.
 fn seed_in(text: &str) -> Option<u64>

@@ -8,7 +8,7 @@ ghost use Rattle.launch_options.specs.ShardTexts.{dealt_in, shard_by, shard_in, 
 
 use crate::fault::LaunchFault;
 use selectors::{Dealing, MOST_SHARDS, Shard};
-use suite_text::number_up_to;
+use suite_words::number_up_to;
 
 /// What is said before the numbers of a shard that has the units by the hash of their ids.
 const HASH: &str = "hash";

@@ -9,7 +9,7 @@ use Rattle.suite_text.specs.Reading.Bytes.{suite_read}
 use Rattle.suite_text.specs.Reading.Parts.{SuiteParts}
 use Rattle.suite_text.specs.Suites.{suite_parts}
 use Rattle.suite_text.specs.declared.suite.Suite.{Suite}
-use Rattle.suite_text.specs.declared.suite.fault.SuiteFault.{SuiteFault}
+use Rattle.suite_words.specs.declared.suite.fault.SuiteFault.{SuiteFault}
 use Rattle.launch_options.specs.Asked.{Asked}
 use Rattle.ready_runs.specs.Reading.{FailsToRead, ReadsSuite, TakesFrom, fault_in}
 use Rattle.launcher.specs.Runs.{IsRun, IsSeenRun, IsSeenSuiteRun, IsSuiteRun}

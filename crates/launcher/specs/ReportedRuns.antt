@@ -7,7 +7,7 @@ use Rattle.plan_events.specs.declared.event.Event.{Event}
 use Rattle.plan_events.specs.Texts.{TextParts, text_at}
 use Rattle.resource_locks.specs.Plans.{PlanParts}
 use Rattle.suite_text.specs.Reading.Parts.{SuiteParts}
-use Rattle.suite_text.specs.declared.suite.fault.SuiteFault.{SuiteFault}
+use Rattle.suite_words.specs.declared.suite.fault.SuiteFault.{SuiteFault}
 use Rattle.launch_options.specs.Asked.{Asked}
 use Rattle.run_outputs.specs.declared.exit_status.ExitStatus.{ExitStatus}
 use Rattle.run_outputs.specs.Missing.{is_missing, status_unless}

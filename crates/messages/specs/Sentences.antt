@@ -14,8 +14,8 @@ use Rattle.messages.specs.declared.subject.Subject.{Subject}
 use Rattle.messages.specs.declared.subject.Subject.TheVariants.{Suite, Tests}
 use Rattle.selectors.specs.declared.selector_fault.SelectorFault.{SelectorFault}
 use Rattle.selectors.specs.declared.selector_fault.SelectorFault.TheVariants as selectors
-use Rattle.suite_text.specs.declared.suite.fault.SuiteFault.{SuiteFault}
-use Rattle.suite_text.specs.declared.suite.fault.SuiteFault.TheVariants as suites
+use Rattle.suite_words.specs.declared.suite.fault.SuiteFault.{SuiteFault}
+use Rattle.suite_words.specs.declared.suite.fault.SuiteFault.TheVariants as suites
 use Rattle.tag_expr.specs.declared.fault.TagFault.{TagFault}
 use Rattle.tag_expr.specs.declared.fault.TagFault.TheVariants as tags
 

@@ -2,11 +2,11 @@
 use Rattle.std.proofs.Common.{ℕ, List, Option, Some, None, IfSome, Result, Ok, Err}
 use Rattle.std.specs.Result.{IsErrAnd}
 use Rattle.suite_text.specs.declared.suite.Suite.{Suite}
-use Rattle.suite_text.specs.declared.suite.fault.SuiteFault.{SuiteFault}
-use Rattle.suite_text.specs.declared.suite.fault.SuiteFault.TheVariants.{NoMemory, BadLine, BadIndent, MissingVerdict, TooLarge, Refused, BadProperty}
+use Rattle.suite_words.specs.declared.suite.fault.SuiteFault.{SuiteFault}
+use Rattle.suite_words.specs.declared.suite.fault.SuiteFault.TheVariants.{NoMemory, BadLine, BadIndent, MissingVerdict, TooLarge, Refused, BadProperty}
 use Rattle.launch_options.specs.declared.fault.LaunchFault.{LaunchFault}
 use Rattle.launch_options.specs.Faults.{IsSuiteFault}
-use Rattle.suite_text.specs.Reading.Faults.{Fails}
+use Rattle.suite_words.specs.Reading.Faults.{Fails}
 use Rattle.suite_text.specs.Reading.Parts.{SuiteParts}
 use Rattle.ready_runs.specs.Reading.{FailsToRead, ReadsSuite}
 

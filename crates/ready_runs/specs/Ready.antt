@@ -22,7 +22,7 @@ use Rattle.selectors.specs.declared.request.Request.{Request}
 use Rattle.selectors.specs.declared.select_fault.SelectFault.{SelectFault}
 use Rattle.selectors.specs.declared.select_fault.SelectFault.TheVariants as selections
 use Rattle.selectors.specs.Selections.{answer, refusal}
-use Rattle.suite_text.specs.declared.script.Script.{Script}
+use Rattle.suite_words.specs.declared.script.Script.{Script}
 use Rattle.suite_text.specs.Reading.Parts.{SuiteParts}
 use Rattle.launch_options.specs.Asked.{Asked}
 use Rattle.launch_options.specs.Workers.{answer_with}

@@ -7,7 +7,7 @@ use Rattle.resource_locks.specs.Plans.{PlanParts}
 use Rattle.event_history.specs.Plans.{pulls_job}
 use Rattle.sched_core.specs.Replies.{reply_of}
 use Rattle.table_rule.specs.Slots.{slot_count, is_body_slot, job_at, job_with}
-use Rattle.suite_text.specs.declared.script.Script.{Script}
+use Rattle.suite_words.specs.declared.script.Script.{Script}
 use Rattle.ready_runs.specs.declared.scripted.ScriptedJob.{ScriptedJob}
 
 -- the replies that a job may still give: its own, until it was run

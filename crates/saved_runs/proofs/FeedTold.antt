@@ -4,7 +4,7 @@ use Rattle.std.specs.List.{AllByRecursion}
 use Rattle.std.proofs.lemmas.Bool.{and_from}
 use Rattle.std.proofs.lemmas.Bool.Decides.{nat_tests}
 use Rattle.std.proofs.lemmas.Fmt.{digits_decimal, decimal_nonempty}
-use Rattle.suite_text.proofs.Numbers.{own}
+use Rattle.suite_words.proofs.Numbers.{own}
 use Rattle.unique_id.specs.Spelling.{spelling}
 use Rattle.unique_id.specs.declared.unique_id.Segment.{Segment}
 use Rattle.descriptor.specs.Nodes.{node_at}

@@ -2,7 +2,7 @@
 use Rattle.std.proofs.Common.{◌≡◌, ℕ, ◌+◌, ◌==◌, not, true, false, cond, List, [], ◌∷◌, ◌++◌, length, take, drop, refl, sym, ap, ◌∙◌, arith}
 use Rattle.std.specs.List.{AllByRecursion, position_or_len}
 use Rattle.std.proofs.lemmas.List.{take_at, drop_at, drop-drop}
-use Rattle.suite_text.specs.Words.{is_space}
+use Rattle.suite_words.specs.Words.{is_space}
 use Rattle.saved_runs.specs.FeedLines.{first_word, after_word}
 use Rattle.saved_runs.proofs.Lacking.{lacks, each_other}
 

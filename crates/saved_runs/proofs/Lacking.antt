@@ -4,7 +4,7 @@ use Rattle.std.specs.Char.{is_ascii_digit}
 use Rattle.std.specs.List.{AllByRecursion, list_all}
 use Rattle.std.proofs.lemmas.Bool.{and_parts, and_from, ne_eqb, not_from_false}
 use Rattle.std.proofs.lemmas.Fmt.{digits_decimal}
-use Rattle.suite_text.proofs.Numbers.{own}
+use Rattle.suite_words.proofs.Numbers.{own}
 
 -- whether byte n does not stand in a text
 abbrev pub lacks : ℕ → List ℕ → Bool

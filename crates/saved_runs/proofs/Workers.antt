@@ -1,7 +1,7 @@
 -- When a word is a worker's.
 use Rattle.std.proofs.Common.{◌≡◌, ◌≢◌, ℕ, ◌&&◌, false, List, [], ◌∷◌, inl, inr, refl, ap}
 use Rattle.std.proofs.lemmas.Bool.Decides.{eqb_tells}
-use Rattle.suite_text.specs.Numbers.{is_number}
+use Rattle.suite_words.specs.Numbers.{is_number}
 use Rattle.saved_runs.specs.FeedLines.{is_worker}
 
 pub worker_by : (word digits : List ℕ) → word ≡ 119 ∷ digits → is_worker word ≡ is_number digits

@@ -3,8 +3,8 @@
 use Rattle.std.specs.Prelude.{ℕ, ◌+◌, ◌==◌, ◌&&◌, ◌||◌, not, cond, List, [], ◌∷◌, length, take, drop, Bool, false, codes, Option, Some, None}
 use Rattle.std.specs.List.{list_any, before_first, after_first}
 use Rattle.std.specs.Str.{bytes_eq}
-use Rattle.suite_text.specs.Numbers.{is_number}
-use Rattle.suite_text.specs.Words.{is_space}
+use Rattle.suite_words.specs.Numbers.{is_number}
+use Rattle.suite_words.specs.Words.{is_space}
 use Rattle.saved_runs.specs.declared.told.Told.{Told}
 use Rattle.saved_runs.specs.declared.told.Told.TheVariants.{Note}
 use Rattle.saved_runs.specs.Telling.{plan_told, node_told}

@@ -7,7 +7,7 @@ ghost use Rattle.saved_runs.specs.FeedLines.{node_ended, node_line, behind_worke
 
 use crate::told::{Told, node_told, plan_told};
 use std::alloc::{AllocError, Global};
-use suite_text::is_number;
+use suite_words::is_number;
 
 /// The text up to its first space, and what follows that space.
 fn cut_at_space(text: &str) -> (&str, &str)

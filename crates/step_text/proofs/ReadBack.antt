@@ -13,10 +13,10 @@ use Rattle.scheduling.specs.declared.step.Action.{Action}
 use Rattle.scheduling.specs.declared.step.Action.TheVariants.{Claim, Own, Draw, Show, Admit, Done, Settle, Look, Weigh, Take, Give, GiveUp, AddChild, Notice, Raise}
 use Rattle.scheduling.specs.declared.step.Step.{Step}
 use Rattle.scheduling.specs.declared.step.Step.TheVariants.{Worker, Read}
-use Rattle.suite_text.specs.Numbers.{is_number, number_up_to}
+use Rattle.suite_words.specs.Numbers.{is_number, number_up_to}
 use Rattle.step_text.specs.StepTexts.{is_colon, is_decimal, number_within, worker_of, node_of, plain_action, has_colon, action_of, step_of, is_bad_word}
 use Rattle.step_text.specs.StepSpelling.{spelled_action, spelled_step, NamesNode, IsNamable, AreNamable}
-use Rattle.suite_text.proofs.Numbers.{own}
+use Rattle.suite_words.proofs.Numbers.{own}
 
 -- a number
 front_zero : (n : ℕ) → n < 2 ^ 64 → not (nat_lt 1 (length (decimal n)) && (slice_index (decimal n) 0 == 48)) ≡ true

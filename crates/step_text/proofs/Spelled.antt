@@ -14,10 +14,10 @@ use Rattle.scheduling.specs.declared.step.Action.{Action}
 use Rattle.scheduling.specs.declared.step.Action.TheVariants.{Claim, Own, Draw, Show, Admit, Done, Settle, Look, Weigh, Take, Give, GiveUp, AddChild, Notice, Raise}
 use Rattle.scheduling.specs.declared.step.Step.{Step}
 use Rattle.scheduling.specs.declared.step.Step.TheVariants.{Worker, Read}
-use Rattle.suite_text.specs.Numbers.{is_number, number_up_to}
+use Rattle.suite_words.specs.Numbers.{is_number, number_up_to}
 use Rattle.step_text.specs.StepTexts.{is_colon, is_decimal, number_within, worker_of, node_of, node_action, plain_action, has_colon, action_of, worker_step, step_of, is_bad_word}
 use Rattle.step_text.specs.StepSpelling.{spelled_action, spelled_step}
-use Rattle.suite_text.proofs.Numbers.{own}
+use Rattle.suite_words.proofs.Numbers.{own}
 
 -- one branch of a choice by words
 picked : {A : Type 0} (b : Bool) (a x : A) (rest : Option A) → (if b then Some a else rest) ≡ Some x → ((b ≡ true) × (a ≡ x)) ⊎ (rest ≡ Some x)

@@ -12,11 +12,11 @@ use Rattle.scheduling.specs.declared.step.Action.{Action}
 use Rattle.scheduling.specs.declared.step.Action.TheVariants.{Claim, Own, Draw, Show, Admit, Done, Settle, Look, Weigh, Take, Give, GiveUp, AddChild, Notice, Raise}
 use Rattle.scheduling.specs.declared.step.Step.{Step}
 use Rattle.scheduling.specs.declared.step.Step.TheVariants.{Worker, Read}
-use Rattle.suite_text.specs.Words.{is_space, words_in}
+use Rattle.suite_words.specs.Words.{is_space, words_in}
 use Rattle.step_text.specs.StepTexts.{step_of, is_bad_word, steps_of, steps_unless}
 use Rattle.step_text.specs.StepSpelling.{spelled_action, spelled_step, steps_text, NamesNode, IsNamable, AreNamable}
 use Rattle.step_text.proofs.ReadBack.{step_back, none_bad}
-use Rattle.suite_text.proofs.Numbers.{own}
+use Rattle.suite_words.proofs.Numbers.{own}
 
 -- no blank stands in a text
 abbrev is_unspaced : List ℕ → Bool

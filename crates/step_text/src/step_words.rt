@@ -10,7 +10,7 @@ use crate::step_names::{
 };
 use descriptor::NodeId;
 use scheduling::{Action, Step};
-use suite_text::{is_number, number_up_to};
+use suite_words::{is_number, number_up_to};
 
 /// Whether a text is a number, with no zero before other digits.
 fn is_decimal(text: &str) -> bool

@@ -2,7 +2,7 @@
 
 ghost use Rattle.std.specs.Prelude.{◌≡◌, ◌≤◌, ◌≢◌, List, IfOk, IfErr, IfSome, length, map};
 ghost use Rattle.std.specs.List.{position, filter_map};
-ghost use Rattle.suite_text.specs.Words.{words_in};
+ghost use Rattle.suite_words.specs.Words.{words_in};
 ghost use Rattle.step_text.specs.StepTexts.{step_of, is_bad_word, steps_of};
 ghost use Rattle.step_text.specs.StepSpelling.{spelled_step, AreNamable};
 ghost use Rattle.scheduling.specs.declared.step.Step.{Step};

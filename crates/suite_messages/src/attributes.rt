@@ -8,7 +8,7 @@ use crate::line::cut;
 use crate::nearest::is_known;
 use descriptor::Mode;
 use std::alloc::Global;
-use suite_text::{
+use suite_words::{
     Attribute, LONGEST_LIMIT, LONGEST_SPIN, MOST_PULLS, Verdict, Word, key_and_mode, key_and_value,
     number_up_to,
 };

@@ -1,6 +1,6 @@
 //! The text of a suite's bytes.
 
-use suite_text::without_mark;
+use suite_words::without_mark;
 
 /// The lines of a suite's bytes before the first that is no text, without a byte order mark, and
 /// whether all are text.

@@ -1,7 +1,7 @@
 //! The words of a line of a suite, and which of them may stand where.
 
 use std::alloc::{AllocError, Global};
-use suite_text::{LineWord, Verdict, Word};
+use suite_words::{LineWord, Verdict, Word};
 
 /// The words that a line may begin with.
 pub(crate) fn line_words() -> [&'static str; 7] {

@@ -5,7 +5,7 @@ ghost use Rattle.unique_id.specs.Answers.{texts};
 
 use crate::line::{cut, first_word, indentation, is_node, stands_below, without_front};
 use std::alloc::{AllocError, Global};
-use suite_text::{LineWord, Word};
+use suite_words::{LineWord, Word};
 
 /// The line of this number; empty where there is none.
 pub(crate) fn line_at<'a>(lines: &[&'a str], number: usize) -> &'a str

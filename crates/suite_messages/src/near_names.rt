@@ -6,7 +6,7 @@ use crate::lines::{class_names, named};
 use crate::nearest::push_nearest;
 use selectors::SelectorKind;
 use std::alloc::{AllocError, Global};
-use suite_text::Word;
+use suite_words::Word;
 
 /// The names of the tests and factories right below the classes of this name.
 fn methods_of<'a>(

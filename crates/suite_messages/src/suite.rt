@@ -11,7 +11,7 @@ use crate::nearest::push_nearest;
 use config_params::ParamsFault;
 use descriptor::TreeFault;
 use std::alloc::{AllocError, Global};
-use suite_text::{LineWord, SuiteFault, Verdict, Word};
+use suite_words::{LineWord, SuiteFault, Verdict, Word};
 
 /// Which limit the line of a node is over: that of its name, of a lock's key, of its locks, of its
 /// reason, or else of its unique id.

@@ -2,15 +2,12 @@
 pub mod Afters
 pub mod FewLocks
 pub mod Outcomes
-pub mod Attributes
 pub mod Ids
 pub mod Judged
 pub mod Kinds
-pub mod Locks
 pub mod Never
 pub mod Paths
 pub mod Pulls
 pub mod Lines
-pub mod Spaces
 pub mod Spares
 pub mod Steps

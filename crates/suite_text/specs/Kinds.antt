@@ -9,11 +9,11 @@ use Rattle.descriptor.specs.declared.node.Node.{Node}
 use Rattle.descriptor.specs.declared.role.Role.{Role}
 use Rattle.descriptor.specs.declared.role.Role.TheVariants as roles
 use Rattle.descriptor.specs.Nodes.{Nodes, size, node_at, parent_of}
-use Rattle.suite_text.specs.declared.suite.words.Word.{Word}
-use Rattle.suite_text.specs.declared.suite.words.Word.TheVariants.{Engine, Class, Test, Factory, Dyn}
-use Rattle.suite_text.specs.Reading.After.{after_body}
-use Rattle.suite_text.specs.Reading.Lines.{says_nothing, first_word}
-use Rattle.suite_text.specs.Reading.Words.{word_of}
+use Rattle.suite_words.specs.declared.suite.words.Word.{Word}
+use Rattle.suite_words.specs.declared.suite.words.Word.TheVariants.{Engine, Class, Test, Factory, Dyn}
+use Rattle.suite_words.specs.Reading.After.{after_body}
+use Rattle.suite_words.specs.Reading.Lines.{says_nothing, first_word}
+use Rattle.suite_words.specs.Reading.Words.{word_of}
 
 -- the word of a line that declares a node
 abbrev pub word_in : List ℕ → Option Word

@@ -1,15 +1,16 @@
 -- The suite of a text, line by line, or its first fault.
 use Rattle.std.specs.Prelude.{ℕ, ◌+◌, ◌==◌, ◌&&◌, nat_lt, Bool, List, [], ◌∷◌, length, if◌then◌else◌, Result, Ok, Err}
 use Rattle.std.specs.Str.Lines.{lines}
-use Rattle.suite_text.specs.declared.suite.fault.SuiteFault.{SuiteFault}
-use Rattle.suite_text.specs.declared.suite.fault.SuiteFault.TheVariants.{TooLarge}
+use Rattle.suite_words.specs.declared.suite.fault.SuiteFault.{SuiteFault}
+use Rattle.suite_words.specs.declared.suite.fault.SuiteFault.TheVariants.{TooLarge}
 use Rattle.suite_text.specs.declared.suite.Suite.{Suite}
 use Rattle.unique_id.specs.Answers.{◌>>=◌}
-use Rattle.suite_text.specs.Reading.Lines.{says_nothing, first_word, after_word, level_of}
-use Rattle.suite_text.specs.Reading.After.{is_after, with_after_line}
-use Rattle.suite_text.specs.Reading.Words.{Declaration, declared_as}
+use Rattle.suite_words.specs.Reading.Lines.{says_nothing, first_word, after_word, level_of}
+use Rattle.suite_words.specs.Reading.After.{is_after}
+use Rattle.suite_text.specs.Reading.After.{with_after_line}
+use Rattle.suite_words.specs.Reading.Words.{Declaration, declared_as}
 use Rattle.config_params.specs.Parameters.{Parameters}
-use Rattle.suite_text.specs.Reading.Properties.{is_property, with_property}
+use Rattle.suite_words.specs.Reading.Properties.{is_property, with_property}
 use Rattle.suite_text.specs.Reading.Parts.{SuiteParts, LinesRead, no_lines, parts_of}
 use Rattle.suite_text.specs.Reading.Nodes.{word_on, refusal_on, grown, unless_refused}
 

@@ -2,13 +2,10 @@
 
 #![tactic(auto)]
 
-mod number;
-mod script;
 mod suite;
 
-pub use number::{is_number, number_up_to};
-pub use script::Script;
-pub use suite::{
-    Attribute, LONGEST_LIMIT, LONGEST_SPIN, LONGEST_SUITE, LineWord, MOST_PULLS, Suite, SuiteFault,
-    Verdict, Word, key_and_mode, key_and_value, without_mark,
+pub use suite::{LONGEST_SUITE, Suite};
+pub use suite_words::{
+    Attribute, LONGEST_LIMIT, LONGEST_SPIN, LineWord, MOST_PULLS, Script, SuiteFault, Verdict,
+    Word, is_number, key_and_mode, key_and_value, number_up_to, without_mark,
 };

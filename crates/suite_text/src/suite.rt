@@ -6,8 +6,9 @@ ghost use Rattle.std.specs.Str.Lines.{lines};
 ghost use Rattle.descriptor.specs.Nodes.{IsTree};
 ghost use Rattle.resource_locks.specs.Spares.{HasBareSpares};
 ghost use Rattle.suite_text.specs.Kinds.{words_of, AreNodesOf, IsKind, HasBodies};
-ghost use Rattle.suite_text.specs.Reading.Bytes.{suite_read, without_mark};
-ghost use Rattle.suite_text.specs.Reading.Faults.{Gives};
+ghost use Rattle.suite_text.specs.Reading.Bytes.{suite_read};
+ghost use Rattle.suite_words.specs.Reading.Bytes.{without_mark};
+ghost use Rattle.suite_words.specs.Reading.Faults.{Gives};
 ghost use Rattle.suite_text.specs.Reading.Ids.{IdsFollow};
 ghost use Rattle.suite_text.specs.Reading.Judged.{MayRunOut};
 ghost use Rattle.suite_text.specs.Reading.Parts.{SuiteParts, no_lines, AreBodiesOf, bodies_answered};
@@ -15,38 +16,15 @@ ghost use Rattle.suite_text.specs.Suites.{suite_from, suite_of, suite_of_lines, 
 ghost use Rattle.suite_text.specs.Writing.Suites.{IsSuite};
 ghost use Rattle.unique_id.specs.Answers.{texts};
 
-mod after;
-mod attributes;
 mod builder;
-mod fault;
 mod first_line;
-mod line_word;
-mod lines;
-mod locks;
-mod order_mark;
-mod properties;
-mod pulls;
-mod slow;
-mod spins;
-mod verdicts;
-mod words;
 
-use crate::script::Script;
-pub use attributes::{Attribute, LONGEST_SPIN, MOST_PULLS};
 use builder::SuiteBuilder;
 use config_params::Params;
 use descriptor::Tree;
-pub use fault::SuiteFault;
 use first_line::judge_first;
-pub use line_word::LineWord;
-use lines::lines_in;
-pub use locks::key_and_mode;
-pub use order_mark::without_mark;
-pub use slow::LONGEST_LIMIT;
-pub use spins::key_and_value;
 use std::alloc::Global;
-pub use verdicts::Verdict;
-pub use words::Word;
+use suite_words::{Script, SuiteFault, lines_in, without_mark};
 
 /// The greatest number of bytes of a suite text.
 pub const LONGEST_SUITE: usize = 1_048_576;

@@ -3,8 +3,8 @@ use Rattle.std.proofs.Common.{◌≡◌, ℕ, List, ◌∷◌, ◌++◌, [], Opt
 use Rattle.descriptor.specs.declared.node.Node.{Node}
 use Rattle.descriptor.specs.Nodes.{Nodes, appended, size}
 use Rattle.descriptor.specs.Bodies.{with_after}
-use Rattle.suite_text.specs.Reading.After.{after_body}
-use Rattle.suite_text.specs.Reading.Nodes.{id_at}
+use Rattle.suite_words.specs.Reading.After.{after_body}
+use Rattle.suite_words.specs.Reading.Nodes.{id_at}
 use Rattle.test_tree.specs.declared.marks.Marks.{Marks}
 use Rattle.test_tree.specs.declared.sort.Sort.{Sort}
 use Rattle.test_tree.specs.declared.sort.Sort.TheVariants.{Dynamic}

@@ -11,7 +11,7 @@ use Rattle.descriptor.specs.Roles.{is_spare, is_factory}
 use Rattle.descriptor.specs.declared.node.Node.{Node}
 use Rattle.descriptor.proofs.AfterBodies.{told_as_before}
 use Rattle.resource_locks.specs.Spares.{HasBareSpares}
-use Rattle.suite_text.proofs.Reading.Paths.{get_before, get_last}
+use Rattle.suite_words.proofs.Lists.{get_before, get_last}
 use Rattle.table_rule.specs.Slots.{job_with}
 use Rattle.test_tree.specs.declared.sort.Sort.{Sort}
 use Rattle.test_tree.specs.Growing.{Built, grown, job_of, next_node, changed}

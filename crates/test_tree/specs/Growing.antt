@@ -5,8 +5,8 @@ use Rattle.descriptor.specs.declared.node.Node.{Node}
 use Rattle.descriptor.specs.Bodies.{with_after}
 use Rattle.descriptor.specs.Nodes.{Nodes, MayTake, size, appended}
 use Rattle.descriptor.specs.Refusals as trees
-use Rattle.suite_text.specs.Reading.After.{after_body}
-use Rattle.suite_text.specs.Reading.Nodes.{id_at}
+use Rattle.suite_words.specs.Reading.After.{after_body}
+use Rattle.suite_words.specs.Reading.Nodes.{id_at}
 use Rattle.unique_id.specs.declared.unique_id.Segment.{Segment}
 use Rattle.unique_id.specs.declared.fault.UidFault.{UidFault}
 use Rattle.unique_id.specs.Spelling as ids

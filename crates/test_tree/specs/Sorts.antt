@@ -3,9 +3,9 @@ use Rattle.std.specs.Prelude.{ℕ, List, Option, Some, None}
 use Rattle.descriptor.specs.declared.kind.Kind.{Kind}
 use Rattle.descriptor.specs.declared.role.Role.{Role}
 use Rattle.descriptor.specs.Nodes.{Nodes}
-use Rattle.suite_text.specs.declared.suite.words.Word.{Word}
-use Rattle.suite_text.specs.declared.suite.words.Word.TheVariants as words
-use Rattle.suite_text.specs.Reading.Nodes.{segment_kind, kind_declared, role_declared, value_of_dyn, next_place}
+use Rattle.suite_words.specs.declared.suite.words.Word.{Word}
+use Rattle.suite_words.specs.declared.suite.words.Word.TheVariants as words
+use Rattle.suite_words.specs.Reading.Nodes.{segment_kind, kind_declared, role_declared, value_of_dyn, next_place}
 use Rattle.test_tree.specs.declared.sort.Sort.{Sort}
 use Rattle.test_tree.specs.declared.sort.Sort.TheVariants.{Engine, Class, Nested, Test, Factory, Dynamic}
 

@@ -14,7 +14,7 @@ use crate::cause::BuildCause;
 use crate::fault::BuildFault;
 use crate::tests::Tests;
 use descriptor::{Lock, LockMode, Mode};
-use suite_text::LONGEST_LIMIT;
+use suite_words::LONGEST_LIMIT;
 use tag_expr::{TagFault, tag_of};
 use test_bodies::{Body, TestFn};
 use unique_id::Text;

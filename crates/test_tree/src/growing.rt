@@ -3,7 +3,7 @@
 ghost use Rattle.std.specs.Prelude.{◌≡◌, ◌≢◌, ◌<◌, true, false, ◌==◌, cond, ◌+◌, ◌++◌, ◌∷◌, [], Some, None, length, option_map, IfOk, IfErr, OnOk, OnErr, vec_len, vec_capacity};
 ghost use Rattle.descriptor.specs.Nodes.{IsTree, MayTake, appended, size};
 ghost use Rattle.descriptor.specs.Refusals as trees;
-ghost use Rattle.suite_text.specs.Reading.Nodes.{id_at, value_of_dyn, next_place};
+ghost use Rattle.suite_words.specs.Reading.Nodes.{id_at, value_of_dyn, next_place};
 ghost use Rattle.unique_id.specs.Spelling as ids;
 ghost use Rattle.descriptor.specs.declared.fault.TreeFault.{TreeFault as TreeFaultValue};
 ghost use Rattle.unique_id.specs.declared.fault.UidFault.{UidFault as UidFaultValue};

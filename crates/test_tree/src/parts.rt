@@ -9,7 +9,7 @@ ghost use Rattle.descriptor.specs.Refusals.{after_refusal};
 ghost use Rattle.plan_events.specs.declared.outcome.Outcome.{Outcome};
 ghost use Rattle.resource_locks.specs.Plans.{PlanParts};
 ghost use Rattle.resource_locks.specs.Spares.{HasBareSpares};
-ghost use Rattle.suite_text.specs.Reading.After.{after_body};
+ghost use Rattle.suite_words.specs.Reading.After.{after_body};
 ghost use Rattle.test_bodies.specs.Bodies.{is_spent, may_answer, tests_left};
 ghost use Rattle.test_bodies.specs.Replies.{replies_by};
 ghost use Rattle.worker_pool.specs.Premises.{JobsMayAnswer};

@@ -1,7 +1,7 @@
 //! Calls `step_text`: the steps of a text are read.
 
 ghost use Rattle.std.specs.Prelude.{◌≡◌, IfOk, length};
-ghost use Rattle.suite_text.specs.Words.{words_in};
+ghost use Rattle.suite_words.specs.Words.{words_in};
 
 use std::alloc::Global;
 use step_text::{StepsFault, parse_steps};

@@ -4,7 +4,7 @@ use Rattle.std.specs.Fmt.{decimal}
 use Rattle.std.specs.List.{list_any, before_first}
 use Rattle.std.specs.Str.{bytes_eq}
 use Rattle.launch_options.specs.Given.{maybe_behind}
-use Rattle.suite_text.specs.Numbers.{number_up_to}
+use Rattle.suite_words.specs.Numbers.{number_up_to}
 use Rattle.word_files.specs.Reading.{Text}
 use Rattle.word_files.specs.Roles.{is_equals}
 use Rattle.word_files.specs.declared.facts.Facts.{Facts}

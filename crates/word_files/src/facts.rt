@@ -6,7 +6,7 @@ ghost use Rattle.word_files.specs.Told.{asks_for_all, asks_here, has_option, ind
 ghost use Rattle.word_files.specs.Told.{seeded_word, seeded_words, with_processors, with_seed, with_shard, with_told};
 
 use std::alloc::{AllocError, Global};
-use suite_text::number_up_to;
+use suite_words::number_up_to;
 
 /// The option for which the system tells how many processors there are.
 const WORKERS: &str = "--workers";

@@ -14,14 +14,15 @@ use Rattle.descriptor.specs.Roles.{is_spare}
 use Rattle.descriptor.proofs.AfterBodies.{taken_after, told_as_before}
 use Rattle.plan_events.specs.declared.status.Status.{Status}
 use Rattle.unique_id.specs.declared.unique_id.Segment.{Segment}
-use Rattle.suite_text.specs.declared.script.Script.{Script}
+use Rattle.suite_words.specs.declared.script.Script.{Script}
 use Rattle.suite_text.specs.declared.suite.builder.Opened.{Opened}
-use Rattle.suite_text.specs.Reading.After.{after_body, with_after_body}
+use Rattle.suite_words.specs.Reading.After.{after_body}
+use Rattle.suite_text.specs.Reading.After.{with_after_body}
 use Rattle.suite_text.specs.Reading.Ids.{IsNamed, IdsFollow, place_among, value_at}
-use Rattle.suite_text.specs.Reading.Nodes.{id_at, id_or_none, value_of_dyn}
+use Rattle.suite_words.specs.Reading.Nodes.{id_at, id_or_none, value_of_dyn}
 use Rattle.suite_text.specs.Reading.Parts.{LinesRead, bodies_of, afters_of, bodies_answered}
 use Rattle.suite_text.specs.Inside.Paths.{IsPath, IsSound}
-use Rattle.suite_text.specs.Reading.Scripts.{ending}
+use Rattle.suite_words.specs.Reading.Scripts.{ending}
 
 bodies_same : (b i : ℕ) (xs : List Node) → bodies_of (given_after_at b i xs) ≡ bodies_of xs
 bodies_same b i [] = refl

@@ -1,8 +1,6 @@
 -- A node with too many locks is refused whichever of them are looked at.
-use Rattle.std.proofs.Common.{◌≡◌, ◌≢◌, ℕ, zero, suc, ◌<◌, ◌≤◌, ◌==◌, ◌||◌, ◌&&◌, Bool, true, false, not, cond, List, [], ◌∷◌, ◌++◌, length, take, drop, Option, Some, None, option_to_list, refl, ap, sym, subst, ◌∙◌, arith}
+use Rattle.std.proofs.Common.{◌≡◌, ◌≢◌, ℕ, ◌<◌, ◌==◌, ◌||◌, ◌&&◌, Bool, true, false, not, cond, List, [], ◌∷◌, ◌++◌, length, take, Option, Some, None, option_to_list, refl, ap, sym, ◌∙◌, arith}
 use Rattle.std.specs.Prelude.{nat_lt}
-use Rattle.std.specs.declared.cmp.Ordering.{Ordering}
-use Rattle.std.specs.declared.cmp.Ordering.TheVariants.{Less, Equal, Greater}
 use Rattle.std.specs.Option.{is_some}
 use Rattle.std.proofs.lemmas.Option.{none-some}
 use Rattle.std.proofs.lemmas.Bool.{lt-ltb, ltb-true, ltb-false, ne_eqb}
@@ -16,40 +14,11 @@ use Rattle.descriptor.specs.Limits.{is_long, is_long_reason, has_long_key, is_ov
 use Rattle.descriptor.specs.Nodes.{Nodes, size, depth_of, is_leaf_at, role_of, appended}
 use Rattle.descriptor.specs.Refusals.{has_id, repeats_body, refusal}
 use Rattle.descriptor.specs.Roles.{is_misplaced}
-use Rattle.resource_locks.specs.LockSets.{key_cmp, put_by, put, join, of}
-use Rattle.suite_text.specs.Reading.Nodes.{parent_on, node_on, is_over_limit_on, refusal_on, script_declared, grown}
+use Rattle.suite_text.specs.Reading.Nodes.{parent_on, node_on, is_over_limit_on, refusal_on, grown}
+use Rattle.suite_words.specs.Reading.Nodes.{script_declared}
 use Rattle.suite_text.specs.Reading.Parts.{LinesRead}
-use Rattle.suite_text.specs.Reading.Words.{Declaration}
-use Rattle.suite_text.specs.Inside.FewLocks.{StandFor, DoesFor, IsTakenAs}
-
--- a set never gets smaller
-longer_by : (o : Ordering) (l x : Lock) (s : List Lock) → length s ≤ length (put l s) → length (x ∷ s) ≤ length (put_by o l x s (put l s))
-longer_by Less l x s h = omega arith
-longer_by Equal l x s h = omega arith
-longer_by Greater l x s h = omega (arith, h)
-
-longer : (l : Lock) (s : List Lock) → length s ≤ length (put l s)
-longer l [] = omega arith
-longer l (x ∷ s) = longer_by (key_cmp l.key x.key) l x s (longer l s)
-
-all_longer : (s more : List Lock) → length s ≤ length (join s more)
-all_longer s [] = omega arith
-all_longer s (l ∷ more) = let one = longer l s in let all = all_longer (put l s) more in omega (arith, one, all)
-
-join_rest : (s locks : List Lock) (n : ℕ) → join (join s (take n locks)) (drop n locks) ≡ join s locks
-join_rest s locks zero = refl
-join_rest s [] (suc n) = refl
-join_rest s (l ∷ locks) (suc n) = join_rest (put l s) locks n
-
--- the set of the first locks, where it is over the limit
-pub stops_early : (locks few : List Lock) (n : ℕ) → few ≡ join [] (take n locks) → 16 < length few → StandFor few (of locks)
-stops_early locks few n is many =
-    let whole : join few (drop n locks) ≡ of locks = ap (λ (s : List Lock). join s (drop n locks)) is ∙ join_rest [] locks n in
-    let more : length few ≤ length (of locks) = subst (λ (s : List Lock). length few ≤ length s) whole (all_longer few (drop n locks)) in
-    record { same = λ h. absurd (omega (arith, many, more, h)); more = λ h. many }
-
-pub stand_for : (few all : List Lock) → few ≡ all → StandFor few all
-stand_for few all is = record { same = λ h. is; more = λ h. subst (λ (s : List Lock). 16 < length s) (sym is) h }
+use Rattle.suite_words.specs.Reading.Words.{Declaration}
+use Rattle.suite_text.specs.Inside.FewLocks.{DoesFor, IsTakenAs}
 
 -- the refusals of a node, where these two of its tests have these answers
 abbrev judged : Nodes → ℕ → Node → Bool → Bool → Option TreeFault

@@ -7,8 +7,8 @@ use Rattle.descriptor.specs.Nodes.{Nodes, IsTree, size, node_at, parent_of, is_c
 use Rattle.descriptor.specs.Roles.{is_spare}
 use Rattle.descriptor.proofs.Grown.{numbers_same}
 use Rattle.suite_text.specs.Reading.Ids.{IsNamed, IdsFollow, place_among, value_at}
-use Rattle.suite_text.specs.Reading.Nodes.{id_at, id_or_none, next_place, value_of_dyn}
-use Rattle.suite_text.proofs.Reading.Paths.{get_before, get_last}
+use Rattle.suite_words.specs.Reading.Nodes.{id_at, id_or_none, next_place, value_of_dyn}
+use Rattle.suite_words.proofs.Lists.{get_before, get_last}
 
 early : (xs : List Node) (x : Node) (n : ℕ) → n < length xs → slice_get (xs ++ x ∷ []) n ≡ slice_get xs n
 early [] x n h = absurd (omega arith)

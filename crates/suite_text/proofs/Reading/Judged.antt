@@ -7,17 +7,19 @@ use Rattle.config_params.specs.declared.fault.ParamsFault.{ParamsFault}
 use Rattle.config_params.specs.Pairs.{Pair, property_of}
 use Rattle.config_params.specs.Parameters.{Parameters}
 use Rattle.suite_text.specs.declared.suite.builder.Opened.{Opened}
-use Rattle.suite_text.specs.declared.suite.fault.SuiteFault.{SuiteFault}
-use Rattle.suite_text.specs.declared.suite.fault.SuiteFault.TheVariants.{NoMemory, BadLine}
-use Rattle.suite_text.specs.declared.suite.words.Word.{Word}
+use Rattle.suite_words.specs.declared.suite.fault.SuiteFault.{SuiteFault}
+use Rattle.suite_words.specs.declared.suite.fault.SuiteFault.TheVariants.{NoMemory, BadLine}
+use Rattle.suite_words.specs.declared.suite.words.Word.{Word}
 use Rattle.unique_id.specs.Answers.{◌>>=◌, texts}
-use Rattle.suite_text.specs.Reading.After.{is_after, class_of, after_said, given_after_body, with_after_line}
-use Rattle.suite_text.specs.Reading.Judged.{Judged, judged_pair, judged_property, judged_after, judged_name, judged_node, judged_declaration, judged_on, judged_words, TakesMemory, MayRunOut}
-use Rattle.suite_text.specs.Reading.Lines.{says_nothing, first_word, after_word, level_of}
+use Rattle.suite_words.specs.Reading.After.{is_after, after_said}
+use Rattle.suite_text.specs.Reading.After.{class_of, given_after_body, with_after_line}
+use Rattle.suite_words.specs.Reading.Judged.{Judged, judged_pair, judged_property, judged_name, judged_node}
+use Rattle.suite_text.specs.Reading.Judged.{judged_after, judged_declaration, judged_on, judged_words, TakesMemory, MayRunOut}
+use Rattle.suite_words.specs.Reading.Lines.{says_nothing, first_word, after_word, level_of}
 use Rattle.suite_text.specs.Reading.Nodes.{word_on}
 use Rattle.suite_text.specs.Reading.Parts.{LinesRead, no_lines, parts_of, above}
-use Rattle.suite_text.specs.Reading.Properties.{with_said, with_property}
-use Rattle.suite_text.specs.Reading.Words.{Declaration, word_of, placed, with_attributes, with_name, declared_as}
+use Rattle.suite_words.specs.Reading.Properties.{with_said, with_property}
+use Rattle.suite_words.specs.Reading.Words.{Declaration, word_of, placed, with_attributes, with_name, declared_as}
 use Rattle.suite_text.specs.Suites.{is_property_in, with_declared, with_node_words, with_node_line, with_declaration, with_properties, with_pair, with_words_on, with_words, with_line, suite_from, suite_of_lines}
 use Rattle.suite_text.proofs.Reading.Never.{lines_never}
 use Rattle.suite_text.proofs.Reading.Steps.{texts_drop}

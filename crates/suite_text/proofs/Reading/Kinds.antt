@@ -18,25 +18,27 @@ use Rattle.descriptor.specs.Refusals.{after_refusal}
 use Rattle.plan_events.specs.declared.status.Status.{Status}
 use Rattle.unique_id.specs.Answers.{◌>>=◌}
 use Rattle.suite_text.specs.declared.suite.Suite.{Suite}
-use Rattle.suite_text.specs.declared.suite.attributes.Attributes.{Attributes}
+use Rattle.suite_words.specs.declared.suite.attributes.Attributes.{Attributes}
 use Rattle.suite_text.specs.declared.suite.builder.Opened.{Opened}
-use Rattle.suite_text.specs.declared.suite.fault.SuiteFault.{SuiteFault}
-use Rattle.suite_text.specs.declared.suite.verdicts.Verdict.{Verdict}
-use Rattle.suite_text.specs.declared.suite.verdicts.Verdict.TheVariants.{Pass, Fail, Abort, Disabled}
-use Rattle.suite_text.specs.declared.suite.words.Word.{Word}
-use Rattle.suite_text.specs.declared.suite.words.Word.TheVariants.{Engine, Class, Test, Factory, Dyn}
+use Rattle.suite_words.specs.declared.suite.fault.SuiteFault.{SuiteFault}
+use Rattle.suite_words.specs.declared.suite.verdicts.Verdict.{Verdict}
+use Rattle.suite_words.specs.declared.suite.verdicts.Verdict.TheVariants.{Pass, Fail, Abort, Disabled}
+use Rattle.suite_words.specs.declared.suite.words.Word.{Word}
+use Rattle.suite_words.specs.declared.suite.words.Word.TheVariants.{Engine, Class, Test, Factory, Dyn}
 use Rattle.suite_text.specs.Kinds.{word_in, words_of, AreNodesOf, IsA, type_by, type_at, IsKind, MayRun, HasBodies}
 use Rattle.suite_text.specs.Suites.{with_declared, with_declaration, with_words, with_words_on, is_property_in, with_pair, with_properties, with_line, suite_from, suite_of, suite_parts}
-use Rattle.suite_text.specs.Reading.After.{is_after, is_class, class_of, after_said, after_body, with_after_body, given_after_body, with_after_line}
-use Rattle.suite_text.specs.Reading.Attributes.{attributes_of}
-use Rattle.suite_text.specs.Reading.Faults.{Gives}
-use Rattle.suite_text.specs.Reading.Lines.{says_nothing, first_word, after_word, text_after_word, level_of}
-use Rattle.suite_text.specs.Reading.Nodes.{segment_kind, kind_declared, role_declared, value_declared, body_declared, id_at, place_on, parent_on, word_on, node_on, refusal_on, grown, unless_refused}
+use Rattle.suite_words.specs.Reading.After.{is_after, after_said, after_body}
+use Rattle.suite_text.specs.Reading.After.{is_class, class_of, with_after_body, given_after_body, with_after_line}
+use Rattle.suite_words.specs.Reading.Attributes.{attributes_of}
+use Rattle.suite_words.specs.Reading.Faults.{Gives}
+use Rattle.suite_words.specs.Reading.Lines.{says_nothing, first_word, after_word, text_after_word, level_of}
+use Rattle.suite_words.specs.Reading.Nodes.{segment_kind, kind_declared, role_declared, value_declared, body_declared, id_at}
+use Rattle.suite_text.specs.Reading.Nodes.{place_on, parent_on, word_on, node_on, refusal_on, grown, unless_refused}
 use Rattle.suite_text.specs.Reading.Parts.{SuiteParts, LinesRead, no_lines, parts_of, above, node_of_opened, word_of_opened}
-use Rattle.suite_text.specs.Reading.Properties.{is_property, with_property}
-use Rattle.suite_text.specs.Reading.Verdicts.{verdict_spelled, no_verdict, verdict_with, verdict_of, status_declared, reason_declared}
-use Rattle.suite_text.specs.Reading.Words.{Declaration, word_of, may_stand, placed, with_verdict, with_attributes, with_name, declared_as}
-use Rattle.suite_text.proofs.Reading.Paths.{get_before, get_last}
+use Rattle.suite_words.specs.Reading.Properties.{is_property, with_property}
+use Rattle.suite_words.specs.Reading.Verdicts.{verdict_spelled, no_verdict, verdict_with, verdict_of, status_declared, reason_declared}
+use Rattle.suite_words.specs.Reading.Words.{Declaration, word_of, may_stand, placed, with_verdict, with_attributes, with_name, declared_as}
+use Rattle.suite_words.proofs.Lists.{get_before, get_last}
 use Rattle.suite_text.proofs.Reading.Spares.{then_holds, chosen, after_any, Stands, placed_stands}
 
 -- Lists that get longer at their end.

@@ -2,9 +2,10 @@
 use Rattle.std.proofs.Common.{◌≡◌, ℕ, nat_lt, List, length, Bool, true, false, Err, refl}
 use Rattle.std.proofs.lemmas.Str.{IsUtf8-from_is_utf8, is_utf8-from_IsUtf8}
 use Rattle.std.specs.Str.{IsUtf8, is_utf8}
-use Rattle.suite_text.specs.declared.suite.fault.SuiteFault.TheVariants.{BadLine}
+use Rattle.suite_words.specs.declared.suite.fault.SuiteFault.TheVariants.{BadLine}
 use Rattle.suite_text.specs.Suites.{suite_of}
-use Rattle.suite_text.specs.Reading.Bytes.{suite_read, line_of_fault, without_mark}
+use Rattle.suite_text.specs.Reading.Bytes.{suite_read, line_of_fault}
+use Rattle.suite_words.specs.Reading.Bytes.{without_mark}
 
 pub read_text : (bytes : List ℕ) → nat_lt 1048576 (length bytes) ≡ false → IsUtf8 bytes → suite_read bytes ≡ suite_of (without_mark bytes)
 read_text bytes small text = rw (small, is_utf8-from_IsUtf8 bytes text) refl

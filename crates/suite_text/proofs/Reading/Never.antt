@@ -8,35 +8,36 @@ use Rattle.plan_events.specs.declared.status.Status.{Status}
 use Rattle.suite_text.specs.declared.suite.builder.Opened.{Opened}
 use Rattle.std.specs.Str.Lines.{lines}
 use Rattle.tag_expr.specs.Tags.{tag_refusal}
-use Rattle.suite_text.specs.Words.{words_in}
+use Rattle.suite_words.specs.Words.{words_in}
 use Rattle.descriptor.specs.declared.fault.TreeFault.{TreeFault}
-use Rattle.suite_text.specs.declared.suite.words.Word.{Word}
-use Rattle.suite_text.specs.declared.suite.words.Word.TheVariants.{Engine, Class, Test, Factory, Dyn}
-use Rattle.suite_text.specs.declared.suite.attributes.Attribute.{Attribute}
-use Rattle.suite_text.specs.declared.suite.attributes.Attribute.TheVariants.{Tag, Spin, Slow, Pulls, Runs, Lock, Isolated}
-use Rattle.suite_text.specs.declared.suite.attributes.Attributes.{Attributes}
-use Rattle.suite_text.specs.declared.suite.verdicts.Verdict.{Verdict}
-use Rattle.suite_text.specs.declared.suite.verdicts.Verdict.TheVariants.{Pass, Fail, Abort, Disabled}
-use Rattle.suite_text.specs.declared.suite.fault.SuiteFault.{SuiteFault}
-use Rattle.suite_text.specs.declared.suite.fault.SuiteFault.TheVariants.{NoMemory, BadLine}
-use Rattle.suite_text.specs.Reading.Attributes.{after_sign, attribute_of, no_attributes, with_tag_of, with_spin_of, with_slow_of, with_pulls_of, with_attribute, attributes_from, attributes_of}
+use Rattle.suite_words.specs.declared.suite.words.Word.{Word}
+use Rattle.suite_words.specs.declared.suite.words.Word.TheVariants.{Engine, Class, Test, Factory, Dyn}
+use Rattle.suite_words.specs.declared.suite.attributes.Attribute.{Attribute}
+use Rattle.suite_words.specs.declared.suite.attributes.Attribute.TheVariants.{Tag, Spin, Slow, Pulls, Runs, Lock, Isolated}
+use Rattle.suite_words.specs.declared.suite.attributes.Attributes.{Attributes}
+use Rattle.suite_words.specs.declared.suite.verdicts.Verdict.{Verdict}
+use Rattle.suite_words.specs.declared.suite.verdicts.Verdict.TheVariants.{Pass, Fail, Abort, Disabled}
+use Rattle.suite_words.specs.declared.suite.fault.SuiteFault.{SuiteFault}
+use Rattle.suite_words.specs.declared.suite.fault.SuiteFault.TheVariants.{NoMemory, BadLine}
+use Rattle.suite_words.specs.Reading.Attributes.{after_sign, attribute_of, no_attributes, with_tag_of, with_spin_of, with_slow_of, with_pulls_of, with_attribute, attributes_from, attributes_of}
 use Rattle.unique_id.specs.Answers.{◌>>=◌}
-use Rattle.suite_text.specs.Reading.Lines.{says_nothing, first_word, after_word, text_after_word, level_of, indentation_of}
+use Rattle.suite_words.specs.Reading.Lines.{says_nothing, first_word, after_word, text_after_word, level_of, indentation_of}
 use Rattle.suite_text.specs.Reading.Nodes.{word_on, refusal_on, grown, unless_refused}
-use Rattle.suite_text.specs.Reading.After.{is_after, is_class, class_of, ended, after_said, after_body, with_after_body, given_after_body, with_after_line}
+use Rattle.suite_words.specs.Reading.After.{is_after, ended, after_said, after_body}
+use Rattle.suite_text.specs.Reading.After.{is_class, class_of, with_after_body, given_after_body, with_after_line}
 use Rattle.suite_text.specs.Reading.Parts.{LinesRead, no_lines, above}
-use Rattle.suite_text.specs.Numbers.{number_up_to}
-use Rattle.suite_text.specs.Reading.Locks.{lock_of, with_lock_of}
-use Rattle.suite_text.specs.Reading.Slow.{some_or_bad_line, limit_of}
-use Rattle.suite_text.specs.Reading.Spins.{value_of, or_bad_line, count_of}
-use Rattle.suite_text.specs.Reading.Verdicts.{verdict_spelled, no_verdict, verdict_with, verdict_of, status_declared}
-use Rattle.suite_text.specs.Reading.Words.{word_of, may_stand, placed, with_verdict, with_attributes, with_name, declared_by}
+use Rattle.suite_words.specs.Numbers.{number_up_to}
+use Rattle.suite_words.specs.Reading.Locks.{lock_of, with_lock_of}
+use Rattle.suite_words.specs.Reading.Slow.{some_or_bad_line, limit_of}
+use Rattle.suite_words.specs.Reading.Spins.{value_of, or_bad_line, count_of}
+use Rattle.suite_words.specs.Reading.Verdicts.{verdict_spelled, no_verdict, verdict_with, verdict_of, status_declared}
+use Rattle.suite_words.specs.Reading.Words.{word_of, may_stand, placed, with_verdict, with_attributes, with_name, declared_by}
 use Rattle.std.specs.List.{list_any}
 use Rattle.config_params.specs.declared.fault.ParamsFault.TheVariants.{NoEquals, EmptyKey}
 use Rattle.config_params.specs.Pairs as pairs
 use Rattle.config_params.specs.Pairs.{Pair, is_equals_sign, said}
 use Rattle.config_params.specs.Parameters.{Parameters}
-use Rattle.suite_text.specs.Reading.Properties.{with_said, with_property}
+use Rattle.suite_words.specs.Reading.Properties.{with_said, with_property}
 use Rattle.suite_text.specs.Suites.{with_declared, with_declaration, with_words_on, is_property_in, with_pair, with_properties, with_line, suite_from, suite_of_lines, suite_of}
 
 abbrev Never : {A : Type 0} → Result A SuiteFault → Type 0

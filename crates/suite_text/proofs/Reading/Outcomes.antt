@@ -5,17 +5,18 @@ use Rattle.std.proofs.lemmas.Grind.{flat_map-append}
 use Rattle.config_params.specs.Parameters.{Parameters}
 use Rattle.descriptor.specs.declared.node.Node.{Node}
 use Rattle.plan_events.specs.declared.status.Status.{Status}
-use Rattle.suite_text.specs.declared.suite.pulls.Pending.{Pending}
+use Rattle.suite_words.specs.declared.suite.pulls.Pending.{Pending}
 use Rattle.std.specs.List.Sorted.{IsPermutation}
 use Rattle.descriptor.specs.Nodes.{size, IsTree}
-use Rattle.suite_text.specs.Reading.Attributes.{spin_said, pulls_said}
-use Rattle.suite_text.specs.Reading.Nodes.{body_declared, counts_lines, script_declared, parent_on, word_on, segment_kind, node_on, grown}
+use Rattle.suite_words.specs.Reading.Attributes.{spin_said, pulls_said}
+use Rattle.suite_words.specs.Reading.Nodes.{body_declared, counts_lines, script_declared, segment_kind}
+use Rattle.suite_text.specs.Reading.Nodes.{parent_on, word_on, node_on, grown}
 use Rattle.suite_text.specs.Reading.Parts.{LinesRead, bodies_of, afters_of, bodies_answered}
 use Rattle.suite_text.specs.Inside.Paths.{IsSound, bodies_pending}
-use Rattle.suite_text.specs.Reading.Scripts.{ending}
+use Rattle.suite_words.specs.Reading.Scripts.{ending}
 use Rattle.suite_text.specs.Suites.{with_properties}
-use Rattle.suite_text.specs.Reading.Verdicts.{status_declared}
-use Rattle.suite_text.specs.Reading.Words.{Declaration}
+use Rattle.suite_words.specs.Reading.Verdicts.{status_declared}
+use Rattle.suite_words.specs.Reading.Words.{Declaration}
 use Rattle.suite_text.proofs.Reading.Paths.{path_next, parent_inside}
 use Rattle.suite_text.proofs.Reading.Ids.{ids_next}
 

@@ -1,11 +1,12 @@
 -- The path of open nodes, and the tree that grows at its end.
 use Rattle.std.proofs.Common.{length-append, ◌≡◌, ℕ, zero, suc, ◌+◌, ◌-◌, ◌<◌, ◌≤◌, List, [], ◌∷◌, ◌++◌, length, take, get_or, refl, ap, sym, ◌∙◌, subst, arith, inl, inr, Some, Option, None}
-use Rattle.std.specs.Prelude.{slice_get, slice_index_or}
+use Rattle.std.specs.Prelude.{slice_get}
 use Rattle.descriptor.specs.declared.node.Node.{Node}
 use Rattle.descriptor.specs.Nodes.{Nodes, IsChild, Below, child, under, MayTake, size, appended}
 use Rattle.suite_text.specs.declared.suite.builder.Opened.{Opened}
 use Rattle.suite_text.specs.Reading.Parts.{above, node_of_opened}
 use Rattle.suite_text.specs.Inside.Paths.{IsPath}
+use Rattle.suite_words.proofs.Lists.{get_before, get_last}
 
 below_next : (t : Nodes) (a x : ℕ) → IsChild t a x → (d : ℕ) → Below t x d → Below t a d
 below_next t a x e d (child f) = under (child e) f
@@ -61,15 +62,6 @@ plan_takes t path p = takes_from t 0 path (plan_inside t 0 path p) p
 
 length_more : (xs : List ℕ) (x : ℕ) → length (xs ++ x ∷ []) ≡ length xs + 1
 length_more xs x = simp length-append
-
-pub get_before : (xs : List ℕ) (x c : ℕ) → c < length xs → slice_index_or (xs ++ x ∷ []) c 0 ≡ slice_index_or xs c 0
-get_before [] x c h = absurd (omega arith)
-get_before (y ∷ xs) x zero h = refl
-get_before (y ∷ xs) x (suc c) h = get_before xs x c (omega arith)
-
-pub get_last : (xs : List ℕ) (x : ℕ) → slice_index_or (xs ++ x ∷ []) (length xs) 0 ≡ x
-get_last [] x = refl
-get_last (y ∷ xs) x = get_last xs x
 
 child_grown : (t : Nodes) (p : ℕ) (node : Node) (a c : ℕ) → IsChild t a c → IsChild (appended t p node) a c
 child_grown t p node a c e =

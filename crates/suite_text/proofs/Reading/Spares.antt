@@ -16,27 +16,30 @@ use Rattle.descriptor.proofs.AfterBodies.{told_as_before}
 use Rattle.resource_locks.specs.Spares.{HasBareSpares}
 use Rattle.unique_id.specs.Answers.{◌>>=◌}
 use Rattle.suite_text.specs.declared.suite.Suite.{Suite}
-use Rattle.suite_text.specs.declared.suite.attributes.Attribute.TheVariants.{Spin, Slow}
-use Rattle.suite_text.specs.declared.suite.attributes.Attributes.{Attributes}
+use Rattle.suite_words.specs.declared.suite.attributes.Attribute.TheVariants.{Spin, Slow}
+use Rattle.suite_words.specs.declared.suite.attributes.Attributes.{Attributes}
 use Rattle.suite_text.specs.declared.suite.builder.Opened.{Opened}
-use Rattle.suite_text.specs.declared.suite.fault.SuiteFault.{SuiteFault}
-use Rattle.suite_text.specs.declared.suite.words.Word.{Word}
-use Rattle.suite_text.specs.declared.suite.words.Word.TheVariants.{Engine, Class, Test, Factory, Dyn}
-use Rattle.suite_text.specs.Words.{words_in}
+use Rattle.suite_words.specs.declared.suite.fault.SuiteFault.{SuiteFault}
+use Rattle.suite_words.specs.declared.suite.words.Word.{Word}
+use Rattle.suite_words.specs.declared.suite.words.Word.TheVariants.{Engine, Class, Test, Factory, Dyn}
+use Rattle.suite_words.specs.Words.{words_in}
 use Rattle.suite_text.specs.Suites.{with_declared, with_declaration, with_words_on, is_property_in, with_pair, with_properties, with_line, suite_from, suite_of, suite_parts}
-use Rattle.suite_text.specs.Reading.After.{is_after, class_of, after_said, after_body, with_after_body, given_after_body, with_after_line}
-use Rattle.suite_text.specs.Reading.Attributes.{no_attributes, with_attribute, attributes_from, attributes_of}
-use Rattle.suite_text.specs.Reading.Bytes.{suite_read, without_mark}
-use Rattle.suite_text.specs.Reading.Faults.{Gives}
-use Rattle.suite_text.specs.Reading.Lines.{says_nothing, first_word, after_word, text_after_word, level_of}
-use Rattle.suite_text.specs.Reading.Nodes.{role_declared, node_on, parent_on, word_on, refusal_on, grown, unless_refused}
+use Rattle.suite_words.specs.Reading.After.{is_after, after_said, after_body}
+use Rattle.suite_text.specs.Reading.After.{class_of, with_after_body, given_after_body, with_after_line}
+use Rattle.suite_words.specs.Reading.Attributes.{no_attributes, with_attribute, attributes_from, attributes_of}
+use Rattle.suite_text.specs.Reading.Bytes.{suite_read}
+use Rattle.suite_words.specs.Reading.Bytes.{without_mark}
+use Rattle.suite_words.specs.Reading.Faults.{Gives}
+use Rattle.suite_words.specs.Reading.Lines.{says_nothing, first_word, after_word, text_after_word, level_of}
+use Rattle.suite_words.specs.Reading.Nodes.{role_declared}
+use Rattle.suite_text.specs.Reading.Nodes.{node_on, parent_on, word_on, refusal_on, grown, unless_refused}
 use Rattle.suite_text.specs.Reading.Parts.{SuiteParts, LinesRead, no_lines, parts_of, above, node_of_opened, word_of_opened}
-use Rattle.suite_text.specs.Reading.Properties.{with_property}
-use Rattle.suite_text.specs.Reading.Slow.{is_slow, limit_of}
-use Rattle.suite_text.specs.Reading.Spins.{is_spin, key_of, value_of, count_of}
-use Rattle.suite_text.specs.Reading.Verdicts.{verdict_of}
-use Rattle.suite_text.specs.Reading.Words.{Declaration, word_of, may_stand, placed, with_verdict, with_attributes, with_name, declared_as}
-use Rattle.suite_text.proofs.Reading.Paths.{get_before, get_last}
+use Rattle.suite_words.specs.Reading.Properties.{with_property}
+use Rattle.suite_words.specs.Reading.Slow.{is_slow, limit_of}
+use Rattle.suite_words.specs.Reading.Spins.{is_spin, key_of, value_of, count_of}
+use Rattle.suite_words.specs.Reading.Verdicts.{verdict_of}
+use Rattle.suite_words.specs.Reading.Words.{Declaration, word_of, may_stand, placed, with_verdict, with_attributes, with_name, declared_as}
+use Rattle.suite_words.proofs.Lists.{get_before, get_last}
 
 -- What holds of each answer of a step.
 pub then_holds : {A B : Type 0} (P : A → Type 0) (Q : B → Type 0) (r : Result A SuiteFault) (f : A → Result B SuiteFault) → IfOk r P → ((x : A) → P x → IfOk (f x) Q) → IfOk (r >>= f) Q

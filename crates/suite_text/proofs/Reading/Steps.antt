@@ -5,22 +5,14 @@ use Rattle.std.proofs.lemmas.List.{drop-map, drop_more, drop_all, length-map}
 use borrow.Author.Tests.{tests}
 use Rattle.std.specs.Str.Lines.{lines}
 use denote.Ref.{Bor}
-use Rattle.suite_text.specs.declared.suite.fault.SuiteFault.{SuiteFault}
-use Rattle.suite_text.specs.Reading.Faults.{Fails}
-use Rattle.unique_id.specs.Answers.{◌>>=◌}
-use Rattle.unique_id.specs.Answers.{texts}
+use Rattle.suite_words.specs.declared.suite.fault.SuiteFault.{SuiteFault}
+use Rattle.suite_words.specs.Reading.Faults.{Fails}
+use Rattle.unique_id.specs.Answers.{◌>>=◌, texts}
 use Rattle.suite_text.specs.Reading.Parts.{LinesRead}
 use Rattle.suite_text.specs.Suites.{with_declared, with_node_words, with_line, suite_from, suite_of_lines, suite_of}
 use Rattle.suite_text.specs.Reading.Nodes.{word_on}
-use Rattle.suite_text.specs.Reading.Words.{Declaration, declared_as}
-
--- a fault of the first step is one of both
-pub fails_then : {A B : Type 0} (fault : SuiteFault) (r : Result A SuiteFault) (f : A → Result B SuiteFault) → Fails fault r → Fails fault (r >>= f)
-fails_then fault r f h = λ other. ap (λ x. x >>= f) (h other)
-
--- and of what equals them
-pub fails_as : {A : Type 0} (fault : SuiteFault) (r s : Result A SuiteFault) → r ≡ s → Fails fault r → Fails fault s
-fails_as fault r s e h = λ other. sym e ∙ h other
+use Rattle.suite_words.specs.Reading.Words.{Declaration, declared_as}
+use Rattle.suite_words.proofs.Reading.Steps.{fails_then, fails_as}
 
 pub texts_drop : (xs : List (Bor (List ℕ))) (i : ℕ) (d : Bor (List ℕ)) → i < length xs → drop i (texts xs) ≡ (get_or xs i d).now ∷ drop (i + 1) (texts xs)
 texts_drop xs i d h =

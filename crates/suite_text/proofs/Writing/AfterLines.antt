@@ -2,12 +2,12 @@
 use Rattle.std.proofs.Common.{◌≡◌, ℕ, zero, suc, ◌+◌, ◌≤◌, ◌||◌, ◌==◌, List, ◌++◌, length, drop, true, false, Some, Ok, codes, refl, ap, ◌∙◌, arith, rules}
 use Rattle.std.specs.Str.{bytes_eq}
 use Rattle.std.proofs.lemmas.Bool.{ne_eqb}
-use Rattle.suite_text.specs.declared.suite.words.Word.TheVariants.{Test}
+use Rattle.suite_words.specs.declared.suite.words.Word.TheVariants.{Test}
 use Rattle.unique_id.specs.Answers.{◌>>=◌}
-use Rattle.suite_text.specs.Reading.After.{is_after, ended, after_said}
-use Rattle.suite_text.specs.Reading.Lines.{without_front, first_word, after_word, indentation_of, level_of, says_nothing, begins_with_sign}
-use Rattle.suite_text.specs.Reading.Verdicts.{verdict_of, status_declared}
-use Rattle.suite_text.specs.Reading.Properties.{is_property}
+use Rattle.suite_words.specs.Reading.After.{is_after, ended, after_said}
+use Rattle.suite_words.specs.Reading.Lines.{without_front, first_word, after_word, indentation_of, level_of, says_nothing, begins_with_sign}
+use Rattle.suite_words.specs.Reading.Verdicts.{verdict_of, status_declared}
+use Rattle.suite_words.specs.Reading.Properties.{is_property}
 use Rattle.suite_text.specs.Writing.AfterLines.{AfterLine, after_text, IsAfterLine}
 use Rattle.suite_text.specs.Writing.Lines.{spaces, IsWord, ending_text}
 use Rattle.suite_text.proofs.Writing.Lines.{level_by, indents, text_back, verdict_read, follows_end}

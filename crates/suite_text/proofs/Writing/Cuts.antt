@@ -4,10 +4,10 @@ use Rattle.std.specs.Prelude.{◌==◌}
 use Rattle.std.proofs.lemmas.Bool.Decides.{Decides-eqb}
 use Rattle.std.proofs.lemmas.List.{reverse-append, reverse-reverse}
 use Rattle.std.specs.List.{AllByRecursion, before_first, after_first, position_or_len, prefix_len, suffix_len}
-use Rattle.suite_text.specs.Reading.Lines.{without_front, without_end, first_word, after_word}
-use Rattle.suite_text.specs.Words.{is_space}
+use Rattle.suite_words.specs.Reading.Lines.{without_front, without_end, first_word, after_word}
+use Rattle.suite_words.specs.Words.{is_space}
 use Rattle.suite_text.specs.Writing.Lines.{spaces}
-use Rattle.suite_text.proofs.FirstWords.{spaced, unspaced}
+use Rattle.suite_words.proofs.FirstWords.{spaced, unspaced}
 use Rattle.suite_text.proofs.Writing.Words.{Unspaced, Follows, reverse_spaces, without_end_is}
 
 space_is : (b : ℕ) → is_space b ≡ true → b ≡ 32

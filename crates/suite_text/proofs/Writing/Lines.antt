@@ -8,33 +8,34 @@ use Rattle.std.specs.List.{list_all, prefix_len}
 use Rattle.std.specs.Option.{is_some}
 use Rattle.std.specs.Str.{bytes_eq}
 use Rattle.std.specs.Str.Parse.{digits_value}
-use Rattle.suite_text.specs.declared.suite.words.Word.{Word}
-use Rattle.suite_text.specs.declared.suite.words.Word.TheVariants.{Engine, Class, Test, Factory, Dyn}
-use Rattle.suite_text.specs.declared.suite.verdicts.Verdict.{Verdict}
-use Rattle.suite_text.specs.declared.suite.verdicts.Verdict.TheVariants.{Pass, Fail, Abort, Disabled}
+use Rattle.suite_words.specs.declared.suite.words.Word.{Word}
+use Rattle.suite_words.specs.declared.suite.words.Word.TheVariants.{Engine, Class, Test, Factory, Dyn}
+use Rattle.suite_words.specs.declared.suite.verdicts.Verdict.{Verdict}
+use Rattle.suite_words.specs.declared.suite.verdicts.Verdict.TheVariants.{Pass, Fail, Abort, Disabled}
 use Rattle.descriptor.specs.declared.mode.Mode.TheVariants.{SameThread, Concurrent}
-use Rattle.suite_text.specs.declared.suite.attributes.Attribute as kinds
-use Rattle.suite_text.specs.declared.suite.attributes.Attribute.TheVariants as found
-use Rattle.suite_text.specs.declared.suite.attributes.Attribute.TheVariants.{Tag, Spin, Slow, Pulls, Lock, Isolated}
-use Rattle.suite_text.specs.declared.suite.attributes.Attributes.{Attributes}
-use Rattle.suite_text.specs.declared.suite.fault.SuiteFault.{SuiteFault}
-use Rattle.suite_text.specs.declared.suite.fault.SuiteFault.TheVariants.{BadLine, BadIndent}
-use Rattle.suite_text.specs.Reading.Attributes.{takes_tags, attribute_of, no_attributes, with_attribute, attributes_from, may_declare, declaration_in}
+use Rattle.suite_words.specs.declared.suite.attributes.Attribute as kinds
+use Rattle.suite_words.specs.declared.suite.attributes.Attribute.TheVariants as found
+use Rattle.suite_words.specs.declared.suite.attributes.Attribute.TheVariants.{Tag, Spin, Slow, Pulls, Lock, Isolated}
+use Rattle.suite_words.specs.declared.suite.attributes.Attributes.{Attributes}
+use Rattle.suite_words.specs.declared.suite.fault.SuiteFault.{SuiteFault}
+use Rattle.suite_words.specs.declared.suite.fault.SuiteFault.TheVariants.{BadLine, BadIndent}
+use Rattle.suite_words.specs.Reading.Attributes.{takes_tags, attribute_of, no_attributes, with_attribute, attributes_from, may_declare, declaration_in}
 use Rattle.unique_id.specs.Answers.{◌>>=◌}
-use Rattle.suite_text.specs.Reading.Lines.{without_front, without_end, first_word, after_word, text_after_word, indentation_of, level_of, says_nothing, begins_with_sign}
-use Rattle.suite_text.specs.Numbers.{is_number}
-use Rattle.suite_text.specs.Reading.Pulls.{is_pulls}
-use Rattle.suite_text.specs.Reading.After.{is_after}
-use Rattle.suite_text.specs.Reading.Slow.{is_slow, some_or_bad_line, limit_of}
-use Rattle.suite_text.specs.Reading.Spins.{or_bad_line, key_of, is_spin, count_of}
-use Rattle.suite_text.specs.Reading.Verdicts.{verdict_spelled, no_verdict, verdict_with, verdict_of}
-use Rattle.suite_text.specs.Reading.Words.{Declaration, word_of, placed, with_verdict, with_attributes, with_name, declared_by}
-use Rattle.suite_text.specs.Reading.Properties.{is_property}
-use Rattle.suite_text.specs.Words.{is_space, words_in}
-use Rattle.suite_text.specs.Writing.Lines.{spaces, indentation, IsWord, word_text, Said, Tagged, Counts, Slows, Registers, Runs, Locks, Alone, LockSign, Plain, Reads, Writes, sign_text, said_text, said_also, IsTestWord, MaySay, Attribute, attributes_text, all_said, MaySayAll, Ending, verdict_text, ending_text, MayExplain, IsEnding, MayEnd, NodeLine, node_text, verdict_said, text_said, declares, IsNodeLine}
-use Rattle.suite_text.proofs.Numbers.{number_parts}
+use Rattle.suite_words.specs.Reading.Lines.{without_front, without_end, first_word, after_word, text_after_word, indentation_of, level_of, says_nothing, begins_with_sign}
+use Rattle.suite_words.specs.Numbers.{is_number}
+use Rattle.suite_words.specs.Reading.Pulls.{is_pulls}
+use Rattle.suite_words.specs.Reading.After.{is_after}
+use Rattle.suite_words.specs.Reading.Slow.{is_slow, some_or_bad_line, limit_of}
+use Rattle.suite_words.specs.Reading.Spins.{or_bad_line, key_of, is_spin, count_of}
+use Rattle.suite_words.specs.Reading.Verdicts.{verdict_spelled, no_verdict, verdict_with, verdict_of}
+use Rattle.suite_words.specs.Reading.Words.{Declaration, word_of, placed, with_verdict, with_attributes, with_name, declared_by}
+use Rattle.suite_words.specs.Reading.Properties.{is_property}
+use Rattle.suite_words.specs.Words.{is_space, words_in}
+use Rattle.suite_text.specs.Writing.Lines.{spaces, indentation, IsWord, Said, Tagged, Counts, Slows, Registers, Runs, Locks, Alone, LockSign, Plain, Reads, Writes, sign_text, said_text, said_also, IsTestWord, MaySay, Attribute, attributes_text, all_said, MaySayAll, Ending, ending_text, MayExplain, IsEnding, MayEnd, NodeLine, node_text, verdict_said, text_said, declares, IsNodeLine}
+use Rattle.suite_words.specs.Grammar.{word_text, verdict_text}
+use Rattle.suite_words.proofs.Numbers.{number_parts}
 use Rattle.suite_text.proofs.Writing.Locks.{lock_back}
-use Rattle.suite_text.proofs.Reading.Attributes.{of_nothing, at_end, next_read}
+use Rattle.suite_words.proofs.Reading.Attributes.{of_nothing, at_end, next_read}
 use Rattle.suite_text.proofs.Writing.Words.{Unspaced, Follows, first_is, after_is, first_none, after_none, text_is, follows_spaces, follows_text, front_is, prefix_spaces}
 
 -- the words that the format knows are words

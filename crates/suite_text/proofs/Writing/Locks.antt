@@ -5,11 +5,11 @@ use Rattle.std.proofs.lemmas.Bool.{ne_eqb}
 use Rattle.std.proofs.lemmas.List.{append_assoc, take_at}
 use Rattle.descriptor.specs.declared.lock.Lock.{Lock}
 use Rattle.resource_locks.specs.LockSets.{put}
-use Rattle.suite_text.specs.declared.suite.fault.SuiteFault.TheVariants.{BadLine}
-use Rattle.suite_text.specs.Reading.Locks.{without_last, lock_of, with_lock_of}
+use Rattle.suite_words.specs.declared.suite.fault.SuiteFault.TheVariants.{BadLine}
+use Rattle.suite_words.specs.Reading.Locks.{without_last, lock_of, with_lock_of}
 use Rattle.suite_text.specs.Writing.Lines.{LockSign, Plain, Reads, Writes, sign_text, sign_mode, MaySign}
-use Rattle.suite_text.proofs.Reading.Locks.{ends, ends_not, plain_is}
-use Rattle.suite_text.proofs.Reading.Paths.{get_last}
+use Rattle.suite_words.proofs.Reading.Locks.{ends, ends_not, plain_is}
+use Rattle.suite_words.proofs.Lists.{get_last}
 
 front_is : (n : ℕ) (front end : List ℕ) → length end ≡ n → without_last n (front ++ end) ≡ front
 front_is n front end e =

@@ -9,23 +9,24 @@ use Rattle.std.proofs.lemmas.List.{append_assoc}
 use Rattle.std.proofs.lemmas.Bool.Decides.{Decides-eqb}
 use Rattle.plan_events.specs.declared.status.Status.{Status}
 use Rattle.unique_id.specs.Answers.{◌>>=◌}
-use Rattle.suite_text.specs.declared.suite.attributes.Attribute as kinds
-use Rattle.suite_text.specs.declared.suite.attributes.Attributes.{Attributes}
-use Rattle.suite_text.specs.declared.suite.fault.SuiteFault.{SuiteFault}
-use Rattle.suite_text.specs.declared.suite.fault.SuiteFault.TheVariants.{BadLine, BadIndent}
-use Rattle.suite_text.specs.declared.suite.verdicts.Verdict.{Verdict}
-use Rattle.suite_text.specs.declared.suite.verdicts.Verdict.TheVariants.{Pass, Fail, Abort, Disabled}
-use Rattle.suite_text.specs.declared.suite.words.Word.{Word}
-use Rattle.suite_text.specs.declared.suite.words.Word.TheVariants.{Engine, Class, Test, Factory, Dyn}
-use Rattle.suite_text.specs.Reading.After.{is_after, ended, after_said}
-use Rattle.suite_text.specs.Reading.Attributes.{no_attributes, attribute_of, with_attribute, attributes_from, attributes_of}
-use Rattle.suite_text.specs.Reading.Lines.{without_front, without_end, first_word, after_word, text_after_word, indentation_of, level_of}
-use Rattle.suite_text.specs.Reading.Verdicts.{verdict_spelled, no_verdict, verdict_with, verdict_of, status_declared}
-use Rattle.suite_text.specs.Reading.Words.{Declaration, word_of, may_stand, placed, with_verdict, with_attributes, with_name, declared_as}
-use Rattle.suite_text.specs.Words.{is_space, words_in}
+use Rattle.suite_words.specs.declared.suite.attributes.Attribute as kinds
+use Rattle.suite_words.specs.declared.suite.attributes.Attributes.{Attributes}
+use Rattle.suite_words.specs.declared.suite.fault.SuiteFault.{SuiteFault}
+use Rattle.suite_words.specs.declared.suite.fault.SuiteFault.TheVariants.{BadLine, BadIndent}
+use Rattle.suite_words.specs.declared.suite.verdicts.Verdict.{Verdict}
+use Rattle.suite_words.specs.declared.suite.verdicts.Verdict.TheVariants.{Pass, Fail, Abort, Disabled}
+use Rattle.suite_words.specs.declared.suite.words.Word.{Word}
+use Rattle.suite_words.specs.declared.suite.words.Word.TheVariants.{Engine, Class, Test, Factory, Dyn}
+use Rattle.suite_words.specs.Reading.After.{is_after, ended, after_said}
+use Rattle.suite_words.specs.Reading.Attributes.{no_attributes, attribute_of, with_attribute, attributes_from, attributes_of}
+use Rattle.suite_words.specs.Reading.Lines.{without_front, without_end, first_word, after_word, text_after_word, indentation_of, level_of}
+use Rattle.suite_words.specs.Reading.Verdicts.{verdict_spelled, no_verdict, verdict_with, verdict_of, status_declared}
+use Rattle.suite_words.specs.Reading.Words.{Declaration, word_of, may_stand, placed, with_verdict, with_attributes, with_name, declared_as}
+use Rattle.suite_words.specs.Words.{is_space, words_in}
 use Rattle.suite_text.specs.Writing.AfterLines.{AfterLine, after_text, IsAfterLine}
-use Rattle.suite_text.specs.Writing.Lines.{spaces, indentation, IsWord, word_text, said_also, MaySay, Attribute, attributes_text, all_said, MaySayAll, Ending, verdict_text, ending_text, MayExplain, IsEnding, MayEnd, NodeLine, node_text, verdict_said, text_said, declares, IsNodeLine, said_text}
-use Rattle.suite_text.proofs.Reading.Attributes.{of_nothing, at_end, step, next_read}
+use Rattle.suite_text.specs.Writing.Lines.{spaces, indentation, IsWord, said_also, MaySay, Attribute, attributes_text, all_said, MaySayAll, Ending, ending_text, MayExplain, IsEnding, MayEnd, NodeLine, node_text, verdict_said, text_said, declares, IsNodeLine, said_text}
+use Rattle.suite_words.specs.Grammar.{word_text, verdict_text}
+use Rattle.suite_words.proofs.Reading.Attributes.{of_nothing, at_end, step, next_read}
 use Rattle.suite_text.proofs.Writing.Cuts.{indent, Parted, parted, blank_of, follows_is, Behind, behind_of}
 use Rattle.suite_text.proofs.Writing.Lines.{indents}
 use Rattle.suite_text.proofs.Writing.Said.{chosen_some, ok_then, ok_else, ok_same, spelled, zero_empty, some_length, IsSaid, said_so}

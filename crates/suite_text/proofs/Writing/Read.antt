@@ -11,10 +11,11 @@ use Rattle.std.proofs.lemmas.List.{append_assoc}
 use Rattle.config_params.specs.Parameters.{nothing_said}
 use Rattle.descriptor.specs.Nodes.{IsTree}
 use Rattle.suite_text.specs.declared.suite.Suite.{Suite}
-use Rattle.suite_text.specs.declared.suite.fault.SuiteFault.{SuiteFault}
-use Rattle.suite_text.specs.declared.suite.fault.SuiteFault.TheVariants.{TooLarge, BadLine}
-use Rattle.suite_text.specs.Reading.Bytes.{suite_read, line_of_fault, without_mark}
-use Rattle.suite_text.specs.Reading.Faults.{Gives}
+use Rattle.suite_words.specs.declared.suite.fault.SuiteFault.{SuiteFault}
+use Rattle.suite_words.specs.declared.suite.fault.SuiteFault.TheVariants.{TooLarge, BadLine}
+use Rattle.suite_text.specs.Reading.Bytes.{suite_read, line_of_fault}
+use Rattle.suite_words.specs.Reading.Bytes.{without_mark}
+use Rattle.suite_words.specs.Reading.Faults.{Gives}
 use Rattle.suite_text.specs.Reading.Parts.{SuiteParts, LinesRead, no_lines, parts_of, suite_made}
 use Rattle.suite_text.specs.Suites.{suite_from, suite_of_lines, suite_of, suite_parts}
 use Rattle.suite_text.specs.Writing.Suites.{Line, Feed, ReturnFeed, TextEnd, text_of_lines, AreLines, Written, text_of_written, meant, IsWritten, IsSuite}

@@ -17,23 +17,24 @@ use Rattle.descriptor.specs.declared.mode.Mode.{Mode}
 use Rattle.descriptor.specs.declared.mode.Mode.TheVariants.{SameThread, Concurrent}
 use Rattle.resource_locks.specs.LockSets.{put}
 use Rattle.unique_id.specs.Answers.{◌>>=◌}
-use Rattle.suite_text.specs.declared.suite.attributes.Attribute as kinds
-use Rattle.suite_text.specs.declared.suite.attributes.Attribute.TheVariants as found
-use Rattle.suite_text.specs.declared.suite.attributes.Attributes.{Attributes}
-use Rattle.suite_text.specs.declared.suite.fault.SuiteFault.{SuiteFault}
-use Rattle.suite_text.specs.declared.suite.fault.SuiteFault.TheVariants.{BadLine}
-use Rattle.suite_text.specs.declared.suite.words.Word.{Word}
-use Rattle.suite_text.specs.declared.suite.words.Word.TheVariants.{Engine, Class, Test, Factory, Dyn}
-use Rattle.suite_text.specs.Numbers.{is_number, number_up_to}
-use Rattle.suite_text.specs.Reading.Attributes.{after_sign, takes_tags, may_declare, declaration_in, attribute_of, with_tag_of, with_spin_of, with_slow_of, with_pulls_of, with_mode, with_attribute}
-use Rattle.suite_text.specs.Reading.Lines.{begins_with_sign}
-use Rattle.suite_text.specs.Reading.Locks.{ends_in, lock_of, with_lock_of}
-use Rattle.suite_text.specs.Reading.Pulls.{is_pulls}
-use Rattle.suite_text.specs.Reading.Slow.{is_slow, some_or_bad_line, limit_of}
-use Rattle.suite_text.specs.Reading.Spins.{is_equals_sign, key_of, value_of, is_spin, or_bad_line, count_of}
-use Rattle.suite_text.specs.Words.{is_space}
-use Rattle.suite_text.specs.Writing.Lines.{IsWord, LockSign, Plain, Reads, Writes, sign_text, sign_mode, MaySign, mode_text, Said, Tagged, Counts, Slows, Registers, Runs, Locks, Alone, said_text, said_also, IsTestWord, MaySay}
-use Rattle.suite_text.proofs.Reading.Locks.{ends}
+use Rattle.suite_words.specs.declared.suite.attributes.Attribute as kinds
+use Rattle.suite_words.specs.declared.suite.attributes.Attribute.TheVariants as found
+use Rattle.suite_words.specs.declared.suite.attributes.Attributes.{Attributes}
+use Rattle.suite_words.specs.declared.suite.fault.SuiteFault.{SuiteFault}
+use Rattle.suite_words.specs.declared.suite.fault.SuiteFault.TheVariants.{BadLine}
+use Rattle.suite_words.specs.declared.suite.words.Word.{Word}
+use Rattle.suite_words.specs.declared.suite.words.Word.TheVariants.{Engine, Class, Test, Factory, Dyn}
+use Rattle.suite_words.specs.Numbers.{is_number, number_up_to}
+use Rattle.suite_words.specs.Reading.Attributes.{after_sign, takes_tags, may_declare, declaration_in, attribute_of, with_tag_of, with_spin_of, with_slow_of, with_pulls_of, with_mode, with_attribute}
+use Rattle.suite_words.specs.Reading.Lines.{begins_with_sign}
+use Rattle.suite_words.specs.Reading.Locks.{ends_in, lock_of, with_lock_of}
+use Rattle.suite_words.specs.Reading.Pulls.{is_pulls}
+use Rattle.suite_words.specs.Reading.Slow.{is_slow, some_or_bad_line, limit_of}
+use Rattle.suite_words.specs.Reading.Spins.{is_equals_sign, key_of, value_of, is_spin, or_bad_line, count_of}
+use Rattle.suite_words.specs.Words.{is_space}
+use Rattle.suite_text.specs.Writing.Lines.{IsWord, LockSign, Plain, Reads, Writes, sign_text, sign_mode, MaySign, Said, Tagged, Counts, Slows, Registers, Runs, Locks, Alone, said_text, said_also, IsTestWord, MaySay}
+use Rattle.suite_words.specs.Grammar.{mode_text}
+use Rattle.suite_words.proofs.Reading.Locks.{ends}
 use Rattle.suite_text.proofs.Writing.Cuts.{drop_next}
 use Rattle.suite_text.proofs.Writing.Locks.{lock_is}
 use Rattle.suite_text.proofs.Writing.Words.{Unspaced}

@@ -9,9 +9,9 @@ use Rattle.config_params.specs.declared.fault.ParamsFault.TheVariants.{NoEquals,
 use Rattle.config_params.specs.Pairs as pairs
 use Rattle.config_params.specs.Pairs.{Pair, is_equals_sign, begins_with_sign, key_of, value_of, pair_of, property_of}
 use Rattle.config_params.specs.Parameters.{Parameters}
-use Rattle.suite_text.specs.declared.suite.fault.SuiteFault.{SuiteFault}
-use Rattle.suite_text.specs.Reading.Lines.{first_word, after_word}
-use Rattle.suite_text.specs.Reading.Properties.{is_property, with_said, with_property}
+use Rattle.suite_words.specs.declared.suite.fault.SuiteFault.{SuiteFault}
+use Rattle.suite_words.specs.Reading.Lines.{first_word, after_word}
+use Rattle.suite_words.specs.Reading.Properties.{is_property, with_said, with_property}
 use Rattle.suite_text.specs.Writing.Lines.{spaces}
 use Rattle.suite_text.specs.Writing.Properties.{is_blank, AreBlanks, Between, between_text, IsBetween, IsKey, Property, Sets, Remarks, Bare, said_text, property_text, IsProperty, said_to}
 use Rattle.suite_text.proofs.Trimmed.{from_front, to_end, front_passes, front_kept, end_is, pass_reverse}

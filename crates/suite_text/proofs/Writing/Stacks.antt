@@ -22,22 +22,24 @@ use Rattle.unique_id.specs.Spelling as ids
 use Rattle.unique_id.specs.Spelling.{spelling}
 use Rattle.unique_id.specs.declared.fault.UidFault.TheVariants.{EmptyPart, TooLong}
 use Rattle.unique_id.specs.declared.unique_id.Segment.{Segment}
-use Rattle.suite_text.specs.declared.script.Script.{Script}
+use Rattle.suite_words.specs.declared.script.Script.{Script}
 use Rattle.suite_text.specs.declared.suite.builder.Opened.{Opened}
-use Rattle.suite_text.specs.declared.suite.fault.SuiteFault.{SuiteFault}
-use Rattle.suite_text.specs.declared.suite.fault.SuiteFault.TheVariants.{BadLine}
-use Rattle.suite_text.specs.declared.suite.words.Word.{Word}
-use Rattle.suite_text.specs.declared.suite.words.Word.TheVariants.{Engine, Class, Test, Factory, Dyn}
-use Rattle.suite_text.specs.Reading.After.{is_after, is_class, class_of, after_said, after_body, with_after_body, given_after_body, with_after_line}
-use Rattle.suite_text.specs.Reading.Lines.{says_nothing, begins_with_sign, without_front, first_word, after_word, level_of}
-use Rattle.suite_text.specs.Reading.Nodes.{segment_kind, value_declared, id_at, place_on, parent_on, word_on, node_on, is_over_limit_on, refusal_on, grown, unless_refused}
+use Rattle.suite_words.specs.declared.suite.fault.SuiteFault.{SuiteFault}
+use Rattle.suite_words.specs.declared.suite.fault.SuiteFault.TheVariants.{BadLine}
+use Rattle.suite_words.specs.declared.suite.words.Word.{Word}
+use Rattle.suite_words.specs.declared.suite.words.Word.TheVariants.{Engine, Class, Test, Factory, Dyn}
+use Rattle.suite_words.specs.Reading.After.{is_after, after_said, after_body}
+use Rattle.suite_text.specs.Reading.After.{is_class, class_of, with_after_body, given_after_body, with_after_line}
+use Rattle.suite_words.specs.Reading.Lines.{says_nothing, begins_with_sign, without_front, first_word, after_word, level_of}
+use Rattle.suite_words.specs.Reading.Nodes.{segment_kind, value_declared, id_at}
+use Rattle.suite_text.specs.Reading.Nodes.{place_on, parent_on, word_on, node_on, is_over_limit_on, refusal_on, grown, unless_refused}
 use Rattle.suite_text.specs.Reading.Parts.{SuiteParts, Made, suite_made, LinesRead, no_lines, made_of, parts_of, above, word_of_opened, node_of_opened}
-use Rattle.suite_text.specs.Reading.Properties.{is_property, with_property}
-use Rattle.suite_text.specs.Reading.Scripts.{ending}
-use Rattle.suite_text.specs.Reading.Verdicts.{status_declared}
-use Rattle.suite_text.specs.Reading.Words.{Declaration, declared_as}
+use Rattle.suite_words.specs.Reading.Properties.{is_property, with_property}
+use Rattle.suite_words.specs.Reading.Scripts.{ending}
+use Rattle.suite_words.specs.Reading.Verdicts.{status_declared}
+use Rattle.suite_words.specs.Reading.Words.{Declaration, declared_as}
 use Rattle.suite_text.specs.Suites.{with_declared, with_declaration, with_words, with_words_on, is_property_in, with_pair, with_properties, with_line, suite_from}
-use Rattle.suite_text.specs.Words.{is_space}
+use Rattle.suite_words.specs.Words.{is_space}
 use Rattle.suite_text.specs.Writing.AfterLines.{AfterLine, after_text, IsAfterLine, with_after_item, TakesAfter}
 use Rattle.suite_text.specs.Writing.Lines.{spaces, NodeLine, node_text, declares, IsNodeLine}
 use Rattle.suite_text.specs.Writing.Properties.{Property, property_text, IsProperty, said_to}

@@ -17,18 +17,21 @@ use Rattle.descriptor.specs.Refusals as trees
 use Rattle.unique_id.specs.Spelling as ids
 use Rattle.suite_text.specs.declared.suite.builder.Opened.{Opened}
 use Rattle.suite_text.specs.declared.suite.Suite.{Suite}
-use Rattle.suite_text.specs.declared.suite.fault.SuiteFault.{SuiteFault}
-use Rattle.suite_text.specs.declared.suite.words.Word.{Word}
-use Rattle.suite_text.specs.declared.suite.words.Word.TheVariants.{Engine, Class, Test, Factory, Dyn}
-use Rattle.suite_text.specs.Reading.Bytes.{suite_read, without_mark}
-use Rattle.suite_text.specs.Reading.Faults.{Gives}
+use Rattle.suite_words.specs.declared.suite.fault.SuiteFault.{SuiteFault}
+use Rattle.suite_words.specs.declared.suite.words.Word.{Word}
+use Rattle.suite_words.specs.declared.suite.words.Word.TheVariants.{Engine, Class, Test, Factory, Dyn}
+use Rattle.suite_text.specs.Reading.Bytes.{suite_read}
+use Rattle.suite_words.specs.Reading.Bytes.{without_mark}
+use Rattle.suite_words.specs.Reading.Faults.{Gives}
 use Rattle.unique_id.specs.Answers.{◌>>=◌}
-use Rattle.suite_text.specs.Reading.Lines.{says_nothing, after_word, begins_with_sign}
-use Rattle.suite_text.specs.Reading.Nodes.{id_at, segment_kind, role_declared, value_of_dyn, value_declared, next_place, parent_on, word_on, node_on, refusal_on, grown, unless_refused}
-use Rattle.suite_text.specs.Reading.After.{is_class, class_of, after_said, after_body, with_after_body, given_after_body, with_after_line}
-use Rattle.suite_text.specs.Reading.Scripts.{ending}
-use Rattle.suite_text.specs.declared.script.Script.{Script}
-use Rattle.suite_text.specs.declared.suite.fault.SuiteFault.TheVariants.{BadLine}
+use Rattle.suite_words.specs.Reading.Lines.{says_nothing, after_word, begins_with_sign}
+use Rattle.suite_words.specs.Reading.Nodes.{id_at, segment_kind, role_declared, value_of_dyn, value_declared, next_place}
+use Rattle.suite_text.specs.Reading.Nodes.{parent_on, word_on, node_on, refusal_on, grown, unless_refused}
+use Rattle.suite_text.specs.Reading.After.{is_class, class_of, with_after_body, given_after_body, with_after_line}
+use Rattle.suite_words.specs.Reading.After.{after_said, after_body}
+use Rattle.suite_words.specs.Reading.Scripts.{ending}
+use Rattle.suite_words.specs.declared.script.Script.{Script}
+use Rattle.suite_words.specs.declared.suite.fault.SuiteFault.TheVariants.{BadLine}
 use Rattle.suite_text.specs.Reading.Parts.{SuiteParts, Made, suite_made, LinesRead, no_lines, made_of, parts_of, above, word_of_opened, node_of_opened}
 use Rattle.config_params.specs.Parameters as parameters
 use Rattle.config_params.specs.Parameters.{Parameters}

@@ -6,7 +6,7 @@ use Rattle.std.proofs.lemmas.Bool.{ne_eqb}
 use Rattle.std.proofs.lemmas.List.{append_assoc, take_at}
 use Rattle.std.proofs.lemmas.List.Splits.{slice_split-cons_yes, slice_split-cons_no, length-slice_split}
 use Rattle.suite_text.specs.Writing.Suites.{Line, LineEnd, Feed, ReturnFeed, TextEnd, end_text, text_of_lines, MayEndWith, AreLines}
-use Rattle.suite_text.proofs.Reading.Paths.{get_last}
+use Rattle.suite_words.proofs.Lists.{get_last}
 
 abbrev pub is_feed : ℕ → Bool
 is_feed byte = byte == 10

@@ -2,10 +2,10 @@
 use Rattle.std.proofs.Common.{◌≡◌, ℕ, zero, suc, ◌+◌, ◌-◌, ◌<◌, ◌||◌, List, [], ◌∷◌, ◌++◌, length, reverse, take, drop, Bool, true, false, cond, not, ◌⊎◌, inl, inr, refl, ap, sym, subst, ◌∙◌, arith, length-append}
 use Rattle.std.proofs.lemmas.List.{take_at, drop_at, drop-drop, reverse-append}
 use Rattle.std.specs.List.{AllByRecursion, before_first, after_first, position_or_len, prefix_len, suffix_len}
-use Rattle.suite_text.specs.Reading.Lines.{without_front, without_end, first_word, after_word}
-use Rattle.suite_text.specs.Words.{is_space}
+use Rattle.suite_words.specs.Reading.Lines.{without_front, without_end, first_word, after_word}
+use Rattle.suite_words.specs.Words.{is_space}
 use Rattle.suite_text.specs.Writing.Lines.{spaces, IsWord}
-use Rattle.suite_text.proofs.FirstWords.{spaced, unspaced}
+use Rattle.suite_words.proofs.FirstWords.{spaced, unspaced}
 
 pub or_true : (b : Bool) → (b || true) ≡ true
 or_true true = refl

@@ -1,14 +1,9 @@
 -- Definitions that only proofs need: which locks do for a node that may be refused for having too many.
-use Rattle.std.specs.Prelude.{◌≡◌, ◌<◌, ◌≤◌, ℕ, List, length, None}
-use Rattle.descriptor.specs.declared.lock.Lock.{Lock}
+use Rattle.std.specs.Prelude.{◌≡◌, ℕ, None}
 use Rattle.descriptor.specs.declared.node.Node.{Node}
 use Rattle.descriptor.specs.Nodes.{Nodes}
 use Rattle.descriptor.specs.Refusals.{refusal}
-
--- these are all the locks, or both are more than a node may have
-pub record StandFor (few all : List Lock) : Type 0 where
-  pub same : length all ≤ 16 → few ≡ all
-  pub more : 16 < length all → 16 < length few
+use Rattle.suite_words.specs.Reading.Locks.{StandFor}
 
 -- a node is another but for such locks
 pub record DoesFor (node whole : Node) : Type 0 where

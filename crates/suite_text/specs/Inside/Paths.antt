@@ -3,7 +3,7 @@ use Rattle.std.specs.Prelude.{◌≡◌, ℕ, ◌+◌, List, [], ◌∷◌, map}
 use Rattle.std.specs.List.Sorted.{IsPermutation}
 use Rattle.descriptor.specs.Nodes.{Nodes, size, IsChild}
 use Rattle.suite_text.specs.declared.suite.builder.Opened.{Opened}
-use Rattle.suite_text.specs.declared.suite.pulls.Pending.{Pending}
+use Rattle.suite_words.specs.declared.suite.pulls.Pending.{Pending}
 use Rattle.suite_text.specs.Reading.Ids.{IdsFollow}
 use Rattle.suite_text.specs.Reading.Parts.{LinesRead, bodies_of, afters_of, bodies_answered}
 

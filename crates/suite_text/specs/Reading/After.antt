@@ -1,26 +1,20 @@
 -- The line `after`: the after-body of the class that the line stands in.
-use Rattle.std.specs.Prelude.{ℕ, ◌+◌, ◌&&◌, List, [], ◌∷◌, ◌++◌, codes, Bool, true, false, if◌then◌else◌, Option, Some, None, Result, Ok, Err}
+use Rattle.std.specs.Prelude.{ℕ, ◌&&◌, List, [], ◌∷◌, ◌++◌, Bool, true, false, if◌then◌else◌, Option, Some, None, Result, Ok, Err}
 use Rattle.std.specs.Option.{is_none}
-use Rattle.std.specs.Str.{bytes_eq}
 use Rattle.descriptor.specs.Bodies.{with_after}
 use Rattle.descriptor.specs.Nodes.{Nodes, after_of}
 use Rattle.descriptor.specs.Refusals.{after_refusal}
 use Rattle.plan_events.specs.declared.status.Status.{Status}
 use Rattle.suite_text.specs.declared.suite.builder.Opened.{Opened}
-use Rattle.suite_text.specs.declared.suite.fault.SuiteFault.{SuiteFault}
-use Rattle.suite_text.specs.declared.suite.fault.SuiteFault.TheVariants.{BadLine}
-use Rattle.suite_text.specs.declared.suite.words.Word.{Word}
-use Rattle.suite_text.specs.declared.suite.words.Word.TheVariants.{Class, Test}
+use Rattle.suite_words.specs.declared.suite.fault.SuiteFault.{SuiteFault}
+use Rattle.suite_words.specs.declared.suite.fault.SuiteFault.TheVariants.{BadLine}
+use Rattle.suite_words.specs.declared.suite.words.Word.{Word}
+use Rattle.suite_words.specs.declared.suite.words.Word.TheVariants.{Class}
 use Rattle.unique_id.specs.Answers.{◌>>=◌}
-use Rattle.suite_text.specs.Reading.Lines.{first_word, text_after_word}
 use Rattle.suite_text.specs.Reading.Nodes.{unless_refused}
 use Rattle.suite_text.specs.Reading.Parts.{LinesRead, above}
-use Rattle.suite_text.specs.Reading.Scripts.{ending}
-use Rattle.suite_text.specs.Reading.Verdicts.{verdict_of, status_declared}
-
--- whether a line is an after-body's
-abbrev pub is_after : List ℕ → Bool
-is_after line = bytes_eq (first_word line) (codes "after")
+use Rattle.suite_words.specs.Reading.Scripts.{ending}
+use Rattle.suite_words.specs.Reading.After.{after_said, after_body}
 
 -- whether a word is that of a class
 abbrev pub is_class : Word → Bool
@@ -31,19 +25,6 @@ is_class word = false
 abbrev pub class_of : ℕ → Nodes → Option Opened → Result ℕ SuiteFault
 class_of number t None = Err (BadLine number)
 class_of number t (Some opened) = if is_class opened.word && is_none (after_of t opened.node) then Ok opened.node else Err (BadLine number)
-
--- how a body ends, which has to have a status
-abbrev pub ended : ℕ → Option Status → List ℕ → Result (Status × List ℕ) SuiteFault
-ended number None text = Err (BadLine number)
-ended number (Some status) text = Ok (status, text)
-
--- how the body ends, by what follows the word `after`: a verdict as that of a test, but not `disabled`
-abbrev pub after_said : ℕ → List ℕ → Result (Status × List ℕ) SuiteFault
-after_said number rest = verdict_of number Test (first_word rest) (text_after_word rest) >>= (λ verdict. ended number (status_declared verdict) (text_after_word rest))
-
--- the number of the after-body of node n: above those of all bodies, which are numbers of nodes
-abbrev pub after_body : ℕ → ℕ
-after_body n = 8192 + n
 
 -- with the after-body of node n, which ends so
 abbrev pub with_after_body : LinesRead → ℕ → Status × List ℕ → LinesRead

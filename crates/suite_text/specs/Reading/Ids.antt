@@ -3,7 +3,7 @@ use Rattle.std.specs.Prelude.{◌≡◌, ℕ, ◌+◌, List, [], ◌∷◌, ◌+
 use Rattle.descriptor.specs.declared.node.Node.{Node}
 use Rattle.descriptor.specs.Nodes.{Nodes, node_at, parent_of, is_child, numbers_where}
 use Rattle.descriptor.specs.Roles.{is_spare}
-use Rattle.suite_text.specs.Reading.Nodes.{id_at, value_of_dyn}
+use Rattle.suite_words.specs.Reading.Nodes.{id_at, value_of_dyn}
 
 -- which child of its parent node n is, from 1: one more than there are with smaller numbers
 abbrev pub place_among : Nodes → ℕ → ℕ

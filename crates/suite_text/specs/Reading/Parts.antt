@@ -5,11 +5,11 @@ use Rattle.config_params.specs.Parameters.{Parameters, nothing_said}
 use Rattle.std.specs.List.Sorted.{IsPermutation}
 use Rattle.descriptor.specs.declared.node.Node.{Node}
 use Rattle.descriptor.specs.Nodes.{Nodes, plan_alone}
-use Rattle.suite_text.specs.declared.script.Script.{Script}
-use Rattle.suite_text.specs.declared.suite.pulls.Pending.{Pending}
+use Rattle.suite_words.specs.declared.script.Script.{Script}
+use Rattle.suite_words.specs.declared.suite.pulls.Pending.{Pending}
 use Rattle.suite_text.specs.declared.suite.builder.Opened.{Opened}
-use Rattle.suite_text.specs.declared.suite.words.Word.{Word}
-use Rattle.suite_text.specs.Reading.Pulls.{settled}
+use Rattle.suite_words.specs.declared.suite.words.Word.{Word}
+use Rattle.suite_words.specs.Reading.Pulls.{settled}
 
 -- the tree of a suite, what its bodies answer, and what it says of the configuration
 pub record SuiteParts : Type 0 where

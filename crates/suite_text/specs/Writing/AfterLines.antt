@@ -3,13 +3,13 @@ use Rattle.std.specs.Prelude.{◌≡◌, ℕ, ◌++◌, codes, List, Option, Som
 use Rattle.descriptor.specs.Bodies.{with_after, may_get_after_at}
 use Rattle.descriptor.specs.Nodes.{Nodes}
 use Rattle.plan_events.specs.declared.status.Status.{Status}
-use Rattle.suite_text.specs.declared.script.Script.{Script}
+use Rattle.suite_words.specs.declared.script.Script.{Script}
 use Rattle.suite_text.specs.declared.suite.builder.Opened.{Opened}
-use Rattle.suite_text.specs.declared.suite.words.Word.TheVariants.{Class}
-use Rattle.suite_text.specs.Reading.After.{after_body}
+use Rattle.suite_words.specs.declared.suite.words.Word.TheVariants.{Class}
+use Rattle.suite_words.specs.Reading.After.{after_body}
 use Rattle.suite_text.specs.Reading.Parts.{Made}
-use Rattle.suite_text.specs.Reading.Scripts.{ending}
-use Rattle.suite_text.specs.Reading.Verdicts.{status_declared}
+use Rattle.suite_words.specs.Reading.Scripts.{ending}
+use Rattle.suite_words.specs.Reading.Verdicts.{status_declared}
 use Rattle.suite_text.specs.Writing.Lines.{indentation, Ending, IsEnding, ending_text}
 
 -- a line of an after-body: its verdict, with its text, and so many spaces

@@ -8,17 +8,17 @@ use Rattle.tag_expr.specs.TagSets.{with_tag}
 use Rattle.descriptor.specs.declared.lock_mode.LockMode.{LockMode}
 use Rattle.descriptor.specs.declared.lock_mode.LockMode.TheVariants.{Read, ReadWrite}
 use Rattle.descriptor.specs.declared.mode.Mode.{Mode}
-use Rattle.descriptor.specs.declared.mode.Mode.TheVariants.{SameThread, Concurrent}
 use Rattle.resource_locks.specs.LockSets.{put}
-use Rattle.suite_text.specs.declared.suite.words.Word.{Word}
-use Rattle.suite_text.specs.declared.suite.words.Word.TheVariants.{Engine, Class, Test, Factory, Dyn}
-use Rattle.suite_text.specs.declared.suite.verdicts.Verdict.{Verdict}
-use Rattle.suite_text.specs.declared.suite.verdicts.Verdict.TheVariants.{Pass, Fail, Abort, Disabled}
-use Rattle.suite_text.specs.declared.suite.attributes.Attributes.{Attributes}
-use Rattle.suite_text.specs.Reading.Attributes.{no_attributes, takes_tags, may_declare}
-use Rattle.suite_text.specs.Numbers.{is_number}
-use Rattle.suite_text.specs.Reading.Words.{Declaration, may_stand}
-use Rattle.suite_text.specs.Words.{is_space}
+use Rattle.suite_words.specs.declared.suite.words.Word.{Word}
+use Rattle.suite_words.specs.declared.suite.words.Word.TheVariants.{Engine, Test, Factory, Dyn}
+use Rattle.suite_words.specs.declared.suite.verdicts.Verdict.{Verdict}
+use Rattle.suite_words.specs.declared.suite.verdicts.Verdict.TheVariants.{Pass}
+use Rattle.suite_words.specs.declared.suite.attributes.Attributes.{Attributes}
+use Rattle.suite_words.specs.Reading.Attributes.{no_attributes, takes_tags, may_declare}
+use Rattle.suite_words.specs.Numbers.{is_number}
+use Rattle.suite_words.specs.Reading.Words.{Declaration, may_stand}
+use Rattle.suite_words.specs.Words.{is_space}
+use Rattle.suite_words.specs.Grammar.{word_text, mode_text, verdict_text}
 
 -- so many spaces
 abbrev pub spaces : ℕ → List ℕ
@@ -33,14 +33,6 @@ indentation (suc level) = 32 ∷ 32 ∷ indentation level
 -- one byte or more, none of them a space
 abbrev pub IsWord : List ℕ → Type 0
 IsWord text = (0 < length text) × AllByRecursion (λ byte. is_space byte ≡ false) text
-
--- the word that a line begins with
-abbrev pub word_text : Word → List ℕ
-word_text Engine = codes "engine"
-word_text Class = codes "class"
-word_text Test = codes "test"
-word_text Factory = codes "factory"
-word_text Dyn = codes "dyn"
 
 -- how a lock's mode is written: not at all, `:r` or `:rw`
 pub data LockSign : Type 0 where
@@ -62,10 +54,6 @@ sign_mode Writes = ReadWrite
 abbrev pub MaySign : List ℕ → LockSign → Type 0
 MaySign key Plain = ((front : List ℕ) → key ≢ front ++ codes ":r") × ((front : List ℕ) → key ≢ front ++ codes ":rw")
 MaySign key sign = Unit {0}
-
-abbrev pub mode_text : Mode → List ℕ
-mode_text SameThread = codes "@same_thread"
-mode_text Concurrent = codes "@concurrent"
 
 -- an attribute: a tag, the digits of `spin`, of `@slow` or of `pulls`, a mode, a lock's key, or that the node is isolated
 pub data Said : Type 0 where
@@ -139,12 +127,6 @@ pub record Ending : Type 0 where
   pub verdict : Verdict
   pub behind : ℕ
   pub text : List ℕ
-
-abbrev pub verdict_text : Verdict → List ℕ
-verdict_text Pass = codes "pass"
-verdict_text Fail = codes "fail"
-verdict_text Abort = codes "abort"
-verdict_text Disabled = codes "disabled"
 
 -- how a line ends: with a verdict or without, and so many spaces
 abbrev pub ending_text : Option Ending → ℕ → List ℕ

@@ -7,9 +7,9 @@ use Rattle.descriptor.specs.Nodes.{IsTree, plan_alone, size, appended}
 use Rattle.unique_id.specs.declared.unique_id.Segment.{Segment}
 use Rattle.unique_id.specs.Spelling.{spelling}
 use Rattle.suite_text.specs.declared.suite.builder.Opened.{Opened}
-use Rattle.suite_text.specs.Reading.Nodes.{id_at, next_place, node_declared, script_declared}
+use Rattle.suite_words.specs.Reading.Nodes.{id_at, next_place, node_declared, script_declared}
 use Rattle.suite_text.specs.Reading.Parts.{SuiteParts, Made, suite_made, above, word_of_opened, node_of_opened}
-use Rattle.suite_text.specs.Words.{is_space}
+use Rattle.suite_words.specs.Words.{is_space}
 use Rattle.suite_text.specs.Writing.AfterLines.{AfterLine, after_text, IsAfterLine, with_after_item, TakesAfter}
 use Rattle.suite_text.specs.Writing.Lines.{NodeLine, node_text, declares, IsNodeLine}
 use Rattle.suite_text.specs.Writing.Properties.{Property, property_text, IsProperty, said_to}

@@ -3,20 +3,16 @@
 ghost use Rattle.std.specs.Prelude.{◌≡◌, ◌≢◌, ◌≤◌, ◌<◌, ◌+◌, length, OnOk, OnErr, IfOk, IfErr, IfSome, Some, None};
 ghost use Rattle.std.specs.Prelude.{Ok, false, true, [], ◌∷◌, ◌++◌, take, map, vec_len, vec_capacity, option_to_list};
 
-use crate::script::Script;
 use crate::suite::Suite;
-use crate::suite::after::after_in;
-use crate::suite::fault::SuiteFault;
-use crate::suite::line_word::LineWord;
-use crate::suite::lines::{indentation, level_at, next_word, says_nothing};
-use crate::suite::properties::{is_property, put_property};
-use crate::suite::pulls::{Pending, all_settled, lines_below};
-use crate::suite::words::{Declared, Word, declared_as};
 use config_params::Params;
 use descriptor::{BodyId, Locks, MOST_NODES, Node, NodeId, Tree, TreeBuilder, TreeFault};
 use plan_events::Status;
 use std::alloc::{AllocError, Global};
 use std::marker::Model;
+use suite_words::{
+    Declared, LineWord, Pending, Script, SuiteFault, Word, after_in, all_settled, declared_as,
+    indentation, is_property, level_at, lines_below, next_word, put_property, says_nothing,
+};
 use unique_id::{Text, UidFault, UniqueId};
 
 /// The number of a node's after-body, less the node's own: above all numbers of nodes.
@@ -84,14 +80,15 @@ ghost use Rattle.descriptor.specs.Nodes.{size, appended, IsTree, MayTake};
 ghost use Rattle.descriptor.specs.Bodies.{with_after};
 ghost use Rattle.descriptor.specs.Refusals.{refusal as tree_refusal, after_refusal};
 ghost use Rattle.suite_text.specs.Reading.Parts.{above, word_of_opened, node_of_opened};
-ghost use Rattle.suite_text.specs.Inside.FewLocks.{DoesFor, StandFor};
-ghost use Rattle.suite_text.specs.Reading.Words.{declaration_of};
-ghost use Rattle.suite_text.specs.Reading.Nodes.{id_at, id_declared, segment_kind, value_of_dyn, value_declared, node_with, node_declared, is_over_limit};
+ghost use Rattle.suite_text.specs.Inside.FewLocks.{DoesFor};
+ghost use Rattle.suite_words.specs.Reading.Locks.{StandFor};
+ghost use Rattle.suite_words.specs.Reading.Words.{declaration_of};
+ghost use Rattle.suite_words.specs.Reading.Nodes.{id_at, id_declared, segment_kind, value_of_dyn, value_declared, node_with, node_declared, is_over_limit};
 ghost use Rattle.suite_text.specs.Reading.Nodes.{place_on, word_on, refusal_on, grown};
-ghost use Rattle.suite_text.specs.Reading.After.{after_body};
-ghost use Rattle.suite_text.specs.Reading.Pulls.{settled};
-ghost use Rattle.suite_text.specs.Reading.Scripts.{ending};
-ghost use Rattle.suite_text.specs.Reading.Verdicts.{reason_declared};
+ghost use Rattle.suite_words.specs.Reading.After.{after_body};
+ghost use Rattle.suite_words.specs.Reading.Pulls.{settled};
+ghost use Rattle.suite_words.specs.Reading.Scripts.{ending};
+ghost use Rattle.suite_words.specs.Reading.Verdicts.{reason_declared};
 
 /// The unique id of a node below this one, or at level 0.
 fn id_below(
@@ -408,16 +405,17 @@ fn node_or_plan(opened: Option<Opened>) -> NodeId
 }
 
 impl SuiteBuilder {
-    ghost use Rattle.suite_text.specs.Reading.Parts.{no_lines};
+    ghost use Rattle.suite_text.specs.Reading.Parts.{no_lines, parts_of, AreBodiesOf, bodies_answered};
     ghost use Rattle.suite_text.specs.Reading.Ids.{IdsFollow};
-    ghost use Rattle.suite_text.specs.Reading.Lines.{indentation_of};
-    ghost use Rattle.suite_text.specs.Reading.Nodes.{node_on, is_over_limit_on, script_declared};
-    ghost use Rattle.suite_text.specs.Reading.Faults.{Fails, Gives};
-    ghost use Rattle.suite_text.specs.Reading.Judged.{judged_after, judged_node, judged_declaration, judged_words, TakesMemory, MayRunOut};
+    ghost use Rattle.suite_words.specs.Reading.Lines.{indentation_of};
+    ghost use Rattle.suite_text.specs.Reading.Nodes.{node_on, is_over_limit_on};
+    ghost use Rattle.suite_words.specs.Reading.Nodes.{script_declared};
+    ghost use Rattle.suite_words.specs.Reading.Faults.{Fails, Gives};
+    ghost use Rattle.suite_text.specs.Reading.Judged.{judged_after, judged_declaration, judged_words, TakesMemory, MayRunOut};
+    ghost use Rattle.suite_words.specs.Reading.Judged.{judged_node};
     ghost use Rattle.suite_text.specs.Reading.After.{class_of, with_after_body, with_after_line};
     ghost use Rattle.suite_text.specs.Suites.{is_property_in, with_declared, with_node_words, with_declaration};
     ghost use Rattle.suite_text.specs.Suites.{with_words, with_line, suite_from, suite_parts};
-    ghost use Rattle.suite_text.specs.Reading.Parts.{parts_of, AreBodiesOf, bodies_answered};
     ghost use Rattle.unique_id.specs.Answers.{texts};
 
     /// Before the first line, with room for the nodes of so many lines, though for no more than a tree may have.

@@ -2,17 +2,16 @@
 
 ghost use Rattle.std.specs.Prelude.{◌≡◌, ◌≢◌, IfOk, IfErr, Err, None};
 ghost use Rattle.std.specs.Str.Lines.{lines};
-ghost use Rattle.suite_text.specs.Reading.Judged.{judged_property, judged_node, judged_words, MayRunOut};
-ghost use Rattle.suite_text.specs.Reading.Lines.{indentation_of};
+ghost use Rattle.suite_words.specs.Reading.Judged.{judged_property, judged_node};
+ghost use Rattle.suite_text.specs.Reading.Judged.{judged_words, MayRunOut};
+ghost use Rattle.suite_words.specs.Reading.Lines.{indentation_of};
 ghost use Rattle.suite_text.specs.Reading.Parts.{no_lines};
 ghost use Rattle.suite_text.specs.Suites.{suite_of_lines};
 
-use crate::suite::fault::SuiteFault;
-use crate::suite::line_word::LineWord;
-use crate::suite::lines::{indentation, level_at, next_word, says_nothing};
-use crate::suite::properties::is_property;
-use crate::suite::words::{Word, placed};
 use config_params::property_of;
+use suite_words::{
+    LineWord, SuiteFault, Word, indentation, is_property, level_at, next_word, placed, says_nothing,
+};
 
 /// Judges what a property's line says.
 fn judge_property(number: usize, line: &str) -> Result<(), SuiteFault>

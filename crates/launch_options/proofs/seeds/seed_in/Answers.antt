@@ -1,6 +1,6 @@
 -- What std does not read as a number of 64 bits is too large.
 use Rattle.std.proofs.Common.{◌≡◌, true, arith}
-use Rattle.suite_text.specs.Numbers.{is_number}
+use Rattle.suite_words.specs.Numbers.{is_number}
 use Rattle.launch_options.proofs.SeedNumbers.{unread}
 use Rattle.launch_options.proofs.seeds.seed_in.Goals as goal
 

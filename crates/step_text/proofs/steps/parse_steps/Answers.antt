@@ -3,7 +3,7 @@ use Rattle.std.proofs.Common.{◌≡◌, None, Some, map, arith, ap, sym, ◌∙
 use Rattle.std.proofs.lemmas.Grind.{common_steps}
 use Rattle.std.specs.List.{position, filter_map}
 use Rattle.step_text.specs.StepTexts.{step_of, is_bad_word}
-use Rattle.suite_text.specs.Words.{words_in}
+use Rattle.suite_words.specs.Words.{words_in}
 use Rattle.step_text.specs.StepSpelling.{spelled_step}
 use Rattle.step_text.proofs.ReadBack.{not_spelled}
 use Rattle.step_text.proofs.Spelled.{text_spelled}

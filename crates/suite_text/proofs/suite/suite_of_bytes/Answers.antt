@@ -1,8 +1,9 @@
 -- Bytes that are few enough are the suite of their text, or no text.
 use Rattle.std.proofs.Common.{◌≡◌, ◌+◌, ◌==◌, length, nat_lt, false, rules, sym, ap, ◌∙◌, take, count_by, Err}
 use borrow.Author.Tests.{tests}
-use Rattle.suite_text.specs.declared.suite.fault.SuiteFault.TheVariants.{BadLine}
-use Rattle.suite_text.specs.Reading.Bytes.{line_of_fault, without_mark}
+use Rattle.suite_words.specs.declared.suite.fault.SuiteFault.TheVariants.{BadLine}
+use Rattle.suite_text.specs.Reading.Bytes.{line_of_fault}
+use Rattle.suite_words.specs.Reading.Bytes.{without_mark}
 use Rattle.suite_text.proofs.Reading.Lines.{read_text, read_not_text}
 use Rattle.suite_text.proofs.suite.suite_of_bytes.Goals as goal
 

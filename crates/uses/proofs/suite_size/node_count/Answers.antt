@@ -2,7 +2,7 @@
 use Rattle.std.proofs.Common.{◌≡◌, ℕ, Result, Ok, Err, ap, sym, ◌∙◌}
 use Rattle.descriptor.specs.Nodes.{size}
 use Rattle.suite_text.specs.Reading.Parts.{SuiteParts}
-use Rattle.suite_text.specs.declared.suite.fault.SuiteFault.{SuiteFault}
+use Rattle.suite_words.specs.declared.suite.fault.SuiteFault.{SuiteFault}
 use Rattle.uses.proofs.suite_size.node_count.Goals as goal
 
 abbrev size_read : Result SuiteParts SuiteFault → ℕ

@@ -4,7 +4,7 @@ use Rattle.std.specs.Str.Iter.{lines_rest}
 use Rattle.std.specs.Str.Lines.{lines}
 use Rattle.config_params.proofs.Lines.{all_left, one_given, none_left, one_fewer, lines_few}
 use Rattle.suite_text.specs.Reading.Judged.{MayRunOut}
-use Rattle.suite_text.specs.Reading.Lines.{says_nothing}
+use Rattle.suite_words.specs.Reading.Lines.{says_nothing}
 use Rattle.suite_text.specs.Reading.Parts.{no_lines}
 use Rattle.suite_text.specs.Suites.{suite_from}
 use Rattle.suite_text.proofs.Reading.Judged.{skipped, skipped_out, first_judged}

@@ -1,7 +1,7 @@
 -- With one more after-body each node has its bodies, and none was run.
 use Rattle.std.proofs.Common.{◌≡◌, true}
 use Rattle.resource_locks.specs.Spares.{HasBareSpares}
-use Rattle.suite_text.specs.Reading.After.{after_body}
+use Rattle.suite_words.specs.Reading.After.{after_body}
 use Rattle.test_bodies.specs.Bodies.{is_spent}
 use Rattle.test_tree.specs.Building.{held}
 use Rattle.test_tree.specs.Growing.{built, with_after_body}

@@ -2,12 +2,12 @@
 use Rattle.std.proofs.Common.{◌≡◌, ◌++◌, ◌∷◌, [], Option, take, refl, subst, sym, ap, ap₂, ◌∙◌, option_to_list}
 use Rattle.std.proofs.lemmas.Result.{err_from_is_err_and}
 use Rattle.descriptor.specs.Nodes.{size}
-use Rattle.suite_text.specs.declared.suite.pulls.Pending.{Pending}
-use Rattle.suite_text.specs.declared.suite.words.Word.{Word}
+use Rattle.suite_words.specs.declared.suite.pulls.Pending.{Pending}
+use Rattle.suite_words.specs.declared.suite.words.Word.{Word}
 use Rattle.suite_text.specs.Inside.Paths.{IsSound}
-use Rattle.suite_text.specs.Reading.Nodes.{script_declared}
+use Rattle.suite_words.specs.Reading.Nodes.{script_declared}
 use Rattle.suite_text.specs.Reading.Parts.{LinesRead, node_of_opened}
-use Rattle.suite_text.specs.Reading.Words.{declaration_of}
+use Rattle.suite_words.specs.Reading.Words.{declaration_of}
 use Rattle.suite_text.proofs.Reading.FewLocks.{refused_on, grown_is}
 use Rattle.suite_text.proofs.Reading.Outcomes.{grown_sound}
 use Rattle.suite_text.proofs.suite.builder.SuiteBuilder.add.Goals as goal

@@ -2,7 +2,7 @@
 use Rattle.std.proofs.Common.{◌≡◌, List, arith, subst, sym}
 use Rattle.std.proofs.lemmas.Grind.{common_steps}
 use Rattle.descriptor.specs.Nodes.{Nodes, IsTree}
-use Rattle.suite_text.specs.declared.script.Script.{Script}
+use Rattle.suite_words.specs.declared.script.Script.{Script}
 use Rattle.suite_text.specs.Reading.Parts.{AreBodiesOf, bodies_answered, parts_of}
 use Rattle.suite_text.specs.Inside.Paths.{IsSound}
 use Rattle.suite_text.proofs.Reading.Pulls.{all_answered}

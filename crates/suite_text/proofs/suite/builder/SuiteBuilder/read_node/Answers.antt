@@ -1,7 +1,7 @@
 -- A line that declares a node fails as the node does.
 use Rattle.std.proofs.Common.{◌≡◌, Ok, ap, sym, ◌∙◌}
 use Rattle.suite_text.specs.Reading.Nodes.{word_on}
-use Rattle.suite_text.specs.Reading.Words.{declaration_of, declared_as}
+use Rattle.suite_words.specs.Reading.Words.{declaration_of, declared_as}
 use Rattle.suite_text.proofs.Reading.Judged.{node_judged, if_err}
 use Rattle.suite_text.proofs.Reading.Steps.{node_fails}
 use Rattle.suite_text.proofs.suite.builder.SuiteBuilder.read_node.Goals as goal

@@ -1,7 +1,7 @@
 -- What holds after each line holds with the after-body.
 use Rattle.std.proofs.Common.{◌≡◌, ap, refl, subst, sym, ◌∙◌, None}
 use Rattle.descriptor.specs.Refusals.{after_refusal}
-use Rattle.suite_text.specs.Reading.After.{after_body}
+use Rattle.suite_words.specs.Reading.After.{after_body}
 use Rattle.suite_text.specs.Reading.Parts.{LinesRead}
 use Rattle.suite_text.specs.Inside.Paths.{IsSound}
 use Rattle.suite_text.proofs.Reading.Afters.{after_sound, after_is}

@@ -1,6 +1,0 @@
--- The scripts so far.
-use Rattle.std.proofs.Common.{◌≡◌, ◌++◌}
-use Rattle.suite_text.proofs.suite.pulls.push_afters.Given as goal
-
-abbrev pub invariant-loop-script : goal.invariant-loop-script
-invariant-loop-script l = l.all.items ≡ l.fn.all.items ++ l.yielded

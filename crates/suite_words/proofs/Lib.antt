@@ -1,0 +1,5 @@
+pub mod FirstWords
+mod Grammar
+pub mod Lists
+pub mod Numbers
+pub mod Reading
