@@ -142,16 +142,23 @@ fn request_of(
     ensures exclude { IfOk result (λ request. AreExpressions (behind given.now.exclude_tags.items)
         request.exclude.items) }
 {
-    Ok(Request {
-        selectors: selectors_of(alloc, given.selectors.as_slice())?,
-        names: selectors_of(alloc, given.names.as_slice())?,
-        exclusions: selectors_of(alloc, given.exclusions.as_slice())?,
-        rerun: selectors_of(alloc, given.rerun.as_slice())?,
-        include: expressions_of(alloc, given.include_tags.as_slice())?,
-        exclude: expressions_of(alloc, given.exclude_tags.as_slice())?,
+    let mut request = Request {
+        selectors: Vec::new(alloc),
+        names: Vec::new(alloc),
+        rerun: Vec::new(alloc),
+        exclusions: Vec::new(alloc),
+        include: Vec::new(alloc),
+        exclude: Vec::new(alloc),
         shard,
         seed,
-    })
+    };
+    request.selectors = selectors_of(alloc, given.selectors.as_slice())?;
+    request.names = selectors_of(alloc, given.names.as_slice())?;
+    request.exclusions = selectors_of(alloc, given.exclusions.as_slice())?;
+    request.rerun = selectors_of(alloc, given.rerun.as_slice())?;
+    request.include = expressions_of(alloc, given.include_tags.as_slice())?;
+    request.exclude = expressions_of(alloc, given.exclude_tags.as_slice())?;
+    Ok(request)
 }
 
 /// What is asked for by a name or by a number.
