@@ -7,7 +7,7 @@ ghost use Rattle.command_words.specs.Roles.{before_of, meaning_of, named, role_a
 pub(crate) const RERUN_FAILED: &str = "--rerun-failed";
 
 /// What stands before a word.
-#[derive(Clone, Copy, PartialEq, Eq)]
+#[derive(Clone, Copy)]
 pub(crate) enum Before {
     /// Nothing: the word is the program's name.
     Nothing,

@@ -9,7 +9,7 @@ use crate::blanks::{Blanks, without_ends, without_front};
 use crate::fault::ParamsFault;
 
 /// A key with its value.
-#[derive(Clone, Copy, Debug, Drop)]
+#[derive(Clone, Copy, Drop)]
 pub struct Pair<'a> {
     pub key: &'a str,
     pub value: &'a str,

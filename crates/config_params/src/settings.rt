@@ -20,7 +20,7 @@ const DEFAULT_MODE: &str = "junit.jupiter.execution.parallel.mode.default";
 const CLASSES_MODE: &str = "junit.jupiter.execution.parallel.mode.classes.default";
 
 /// What a configuration asks of a run.
-#[derive(Clone, Copy, Debug, Drop)]
+#[derive(Clone, Copy, Drop)]
 pub struct Settings {
     /// Whether nodes may run side by side.
     pub parallel: bool,

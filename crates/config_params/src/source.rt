@@ -1,7 +1,7 @@
 //! Where a parameter comes from.
 
 /// Where a parameter comes from. What an earlier source says hides what a later one says.
-#[derive(Clone, Copy, PartialEq, Eq, Debug, Drop)]
+#[derive(Clone, Copy, Drop)]
 pub enum Source {
     /// The request of a run.
     Request,

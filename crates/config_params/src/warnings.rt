@@ -4,7 +4,7 @@ ghost use Rattle.std.specs.Prelude.{◌≡◌, map};
 ghost use Rattle.config_params.specs.Settings.{keys_of};
 
 /// Which of the two modes have a value that is no mode.
-#[derive(Clone, Copy, PartialEq, Eq, Debug, Drop)]
+#[derive(Clone, Copy, Drop)]
 pub struct Warnings {
     pub default_mode: bool,
     pub classes_mode: bool,

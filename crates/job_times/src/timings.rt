@@ -8,7 +8,7 @@ use descriptor::{BodyId, NodeId, Tree};
 use std::alloc::Global;
 
 /// What is noted of how long a node took.
-#[derive(Clone, Copy, PartialEq, Eq, Debug)]
+#[derive(Clone, Copy)]
 pub enum Noted {
     /// Nothing is noted.
     NotYet,

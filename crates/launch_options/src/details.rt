@@ -23,7 +23,7 @@ const LIST: &str = "list";
 const PLAN: &str = "plan";
 
 /// What is printed of a run.
-#[derive(Clone, Copy, Debug, PartialEq, Eq)]
+#[derive(Clone, Copy)]
 pub enum Details {
     None,
     /// How many containers and tests there were, and what became of them.

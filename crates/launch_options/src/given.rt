@@ -4,7 +4,6 @@ use selectors::SelectorKind;
 
 /// The values of the options, as texts that mean nothing yet: one field for each option, but for
 /// those that select or leave out, which share one numbering.
-#[derive(Debug)]
 pub struct Given<'a> {
     /// `--select-unique-id`, `--select-class`, `--select-method` and `--select-package`: all of the
     /// first, then all of the next, each option's in the order of the words.

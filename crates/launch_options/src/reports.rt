@@ -14,7 +14,7 @@ use crate::fault::LaunchFault;
 use crate::given::Given;
 
 /// A report that is asked for: its form, and the file that gets it.
-#[derive(Clone, Copy, Debug, PartialEq, Eq)]
+#[derive(Clone, Copy)]
 pub struct ReportAsked<'w> {
     pub form: Details,
     pub file: &'w str,

@@ -1,7 +1,7 @@
 //! The forms of the lines of events.
 
 /// The form of the line of an event.
-#[derive(Clone, Copy, PartialEq, Eq, Debug)]
+#[derive(Clone, Copy)]
 pub enum LineForm {
     /// A line of a feed.
     Feed,

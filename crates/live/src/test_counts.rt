@@ -6,7 +6,7 @@ ghost use Rattle.live.specs.Lines.{are_done, are_running, count_at, line_of};
 use std::alloc::{AllocError, Global};
 
 /// Tests of a run.
-#[derive(Clone, Copy, PartialEq, Eq, Debug)]
+#[derive(Clone, Copy)]
 pub struct TestCounts {
     /// Those of the plan, and the dynamic tests that were registered.
     pub found: u32,

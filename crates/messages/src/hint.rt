@@ -11,7 +11,7 @@ const MOST_KEPT: usize = 10;
 const MOST_SHOWN: usize = 100;
 
 /// Where a hint is about.
-#[derive(Clone, Copy, Debug, Drop)]
+#[derive(Clone, Copy, Drop)]
 pub enum Place {
     /// A word of `--config`.
     Config,
@@ -22,7 +22,7 @@ pub enum Place {
 }
 
 /// Why a hint is given.
-#[derive(Clone, Copy, Debug, Drop)]
+#[derive(Clone, Copy, Drop)]
 pub enum Cause {
     /// Nobody reads the key.
     UnreadKey,
@@ -36,7 +36,7 @@ pub enum Cause {
 
 /// A hint: where it is about, why it is given, the key that it is about, and the key that may have
 /// been meant.
-#[derive(Clone, Copy, Debug, Drop)]
+#[derive(Clone, Copy, Drop)]
 pub struct Hint<'a> {
     pub place: Place,
     pub cause: Cause,

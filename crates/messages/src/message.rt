@@ -21,7 +21,7 @@ use suite_text::SuiteFault;
 
 /// The message of a refusal. `{}` writes its sentence, and on the lines below what is known
 /// besides: where it is, and what would be right.
-#[derive(Debug, Drop)]
+#[derive(Drop)]
 pub struct Message {
     pub sentence: &'static str,
     /// Whole lines, or nothing.

@@ -5,7 +5,7 @@ ghost use Rattle.std.specs.Prelude.{◌≡◌, ◌<◌, List, [], length};
 use crate::outcome::Outcome;
 
 /// What a factory's body says when it is asked for its next dynamic test.
-#[derive(Clone, Copy, PartialEq, Eq, Debug)]
+#[derive(Clone, Copy)]
 pub enum Pull {
     /// There is one more.
     More,

@@ -6,7 +6,7 @@ ghost use Rattle.std.specs.Prelude.{◌≡◌, ◌<◌, ◌≤◌, ◌⊎◌, If
 pub const MOST_WORKERS: u8 = 64;
 
 /// Why a run may not have so many workers.
-#[derive(Clone, Copy, PartialEq, Eq, Debug)]
+#[derive(Clone, Copy)]
 pub enum CountFault {
     /// A run needs a worker.
     None,

@@ -13,7 +13,7 @@ use std::io::Read;
 const BUFFER_SIZE: usize = 4096;
 
 /// Why the front of a reader was not read.
-#[derive(Clone, Copy, Debug, PartialEq, Eq)]
+#[derive(Clone, Copy, PartialEq, Eq)]
 pub enum ReadFault {
     NoMemory,
     /// The reader failed (refusal 106).

@@ -14,7 +14,7 @@ use std::alloc::Global;
 use std::io::Write;
 
 /// How the writing of a report went.
-#[derive(Clone, Copy, Debug, PartialEq, Eq)]
+#[derive(Clone, Copy)]
 pub enum Outcome {
     /// Nothing was written yet.
     Waiting,

@@ -8,7 +8,7 @@ use crate::exit_status::ExitStatus;
 use launch_options::LaunchFault;
 
 /// What the program does after a run: it prints a line or none, and ends.
-#[derive(Clone, Copy, Debug, PartialEq, Eq)]
+#[derive(Clone, Copy)]
 pub struct AfterRun {
     /// The refusal whose line is printed. Where the output failed there is none, since a line on it
     /// is of no use; and where a report did, since the output is whole.

@@ -7,7 +7,7 @@ ghost use Rattle.run_outputs.specs.declared.exit_status.ExitStatus.TheVariants.{
 use launch_options::LaunchFault;
 
 /// How the program ended.
-#[derive(Clone, Copy, Debug, PartialEq, Eq)]
+#[derive(Clone, Copy, PartialEq, Eq)]
 pub enum ExitStatus {
     /// 0.
     Success,

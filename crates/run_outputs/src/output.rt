@@ -29,7 +29,7 @@ use scheduling::Step;
 use std::alloc::{AllocError, Global};
 
 /// What is printed, and the status.
-#[derive(Debug, Drop)]
+#[derive(Drop)]
 pub struct Output {
     pub text: String,
     pub status: ExitStatus,

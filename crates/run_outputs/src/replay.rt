@@ -6,7 +6,7 @@ ghost use Rattle.run_outputs.specs.ReplayTexts.{replay_line};
 use std::alloc::AllocError;
 
 /// What a replay counted.
-#[derive(Clone, Copy, PartialEq, Eq, Debug)]
+#[derive(Clone, Copy)]
 pub struct ReplayCounts {
     /// The steps of the text.
     pub steps: usize,

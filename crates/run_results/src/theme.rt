@@ -5,7 +5,7 @@ ghost use Rattle.std.specs.Prelude.{◌≡◌};
 use plan_events::Status;
 
 /// The signs that the tree is drawn with.
-#[derive(Clone, Copy, PartialEq, Eq, Debug)]
+#[derive(Clone, Copy)]
 pub enum Theme {
     /// Lines and marks of Unicode.
     Unicode,

@@ -5,7 +5,7 @@ ghost use Rattle.run_results.specs.Sending.{SendsExactly};
 use std::io::Write;
 
 /// The writer failed, or took nothing, when it had taken this many bytes (refusal 81).
-#[derive(Clone, Copy, Debug, PartialEq, Eq)]
+#[derive(Clone, Copy)]
 pub struct WriteFault {
     pub sent: usize,
 }

@@ -10,7 +10,7 @@ use std::alloc::{AllocError, Global};
 use unique_id::UniqueId;
 
 /// What of a suite is to be run again.
-#[derive(Debug, Drop)]
+#[derive(Drop)]
 pub enum Again {
     /// What these ids cover, and nothing else: the nodes that failed in a run that is told whole.
     Only(Vec<UniqueId>),

@@ -14,7 +14,7 @@ use std::marker::Model;
 
 /// A run that was saved, as its feed or as JSON: what its lines tell, in their order. It may have been
 /// cut off anywhere.
-#[derive(Debug, Drop)]
+#[derive(Drop)]
 pub struct SavedRun {
     told: Vec<Told>,
 }

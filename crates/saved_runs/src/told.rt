@@ -10,7 +10,7 @@ use std::alloc::{AllocError, Global};
 use unique_id::{UidFault, UniqueId};
 
 /// What happened to a node.
-#[derive(Clone, Copy, Debug, PartialEq, Eq)]
+#[derive(Clone, Copy)]
 pub enum What {
     Started,
     Registered,
@@ -42,7 +42,7 @@ impl What {
 }
 
 /// What a line of a saved run tells.
-#[derive(Debug, Drop)]
+#[derive(Drop)]
 pub enum Told {
     /// The plan was started.
     PlanStarted,

@@ -1,7 +1,7 @@
 //! The word of a key.
 
 /// Who holds a key.
-#[derive(Clone, Copy, PartialEq, Eq)]
+#[derive(Clone, Copy)]
 pub enum LockWord {
     /// So many nodes hold it in READ.
     Readers(u16),

@@ -1,7 +1,7 @@
 //! Where a node of the plan is.
 
 /// Where a node is. A worker is named by its place among the seats, from 0.
-#[derive(Clone, Copy, PartialEq, Eq)]
+#[derive(Clone, Copy)]
 pub enum NodeStatus {
     /// It is not offered yet.
     Hidden,

@@ -6,7 +6,7 @@ ghost use Rattle.scheduling.specs.Actors.{actor_of};
 use descriptor::NodeId;
 
 /// Who takes a step.
-#[derive(Clone, Copy, Debug, PartialEq, Eq)]
+#[derive(Clone, Copy)]
 pub enum Actor {
     /// The worker with this number, from 1.
     Worker(u8),
@@ -15,7 +15,7 @@ pub enum Actor {
 }
 
 /// What a worker does in one step.
-#[derive(Clone, Copy, Debug, PartialEq, Eq)]
+#[derive(Clone, Copy, Debug)]
 pub enum Action {
     /// Claims this node, which is offered to any.
     Claim(NodeId),
@@ -50,7 +50,7 @@ pub enum Action {
 }
 
 /// A step of a run.
-#[derive(Clone, Copy, Debug, PartialEq, Eq)]
+#[derive(Clone, Copy, Debug)]
 pub enum Step {
     /// The worker with this number, from 1, does this.
     Worker(u8, Action),

@@ -1,7 +1,7 @@
 //! How units are dealt out to shards.
 
 /// By what a unit goes to its shard.
-#[derive(Clone, Copy, Debug, PartialEq, Eq, Drop)]
+#[derive(Clone, Copy, Drop)]
 pub enum Dealing {
     /// By its place among all units, so that shards differ by one unit at most.
     InTurn,

@@ -3,7 +3,7 @@
 use descriptor::Tree;
 
 /// What discovery finds.
-#[derive(Debug, Drop)]
+#[derive(Drop)]
 pub struct Found {
     /// The tree of what is selected, or the shard of it that the request asks for.
     pub tree: Tree,

@@ -7,7 +7,6 @@ use tag_expr::TagExpr;
 /// What a request asks for: tests and factories that one of the selectors covers, or all where there
 /// is none, that are asked for by their names, are among those to be run again and not left out, and
 /// that the tag filter keeps. The spares come with their factory.
-#[derive(Debug)]
 pub struct Request {
     /// What to cover.
     pub selectors: Vec<Selector>,

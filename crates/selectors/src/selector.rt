@@ -9,7 +9,7 @@ use std::alloc::Global;
 use unique_id::{Text, UidFault, UniqueId, both};
 
 /// What a selector's text names.
-#[derive(Clone, Copy, PartialEq, Eq, Debug)]
+#[derive(Clone, Copy)]
 pub enum SelectorKind {
     /// A node, by the canonical text of its unique id.
     UniqueId,
@@ -24,7 +24,7 @@ pub enum SelectorKind {
 }
 
 /// What names nodes of a tree; it covers them and all nodes below them.
-#[derive(Debug, Drop)]
+#[derive(Drop)]
 pub enum Selector {
     /// The node with this unique id; where this is a spare, its factory too.
     Uid(UniqueId),

@@ -12,7 +12,7 @@ use std::marker::Model;
 pub const MOST_SHARDS: u16 = 4095;
 
 /// Shard K of N, and how the units of a tree are dealt out to the N. In turn the first goes to shard 1.
-#[derive(Debug, Drop)]
+#[derive(Drop)]
 pub struct Shard {
     number: u16,
     count: u16,

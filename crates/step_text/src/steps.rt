@@ -16,7 +16,7 @@ use std::alloc::{AllocError, Global};
 use thiserror::Error;
 
 /// Why a text of steps was not read.
-#[derive(Clone, Copy, PartialEq, Eq, Debug, Error)]
+#[derive(Clone, Copy, Debug, Error)]
 pub enum StepsFault {
     #[error("no memory")]
     NoMemory,

@@ -20,7 +20,7 @@ impl NotEnabled {
 }
 
 /// Why a run is not prepared.
-#[derive(Clone, Copy, PartialEq, Eq, Debug, Error)]
+#[derive(Clone, Copy, Debug, Error)]
 pub enum TableFault {
     /// Want of memory: refusal 0.
     #[error("no memory")]

@@ -22,7 +22,6 @@ use std::marker::Model;
 const LONGEST_TEXT: usize = 1024;
 
 /// An expression over tags: tags, `any()`, `none()`, `!`, `&`, `|` and parentheses.
-#[derive(Debug)]
 pub struct TagExpr {
     root: Node,
 }

@@ -10,7 +10,7 @@ use crate::tag::Tag;
 use crate::tag_set::TagSet;
 
 /// An expression, with its operands below it.
-#[derive(Debug, Drop)]
+#[derive(Drop)]
 pub(crate) enum Node {
     Tag(Tag),
     AnyTag,

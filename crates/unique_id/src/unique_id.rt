@@ -86,12 +86,6 @@ fn block_of(
     Ok(Arc::new(alloc, Named { parts, text })?)
 }
 
-impl fmt::Debug for Segment {
-    fn fmt<W: fmt::Write>(&self, f: &mut fmt::Formatter<W>) -> fmt::Result {
-        write!(f, "[{:?}:{:?}]", self.kind(), self.value())
-    }
-}
-
 impl Segment {
     /// The segment of this kind and this value.
     pub fn new(alloc: Global, kind: &str, value: &str) -> Result<Segment, AllocError>

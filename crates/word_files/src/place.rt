@@ -4,7 +4,7 @@ ghost use Rattle.std.specs.Prelude.{◌≡◌};
 ghost use Rattle.word_files.specs.Places.{is_white, is_plain, within_word, next_place, keeps, ends_word};
 
 /// Where the next character of a text of words stands.
-#[derive(Clone, Copy, PartialEq, Eq)]
+#[derive(Clone, Copy)]
 pub(crate) enum Place {
     /// Between words.
     Between,

@@ -10,7 +10,7 @@ const REPLAY: &str = "--replay";
 const REPLAY_IS: &str = "--replay=";
 
 /// What stands before a word.
-#[derive(Clone, Copy, PartialEq, Eq)]
+#[derive(Clone, Copy)]
 pub(crate) enum Before {
     /// Nothing: the word is the program's name.
     Nothing,
