@@ -9,6 +9,9 @@ RT_JOBS is set, or the kit's rt has no such lanes, rt's own are taken.
 
 A program is built by LLVM alone, so who waits for it waits for one compiler. It is kept for the next ./build; `rt ci`
 takes only what both compilers built, and proves and builds the program again.
+
+A kit that keeps nothing does not look here for contracts that no call can meet, a twentieth of a proof's time: the gate
+does. What is kept counts for the gate too, so another kit looks.
 """
 
 import contextlib
@@ -109,12 +112,20 @@ def keep_by_one(kept):
     kept.is_whole = is_built
 
 
+def leave_contracts_that_no_call_meets(rtlib):
+    """Has rt not look for them: it does where the help of the kit's rattle has the word."""
+    help_of = rtlib.help_of
+    rtlib.help_of = lambda verb: help_of(verb).replace("--empty-contracts", "")
+
+
 def main():
     rt = load_rt()
     if hasattr(rt, "Crate") and hasattr(rt.Crate, "compile_by"):
         build_by_one(rt.Crate)
         if hasattr(rt, "Kept"):
             keep_by_one(rt.Kept)
+        elif hasattr(rt.rtlib, "help_of"):
+            leave_contracts_that_no_call_meets(rt.rtlib)
     if "RT_JOBS" not in os.environ and all(hasattr(rt, it) for it in ("in_lanes", "processors", "free")):
         own = rt.in_lanes
         # (what a kit does with the proofs that run where it is stopped)
