@@ -20,11 +20,13 @@ def load_rt():
 
 
 def ask_once(rt):
-    """Has each crate asked once for the crates below it and for the sum of its files, and not once for each path of
-    crates.txt that leads to it. rattle-kit-13b does the latter, and reads all files each time (docs/GATE.md). A kit that
-    keeps what it has proved is left as it is."""
+    """Has each crate asked once for the crates below it, and not once for each path of crates.txt that leads to it, which
+    takes 22 seconds before the first proof. rattle-kit-13b asks so for the sum of its files too, and reads all of them
+    each time (docs/GATE.md); a kit that keeps what it has proved has its own way there."""
     crates = getattr(getattr(rt, "rtlib", None), "Crate", None)
-    if crates is None or hasattr(rt, "Kept"):
+    if crates is None:
         return
-    below, crates.stamp = functools.cache(crates.below), functools.cache(crates.stamp)
+    below = functools.cache(crates.below)
     crates.below = lambda crate: [*below(crate)]
+    if not hasattr(rt, "Kept"):
+        crates.stamp = functools.cache(crates.stamp)
