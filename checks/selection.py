@@ -9,7 +9,8 @@ Suites are made at random, with stars, dollars, dots, hashes, percent signs and 
 words that select, leave out, shard, draw an order and stop after some failures; some are refused. The list, the feed
 of one worker and the status have to be what docs/FORMATS.md says, line by line, and so has a refusal. With a seed the
 feed has to have the lines that it has without, each node below its parent and dynamic tests in their order, and be the
-same with the same seed. The last line is 'N passed, M failed': what was judged, and last all seeds; or the mistakes.
+same with the same seed. The last line is 'N passed, M failed': what was judged, and last all seeds, of which two have
+to give two orders if ten suites were run with some; or the mistakes.
 """
 
 import argparse
@@ -34,6 +35,8 @@ from wrong_selections import MISTAKES
 
 SECONDS_A_RUN = 60
 MOST_SHOWN = 10
+# From how many suites on that were run with two seeds these have to give two orders at least once.
+ENOUGH = 10
 
 
 def run_words(words):
@@ -65,7 +68,8 @@ class Selection:
         self.answers = answers
         self.most_shown = MOST_SHOWN if answers is None else 0
         self.passed = self.failed = 0
-        self.orders = set()
+        # of each two seeds that a suite was run with, whether they gave two orders
+        self.orders = []
         self.refusals = {}
 
     def ran(self, suite, words):
@@ -121,7 +125,7 @@ class Selection:
             self.judge_places(feed)
             feeds.append(feed)
         same("the same seed again", feeds[1], feeds[0])
-        self.orders.add(len(set(feeds[1:])) > 1)
+        self.orders.append(len(set(feeds[1:])) > 1)
 
     def judge_places(self, feed):
         """Each node is told of while its parent runs, and dynamic tests in their order."""
@@ -192,7 +196,7 @@ class Selection:
         """Judges the suites of these numbers."""
         for number in numbers:
             self.suite(seed, number, len(numbers) == 1)
-        if len(numbers) > 1:
+        if len(self.orders) >= ENOUGH:
             self.judge("all seeds", [], self.judge_orders)
         print("refused: " + ", ".join(f"{count} by {number}" for number, count in sorted(self.refusals.items())))
 
