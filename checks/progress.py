@@ -8,7 +8,7 @@ at the end, also where the output goes to the same terminal, and where that is n
 that it names, if one has been running for two seconds, is the one that runs longest by the feed, which is a report.
 A file, a terminal that is dumb and one of an unknown kind get nothing of it. What failed is said once more, on a terminal and in a file, at most twenty
 of it, and the words that are said select just that, or the first ten of it.
-Suites made at random print the same with a terminal and without one, and so do shelf_tests and semver_tests.
+Suites made at random print the same with a terminal and without one, and so does shelf_tests.
 The last line is 'N passed, M failed': the runs.
 """
 
@@ -338,7 +338,7 @@ def main():
     said = {"tree": True, "summary": True, "testfeed": False, "none": False, "json": False}
     cases += [(f"failures behind {details}", judge_failures, (program, details, FAILING, is_said)) for details, is_said in said.items()]
     cases += [(f"many failures behind {details}", judge_failures, (program, details, MANY, True)) for details in ("tree", "summary")]
-    cases += [(f"the tests of {crate}", judge_own_tests, (built(crate),)) for crate in ("shelf_tests", "semver_tests")]
+    cases += [("the tests of shelf_tests", judge_own_tests, (built("shelf_tests"),))]
     cases += [(f"suite {n} of seed {given.seed}", judge_random, (program, given.seed, n)) for n in range(1, given.suites + 1)]
     passed = failed = 0
     for what, judge, arguments in cases:

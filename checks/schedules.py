@@ -5,8 +5,8 @@ checks/schedules.py [SUITES] [SEED]   100 suites and the seed 1 where they are n
   --program PATH                      another program than crates/console/out/console
 Each suite is made at random, and run by 2, 4 and 8 workers on threads, and then by --drive. Its steps are split
 off and replayed: none may be passed over, and the feeds have to be the same bytes. What --drive prints has to be the
-same a second time. So are the steps of shelf_tests and semver_tests by four workers, which a suite of the same ids
-and answers replays. The last line is 'N passed, M failed': the runs.
+same a second time. So are the steps of shelf_tests, and of semver_tests as program_tables runs it, by four workers, which
+a suite of the same ids and answers replays. The last line is 'N passed, M failed': the runs.
 """
 
 import argparse
@@ -19,7 +19,7 @@ from programs import Hangs, built, built_console, config, ran
 from suites import Maker, text_of
 
 WORKERS = [2, 4, 8]
-# Programs with tests of their own, and for each a suite of the same ids and answers.
+# Crates with tests of their own, and for each a suite of the same ids and answers.
 OWN_TESTS = {
     "shelf_tests": b"""engine shelf
   class shelf.Books lock=shelf
@@ -63,8 +63,10 @@ def settings(random, workers):
     return words + random.choice([[], [], [], [], ["--fail-fast"], ["--max-fail", "2"], ["--max-fail", "3"]])
 
 
+
+
 def split(text):
-    """A feed, and the line behind it without its end: a listener of the program's own may print more."""
+    """A feed, and the line behind it without its end: an observer of the program's own may print more."""
     front, finish, rest = text.partition(b" plan finished\n")
     return front + finish, rest.partition(b"\n")[0]
 
@@ -83,9 +85,15 @@ class Schedules:
             raise Wrong(f"status {status}: {said.decode(errors='replace')}")
         return text
 
-    def replay(self, words, suite, program=None):
-        """Runs a suite, or a program of the same tests, and replays its steps."""
-        feed, steps = split(self.text([*words, "--schedule", "--details", "testfeed"], suite, program))
+    def row_text(self, program, words):
+        """What a row with these words has the tests of semver_tests print."""
+        row = f"{' '.join(['=v console', *words])}\n".encode()
+        return self.text([], row, program).removeprefix(row)
+
+    def replay(self, words, suite, text_of_run=None):
+        """Runs a suite, or tests of the same ids and answers, and replays its steps."""
+        words_of_run = [*words, "--schedule", "--details", "testfeed"]
+        feed, steps = split(text_of_run(words_of_run) if text_of_run else self.text(words_of_run, suite))
         if steps == b"no schedule was found":
             raise Wrong("no schedule was found")
         again, counts = split(self.text([*words, "--replay", steps.decode()], suite))
@@ -127,9 +135,14 @@ class Schedules:
 
     def own_tests(self, crate, suite):
         """Judges runs of a crate's own tests by four workers."""
-        program = built(crate)
+        if crate == "semver_tests":
+            table = built("program_tables")
+            text_of_run = lambda words: self.row_text(table, words)
+        else:
+            program = built(crate)
+            text_of_run = lambda words: self.text(words, b"", program)
         for number in range(RUNS_OF_OWN):
-            self.judge(f"{crate}, run {number}", lambda: self.replay(["--workers", "4"], suite, program))
+            self.judge(f"{crate}, run {number}", lambda: self.replay(["--workers", "4"], suite, text_of_run))
 
 
 def main():

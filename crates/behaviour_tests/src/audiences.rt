@@ -58,58 +58,35 @@ fn hands_back(listeners: Vec<Box<dyn Listener>>) -> bool {
     }
 }
 
-/// Adds a recorder.
-fn push_recorder(alloc: Global, listeners: &mut Vec<Box<dyn Listener>>) -> Option<()> {
-    listeners
-        .push(Box::new(alloc, Recorder::new(alloc)).ok()?)
-        .ok()
-}
-
-/// Adds a summary.
-fn push_summary(alloc: Global, listeners: &mut Vec<Box<dyn Listener>>) -> Option<()> {
+/// Whether 16 recorders are an audience, and come back out of it, and one listener more is refused with all of them.
+fn takes_16(alloc: Global) -> Option<bool> {
+    let mut recorders: Vec<Box<dyn Listener>> = Vec::new(alloc);
+    for _ in 0..16 {
+        recorders
+            .push(Box::new(alloc, Recorder::new(alloc)).ok()?)
+            .ok()?;
+    }
+    let mut listeners = Audience::new(recorders).ok()?.into_listeners();
+    let came_back = listeners.len() == 16;
     listeners
         .push(Box::new(alloc, Summary::new(alloc)).ok()?)
-        .ok()
-}
-
-/// Adds 16 recorders.
-fn push_16(alloc: Global, listeners: &mut Vec<Box<dyn Listener>>) -> Option<()> {
-    for _ in 0..16 {
-        push_recorder(alloc, listeners)?;
-    }
-    Some(())
-}
-
-/// An audience of 16 recorders.
-fn of_16(alloc: Global) -> Option<Audience> {
-    let mut listeners = Vec::new(alloc);
-    push_16(alloc, &mut listeners)?;
-    Audience::new(listeners).ok()
-}
-
-/// Whether 16 listeners are an audience, and come back out of it, and one more is refused with all of them.
-fn takes_16(alloc: Global) -> Option<bool> {
-    let mut listeners = of_16(alloc)?.into_listeners();
-    let came_back = listeners.len() == 16;
-    push_summary(alloc, &mut listeners)?;
+        .ok()?;
     Some(came_back && hands_back(listeners))
 }
 
-#[test]
-fn takes_16_listeners_and_hands_17_back(rt: HostRuntime) {
-    assert!(rt; takes_16(rt.alloc()) == Some(true));
+pub(crate) fn takes_16_listeners_and_hands_17_back(alloc: Global) -> bool {
+    takes_16(alloc) == Some(true)
 }
 
-#[test]
-fn an_empty_audience_is_fresh_and_has_room(rt: HostRuntime) {
-    let nobody: Vec<Box<dyn Listener>> = Vec::new(rt.alloc());
+pub(crate) fn an_empty_audience_is_fresh_and_has_room(alloc: Global) -> bool {
+    let nobody: Vec<Box<dyn Listener>> = Vec::new(alloc);
     let fits = match Audience::new(nobody) {
         Ok(audience) => {
             audience.fresh() && audience.has_room(1_000_000) && audience.got(0).is_none()
         }
         Err(_) => false,
     };
-    assert!(rt; fits);
+    fits
 }
 
 /// Whether the first two listeners of an audience have heard these events, and there is no third.
@@ -133,24 +110,22 @@ fn hears(audience: &mut Audience, plan: &Plan) -> bool {
     audience.prepare(plan).is_ok() && !had_room && hears_one(audience)
 }
 
-/// An audience of two listeners.
-fn two(alloc: Global) -> Option<Audience> {
-    let mut listeners = Vec::new(alloc);
-    push_recorder(alloc, &mut listeners)?;
-    push_summary(alloc, &mut listeners)?;
-    Audience::new(listeners).ok()
-}
-
 /// Whether an audience of two listeners hears.
 fn two_hear(alloc: Global) -> Option<bool> {
+    let mut listeners: Vec<Box<dyn Listener>> = Vec::new(alloc);
+    listeners
+        .push(Box::new(alloc, Recorder::new(alloc)).ok()?)
+        .ok()?;
+    listeners
+        .push(Box::new(alloc, Summary::new(alloc)).ok()?)
+        .ok()?;
+    let mut audience = Audience::new(listeners).ok()?;
     let plan = plan_of(alloc, "engine e\n  class A\n")?;
-    let mut audience = two(alloc)?;
     Some(hears(&mut audience, &plan))
 }
 
-#[test]
-fn tells_every_listener_each_event(rt: HostRuntime) {
-    assert!(rt; two_hear(rt.alloc()) == Some(true));
+pub(crate) fn tells_every_listener_each_event(alloc: Global) -> bool {
+    two_hear(alloc) == Some(true)
 }
 
 /// Whether an audience has room for the event that it is told with a text.
@@ -162,8 +137,8 @@ fn is_told(audience: &mut Audience, plan: &Plan) -> bool {
     has_room
 }
 
-/// An audience of one gauge.
-fn gauged(alloc: Global, bytes: Rc<Cell<usize>>) -> Option<Audience> {
+/// Whether an audience of a gauge, which adds up these bytes, is told a text.
+fn tells(alloc: Global, bytes: Rc<Cell<usize>>) -> Option<bool> {
     let gauge = Gauge {
         events: Vec::new(alloc),
         room: 0,
@@ -171,13 +146,8 @@ fn gauged(alloc: Global, bytes: Rc<Cell<usize>>) -> Option<Audience> {
     };
     let mut listeners: Vec<Box<dyn Listener>> = Vec::new(alloc);
     listeners.push(Box::new(alloc, gauge).ok()?).ok()?;
-    Audience::new(listeners).ok()
-}
-
-/// Whether an audience of this gauge is told a text.
-fn tells(alloc: Global, bytes: Rc<Cell<usize>>) -> Option<bool> {
+    let mut audience = Audience::new(listeners).ok()?;
     let plan = plan_of(alloc, "engine e\n  class A\n")?;
-    let mut audience = gauged(alloc, bytes)?;
     Some(is_told(&mut audience, &plan))
 }
 
@@ -188,7 +158,6 @@ fn bytes_heard(alloc: Global) -> Option<usize> {
     is_told.then_some(bytes.get())
 }
 
-#[test]
-fn tells_the_text_of_an_event(rt: HostRuntime) {
-    assert!(rt; bytes_heard(rt.alloc()) == Some(7));
+pub(crate) fn tells_the_text_of_an_event(alloc: Global) -> bool {
+    bytes_heard(alloc) == Some(7)
 }

@@ -110,7 +110,9 @@ fn boxes_meet<R: Threads + Wait + Sync>(rt: &R, alloc: Global) -> Option<bool> {
     Some(all_end_well(alloc, events.as_slice(), 10) && board.runs() == 1)
 }
 
-#[test]
-fn jobs_of_two_kinds_run_side_by_side_in_boxes(rt: HostRuntime) {
-    assert!(rt; boxes_meet(&rt, rt.alloc()) == Some(true));
+pub(crate) fn jobs_of_two_kinds_run_side_by_side_in_boxes<R: Threads + Wait + Sync>(
+    rt: &R,
+    alloc: Global,
+) -> bool {
+    boxes_meet(rt, alloc) == Some(true)
 }

@@ -41,9 +41,8 @@ fn core_refuses(alloc: Global) -> Option<bool> {
     }
 }
 
-#[test]
-fn refuses_what_no_worker_can_do(rt: HostRuntime) {
-    assert!(rt; core_refuses(rt.alloc()) == Some(true));
+pub(crate) fn refuses_what_no_worker_can_do(alloc: Global) -> bool {
+    core_refuses(alloc) == Some(true)
 }
 
 /// The replies of bodies.
@@ -100,7 +99,6 @@ fn takes_first(alloc: Global) -> Option<bool> {
     takes_first_of(alloc, &plan, &answers)
 }
 
-#[test]
-fn takes_the_first_reply_or_none(rt: HostRuntime) {
-    assert!(rt; takes_first(rt.alloc()) == Some(true));
+pub(crate) fn takes_the_first_reply_or_none(alloc: Global) -> bool {
+    takes_first(alloc) == Some(true)
 }

@@ -42,10 +42,8 @@ fn are_nowhere() -> bool {
         && SuiteFault::NoMemory.place().is_none()
 }
 
-#[test]
-fn want_of_memory_has_its_text_number_0_and_no_place(rt: HostRuntime) {
+pub(crate) fn want_of_memory_has_its_text_number_0_and_no_place(alloc: Global) -> bool {
     let all =
         "no memory, no memory, no memory, no memory, no memory, no memory, no memory, no memory";
-    assert!(rt; is_said(rt.alloc(), all));
-    assert!(rt; are_numbered() && are_nowhere());
+    is_said(alloc, all) && are_numbered() && are_nowhere()
 }

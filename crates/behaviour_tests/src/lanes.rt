@@ -100,8 +100,6 @@ fn got_by_three<R: Threads>(rt: &R, alloc: Global) -> Option<u64> {
     Some(u64::wrapping_add(own?, rest))
 }
 
-#[test]
-fn numbers_come_out_once(rt: HostRuntime) {
-    assert!(rt; left_of_three(&rt, rt.alloc()) == Some(0));
-    assert!(rt; got_by_three(&rt, rt.alloc()) == Some(4_501_500));
+pub(crate) fn numbers_come_out_once<R: Threads>(rt: &R, alloc: Global) -> bool {
+    left_of_three(rt, alloc) == Some(0) && got_by_three(rt, alloc) == Some(4_501_500)
 }

@@ -1,53 +1,58 @@
 //! What no row of a table can say: readers and writers that fail, a listener of one's own, values
 //! that no text spells, and copies; and of runs on threads what no clause says: that bodies run side
-//! by side, when their jobs are run, and that numbers come out of lanes. Tests alone, in a crate of
-//! their own, since a crate with tests is proved once with them and once without.
-
+//! by side, when their jobs are run, and that numbers come out of lanes. For each there is a function
+//! that answers whether what its name says holds; program_tables has the names printed with the answers.
 #![tactic(auto)]
 
-#[cfg(test)]
 mod audiences;
-#[cfg(test)]
+mod behaviours;
 mod boxed;
-#[cfg(test)]
 mod copies;
-#[cfg(test)]
 mod cores;
-#[cfg(test)]
 mod failing;
-#[cfg(test)]
 mod faults;
-#[cfg(test)]
 mod lanes;
-#[cfg(test)]
 mod meeting;
-#[cfg(test)]
 mod moments;
-#[cfg(test)]
 mod plans;
-#[cfg(test)]
 mod printing;
-#[cfg(test)]
 mod program;
-#[cfg(test)]
 mod progress_lines;
-#[cfg(test)]
 mod ring;
-#[cfg(test)]
 mod rows;
-#[cfg(test)]
 mod running;
-#[cfg(test)]
 mod sharing;
-#[cfg(test)]
 mod slow_names;
-#[cfg(test)]
 mod stepping;
-#[cfg(test)]
 mod suite_listeners;
-#[cfg(test)]
 mod summaries;
-#[cfg(test)]
 mod texts;
-#[cfg(test)]
 mod watching;
+
+use crate::behaviours::holds;
+use std::alloc::Global;
+use std::io::{Result, Write};
+use std::sync::Wait;
+use std::thread::Threads;
+
+/// Prints each line of a text with its answer: whether what this name says holds.
+///
+/// # Errors
+///
+/// If the writer fails.
+pub fn print_behaviours<T: Threads + Wait + Sync, W: Write>(
+    rt: &T,
+    alloc: Global,
+    text: &str,
+    writer: &mut W,
+) -> Result<()> {
+    for name in text.lines() {
+        let said = match holds(rt, alloc, name) {
+            Some(true) => "holds",
+            Some(false) => "does not hold",
+            None => "is not known",
+        };
+        writer.write_fmt(format_args!("{name} => {said}\n"))?;
+    }
+    Ok(())
+}

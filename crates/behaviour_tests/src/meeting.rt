@@ -191,14 +191,17 @@ fn all_come_to_the_key<R: Threads + Wait + Sync>(rt: &R, alloc: Global, rounds: 
     true
 }
 
-#[test]
-fn nodes_of_a_busy_key_are_tried_again(rt: HostRuntime) {
-    assert!(rt; all_come_to_the_key(&rt, rt.alloc(), 100));
+pub(crate) fn nodes_of_a_busy_key_are_tried_again<R: Threads + Wait + Sync>(
+    rt: &R,
+    alloc: Global,
+) -> bool {
+    all_come_to_the_key(rt, alloc, 100)
 }
 
-#[test]
-fn bodies_run_side_by_side_where_they_may(rt: HostRuntime) {
-    assert!(rt; all_go_well(&rt, rt.alloc(), 20));
+pub(crate) fn bodies_run_side_by_side_where_they_may<R: Threads + Wait + Sync>(
+    rt: &R,
+    alloc: Global,
+) -> bool {
     // most of twelve workers start late on a small machine
-    assert!(rt; meet(&rt, rt.alloc(), 12, 12, WIDE) && meet(&rt, rt.alloc(), 12, 12, 1));
+    all_go_well(rt, alloc, 20) && meet(rt, alloc, 12, 12, WIDE) && meet(rt, alloc, 12, 12, 1)
 }

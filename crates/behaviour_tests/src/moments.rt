@@ -95,7 +95,6 @@ fn test_is_watched<R: Threads + Wait + Sync>(rt: &R, alloc: Global) -> bool {
     }
 }
 
-#[test]
-fn a_long_test_is_watched(rt: HostRuntime) {
-    assert!(rt; test_is_watched(&rt, rt.alloc()));
+pub(crate) fn a_long_test_is_watched<R: Threads + Wait + Sync>(rt: &R, alloc: Global) -> bool {
+    test_is_watched(rt, alloc)
 }

@@ -37,9 +37,8 @@ fn refuses_at_each_place(alloc: Global) -> bool {
     refused(alloc, 9, 0) == Some(0)
 }
 
-#[test]
-fn a_writer_that_fails_ends_the_printing(rt: HostRuntime) {
-    assert!(rt; refuses_at_each_place(rt.alloc()));
+pub(crate) fn a_writer_that_fails_ends_the_printing(alloc: Global) -> bool {
+    refuses_at_each_place(alloc)
 }
 
 /// Whether a writer with just the room, which takes one byte at a time, takes all.
@@ -53,9 +52,8 @@ fn is_taken(alloc: Global) -> bool {
     print_to(&mut writer, BYTES).is_ok() && writer.taken.as_slice() == BYTES
 }
 
-#[test]
-fn a_writer_that_takes_all_is_no_fault(rt: HostRuntime) {
-    assert!(rt; is_taken(rt.alloc()));
+pub(crate) fn a_writer_that_takes_all_is_no_fault(alloc: Global) -> bool {
+    is_taken(alloc)
 }
 
 /// The texts of a plan of one node, which has this text of its own.
@@ -88,14 +86,13 @@ fn feeds(alloc: Global, name: &str, text: &str, lines: &str) -> Option<bool> {
     is_fed(alloc, &plan, &texts, lines)
 }
 
-#[test]
-fn a_feed_has_spaces_for_control_bytes_of_texts_alone(rt: HostRuntime) {
+pub(crate) fn a_feed_has_spaces_for_control_bytes_of_texts_alone(alloc: Global) -> bool {
     let lines = "w1 registered [engine:a\tb]
 w1 skipped [engine:a\tb] no file  x\u{e9}
 w1 finished [engine:a\tb] FAILED no file  x\u{e9}
 w1 finished [engine:a\tb] SUCCESSFUL\n";
     let text = "no\tfile\u{7f}\nx\u{e9}";
-    assert!(rt; feeds(rt.alloc(), "a\tb", text, lines) == Some(true));
+    feeds(alloc, "a\tb", text, lines) == Some(true)
 }
 
 /// Whether the tree of the failed node of a plan, with these texts, is this line.
@@ -112,10 +109,9 @@ fn draws(alloc: Global, name: &str, text: &str, line: &str) -> Option<bool> {
     is_drawn(alloc, &plan, &texts, line)
 }
 
-#[test]
-fn a_tree_has_spaces_for_control_bytes_and_other_characters_stay(rt: HostRuntime) {
+pub(crate) fn a_tree_has_spaces_for_control_bytes_and_other_characters_stay(alloc: Global) -> bool {
     let name = "a\tb\u{7f}\u{e9}\u{6f22}e\u{301}";
     let line = "'-- a b \u{e9}\u{6f22}e\u{301} [X] no file\u{1f600} \n";
     let text = "no\nfile\u{1f600}\u{0}";
-    assert!(rt; draws(rt.alloc(), name, text, line) == Some(true));
+    draws(alloc, name, text, line) == Some(true)
 }

@@ -98,9 +98,8 @@ fn is_never_read(alloc: Global) -> bool {
     true
 }
 
-#[test]
-fn a_reader_that_fails_ends_the_reading(rt: HostRuntime) {
-    assert!(rt; is_never_read(rt.alloc()));
+pub(crate) fn a_reader_that_fails_ends_the_reading(alloc: Global) -> bool {
+    is_never_read(alloc)
 }
 
 /// Whether this is read of at most so many bytes, in so many reads.
@@ -111,11 +110,8 @@ fn gives_front(alloc: Global, most: usize, reads: usize, front: &[u8]) -> bool {
     }
 }
 
-#[test]
-fn a_reader_that_fails_later_gives_its_front(rt: HostRuntime) {
-    assert!(rt;
-        gives_front(rt.alloc(), 6, 3, b"engine") && gives_front(rt.alloc(), 99, 6, b"engine e\n")
-    );
+pub(crate) fn a_reader_that_fails_later_gives_its_front(alloc: Global) -> bool {
+    gives_front(alloc, 6, 3, b"engine") && gives_front(alloc, 99, 6, b"engine e\n")
 }
 
 /// Whether a suite whose reader fails behind so many reads is refused, and nothing is written.
@@ -130,10 +126,11 @@ fn is_refused_unread<T: Threads + Wait + Sync>(rt: &T, alloc: Global, reads: usi
     answer == Err(LaunchFault::Reading) && written.is_empty()
 }
 
-#[test]
-fn a_suite_whose_first_or_second_read_fails_is_refused(rt: HostRuntime) {
-    assert!(rt; is_refused_unread(&rt, rt.alloc(), 0));
-    assert!(rt; is_refused_unread(&rt, rt.alloc(), 1));
+pub(crate) fn a_suite_whose_first_or_second_read_fails_is_refused<R: Threads + Wait + Sync>(
+    rt: &R,
+    alloc: Global,
+) -> bool {
+    is_refused_unread(rt, alloc, 0) && is_refused_unread(rt, alloc, 1)
 }
 
 /// A suite of a passing and a failing test.
@@ -260,10 +257,13 @@ fn is_cut_anywhere<T: Threads + Wait + Sync>(rt: &T, alloc: Global, printed: Pri
     true
 }
 
-#[test]
-fn an_output_that_is_cut_at_any_byte_is_refused_there(rt: HostRuntime) {
-    assert!(rt; is_cut_anywhere(&rt, rt.alloc(), Printed::Tree) && TREE.len() == 522);
-    assert!(rt; is_cut_anywhere(&rt, rt.alloc(), Printed::Feed));
+pub(crate) fn an_output_that_is_cut_at_any_byte_is_refused_there<R: Threads + Wait + Sync>(
+    rt: &R,
+    alloc: Global,
+) -> bool {
+    is_cut_anywhere(rt, alloc, Printed::Tree)
+        && TREE.len() == 522
+        && is_cut_anywhere(rt, alloc, Printed::Feed)
 }
 
 /// Whether a writer that takes so many bytes, and then nothing of the rest, cuts the output there.
@@ -279,13 +279,15 @@ fn is_left<T: Threads + Wait + Sync>(rt: &T, alloc: Global, printed: Printed, ro
         )
 }
 
-#[test]
-fn an_output_of_which_a_rest_is_not_taken_is_refused_there(rt: HostRuntime) {
-    assert!(rt; is_left(&rt, rt.alloc(), Printed::Tree, 0));
-    assert!(rt; is_left(&rt, rt.alloc(), Printed::Tree, 11));
-    assert!(rt; is_left(&rt, rt.alloc(), Printed::Tree, 521));
-    assert!(rt; is_left(&rt, rt.alloc(), Printed::Feed, 0));
-    assert!(rt; is_left(&rt, rt.alloc(), Printed::Feed, 16));
+pub(crate) fn an_output_of_which_a_rest_is_not_taken_is_refused_there<R: Threads + Wait + Sync>(
+    rt: &R,
+    alloc: Global,
+) -> bool {
+    is_left(rt, alloc, Printed::Tree, 0)
+        && is_left(rt, alloc, Printed::Tree, 11)
+        && is_left(rt, alloc, Printed::Tree, 521)
+        && is_left(rt, alloc, Printed::Feed, 0)
+        && is_left(rt, alloc, Printed::Feed, 16)
 }
 
 /// Whether the output is taken as a whole by a writer that has room for it and takes so many bytes at a time.
@@ -295,9 +297,11 @@ fn is_taken<T: Threads + Wait + Sync>(rt: &T, alloc: Global, step: usize) -> boo
     end == Ok(ExitStatus::TestsFailed) && writer.taken.as_slice() == TREE.as_bytes()
 }
 
-#[test]
-fn an_output_that_is_taken_as_a_whole_is_no_refusal(rt: HostRuntime) {
-    assert!(rt; is_taken(&rt, rt.alloc(), 1) && is_taken(&rt, rt.alloc(), TREE.len()));
+pub(crate) fn an_output_that_is_taken_as_a_whole_is_no_refusal<R: Threads + Wait + Sync>(
+    rt: &R,
+    alloc: Global,
+) -> bool {
+    is_taken(rt, alloc, 1) && is_taken(rt, alloc, TREE.len())
 }
 
 /// Whether the feed is taken as a whole by a writer that has room for it and takes seven bytes at a time.
@@ -307,7 +311,9 @@ fn feed_is_taken<T: Threads + Wait + Sync>(rt: &T, alloc: Global) -> bool {
     end == Ok(ExitStatus::Success) && writer.taken.as_slice() == FEED.as_bytes()
 }
 
-#[test]
-fn a_feed_that_is_taken_as_a_whole_is_no_refusal(rt: HostRuntime) {
-    assert!(rt; feed_is_taken(&rt, rt.alloc()));
+pub(crate) fn a_feed_that_is_taken_as_a_whole_is_no_refusal<R: Threads + Wait + Sync>(
+    rt: &R,
+    alloc: Global,
+) -> bool {
+    feed_is_taken(rt, alloc)
 }

@@ -79,12 +79,11 @@ fn is_drawn_in_six(alloc: Global, step: u64, times: usize) -> bool {
     is_drawn(taken.as_slice(), times)
 }
 
-#[test]
-fn a_line_stands_a_tenth_of_a_second_before_it_is_drawn_anew(rt: HostRuntime) {
-    assert!(rt; is_drawn_in_six(rt.alloc(), 100, 6));
-    assert!(rt; is_drawn_in_six(rt.alloc(), 99, 3));
-    assert!(rt; is_drawn_in_six(rt.alloc(), 30, 1));
-    assert!(rt; is_drawn_in_six(rt.alloc(), 16, 0));
+pub(crate) fn a_line_stands_a_tenth_of_a_second_before_it_is_drawn_anew(alloc: Global) -> bool {
+    is_drawn_in_six(alloc, 100, 6)
+        && is_drawn_in_six(alloc, 99, 3)
+        && is_drawn_in_six(alloc, 30, 1)
+        && is_drawn_in_six(alloc, 16, 0)
 }
 
 /// Whether a terminal that takes one line, and then fails, is left alone.
@@ -99,7 +98,6 @@ fn is_left_alone(alloc: Global) -> bool {
     is_drawn(terminal.taken.as_slice(), 1)
 }
 
-#[test]
-fn a_terminal_that_fails_is_left_alone(rt: HostRuntime) {
-    assert!(rt; is_left_alone(rt.alloc()));
+pub(crate) fn a_terminal_that_fails_is_left_alone(alloc: Global) -> bool {
+    is_left_alone(alloc)
 }

@@ -89,11 +89,10 @@ fn body_waits<R: Threads + Wait + Sync>(rt: &R, alloc: Global, workers: u32) -> 
     is_said(said, "+0 +1 +2 +3 -3 -2 -1 -0 unused asked 0 told 0")
 }
 
-#[test]
-fn room_is_made_by_reading(rt: HostRuntime) {
-    assert!(rt; room_is_made_in_one_word(rt.alloc()).unwrap_or(false));
-    assert!(rt; others_are_refused(&rt, rt.alloc()));
-    for workers in 1..=3 {
-        assert!(rt; body_waits(&rt, rt.alloc(), workers));
-    }
+pub(crate) fn room_is_made_by_reading<R: Threads + Wait + Sync>(rt: &R, alloc: Global) -> bool {
+    room_is_made_in_one_word(alloc).unwrap_or(false)
+        && others_are_refused(rt, alloc)
+        && body_waits(rt, alloc, 1)
+        && body_waits(rt, alloc, 2)
+        && body_waits(rt, alloc, 3)
 }

@@ -161,16 +161,19 @@ fn large_ends_well<R: Threads + Wait + Sync>(rt: &R, alloc: Global, tests: u16, 
     tests_end_well(rt, alloc, u32::from(tests), how(Act::Ends, 4, ring), events)
 }
 
-#[test]
-fn runs_go_alike_whatever_the_number_of_workers(rt: HostRuntime) {
-    assert!(rt; all_go_alike(&rt, rt.alloc(), WIDE, 20));
-    assert!(rt; large_ends_well(&rt, rt.alloc(), 4093, WIDE));
-    assert!(rt; large_ends_well(&rt, rt.alloc(), 4093, 16_384));
+pub(crate) fn runs_go_alike_whatever_the_number_of_workers<R: Threads + Wait + Sync>(
+    rt: &R,
+    alloc: Global,
+) -> bool {
+    all_go_alike(rt, alloc, WIDE, 20)
+        && large_ends_well(rt, alloc, 4093, WIDE)
+        && large_ends_well(rt, alloc, 4093, 16_384)
 }
 
-#[test]
-fn runs_go_alike_in_a_ring_of_one_word(rt: HostRuntime) {
-    assert!(rt; all_go_alike(&rt, rt.alloc(), 1, 3));
+pub(crate) fn runs_go_alike_in_a_ring_of_one_word<R: Threads + Wait + Sync>(
+    rt: &R,
+    alloc: Global,
+) -> bool {
     // more events than 12 bits count; in one word each waits for the dispatcher, on a busy machine long
-    assert!(rt; large_ends_well(&rt, rt.alloc(), 2100, 4));
+    all_go_alike(rt, alloc, 1, 3) && large_ends_well(rt, alloc, 2100, 4)
 }

@@ -6,7 +6,7 @@ ghost use Rattle.test_jobs.specs.Acting.{replies_left};
 ghost use Rattle.worker_pool.specs.Premises.{JobsMayAnswer};
 ghost use Rattle.worker_pool.specs.Reports.{run_of};
 
-use crate::watching::{are_told_alike, audience_of_two, board_of, one_watcher};
+use crate::watching::{are_told_alike, board_of, one_watcher, roomy_watcher};
 use config_params::{Params, Settings, modes};
 use descriptor::{Mode, Tree};
 use listeners::{Audience, Listener};
@@ -296,7 +296,11 @@ fn run_watched<R: Threads + Wait + Sync>(
     other: &Arc<Board>,
 ) -> Option<String> {
     let watcher = one_watcher(alloc, how.act, board, how.looks_for)?;
-    let mut audience = audience_of_two(alloc, watcher, other)?;
+    let roomy = roomy_watcher(alloc, other)?;
+    let mut watchers: Vec<Box<dyn Listener>> = Vec::new(alloc);
+    watchers.push(Box::new(alloc, watcher).ok()?).ok()?;
+    watchers.push(Box::new(alloc, roomy).ok()?).ok()?;
+    let mut audience = Audience::new(watchers).ok()?;
     let ran = run_before(rt, alloc, text, how, board, &mut audience);
     let listeners = audience.into_listeners();
     said(alloc, ran, listeners.as_slice(), board, other)

@@ -13,9 +13,9 @@ ghost use Rattle.worker_pool.specs.Reports.{run_of};
 ghost use Rattle.worker_pool.specs.Telling.{AreTextsRead, KeepsTexts};
 
 use crate::running::{WIDE, push_events, staged};
-use crate::watching::{audience_of_one, board_of, one_watcher};
+use crate::watching::{board_of, one_watcher};
 use descriptor::NodeId;
-use listeners::Audience;
+use listeners::{Audience, Listener};
 use plan_events::{Event, EventKind, Texts};
 use resource_locks::Plan;
 use run_table::{DispatcherSeat, Jobs, RunTable, WorkerSeat};
@@ -227,33 +227,43 @@ fn is_told_of<R: Wait>(
     ))
 }
 
-/// An audience of one watcher.
-fn one_audience(alloc: Global, board: &Arc<Board>) -> Option<Audience> {
-    audience_of_one(alloc, one_watcher(alloc, Act::Ends, board, None)?)
-}
-
-/// Whether it is so of this plan, whose bodies end as they are told.
+/// Whether an audience is told so of this plan, whose bodies end as they are told.
 fn is_told_by<R: Wait>(
     rt: &R,
     alloc: Global,
     plan: Plan,
     scripts: &[Script],
     board: &Arc<Board>,
+    audience: &mut Audience,
     course: Course,
 ) -> Option<bool> {
-    let mut audience = one_audience(alloc, board)?;
     let Ok(jobs) = cast(alloc, &plan, scripts, Act::Ends, board) else {
         drop(plan);
         return None;
     };
-    is_told_of(rt, alloc, plan, jobs, &mut audience, course, course.ring()).ok()
+    is_told_of(rt, alloc, plan, jobs, audience, course, course.ring()).ok()
 }
 
-/// Whether it is so of the suite with one test.
+/// Whether an audience is told so of the suite with one test.
+fn is_told_to<R: Wait>(
+    rt: &R,
+    alloc: Global,
+    board: &Arc<Board>,
+    audience: &mut Audience,
+    course: Course,
+) -> Option<bool> {
+    let (plan, scripts) = staged(alloc, ONE)?;
+    is_told_by(rt, alloc, plan, scripts.as_slice(), board, audience, course)
+}
+
+/// Whether a watcher is told so.
 fn is_told<R: Wait>(rt: &R, alloc: Global, course: Course) -> Option<bool> {
     let board = board_of(alloc)?;
-    let (plan, scripts) = staged(alloc, ONE)?;
-    is_told_by(rt, alloc, plan, scripts.as_slice(), &board, course)
+    let watcher = one_watcher(alloc, Act::Ends, &board, None)?;
+    let mut watchers: Vec<Box<dyn Listener>> = Vec::new(alloc);
+    watchers.push(Box::new(alloc, watcher).ok()?).ok()?;
+    let mut audience = Audience::new(watchers).ok()?;
+    is_told_to(rt, alloc, &board, &mut audience, course)
 }
 
 /// Whether it is so where the dispatcher is called so often once all is done, for each number of calls up to ten.
@@ -266,8 +276,9 @@ fn all_are_told<R: Wait>(rt: &R, alloc: Global) -> bool {
     true
 }
 
-#[test]
-fn events_are_told_one_by_one_once_they_are_shown(rt: HostRuntime) {
-    assert!(rt; is_told(&rt, rt.alloc(), Course::Begins) == Some(true));
-    assert!(rt; all_are_told(&rt, rt.alloc()));
+pub(crate) fn events_are_told_one_by_one_once_they_are_shown<R: Wait>(
+    rt: &R,
+    alloc: Global,
+) -> bool {
+    is_told(rt, alloc, Course::Begins) == Some(true) && all_are_told(rt, alloc)
 }

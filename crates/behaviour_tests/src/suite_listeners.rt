@@ -9,17 +9,8 @@ use std::alloc::Global;
 use std::sync::Wait;
 use std::thread::Threads;
 
-/// An audience of a recorder.
-fn one_recorder(alloc: Global) -> Option<Audience> {
-    let mut listeners: Vec<Box<dyn Listener>> = Vec::new(alloc);
-    let recorder = Box::new(alloc, Recorder::new(alloc)).ok()?;
-    listeners.push(recorder).ok()?;
-    Audience::new(listeners).ok()
-}
-
-/// Whether a recorder is told each event of a suite's run.
-fn is_told<T: Threads + Wait + Sync>(rt: &T, alloc: Global) -> Option<bool> {
-    let mut audience = one_recorder(alloc)?;
+/// Whether an audience is told each event of a suite's run.
+fn hears<T: Threads + Wait + Sync>(rt: &T, alloc: Global, audience: &mut Audience) -> Option<bool> {
     let mut reader = SUITE.as_bytes();
     let mut writer = Vec::new(alloc);
     let stopwatch = NoStopwatch;
@@ -31,7 +22,7 @@ fn is_told<T: Threads + Wait + Sync>(rt: &T, alloc: Global) -> Option<bool> {
         &options,
         &mut reader,
         &mut writer,
-        &mut audience,
+        audience,
         &mut times,
     )
     .ok()?;
@@ -40,7 +31,19 @@ fn is_told<T: Threads + Wait + Sync>(rt: &T, alloc: Global) -> Option<bool> {
     Some(told.as_str() == "+0 +1 +2 +3 -3 -2 -1 -0 ")
 }
 
-#[test]
-fn a_listener_is_told_of_the_run_of_a_suite(rt: HostRuntime) {
-    assert!(rt; is_told(&rt, rt.alloc()) == Some(true));
+/// Whether a recorder is told them.
+fn is_told<T: Threads + Wait + Sync>(rt: &T, alloc: Global) -> Option<bool> {
+    let mut listeners: Vec<Box<dyn Listener>> = Vec::new(alloc);
+    listeners
+        .push(Box::new(alloc, Recorder::new(alloc)).ok()?)
+        .ok()?;
+    let mut audience = Audience::new(listeners).ok()?;
+    hears(rt, alloc, &mut audience)
+}
+
+pub(crate) fn a_listener_is_told_of_the_run_of_a_suite<R: Threads + Wait + Sync>(
+    rt: &R,
+    alloc: Global,
+) -> bool {
+    is_told(rt, alloc) == Some(true)
 }

@@ -33,9 +33,8 @@ fn counts(
     Some(summary.counts() == wanted)
 }
 
-#[test]
-fn counts_nothing_before_it_is_prepared(rt: HostRuntime) {
-    assert_eq!(rt; Summary::new(rt.alloc()).counts(), [0; 12]);
+pub(crate) fn counts_nothing_before_it_is_prepared(alloc: Global) -> bool {
+    Summary::new(alloc).counts() == [0; 12]
 }
 
 /// Whether a node that is a container and a test counts twice, and its start, told twice, once.
@@ -46,9 +45,8 @@ fn counts_both(alloc: Global) -> Option<bool> {
     counts(alloc, &plan, events.as_slice(), &plan, wanted)
 }
 
-#[test]
-fn counts_a_node_that_is_both_twice_and_a_double_event_once(rt: HostRuntime) {
-    assert!(rt; counts_both(rt.alloc()) == Some(true));
+pub(crate) fn counts_a_node_that_is_both_twice_and_a_double_event_once(alloc: Global) -> bool {
+    counts_both(alloc) == Some(true)
 }
 
 /// Whether the only spare of a factory is not found where the factory was skipped, and is found and
@@ -68,9 +66,8 @@ fn counts_spare(alloc: Global) -> Option<bool> {
     Some(never == Some(true) && itself == Some(true))
 }
 
-#[test]
-fn counts_a_spare_where_it_was_registered_or_skipped_itself(rt: HostRuntime) {
-    assert!(rt; counts_spare(rt.alloc()) == Some(true));
+pub(crate) fn counts_a_spare_where_it_was_registered_or_skipped_itself(alloc: Global) -> bool {
+    counts_spare(alloc) == Some(true)
 }
 
 /// Whether what a summary is told of the first plan counts for the nodes of a plan of one disabled class.
@@ -100,7 +97,6 @@ fn counts_of_two(alloc: Global) -> Option<bool> {
     counts_on_last(alloc, &first)
 }
 
-#[test]
-fn counts_what_it_was_told_on_the_plan_last_prepared(rt: HostRuntime) {
-    assert!(rt; counts_of_two(rt.alloc()) == Some(true));
+pub(crate) fn counts_what_it_was_told_on_the_plan_last_prepared(alloc: Global) -> bool {
+    counts_of_two(alloc) == Some(true)
 }

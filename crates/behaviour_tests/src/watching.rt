@@ -2,7 +2,7 @@
 
 ghost use Rattle.std.specs.Prelude.{◌+◌, ◌≤◌, length, vec_capacity};
 
-use listeners::{Audience, Listener};
+use listeners::Listener;
 use plan_events::{Event, EventKind};
 use resource_locks::Plan;
 use std::alloc::{AllocError, Global};
@@ -112,36 +112,12 @@ pub(crate) fn one_watcher(
 }
 
 /// A watcher that has more room than it is asked for.
-fn roomy_watcher(alloc: Global, board: &Arc<Board>) -> Option<Watcher> {
+pub(crate) fn roomy_watcher(alloc: Global, board: &Arc<Board>) -> Option<Watcher> {
     let flags = Arc::try_clone(board).ok()?;
     let mut watcher = plain_watcher(alloc, flags, board)?;
     watcher.events.reserve(MOST_EVENTS).ok()?;
     watcher.room = MOST_EVENTS;
     Some(watcher)
-}
-
-/// Adds a listener.
-fn push(alloc: Global, listeners: &mut Vec<Box<dyn Listener>>, watcher: Watcher) -> Option<()> {
-    listeners.push(Box::new(alloc, watcher).ok()?).ok()
-}
-
-/// An audience of this watcher.
-pub(crate) fn audience_of_one(alloc: Global, watcher: Watcher) -> Option<Audience> {
-    let mut listeners = Vec::new(alloc);
-    push(alloc, &mut listeners, watcher)?;
-    Audience::new(listeners).ok()
-}
-
-/// An audience of this watcher, and of another with more room.
-pub(crate) fn audience_of_two(
-    alloc: Global,
-    watcher: Watcher,
-    other: &Arc<Board>,
-) -> Option<Audience> {
-    let mut listeners = Vec::new(alloc);
-    push(alloc, &mut listeners, watcher)?;
-    push(alloc, &mut listeners, roomy_watcher(alloc, other)?)?;
-    Audience::new(listeners).ok()
 }
 
 /// Whether the two listeners come back in their order, and were told these events, and texts of as many bytes.

@@ -7,6 +7,8 @@ use crate::rows::push_line;
 use crate::table_clock::TableClock;
 use crate::texts::{RowFiles, Texts};
 use command_line::{Ending, run_main, run_words};
+use harness::BuildFault;
+use semver_tests::{FailuresByClass, run_semver_tests};
 use std::alloc::{AllocError, Global};
 use std::sync::Wait;
 use std::thread::Threads;
@@ -25,6 +27,8 @@ enum Asks {
     SecondWorker,
     /// What stands on standard error, where tests of the table's own are run.
     OwnTests,
+    /// The same, where the tests of semver_tests are run.
+    SemverTests,
 }
 
 impl Asks {
@@ -40,7 +44,8 @@ impl Asks {
     fn shows_errors(self) -> bool {
         match self {
             Asks::Nothing | Asks::SecondWorker => false,
-            Asks::Errors | Asks::Terminal | Asks::Cut(_) | Asks::OwnTests => true,
+            Asks::Errors | Asks::Terminal | Asks::Cut(_) | Asks::OwnTests | Asks::SemverTests =>
+                true,
         }
     }
 }
@@ -61,6 +66,9 @@ fn row_of(line: &str) -> Option<(&str, Asks)> {
     }
     if let Some(words) = line.strip_prefix("=t ") {
         return Some((words, Asks::OwnTests));
+    }
+    if let Some(words) = line.strip_prefix("=v ") {
+        return Some((words, Asks::SemverTests));
     }
     let (room, words) = line.strip_prefix("=< ")?.split_once(' ')?;
     Some((words, Asks::Cut(room.parse().unwrap_or(0))))
@@ -133,6 +141,18 @@ fn push_run<T: Threads + Wait + Sync>(
     answers.push(files.kept.as_slice())
 }
 
+/// Appends how a run of tests that were built ended.
+fn push_built(
+    alloc: Global,
+    answers: &mut Output,
+    run: Result<Ending, BuildFault>,
+) -> Result<(), AllocError> {
+    match run {
+        Ok(ending) => push_end(alloc, answers, ending),
+        Err(_) => answers.push(b"not built\n"),
+    }
+}
+
 /// What `push_run` does, with tests of the table's own in place of a suite.
 fn push_own_tests<T: Threads + Wait + Sync>(
     rt: &T,
@@ -144,10 +164,39 @@ fn push_own_tests<T: Threads + Wait + Sync>(
 ) -> Result<(), AllocError> {
     answers.room = usize::MAX;
     let mut files = MemoryFiles::new(alloc);
-    match run_own_tests(rt, alloc, words, texts, answers, errors, &mut files) {
-        Ok(ending) => push_end(alloc, answers, ending)?,
-        Err(_) => answers.push(b"not built\n")?,
-    }
+    let run = run_own_tests(rt, alloc, words, texts, answers, errors, &mut files);
+    push_built(alloc, answers, run)?;
+    answers.push(files.kept.as_slice())
+}
+
+/// What `push_run` does, with the tests of semver_tests in place of a suite; below what is printed stands how many of each
+/// class failed.
+fn push_semver_tests<T: Threads + Wait + Sync>(
+    rt: &T,
+    alloc: Global,
+    answers: &mut Output,
+    errors: &mut Vec<u8>,
+    words: Vec<String>,
+    texts: &Texts,
+) -> Result<(), AllocError> {
+    answers.room = usize::MAX;
+    let clock = TableClock::of(words.as_slice());
+    let mut files = MemoryFiles::new(alloc);
+    let mut failures = FailuresByClass::new(alloc);
+    let run = run_semver_tests(
+        rt,
+        clock,
+        alloc,
+        Ok(words.into_iter()),
+        &mut RowFiles { texts },
+        &texts.facts(),
+        answers,
+        errors,
+        &mut files,
+        &mut failures,
+    );
+    failures.print(answers);
+    push_built(alloc, answers, run)?;
     answers.push(files.kept.as_slice())
 }
 
@@ -219,6 +268,7 @@ fn push_asked<T: Threads + Wait + Sync>(
     match asks {
         Asks::SecondWorker => push_second(rt, alloc, answers, words.as_slice(), suite)?,
         Asks::OwnTests => push_own_tests(rt, alloc, answers, &mut errors, words, texts)?,
+        Asks::SemverTests => push_semver_tests(rt, alloc, answers, &mut errors, words, texts)?,
         _ => push_run(rt, alloc, answers, &mut errors, words, texts, suite, asks)?,
     }
     if asks.shows_errors() {

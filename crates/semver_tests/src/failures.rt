@@ -13,13 +13,14 @@ struct ClassFailures {
 
 /// The classes and factories of which a test failed, in the order in which the first of each did.
 #[derive(Drop)]
-pub(crate) struct FailuresByClass {
+pub struct FailuresByClass {
     alloc: Global,
     classes: Vec<ClassFailures>,
 }
 
 impl FailuresByClass {
-    pub(crate) fn new(alloc: Global) -> FailuresByClass {
+    /// None has failed.
+    pub fn new(alloc: Global) -> FailuresByClass {
         FailuresByClass {
             alloc,
             classes: Vec::new(alloc),
@@ -40,7 +41,7 @@ impl FailuresByClass {
     }
 
     /// Prints a line for each class or factory of which a test failed.
-    pub(crate) fn print<W: Write>(&self, writer: &mut W) {
+    pub fn print<W: Write>(&self, writer: &mut W) {
         for ClassFailures { name, failed } in self.classes.iter() {
             let _ = writer.write_fmt(format_args!("{name}: {failed} failed\n"));
         }

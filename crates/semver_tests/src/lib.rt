@@ -1,17 +1,20 @@
-//! Tests of the kit's crate `semver`, as a program that runs them.
+//! Tests of the kit's crate `semver`, and an observer of their own, for a program that runs them.
 #![tactic(auto)]
 
 mod failures;
 
-use failures::FailuresByClass;
+pub use failures::FailuresByClass;
 use harness::{
-    BuildFault, Checked, Ending, LockMode, System, TestBox, Tests, assume, check, check_same,
-    exit_code, run_tests_here,
+    BuildFault, Checked, Ending, Facts, LockMode, ReportFiles, TestBox, Tests, TextFiles, assume,
+    check, check_same, run_tests_by_clock,
 };
 use semver::{Version, VersionReq};
 use std::alloc::Global;
-use std::io::{self, IsTerminal, Write};
-use std::process::ExitCode;
+use std::env::Args;
+use std::io::{self, Write};
+use std::sync::Wait;
+use std::thread::Threads;
+use std::time::Clock;
 
 fn reads(alloc: Global) -> Checked {
     let version = Version::parse(alloc, "1.2.3")?;
@@ -54,14 +57,27 @@ fn matches(alloc: Global, minor: u64, wanted: bool) -> Checked {
     check_same(&requirement.matches(&Version::new(1, minor, 0)), &wanted)
 }
 
-/// Builds the tests, and runs them as the words ask for. What is built here is not handed out, so nothing is hidden.
-fn run<S: System, W: Write, E: Write + IsTerminal>(
-    system: &S,
+/// Builds the tests, and runs them as the words ask for; the failures are counted. What is built here is not handed out,
+/// so nothing is hidden.
+pub fn run_semver_tests<
+    T: Threads + Wait + Sync,
+    C: Clock + Sync + Drop,
+    F: TextFiles,
+    W: Write,
+    E: Write,
+    K: ReportFiles,
+>(
+    rt: &T,
+    clock: C,
+    alloc: Global,
+    words: io::Result<Args>,
+    texts: &mut F,
+    facts: &Facts<'_>,
     writer: &mut W,
     errors: &mut E,
+    files: &mut K,
     failures: &mut FailuresByClass,
 ) -> Result<Ending, BuildFault> {
-    let alloc = system.alloc();
     let mut tests = Tests::new(alloc)?;
     tests.property("junit.jupiter.execution.parallel.enabled", "true")?;
     tests.property(
@@ -87,13 +103,7 @@ fn run<S: System, W: Write, E: Write + IsTerminal>(
     tests.dynamic(caret, "1.2.0", two)?;
     let one: TestBox = Box::new(alloc, move |alloc: Global| matches(alloc, 1, false))?;
     tests.dynamic(caret, "1.1.0", one)?;
-    run_tests_here(system, tests, writer, errors, failures)
-}
-
-fn main(rt: HostRuntime) -> ExitCode {
-    let (writer, errors) = (&mut io::writer(&rt), &mut rt.stderr());
-    let mut failures = FailuresByClass::new(rt.alloc());
-    let run = run(&rt, writer, errors, &mut failures);
-    failures.print(writer);
-    exit_code(run, errors)
+    run_tests_by_clock(
+        rt, clock, alloc, words, texts, facts, false, tests, writer, errors, files, failures,
+    )
 }
