@@ -1,5 +1,5 @@
 -- What the cut words ask for, or why they are refused.
-use Rattle.std.proofs.Common.{◌≡◌, ◌≢◌, ◌∙◌, map, IfErr, IfOk, List, Result, Ok, Err, ap}
+use Rattle.std.proofs.Common.{◌≡◌, ◌≢◌, ◌∙◌, map, IfErr, IfOk, List, Result, Ok, Err, ap, ap₂, subst, sym}
 use Rattle.std.specs.Prelude.{None, Some}
 use Rattle.std.specs.List.{filter_map}
 use Rattle.std.specs.Result.{IsErrAnd}
@@ -11,7 +11,7 @@ use Rattle.launch_options.specs.declared.asked.Options.{Options}
 use Rattle.launch_options.specs.declared.fault.LaunchFault.{LaunchFault}
 use Rattle.launch_options.specs.declared.fault.LaunchFault.TheVariants.{NoMemory}
 use Rattle.command_words.specs.Launches.{options_in}
-use Rattle.command_words.specs.Words.{AsksCut, CutsWords, ReadsWords, reports_wanted, values_given}
+use Rattle.command_words.specs.Words.{AsksCut, CutsWords, ReadsWords, reports_wanted, values_given, where_faultless, words_refusal}
 use Rattle.command_words.specs.declared.launch.Launch.{Launch}
 
 -- what is asked for by values that clap cut
@@ -24,6 +24,25 @@ module _ (words : List Text) where
   pub reads_cut : (values : Values) (result : Result Options LaunchFault) → CutsWords words (Ok values) → IfOk result (λ options. AreAsked values (asked_by options)) → IfOk result (λ options. refusal_of values ≡ None)
       → IfErr result (λ fault. fault ≢ NoMemory → refusal_of values ≡ Some fault) → IfErr result (λ fault. fault ≡ NoMemory → refusal_of values ≡ None) → ReadsWords words result
   reads_cut values result cuts asked accepted refused no_memory = record { cut = Ok values; cuts = cuts; asks = asks_cut values result asked accepted refused no_memory }
+
+  -- words that clap takes are judged as the values are that it found
+  judged : (values : Values) → CutsWords words (Ok values) → words_refusal words ≡ refusal_of values
+  judged values cuts = ap₂ where_faultless cuts.1 (ap refusal_of (sym cuts.0))
+
+  pub asked_of : (values : Values) (result : Result Options LaunchFault) → CutsWords words (Ok values) → IfOk result (λ options. AreAsked values (asked_by options))
+      → IfOk result (λ options. AreAsked (values_given words) (asked_by options))
+  asked_of values (Ok options) cuts asked = subst (λ (v : Values). AreAsked v (asked_by options)) cuts.0 asked
+  asked_of values (Err fault) cuts asked = tt
+
+  pub accepted_of : (values : Values) (result : Result Options LaunchFault) → CutsWords words (Ok values) → IfOk result (λ options. refusal_of values ≡ None)
+      → IfOk result (λ options. words_refusal words ≡ None)
+  accepted_of values (Ok options) cuts accepted = judged values cuts ∙ accepted
+  accepted_of values (Err fault) cuts accepted = tt
+
+  pub refused_of : (values : Values) (result : Result Options LaunchFault) → CutsWords words (Ok values)
+      → IfErr result (λ fault. fault ≢ NoMemory → refusal_of values ≡ Some fault) → IfErr result (λ fault. fault ≢ NoMemory → words_refusal words ≡ Some fault)
+  refused_of values (Ok options) cuts refused = tt
+  refused_of values (Err fault) cuts refused = λ other. judged values cuts ∙ refused other
 
   -- what clap refuses is refused
   pub reads_uncut : (cause : LaunchFault) (result : Result Options LaunchFault) → IsErrAnd result (λ e. e ≡ cause) → CutsWords words (Err cause) → ReadsWords words result

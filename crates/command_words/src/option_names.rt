@@ -1,9 +1,9 @@
 //! The program's options, as clap is told of them, each with its help.
 
-ghost use Rattle.std.specs.Prelude.{◌≡◌, IfOk, false, fold, map};
+ghost use Rattle.std.specs.Prelude.{◌≡◌, ◌∷◌, [], IfOk, false, fold, map};
 ghost use Rattle.clap.specs.Words.{app_of, rule_of, with_rule};
 ghost use Rattle.command_words.specs.Commands.{configuring, ending, excluding, filtering, printing, selecting};
-ghost use Rattle.command_words.specs.Commands.{flag, program, repeated, rule_told, single};
+ghost use Rattle.command_words.specs.Commands.{flag, program, repeated, rule_told, single, with_rules};
 
 use clap::{Arg, ArgAction, Command};
 use launch_options::option_names::{
@@ -325,15 +325,34 @@ fn with_all<'a>(
     Ok(longer)
 }
 
-/// The program and its options, with the helps that they have where this is run.
-pub(crate) fn command<'a>(alloc: Global, subject: Subject<'_>) -> Result<Command<'a>, AllocError>
-    ensures { IfOk result (λ command. app_of command ≡ program) }
+/// The command with the options that say what runs.
+fn with_choices<'a>(alloc: Global, command: Command<'a>) -> Result<Command<'a>, AllocError>
+    ensures { IfOk result (λ longer. app_of longer ≡ fold with_rules (app_of command.entry)
+        (selecting ∷ excluding ∷ filtering ∷ [])) }
 {
-    let command = Command::new(alloc, "console");
     let command = with_all(alloc, command, selecting().as_slice())?;
     let command = with_all(alloc, command, excluding().as_slice())?;
-    let command = with_all(alloc, command, filtering().as_slice())?;
+    with_all(alloc, command, filtering().as_slice())
+}
+
+/// The command with those that say how it runs, and what is printed, with the helps that they have where this is run.
+fn with_settings<'a>(
+    alloc: Global,
+    command: Command<'a>,
+    subject: Subject<'_>,
+) -> Result<Command<'a>, AllocError>
+    ensures { IfOk result (λ longer. app_of longer ≡ fold with_rules (app_of command.entry)
+        (configuring ∷ printing ∷ ending ∷ [])) }
+{
     let command = with_all(alloc, command, configuring(subject).as_slice())?;
     let command = with_all(alloc, command, printing().as_slice())?;
     with_all(alloc, command, ending(subject).as_slice())
+}
+
+/// The program and its options.
+pub(crate) fn command<'a>(alloc: Global, subject: Subject<'_>) -> Result<Command<'a>, AllocError>
+    ensures { IfOk result (λ command. app_of command ≡ program) }
+{
+    let command = with_choices(alloc, Command::new(alloc, "console"))?;
+    with_settings(alloc, command, subject)
 }

@@ -1,6 +1,6 @@
 -- Each word stands for what it says.
 use Rattle.std.proofs.Common.{map, ap, ◌∙◌, string_bytes}
-use Rattle.command_words.specs.Expansions.{IsRerun, IsUnreadRun}
+use Rattle.command_words.specs.Expansions.{IsUnreadRun}
 use Rattle.command_words.specs.Roles.{before_of, meaning_of, role_of}
 use Rattle.command_words.proofs.Standing.{refused_as, stand_more, stand_none, unread}
 use Rattle.command_words.proofs.again.words_again.Goals as goal
