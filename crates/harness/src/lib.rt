@@ -24,5 +24,5 @@ pub use resource_locks::Plan;
 pub use run::{run_tests, run_tests_by_clock, run_tests_main};
 pub use system_facts::{SystemFacts, SystemTexts};
 pub use test_bodies::{Checked, Stop, TestBox, TestFn, assume, check, check_same};
-pub use test_tree::{BuildFault, ClassId, EngineId, FactoryId, Tests};
+pub use test_tree::{BuildFault, ClassId, EngineId, FactoryId, NamedTest, Tests, named};
 pub use word_files::{Facts, TextFiles};

@@ -6,7 +6,7 @@ mod failures;
 pub use failures::FailuresByClass;
 use harness::{
     BuildFault, Checked, Ending, Facts, LockMode, ReportFiles, TestBox, Tests, TextFiles, assume,
-    check, check_same, run_tests_by_clock,
+    check, check_same, named, run_tests_by_clock,
 };
 use semver::{Version, VersionReq};
 use std::alloc::Global;
@@ -86,7 +86,10 @@ pub fn run_semver_tests<
     )?;
     let engine = tests.engine("semver")?;
     let versions = tests.class(engine, "semver.Versions")?;
-    tests.functions(versions, &[("reads()", reads), ("refuses()", refuses)])?;
+    tests.functions(
+        versions,
+        &[named("reads()", reads), named("refuses()", refuses)],
+    )?;
     tests.tag("wrong")?;
     tests.test(versions, "reads_wrongly()", reads_wrongly)?;
     tests.tag("wrong")?;

@@ -9,6 +9,7 @@ mod functions;
 mod growing;
 mod handles;
 mod marks;
+mod named_test;
 mod nodes;
 mod parts;
 mod sort;
@@ -16,5 +17,7 @@ mod tests;
 
 pub use cause::BuildCause;
 pub use fault::BuildFault;
+pub use functions::named;
 pub use handles::{ClassId, EngineId, FactoryId};
+pub use named_test::NamedTest;
 pub use tests::Tests;
