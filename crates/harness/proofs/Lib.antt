@@ -4,4 +4,3 @@ pub mod SeenBeside
 pub mod SeenJobs
 pub mod SystemRuns
 pub mod Told
-pub mod Unread

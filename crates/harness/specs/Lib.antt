@@ -4,4 +4,3 @@ pub mod Jobs
 pub mod JobsRuns
 pub mod SystemRuns
 pub mod TestRuns
-pub mod UnreportedWords

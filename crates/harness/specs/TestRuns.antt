@@ -1,5 +1,5 @@
 -- What a program with tests of its own does by the words of its command line.
-use Rattle.std.specs.Prelude.{◌≡◌, ℕ, Bool, List, [], Option, None, Result, Ok, Err}
+use Rattle.std.specs.Prelude.{◌≡◌, ℕ, Bool, List, Option, Result, Ok, Err}
 use Rattle.command_line.specs.Runs.{Closes, ClosesRun, IsToldMeanwhile}
 use Rattle.command_line.specs.declared.closing.Ending.{Ending}
 use Rattle.command_words.specs.Words.{ReadsWords, reports_wanted}
@@ -18,7 +18,6 @@ use Rattle.command_words.specs.Expansions.{StandsFor}
 use Rattle.suite_text.specs.Reading.Parts.{SuiteParts}
 use Rattle.word_files.specs.declared.facts.Facts.{Facts}
 use Rattle.harness.specs.FiledJobs.{IsTimedJobs}
-use Rattle.harness.specs.UnreportedWords.{ReadsUnreported}
 
 -- of jobs that may answer so, and of who watches, who was like this when the program began and is like this when it has ended
 module _ {B V W E : Type 0} (answers : B → List Reply) (gives : B → Reply → Type 0) (saw : PlanParts → V → V → List Telling → Type 0) (contents : W → Option (List ℕ)) (said : E → Option (List ℕ)) (parts : SuiteParts) (jobs : List (ℕ × B)) (begun ended : V) where
@@ -33,17 +32,6 @@ module _ {B V W E : Type 0} (answers : B → List Reply) (gives : B → Reply �
     pub run : IsTimedJobs answers gives asked parts jobs saw begun ended wanted (contents old) (contents between) was now answer slowest
     pub tells : IsToldMeanwhile is_terminal (said first) (said during)
     pub closed : ClosesRun tests_sentence_of contents said answer slowest between new during last ending
-
-  -- that is done with what the words gave, without reports; a refusal is told, nothing is run, and nothing is seen
-  abbrev pub RunsTests : (is_terminal : Bool) → Result Options LaunchFault → (old new : W) → (first last : E) → Ending → Type 0
-  RunsTests is_terminal (Ok options) old new first last ending = IsRunOfTests is_terminal (asked_by options) [] old new first last None None ending
-  RunsTests is_terminal (Err fault) old new first last ending = (ended ≡ begun) × Closes tests_sentence_of contents said (Err fault) old new first last ending
-
-  -- the program, where there are no reports: the words are read, and what that gave is run
-  pub record IsTestRun (is_terminal : Bool) (words : List Text) (old new : W) (first last : E) (ending : Ending) : Type 0 where
-    pub options : Result Options LaunchFault
-    pub reads : ReadsUnreported words options
-    pub runs : RunsTests is_terminal options old new first last ending
 
   module _ {K : Type 0} (deeds : K → Option (List Deed)) where
     -- what is done with what the words gave, and with the reports that they ask for: of what is refused no file is touched, and nothing is seen

@@ -9,7 +9,7 @@ ghost use Rattle.test_tree.specs.Building.{held, properties_of};
 ghost use Rattle.test_tree.specs.Growing.{IsPending};
 ghost use Rattle.test_tree.specs.declared.cause.BuildCause.TheVariants.{NoMemory};
 
-use crate::run::run_tests_main;
+use crate::run::run_tests;
 use command_line::{Ending, is_drawn_on};
 use listeners::Observer;
 use report_files::SystemFiles;
@@ -27,7 +27,7 @@ pub trait System: Threads + Wait + Sync + Clock + Env + Files + AllocGlobal {}
 
 impl<S: Threads + Wait + Sync + Clock + Env + Files + AllocGlobal> System for S {}
 
-/// What `run_tests_main` does with what this system gives and tells: the words of the command line, the files that they
+/// What `run_tests` does with what this system gives and tells: the words of the command line, the files that they
 /// name, how many processors there are, a build server's shard, and whether the other writer is a terminal that can be
 /// drawn on.
 pub fn run_tests_here<S: System, W: Write, E: Write + IsTerminal, V: Observer>(
@@ -51,7 +51,8 @@ pub fn run_tests_here<S: System, W: Write, E: Write + IsTerminal, V: Observer>(
     let is_terminal = is_drawn_on(system, &*errors);
     let mut texts = SystemTexts::new(system);
     let mut files = SystemFiles::new(system.alloc(), system);
-    run_tests_main(
+    run_tests(
+        system,
         system,
         system.alloc(),
         words,

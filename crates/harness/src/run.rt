@@ -1,6 +1,6 @@
 //! The program of one who has tests of its own.
 
-ghost use Rattle.std.specs.Prelude.{◌≡◌, ◌⊎◌, IfOk, IfErr, Err, false, map, string_bytes, true};
+ghost use Rattle.std.specs.Prelude.{◌≡◌, ◌⊎◌, IfOk, IfErr, Err, map, string_bytes};
 ghost use Rattle.std.specs.IoError.{error_kind};
 ghost use Rattle.std.specs.Vec.Iter.{into_iter_items};
 ghost use Rattle.harness.specs.Jobs.{gives_left, jobs_by, replies_left};
@@ -10,13 +10,13 @@ ghost use Rattle.ready_runs.specs.ReadyPrograms.{program_parts};
 ghost use Rattle.messages.specs.Sentences.{tests_sentence_of};
 ghost use Rattle.command_line.specs.Runs.{Closes};
 ghost use Rattle.command_words.specs.GivenWords.{IsGivenFault};
-ghost use Rattle.harness.specs.TestRuns.{IsTestMainRun, IsTestRun};
+ghost use Rattle.harness.specs.TestRuns.{IsTestMainRun};
 ghost use Rattle.test_tree.specs.Building.{held, properties_of};
 ghost use Rattle.test_tree.specs.Growing.{IsPending};
 ghost use Rattle.test_tree.specs.declared.cause.BuildCause.TheVariants.{NoMemory};
 
 use crate::job::jobs_of;
-use crate::test_program::{run_test_main, run_test_program};
+use crate::test_program::run_test_main;
 use command_line::Ending;
 use launcher::Program;
 use listeners::Observer;
@@ -30,55 +30,17 @@ use std::time::Clock;
 use test_tree::{BuildFault, Tests};
 use word_files::{Facts, TextFiles};
 
-/// Runs of these tests what the words that the system gave ask for, and says how the program ends:
-/// all that is left to do is to end with the status. The words are those of `console`, but for
-/// `--report`, `--replay` and `--drive`, which are refused with 105, and for files of words, of which
-/// it knows none: `run_tests_main` has files. What they ask for goes to the writer; what a refusal is
-/// for goes to the other. A refusal, also that of words which are no text, is status 255. Tests of
-/// which something was declared that never came are handed back as a fault, and nothing is run or
-/// written. How long the tests took is told by the clock of `rt`, if that is asked for. Each event of
-/// the run is shown to the observer, in order and with its text; nothing where nothing is run. It may
-/// be any type with `see`, an `Audience` of listeners or `()`, and may borrow what it fills.
-pub fn run_tests<T: Threads + Wait + Sync + Clock, W: Write, E: Write, V: Observer>(
-    rt: &T,
-    alloc: Global,
-    words: io::Result<Args>,
-    tests: Box<Tests>,
-    writer: &mut W,
-    errors: &mut E,
-    observer: &mut V,
-) -> Result<Ending, BuildFault>
-    ensures run { IfOk result (λ ending. IfOk words (λ given. IsTestRun
-        replies_left gives_left V.saw W.contents E.contents
-        (program_parts (held tests.value).tree (properties_of tests.value)) (jobs_by (held tests.value).jobs)
-        observer.old observer.new false (map string_bytes (into_iter_items given)) writer.old writer.new errors.old
-        errors.new ending)) }
-    ensures refused { IfOk result (λ ending. IfErr words (λ error. (fault : LaunchFault)
-        × IsGivenFault (error_kind error) fault × (observer.new ≡ observer.old) × Closes tests_sentence_of W.contents
-        E.contents (Err fault) writer.old writer.new errors.old errors.new ending)) }
-    // No dynamic test holds a key, so a run never gets stuck.
-    ensures bare { IfOk result (λ _. HasBareSpares (held tests.value).tree) }
-    ensures unbuilt { IfErr result (λ fault. (IsPending (held tests.value) fault.cause ⊎ (fault.cause ≡ NoMemory))
-        × (writer.new ≡ writer.old) × (errors.new ≡ errors.old) × (observer.new ≡ observer.old)) }
-{
-    let (tree, properties, bodies, slow) = Box::into_inner(tests).into_parts()?;
-    let jobs = jobs_of(alloc, bodies)?;
-    let program = Program {
-        tree,
-        properties,
-        jobs,
-        slow,
-    };
-    Ok(run_test_program(
-        rt, rt, alloc, words, false, program, writer, errors, observer,
-    ))
-}
-
-/// All that `console` has but `--replay` and `--drive`, by this clock: what the words ask for that those stand for which
-/// the system gave, by the texts of files and by what the system tells; and the reports that they ask for are kept in
-/// these files. If the other writer is a terminal that can be drawn on, how far the run has come is drawn there meanwhile.
-/// All else is as `run_tests` says.
-pub fn run_tests_by_clock<
+/// Runs of these tests what the words that the system gave ask for, and says how the program ends: all that is left to do
+/// is to end with the status. It has all that `console` has but `--replay` and `--drive`, which are refused with 105: what
+/// the words ask for that those stand for which the system gave, by the texts of files and by what the system tells; and
+/// the reports that they ask for are kept in these files. What they ask for goes to the writer; what a refusal is for goes
+/// to the other. If that is a terminal that can be drawn on, how far the run has come is drawn there meanwhile. A refusal,
+/// also that of words which are no text, is status 255. Tests of which something was declared that never came are handed
+/// back as a fault, and nothing is run or written. How long the tests took is told by this clock, if that is asked for.
+/// Each event of the run is shown to the observer, in order and with its text; nothing where nothing is run. It may be any
+/// type with `see`, an `Audience` of listeners or `()`, and may borrow what it fills. `run_tests_here` asks a system for
+/// all that this is handed.
+pub fn run_tests<
     T: Threads + Wait + Sync,
     C: Clock + Sync + Drop,
     F: TextFiles,
@@ -136,55 +98,4 @@ pub fn run_tests_by_clock<
         files,
         observer,
     ))
-}
-
-/// All of a program of one's own tests but the handles that `main` gets of the system: what `run_tests_by_clock` does by
-/// the clock of `rt`. `run_tests_here` asks a system for all that this is handed.
-pub fn run_tests_main<
-    T: Threads + Wait + Sync + Clock,
-    F: TextFiles,
-    W: Write,
-    E: Write,
-    K: ReportFiles,
-    V: Observer,
->(
-    rt: &T,
-    alloc: Global,
-    words: io::Result<Args>,
-    texts: &mut F,
-    facts: &Facts<'_>,
-    is_terminal: bool,
-    tests: Box<Tests>,
-    writer: &mut W,
-    errors: &mut E,
-    files: &mut K,
-    observer: &mut V,
-) -> Result<Ending, BuildFault>
-    ensures run { IfOk result (λ ending. IfOk words (λ given. IsTestMainRun
-        replies_left gives_left V.saw W.contents E.contents
-        (program_parts (held tests.value).tree (properties_of tests.value)) (jobs_by (held tests.value).jobs)
-        observer.old observer.new K.deeds is_terminal facts.now (map string_bytes (into_iter_items given)) writer.old
-        writer.new errors.old errors.new files.old files.new ending)) }
-    ensures refused { IfOk result (λ ending. IfErr words (λ error. (fault : LaunchFault)
-        × IsGivenFault (error_kind error) fault × (observer.new ≡ observer.old) × (files.new ≡ files.old) × Closes
-        tests_sentence_of W.contents E.contents (Err fault) writer.old writer.new errors.old errors.new ending)) }
-    ensures bare { IfOk result (λ _. HasBareSpares (held tests.value).tree) }
-    ensures unbuilt { IfErr result (λ fault. (IsPending (held tests.value) fault.cause ⊎ (fault.cause ≡ NoMemory))
-        × (writer.new ≡ writer.old) × (errors.new ≡ errors.old) × (files.new ≡ files.old)
-        × (observer.new ≡ observer.old)) }
-{
-    run_tests_by_clock(
-        rt,
-        rt,
-        alloc,
-        words,
-        texts,
-        facts,
-        is_terminal,
-        tests,
-        writer,
-        errors,
-        files,
-        observer,
-    )
 }

@@ -13,11 +13,9 @@ ghost use Rattle.ready_runs.specs.ReadyPrograms.{program_parts};
 ghost use Rattle.messages.specs.Sentences.{tests_sentence_of};
 ghost use Rattle.command_line.specs.Runs.{Closes};
 ghost use Rattle.command_words.specs.GivenWords.{IsGivenFault};
-ghost use Rattle.harness.specs.TestRuns.{IsFiledTestRun, IsRunOfTests, IsTestMainRun, IsTestRun};
+ghost use Rattle.harness.specs.TestRuns.{IsFiledTestRun, IsRunOfTests, IsTestMainRun};
 
 use crate::meanwhile::run_jobs_meanwhile;
-use crate::no_files::NoFiles;
-use crate::unreported::read_unreported;
 use command_line::{Ending, close_run, close_with_failures, refuse};
 use command_words::{Launch, all_words, given_words, read_launch};
 use launcher::{LaunchFault, Program};
@@ -92,112 +90,14 @@ fn run_launch<
     ending
 }
 
-/// Runs of a program's own tests what the words ask for; the first word is the program's name. What
-/// they ask for is printed, as of a suite. Then the line of a refusal is printed, unless the writer
-/// failed, and its message on the other writer, on which what failed is said once more behind a tree or a summary, and
-/// behind any run, if times are asked for, which tests were the slowest by this clock. If the other writer is a terminal,
-/// how far the run has come is drawn there meanwhile. Words that give no options are refused as
-/// `read_options` says, and then nothing is run; so is `--report`, by 105, and `--replay` or `--drive`, since
-/// nobody knows beforehand what the tests answer. Each body of the tree has a job, and whatever plan
-/// is made of the tree, the jobs may answer. Whoever watches has seen the history that is printed, each event
-/// with its text; nothing, if nothing is run.
-fn run_test_words<
-    B: Job + Send,
-    T: Threads + Wait + Sync,
-    C: Clock + Sync + Drop,
-    W: Write,
-    E: Write,
-    V: Observer,
->(
-    rt: &T,
-    clock: C,
-    alloc: Global,
-    words: &[String],
-    is_terminal: bool,
-    program: Program<B>,
-    writer: &mut W,
-    errors: &mut E,
-    observer: &mut V,
-) -> Ending
-    requires jobs { (plan : PlanParts) (workers ring : ℕ) → JobsMayAnswer B.answers
-        (run_of plan workers ring program.jobs.items) }
-    requires all { HasJobs program.tree program.jobs.items }
-    ensures { IsTestRun B.answers B.gives V.saw W.contents E.contents (program_parts program.tree program.properties)
-        program.jobs.items observer.old observer.new is_terminal (map string_bytes words.now) writer.old writer.new
-        errors.old errors.new result }
-{
-    match read_unreported(alloc, words) {
-        Ok(launch) => run_launch(
-            rt,
-            clock,
-            alloc,
-            launch,
-            words,
-            None,
-            is_terminal,
-            program,
-            writer,
-            errors,
-            &mut NoFiles,
-            observer,
-        ),
-        Err(fault) => {
-            drop(program);
-            close_run(alloc, Err(fault), words, Subject::Tests(""), writer, errors)
-        }
-    }
-}
-
-/// The program, where there are neither files nor reports: what `run_test_words` does with the words that the system
-/// gave. Where it gave none, that is what is refused. All that is left to do is to end with the status.
-pub fn run_test_program<
-    B: Job + Send,
-    T: Threads + Wait + Sync,
-    C: Clock + Sync + Drop,
-    W: Write,
-    E: Write,
-    V: Observer,
->(
-    rt: &T,
-    clock: C,
-    alloc: Global,
-    words: io::Result<Args>,
-    is_terminal: bool,
-    program: Program<B>,
-    writer: &mut W,
-    errors: &mut E,
-    observer: &mut V,
-) -> Ending
-    requires jobs { (plan : PlanParts) (workers ring : ℕ) → JobsMayAnswer B.answers
-        (run_of plan workers ring program.jobs.items) }
-    requires all { HasJobs program.tree program.jobs.items }
-    ensures run { IfOk words (λ given. IsTestRun B.answers B.gives V.saw W.contents E.contents
-        (program_parts program.tree program.properties) program.jobs.items observer.old observer.new is_terminal
-        (map string_bytes (into_iter_items given)) writer.old writer.new errors.old errors.new result) }
-    ensures refused { IfErr words (λ error. (fault : LaunchFault) × IsGivenFault (error_kind error) fault
-        × (observer.new ≡ observer.old) × Closes tests_sentence_of W.contents E.contents (Err fault) writer.old
-        writer.new errors.old errors.new result) }
-{
-    match given_words(alloc, words) {
-        Ok(words) => run_test_words(
-            rt,
-            clock,
-            alloc,
-            words.as_slice(),
-            is_terminal,
-            program,
-            writer,
-            errors,
-            observer,
-        ),
-        Err(fault) => {
-            drop(program);
-            refuse(alloc, fault, Subject::Tests(""), writer, errors)
-        }
-    }
-}
-
-/// Runs what `run_test_words` runs, and keeps the reports that the words ask for; this is the machine's name.
+/// Runs of a program's own tests what the words ask for; the first word is the program's name, and this is the machine's.
+/// What they ask for is printed, as of a suite, and the reports that they ask for are kept. Then the line of a refusal is
+/// printed, unless the writer failed, and its message on the other writer, on which what failed is said once more behind a
+/// tree or a summary, and behind any run, if times are asked for, which tests were the slowest by this clock. If the other
+/// writer is a terminal, how far the run has come is drawn there meanwhile. Words that give no options are refused as
+/// `read_launch` says, and then nothing is run; so is `--replay` or `--drive`, by 105, since nobody knows beforehand what
+/// the tests answer. Each body of the tree has a job, and whatever plan is made of the tree, the jobs may answer. Whoever
+/// watches has seen the history that is printed, each event with its text; nothing, if nothing is run.
 fn run_filed_words<
     B: Job + Send,
     T: Threads + Wait + Sync,
@@ -301,7 +201,7 @@ fn run_given_tests<
     }
 }
 
-/// The program: what `run_test_words` does with the words that those stand for which the system gave, by the files that
+/// The program: what `run_filed_words` does with the words that those stand for which the system gave, by the files that
 /// they name and by what the system tells; and the reports that they ask for are kept in these files. Where the system
 /// gave no words, or a file of words or a saved run cannot be read, that is what is refused. All that is left to do is to
 /// end with the status.

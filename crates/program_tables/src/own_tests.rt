@@ -6,7 +6,7 @@ use crate::table_clock::TableClock;
 use crate::texts::{RowFiles, Texts};
 use harness::{
     BuildFault, Checked, Ending, LockMode, Mode, TestBox, Tests, assume, check_same,
-    run_tests_by_clock,
+    run_tests,
 };
 use std::alloc::Global;
 use std::sync::Wait;
@@ -58,7 +58,7 @@ pub(crate) fn run_own_tests<T: Threads + Wait + Sync>(
     let second: TestBox = Box::new(alloc, move |alloc: Global| passes(alloc))?;
     tests.dynamic(factory, "second", second)?;
     let clock = TableClock::of(words.as_slice());
-    run_tests_by_clock(
+    run_tests(
         rt,
         clock,
         alloc,

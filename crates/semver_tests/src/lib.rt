@@ -6,7 +6,7 @@ mod failures;
 pub use failures::FailuresByClass;
 use harness::{
     BuildFault, Checked, Ending, Facts, LockMode, ReportFiles, TestBox, Tests, TextFiles, assume,
-    check, check_same, named, run_tests_by_clock,
+    check, check_same, named, run_tests,
 };
 use semver::{Version, VersionReq};
 use std::alloc::Global;
@@ -106,7 +106,7 @@ pub fn run_semver_tests<
     tests.dynamic(caret, "1.2.0", two)?;
     let one: TestBox = Box::new(alloc, move |alloc: Global| matches(alloc, 1, false))?;
     tests.dynamic(caret, "1.1.0", one)?;
-    run_tests_by_clock(
+    run_tests(
         rt, clock, alloc, words, texts, facts, false, tests, writer, errors, files, failures,
     )
 }
