@@ -59,7 +59,7 @@ fn hands_back(listeners: Vec<Box<dyn Listener>>) -> bool {
 }
 
 /// Whether 16 recorders are an audience, and come back out of it, and one listener more is refused with all of them.
-fn takes_16(alloc: Global) -> Option<bool> {
+pub(crate) fn takes_16_listeners_and_hands_17_back(alloc: Global) -> Option<bool> {
     let mut recorders: Vec<Box<dyn Listener>> = Vec::new(alloc);
     for _ in 0..16 {
         recorders
@@ -72,10 +72,6 @@ fn takes_16(alloc: Global) -> Option<bool> {
         .push(Box::new(alloc, Summary::new(alloc)).ok()?)
         .ok()?;
     Some(came_back && hands_back(listeners))
-}
-
-pub(crate) fn takes_16_listeners_and_hands_17_back(alloc: Global) -> bool {
-    takes_16(alloc) == Some(true)
 }
 
 pub(crate) fn an_empty_audience_is_fresh_and_has_room(alloc: Global) -> bool {
@@ -111,7 +107,7 @@ fn hears(audience: &mut Audience, plan: &Plan) -> bool {
 }
 
 /// Whether an audience of two listeners hears.
-fn two_hear(alloc: Global) -> Option<bool> {
+pub(crate) fn tells_every_listener_each_event(alloc: Global) -> Option<bool> {
     let mut listeners: Vec<Box<dyn Listener>> = Vec::new(alloc);
     listeners
         .push(Box::new(alloc, Recorder::new(alloc)).ok()?)
@@ -122,10 +118,6 @@ fn two_hear(alloc: Global) -> Option<bool> {
     let mut audience = Audience::new(listeners).ok()?;
     let plan = plan_of(alloc, "engine e\n  class A\n")?;
     Some(hears(&mut audience, &plan))
-}
-
-pub(crate) fn tells_every_listener_each_event(alloc: Global) -> bool {
-    two_hear(alloc) == Some(true)
 }
 
 /// Whether an audience has room for the event that it is told with a text.

@@ -12,16 +12,16 @@ use std::thread::Threads;
 fn holds_of_values(alloc: Global, name: &str) -> Option<bool> {
     Some(match name {
         "takes_16_listeners_and_hands_17_back" => {
-            audiences::takes_16_listeners_and_hands_17_back(alloc)
+            audiences::takes_16_listeners_and_hands_17_back(alloc)?
         }
         "an_empty_audience_is_fresh_and_has_room" => {
             audiences::an_empty_audience_is_fresh_and_has_room(alloc)
         }
-        "tells_every_listener_each_event" => audiences::tells_every_listener_each_event(alloc),
+        "tells_every_listener_each_event" => audiences::tells_every_listener_each_event(alloc)?,
         "tells_the_text_of_an_event" => audiences::tells_the_text_of_an_event(alloc),
         "copies_say_the_same" => copies::copies_say_the_same(alloc),
-        "refuses_what_no_worker_can_do" => cores::refuses_what_no_worker_can_do(alloc),
-        "takes_the_first_reply_or_none" => cores::takes_the_first_reply_or_none(alloc),
+        "refuses_what_no_worker_can_do" => cores::refuses_what_no_worker_can_do(alloc)?,
+        "takes_the_first_reply_or_none" => cores::takes_the_first_reply_or_none(alloc)?,
         "want_of_memory_has_its_text_number_0_and_no_place" => {
             faults::want_of_memory_has_its_text_number_0_and_no_place(alloc)
         }
@@ -36,17 +36,17 @@ fn holds_of_results(alloc: Global, name: &str) -> Option<bool> {
             summaries::counts_nothing_before_it_is_prepared(alloc)
         }
         "counts_a_node_that_is_both_twice_and_a_double_event_once" => {
-            summaries::counts_a_node_that_is_both_twice_and_a_double_event_once(alloc)
+            summaries::counts_a_node_that_is_both_twice_and_a_double_event_once(alloc)?
         }
         "counts_a_spare_where_it_was_registered_or_skipped_itself" => {
-            summaries::counts_a_spare_where_it_was_registered_or_skipped_itself(alloc)
+            summaries::counts_a_spare_where_it_was_registered_or_skipped_itself(alloc)?
         }
         "counts_what_it_was_told_on_the_plan_last_prepared" => {
-            summaries::counts_what_it_was_told_on_the_plan_last_prepared(alloc)
+            summaries::counts_what_it_was_told_on_the_plan_last_prepared(alloc)?
         }
-        "the_last_note_of_a_node_is_its_text" => texts::the_last_note_of_a_node_is_its_text(alloc),
+        "the_last_note_of_a_node_is_its_text" => texts::the_last_note_of_a_node_is_its_text(alloc)?,
         "a_factory_tells_of_too_many_dynamic_tests" => {
-            texts::a_factory_tells_of_too_many_dynamic_tests(alloc)
+            texts::a_factory_tells_of_too_many_dynamic_tests(alloc)?
         }
         _ => return None,
     })
@@ -105,7 +105,7 @@ fn holds_of_suites<R: Threads + Wait + Sync>(rt: &R, alloc: Global, name: &str) 
             program::a_feed_that_is_taken_as_a_whole_is_no_refusal(rt, alloc)
         }
         "a_listener_is_told_of_the_run_of_a_suite" => {
-            suite_listeners::a_listener_is_told_of_the_run_of_a_suite(rt, alloc)
+            suite_listeners::a_listener_is_told_of_the_run_of_a_suite(rt, alloc)?
         }
         _ => return None,
     })
@@ -115,7 +115,7 @@ fn holds_of_suites<R: Threads + Wait + Sync>(rt: &R, alloc: Global, name: &str) 
 fn holds_of_runs<R: Threads + Wait + Sync>(rt: &R, alloc: Global, name: &str) -> Option<bool> {
     Some(match name {
         "jobs_of_two_kinds_run_side_by_side_in_boxes" => {
-            boxed::jobs_of_two_kinds_run_side_by_side_in_boxes(rt, alloc)
+            boxed::jobs_of_two_kinds_run_side_by_side_in_boxes(rt, alloc)?
         }
         "numbers_come_out_once" => lanes::numbers_come_out_once(rt, alloc),
         "nodes_of_a_busy_key_are_tried_again" => {

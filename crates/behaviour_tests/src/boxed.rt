@@ -103,16 +103,12 @@ fn all_end_well(alloc: Global, events: &[Event], wanted: usize) -> bool {
 }
 
 /// Whether two jobs of two kinds, each in a box, meet, and the one that counts was run once.
-fn boxes_meet<R: Threads + Wait + Sync>(rt: &R, alloc: Global) -> Option<bool> {
+pub(crate) fn jobs_of_two_kinds_run_side_by_side_in_boxes<R: Threads + Wait + Sync>(
+    rt: &R,
+    alloc: Global,
+) -> Option<bool> {
     let board = board_of(alloc)?;
     let (plan, scripts) = staged(alloc, TWO)?;
     let events = run_meeting(rt, alloc, plan, scripts.as_slice(), &board)?;
     Some(all_end_well(alloc, events.as_slice(), 10) && board.runs() == 1)
-}
-
-pub(crate) fn jobs_of_two_kinds_run_side_by_side_in_boxes<R: Threads + Wait + Sync>(
-    rt: &R,
-    alloc: Global,
-) -> bool {
-    boxes_meet(rt, alloc) == Some(true)
 }

@@ -33,16 +33,12 @@ fn refuses(core: &mut Core) -> bool {
 }
 
 /// Whether a core of 64 workers refuses them.
-fn core_refuses(alloc: Global) -> Option<bool> {
+pub(crate) fn refuses_what_no_worker_can_do(alloc: Global) -> Option<bool> {
     let plan = plan_of(alloc, PASSING)?;
     match Core::new(alloc, plan, Answers::of(Vec::new(alloc)), 64) {
         Ok(mut core) => Some(refuses(&mut core)),
         Err(_) => None,
     }
-}
-
-pub(crate) fn refuses_what_no_worker_can_do(alloc: Global) -> bool {
-    core_refuses(alloc) == Some(true)
 }
 
 /// The replies of bodies.
@@ -93,12 +89,8 @@ fn takes_first_of(alloc: Global, plan: &Plan, answers: &Answers) -> Option<bool>
 }
 
 /// Whether the schedule takes the first of two replies, or none.
-fn takes_first(alloc: Global) -> Option<bool> {
+pub(crate) fn takes_the_first_reply_or_none(alloc: Global) -> Option<bool> {
     let answers = two_replies(alloc)?;
     let plan = plan_of(alloc, PASSING)?;
     takes_first_of(alloc, &plan, &answers)
-}
-
-pub(crate) fn takes_the_first_reply_or_none(alloc: Global) -> bool {
-    takes_first(alloc) == Some(true)
 }

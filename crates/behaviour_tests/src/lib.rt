@@ -50,7 +50,7 @@ pub fn print_behaviours<T: Threads + Wait + Sync, W: Write>(
         let said = match holds(rt, alloc, name) {
             Some(true) => "holds",
             Some(false) => "does not hold",
-            None => "is not known",
+            None => "is not known, or nothing could be built for it",
         };
         writer.write_fmt(format_args!("{name} => {said}\n"))?;
     }

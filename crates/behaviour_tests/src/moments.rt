@@ -88,13 +88,9 @@ fn events_of_patience<R: Threads + Wait + Sync>(rt: &R, alloc: Global) -> Option
 }
 
 /// Whether the test ended well.
-fn test_is_watched<R: Threads + Wait + Sync>(rt: &R, alloc: Global) -> bool {
+pub(crate) fn a_long_test_is_watched<R: Threads + Wait + Sync>(rt: &R, alloc: Global) -> bool {
     match events_of_patience(rt, alloc) {
         Some(text) => text.as_str() == "+0 +1 +2 +3 -3 -2 -1 -0 ",
         None => false,
     }
-}
-
-pub(crate) fn a_long_test_is_watched<R: Threads + Wait + Sync>(rt: &R, alloc: Global) -> bool {
-    test_is_watched(rt, alloc)
 }

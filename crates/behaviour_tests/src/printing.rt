@@ -26,7 +26,7 @@ fn refused(alloc: Global, room: usize, step: usize) -> Option<usize> {
 }
 
 /// Whether printing is refused at each place at which a writer fails, and at 0 where it takes nothing.
-fn refuses_at_each_place(alloc: Global) -> bool {
+pub(crate) fn a_writer_that_fails_ends_the_printing(alloc: Global) -> bool {
     for room in 0..19 {
         for step in [1, 5, 99] {
             if refused(alloc, room, step) != Some(room) {
@@ -37,12 +37,8 @@ fn refuses_at_each_place(alloc: Global) -> bool {
     refused(alloc, 9, 0) == Some(0)
 }
 
-pub(crate) fn a_writer_that_fails_ends_the_printing(alloc: Global) -> bool {
-    refuses_at_each_place(alloc)
-}
-
 /// Whether a writer with just the room, which takes one byte at a time, takes all.
-fn is_taken(alloc: Global) -> bool {
+pub(crate) fn a_writer_that_takes_all_is_no_fault(alloc: Global) -> bool {
     let mut writer = Failing {
         taken: Vec::new(alloc),
         room: 19,
@@ -50,10 +46,6 @@ fn is_taken(alloc: Global) -> bool {
         full: Full::Fails,
     };
     print_to(&mut writer, BYTES).is_ok() && writer.taken.as_slice() == BYTES
-}
-
-pub(crate) fn a_writer_that_takes_all_is_no_fault(alloc: Global) -> bool {
-    is_taken(alloc)
 }
 
 /// The texts of a plan of one node, which has this text of its own.

@@ -89,17 +89,13 @@ fn front_of(alloc: Global, most: usize, reads: usize) -> Result<Vec<u8>, ReadFau
 
 /// Whether a reader that fails ends the reading, whichever of its reads it is: five give the line,
 /// and the sixth its end.
-fn is_never_read(alloc: Global) -> bool {
+pub(crate) fn a_reader_that_fails_ends_the_reading(alloc: Global) -> bool {
     for reads in 0..6 {
         if front_of(alloc, 99, reads).err() != Some(ReadFault::Failed) {
             return false;
         }
     }
     true
-}
-
-pub(crate) fn a_reader_that_fails_ends_the_reading(alloc: Global) -> bool {
-    is_never_read(alloc)
 }
 
 /// Whether this is read of at most so many bytes, in so many reads.
@@ -305,15 +301,11 @@ pub(crate) fn an_output_that_is_taken_as_a_whole_is_no_refusal<R: Threads + Wait
 }
 
 /// Whether the feed is taken as a whole by a writer that has room for it and takes seven bytes at a time.
-fn feed_is_taken<T: Threads + Wait + Sync>(rt: &T, alloc: Global) -> bool {
+pub(crate) fn a_feed_that_is_taken_as_a_whole_is_no_refusal<T: Threads + Wait + Sync>(
+    rt: &T,
+    alloc: Global,
+) -> bool {
     let mut writer = writer_of(alloc, FEED.len(), 7, Full::Fails);
     let end = ends_before(rt, alloc, Printed::Feed, &mut writer);
     end == Ok(ExitStatus::Success) && writer.taken.as_slice() == FEED.as_bytes()
-}
-
-pub(crate) fn a_feed_that_is_taken_as_a_whole_is_no_refusal<R: Threads + Wait + Sync>(
-    rt: &R,
-    alloc: Global,
-) -> bool {
-    feed_is_taken(rt, alloc)
 }

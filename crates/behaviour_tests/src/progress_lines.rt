@@ -87,7 +87,7 @@ pub(crate) fn a_line_stands_a_tenth_of_a_second_before_it_is_drawn_anew(alloc: G
 }
 
 /// Whether a terminal that takes one line, and then fails, is left alone.
-fn is_left_alone(alloc: Global) -> bool {
+pub(crate) fn a_terminal_that_fails_is_left_alone(alloc: Global) -> bool {
     let mut terminal = Failing {
         taken: Vec::new(alloc),
         room: LINE.len(),
@@ -96,8 +96,4 @@ fn is_left_alone(alloc: Global) -> bool {
     };
     leave_moments(alloc, &mut terminal, 100);
     is_drawn(terminal.taken.as_slice(), 1)
-}
-
-pub(crate) fn a_terminal_that_fails_is_left_alone(alloc: Global) -> bool {
-    is_left_alone(alloc)
 }

@@ -32,18 +32,14 @@ fn hears<T: Threads + Wait + Sync>(rt: &T, alloc: Global, audience: &mut Audienc
 }
 
 /// Whether a recorder is told them.
-fn is_told<T: Threads + Wait + Sync>(rt: &T, alloc: Global) -> Option<bool> {
+pub(crate) fn a_listener_is_told_of_the_run_of_a_suite<T: Threads + Wait + Sync>(
+    rt: &T,
+    alloc: Global,
+) -> Option<bool> {
     let mut listeners: Vec<Box<dyn Listener>> = Vec::new(alloc);
     listeners
         .push(Box::new(alloc, Recorder::new(alloc)).ok()?)
         .ok()?;
     let mut audience = Audience::new(listeners).ok()?;
     hears(rt, alloc, &mut audience)
-}
-
-pub(crate) fn a_listener_is_told_of_the_run_of_a_suite<R: Threads + Wait + Sync>(
-    rt: &R,
-    alloc: Global,
-) -> bool {
-    is_told(rt, alloc) == Some(true)
 }

@@ -38,20 +38,20 @@ pub(crate) fn counts_nothing_before_it_is_prepared(alloc: Global) -> bool {
 }
 
 /// Whether a node that is a container and a test counts twice, and its start, told twice, once.
-fn counts_both(alloc: Global) -> Option<bool> {
+pub(crate) fn counts_a_node_that_is_both_twice_and_a_double_event_once(
+    alloc: Global,
+) -> Option<bool> {
     let plan = plan_of_one(alloc, "f()", Kind::ContainerAndTest)?;
     let events = [started(1), started(1), finished(1, Status::Aborted)];
     let wanted = [1, 0, 1, 1, 0, 0, 1, 0, 1, 1, 0, 0];
     counts(alloc, &plan, events.as_slice(), &plan, wanted)
 }
 
-pub(crate) fn counts_a_node_that_is_both_twice_and_a_double_event_once(alloc: Global) -> bool {
-    counts_both(alloc) == Some(true)
-}
-
 /// Whether the only spare of a factory is not found where the factory was skipped, and is found and
 /// counts as skipped where it was registered and skipped itself.
-fn counts_spare(alloc: Global) -> Option<bool> {
+pub(crate) fn counts_a_spare_where_it_was_registered_or_skipped_itself(
+    alloc: Global,
+) -> Option<bool> {
     let plan = factory_plan(alloc)?;
     let never = [event(EventKind::Skipped, 1, None)];
     let without = [1, 1, 0, 0, 0, 0, 0, 0, 0, 0, 0, 0];
@@ -64,10 +64,6 @@ fn counts_spare(alloc: Global) -> Option<bool> {
     let never = counts(alloc, &plan, never.as_slice(), &plan, without);
     let itself = counts(alloc, &plan, itself.as_slice(), &plan, with);
     Some(never == Some(true) && itself == Some(true))
-}
-
-pub(crate) fn counts_a_spare_where_it_was_registered_or_skipped_itself(alloc: Global) -> bool {
-    counts_spare(alloc) == Some(true)
 }
 
 /// Whether what a summary is told of the first plan counts for the nodes of a plan of one disabled class.
@@ -91,12 +87,8 @@ fn counts_on_last(alloc: Global, first: &Plan) -> Option<bool> {
 }
 
 /// Whether it is so where the first plan is one of a class of two tests.
-fn counts_of_two(alloc: Global) -> Option<bool> {
+pub(crate) fn counts_what_it_was_told_on_the_plan_last_prepared(alloc: Global) -> Option<bool> {
     let two = "engine e\n  class a.B\n    test t() pass\n    test u() fail no\n";
     let first = plan_of(alloc, two)?;
     counts_on_last(alloc, &first)
-}
-
-pub(crate) fn counts_what_it_was_told_on_the_plan_last_prepared(alloc: Global) -> bool {
-    counts_of_two(alloc) == Some(true)
 }

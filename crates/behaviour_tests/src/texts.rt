@@ -60,7 +60,7 @@ fn has_none(alloc: Global, plan: &Plan, number: u16) -> Option<bool> {
 }
 
 /// Whether each node has the texts of its notes, and a node that is not there has none.
-fn have_texts(alloc: Global) -> Option<bool> {
+pub(crate) fn the_last_note_of_a_node_is_its_text(alloc: Global) -> Option<bool> {
     let plan = plan_of(alloc, TESTS)?;
     let all = [
         has_texts(alloc, &plan, 3, None),
@@ -69,10 +69,6 @@ fn have_texts(alloc: Global) -> Option<bool> {
         has_none(alloc, &plan, 6),
     ];
     Some(all == [Some(true); 4])
-}
-
-pub(crate) fn the_last_note_of_a_node_is_its_text(alloc: Global) -> bool {
-    have_texts(alloc) == Some(true)
 }
 
 /// The answer of body 1, which asks for so many dynamic tests.
@@ -104,13 +100,9 @@ fn factory_tells(alloc: Global, plan: &Plan, pulls: u16, text: &str) -> Option<b
 }
 
 /// Whether a factory with one spare has its own text, unless it asks for two dynamic tests.
-fn factory_tells_of_two(alloc: Global) -> Option<bool> {
+pub(crate) fn a_factory_tells_of_too_many_dynamic_tests(alloc: Global) -> Option<bool> {
     let plan = factory_plan(alloc)?;
     let one = factory_tells(alloc, &plan, 1, "made");
     let two = factory_tells(alloc, &plan, 2, "too many dynamic tests");
     Some(one == Some(true) && two == Some(true))
-}
-
-pub(crate) fn a_factory_tells_of_too_many_dynamic_tests(alloc: Global) -> bool {
-    factory_tells_of_two(alloc) == Some(true)
 }
