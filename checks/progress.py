@@ -8,7 +8,8 @@ at the end, also where the output goes to the same terminal, and where that is n
 that it names, if one has been running for two seconds, is the one that runs longest by the feed, which is a report.
 A file, a terminal that is dumb and one of an unknown kind get nothing of it. What failed is said once more, on a terminal and in a file, at most twenty
 of it, and the words that are said select just that, or the first ten of it.
-Suites made at random print the same with a terminal and without one, and so does shelf_tests.
+Suites made at random print the same with a terminal and without one, and so do the tests of a shelf that
+program_tables runs by its words.
 The last line is 'N passed, M failed': the runs.
 """
 
@@ -40,6 +41,8 @@ MANY_TESTS = 2_600
 SPIN = 1_000_000
 SECONDS_A_RUN = 120
 MOST_SHOWN = 10
+# Words by which program_tables runs the tests of a shelf as it would without any.
+OWN = ["--workers", "1"]
 DRAWN = re.compile(
     rb"\r\x1b\[K\x1b\[\?7l(\d+) found, (\d+) running, (\d+) done, (\d+) failed, (\d+) s"
     rb"(?:, longest (?P<long>\d+) s: (?P<name>[^\x00-\x1f]+))?\x1b\[\?7h"
@@ -316,7 +319,7 @@ def judge_random(program, seed, number):
 
 def judge_own_tests(program):
     """A program's own tests print on a terminal what they print without one, and say what failed."""
-    run, alone = Run(program, b"", []), Run(program, b"", [], errors="pipe")
+    run, alone = Run(program, b"", OWN), Run(program, b"", OWN, errors="pipe")
     said = DRAWN.sub(b"", run.errors).replace(ERASED, b"")
     if (run.status, run.output, said) != (1, alone.output, alone.errors) or not said.startswith(b"Failures ("):
         raise Wrong(f"status {run.status}, said {run.errors!r}, without a terminal {alone.errors!r}")
@@ -338,7 +341,7 @@ def main():
     said = {"tree": True, "summary": True, "testfeed": False, "none": False, "json": False}
     cases += [(f"failures behind {details}", judge_failures, (program, details, FAILING, is_said)) for details, is_said in said.items()]
     cases += [(f"many failures behind {details}", judge_failures, (program, details, MANY, True)) for details in ("tree", "summary")]
-    cases += [("the tests of shelf_tests", judge_own_tests, (built("shelf_tests"),))]
+    cases += [("the tests of a shelf", judge_own_tests, (built("program_tables"),))]
     cases += [(f"suite {n} of seed {given.seed}", judge_random, (program, given.seed, n)) for n in range(1, given.suites + 1)]
     passed = failed = 0
     for what, judge, arguments in cases:

@@ -5,8 +5,8 @@ checks/schedules.py [SUITES] [SEED]   100 suites and the seed 1 where they are n
   --program PATH                      another program than crates/console/out/console
 Each suite is made at random, and run by 2, 4 and 8 workers on threads, and then by --drive. Its steps are split
 off and replayed: none may be passed over, and the feeds have to be the same bytes. What --drive prints has to be the
-same a second time. So are the steps of shelf_tests, and of semver_tests as program_tables runs it, by four workers, which
-a suite of the same ids and answers replays. The last line is 'N passed, M failed': the runs.
+same a second time. So are the steps of the tests of example_tests, which program_tables runs by four workers: a
+suite of the same ids and answers replays them. The last line is 'N passed, M failed': the runs.
 """
 
 import argparse
@@ -19,15 +19,15 @@ from programs import Hangs, built, built_console, config, ran
 from suites import Maker, text_of
 
 WORKERS = [2, 4, 8]
-# Crates with tests of their own, and for each a suite of the same ids and answers.
+# Tests of one's own, and for each a suite of the same ids and answers.
 OWN_TESTS = {
-    "shelf_tests": b"""engine shelf
+    "shelf": b"""engine shelf
   class shelf.Books lock=shelf
     test holds() fail got 2, want 3
     factory fits() pass
       dyn three pass
 """,
-    "semver_tests": b"""property junit.jupiter.execution.parallel.enabled=true
+    "semver": b"""property junit.jupiter.execution.parallel.enabled=true
 property junit.jupiter.execution.parallel.mode.default=concurrent
 engine semver
   class semver.Versions
@@ -86,7 +86,7 @@ class Schedules:
         return text
 
     def row_text(self, program, words):
-        """What a row with these words has the tests of semver_tests print."""
+        """What a row with these words has the tests of semver print."""
         row = f"{' '.join(['=v console', *words])}\n".encode()
         return self.text([], row, program).removeprefix(row)
 
@@ -133,16 +133,15 @@ class Schedules:
             self.judge(what, lambda: self.replay(words, suite))
             self.judge(f"{what}, driven", lambda: self.drive([*words, "--drive", str(workers)], suite))
 
-    def own_tests(self, crate, suite):
-        """Judges runs of a crate's own tests by four workers."""
-        if crate == "semver_tests":
-            table = built("program_tables")
+    def own_tests(self, tested, suite):
+        """Judges runs of these tests by four workers."""
+        table = built("program_tables")
+        if tested == "semver":
             text_of_run = lambda words: self.row_text(table, words)
         else:
-            program = built(crate)
-            text_of_run = lambda words: self.text(words, b"", program)
+            text_of_run = lambda words: self.text(words, b"", table)
         for number in range(RUNS_OF_OWN):
-            self.judge(f"{crate}, run {number}", lambda: self.replay(["--workers", "4"], suite, text_of_run))
+            self.judge(f"tests of {tested}, run {number}", lambda: self.replay(["--workers", "4"], suite, text_of_run))
 
 
 def main():
@@ -154,8 +153,8 @@ def main():
     schedules = Schedules(given.program or built_console())
     for number in range(1, given.suites + 1):
         schedules.suite(given.seed, number)
-    for crate, suite in OWN_TESTS.items():
-        schedules.own_tests(crate, suite)
+    for tested, suite in OWN_TESTS.items():
+        schedules.own_tests(tested, suite)
     print(f"{schedules.passed} passed, {schedules.failed} failed")
     return 1 if schedules.failed else 0
 

@@ -7,8 +7,8 @@ use crate::rows::push_line;
 use crate::table_clock::TableClock;
 use crate::texts::{RowFiles, Texts};
 use command_line::{Ending, run_main, run_words};
+use example_tests::{FailuresByClass, run_semver_tests};
 use harness::BuildFault;
-use semver_tests::{FailuresByClass, run_semver_tests};
 use std::alloc::{AllocError, Global};
 use std::sync::Wait;
 use std::thread::Threads;
@@ -27,7 +27,7 @@ enum Asks {
     SecondWorker,
     /// What stands on standard error, where tests of the table's own are run.
     OwnTests,
-    /// The same, where the tests of semver_tests are run.
+    /// The same, where the tests of semver are run.
     SemverTests,
 }
 
@@ -123,7 +123,7 @@ fn push_run<T: Threads + Wait + Sync>(
     let mut files = MemoryFiles::new(alloc);
     let ending = run_main(
         rt,
-        clock,
+        &clock,
         alloc,
         Ok(words.into_iter()),
         &mut RowFiles { texts },
@@ -153,49 +153,35 @@ fn push_built(
     }
 }
 
-/// What `push_run` does, with tests of the table's own in place of a suite.
-fn push_own_tests<T: Threads + Wait + Sync>(
+/// What `push_run` does, with tests of the table's own in place of a suite, or with those of semver, below which stands how
+/// many of each class failed. Both are watched by one type and take the same clock, so that the program has what runs them
+/// once.
+fn push_tests<T: Threads + Wait + Sync>(
     rt: &T,
     alloc: Global,
     answers: &mut Output,
     errors: &mut Vec<u8>,
-    words: Vec<String>,
+    words: &mut Vec<String>,
     texts: &Texts,
+    asks: Asks,
 ) -> Result<(), AllocError> {
     answers.room = usize::MAX;
-    let mut files = MemoryFiles::new(alloc);
-    let run = run_own_tests(rt, alloc, words, texts, answers, errors, &mut files);
-    push_built(alloc, answers, run)?;
-    answers.push(files.kept.as_slice())
-}
-
-/// What `push_run` does, with the tests of semver_tests in place of a suite; below what is printed stands how many of each
-/// class failed.
-fn push_semver_tests<T: Threads + Wait + Sync>(
-    rt: &T,
-    alloc: Global,
-    answers: &mut Output,
-    errors: &mut Vec<u8>,
-    words: Vec<String>,
-    texts: &Texts,
-) -> Result<(), AllocError> {
-    answers.room = usize::MAX;
-    let clock = TableClock::of(words.as_slice());
-    let mut files = MemoryFiles::new(alloc);
-    let mut failures = FailuresByClass::new(alloc);
-    let run = run_semver_tests(
-        rt,
-        clock,
-        alloc,
-        Ok(words.into_iter()),
-        &mut RowFiles { texts },
-        &texts.facts(),
-        answers,
-        errors,
-        &mut files,
-        &mut failures,
-    );
-    failures.print(answers);
+    let clock = &TableClock::of(words.as_slice());
+    let files = &mut MemoryFiles::new(alloc);
+    let failures = &mut FailuresByClass::new(alloc);
+    let (texts, facts) = (&mut RowFiles { texts }, &texts.facts());
+    let run = if asks == Asks::OwnTests {
+        run_own_tests(
+            rt, clock, alloc, words, texts, facts, answers, errors, files, failures,
+        )
+    } else {
+        run_semver_tests(
+            rt, clock, alloc, words, texts, facts, answers, errors, files, failures,
+        )
+    };
+    if asks == Asks::SemverTests {
+        failures.print(answers);
+    }
     push_built(alloc, answers, run)?;
     answers.push(files.kept.as_slice())
 }
@@ -221,7 +207,7 @@ fn has_second<T: Threads + Wait + Sync>(
         let files = &mut MemoryFiles::new(alloc);
         run_words(
             rt,
-            TableClock::still(),
+            &TableClock::still(),
             alloc,
             words,
             None,
@@ -259,7 +245,7 @@ fn push_asked<T: Threads + Wait + Sync>(
     rt: &T,
     alloc: Global,
     answers: &mut Output,
-    words: Vec<String>,
+    mut words: Vec<String>,
     texts: &Texts,
     suite: &[u8],
     asks: Asks,
@@ -267,8 +253,9 @@ fn push_asked<T: Threads + Wait + Sync>(
     let mut errors = Vec::new(alloc);
     match asks {
         Asks::SecondWorker => push_second(rt, alloc, answers, words.as_slice(), suite)?,
-        Asks::OwnTests => push_own_tests(rt, alloc, answers, &mut errors, words, texts)?,
-        Asks::SemverTests => push_semver_tests(rt, alloc, answers, &mut errors, words, texts)?,
+        Asks::OwnTests | Asks::SemverTests => {
+            push_tests(rt, alloc, answers, &mut errors, &mut words, texts, asks)?
+        }
         _ => push_run(rt, alloc, answers, &mut errors, words, texts, suite, asks)?,
     }
     if asks.shows_errors() {

@@ -3,12 +3,14 @@
 use crate::memory_files::MemoryFiles;
 use crate::output::Output;
 use crate::table_clock::TableClock;
-use crate::texts::{RowFiles, Texts};
+use crate::texts::RowFiles;
+use example_tests::FailuresByClass;
 use harness::{
-    BuildFault, Checked, Ending, LockMode, Mode, TestBox, Tests, assume, check_same,
+    BuildFault, Checked, Ending, Facts, LockMode, Mode, TestBox, Tests, assume, check_same,
     run_tests,
 };
 use std::alloc::Global;
+use std::mem::replace;
 use std::sync::Wait;
 use std::thread::Threads;
 
@@ -24,15 +26,18 @@ fn aborts(_alloc: Global) -> Checked {
     assume(false, "closed today")
 }
 
-/// Runs these tests with the words of a row, and the files that these may name.
+/// Runs these tests with the words of a row, which it takes, and the files that these may name; the failures are counted.
 pub(crate) fn run_own_tests<T: Threads + Wait + Sync>(
     rt: &T,
+    clock: &TableClock,
     alloc: Global,
-    words: Vec<String>,
-    texts: &Texts,
+    words: &mut Vec<String>,
+    texts: &mut RowFiles<'_>,
+    facts: &Facts<'_>,
     answers: &mut Output,
     errors: &mut Vec<u8>,
     files: &mut MemoryFiles,
+    failures: &mut FailuresByClass,
 ) -> Result<Ending, BuildFault> {
     let mut tests = Tests::new(alloc)?;
     tests.property("junit.jupiter.execution.parallel.config.strategy", "fixed")?;
@@ -57,19 +62,18 @@ pub(crate) fn run_own_tests<T: Threads + Wait + Sync>(
     tests.dynamic(factory, "first", first)?;
     let second: TestBox = Box::new(alloc, move |alloc: Global| passes(alloc))?;
     tests.dynamic(factory, "second", second)?;
-    let clock = TableClock::of(words.as_slice());
     run_tests(
         rt,
         clock,
         alloc,
-        Ok(words.into_iter()),
-        &mut RowFiles { texts },
-        &texts.facts(),
+        Ok(replace(words, Vec::new(alloc)).into_iter()),
+        texts,
+        facts,
         false,
         tests,
         answers,
         errors,
         files,
-        &mut (),
+        failures,
     )
 }

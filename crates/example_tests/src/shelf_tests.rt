@@ -1,16 +1,12 @@
-//! Tests of a shelf, as a program that runs them.
-#![tactic(auto)]
-
-mod shelf;
+//! Tests of a shelf: with a `main`, the program of docs/OWN-TESTS.md.
 
 use crate::shelf::Shelf;
 use harness::{
-    BuildFault, Checked, Ending, LockMode, System, TestBox, Tests, check, check_same, exit_code,
+    BuildFault, Checked, Ending, LockMode, System, TestBox, Tests, check, check_same,
     run_tests_here,
 };
 use std::alloc::Global;
-use std::io::{self, IsTerminal, Write};
-use std::process::ExitCode;
+use std::io::{IsTerminal, Write};
 
 fn holds(_alloc: Global) -> Checked {
     let mut shelf = Shelf::with_places(3);
@@ -22,7 +18,8 @@ fn fits(_alloc: Global) -> Checked {
     check(Shelf::with_places(3).put(3), "three books have room")
 }
 
-fn run<S: System, W: Write, E: Write + IsTerminal>(
+/// Builds the tests, and runs them as the words of the command line ask for.
+pub fn run_shelf_tests<S: System, W: Write, E: Write + IsTerminal>(
     system: &S,
     writer: &mut W,
     errors: &mut E,
@@ -37,10 +34,4 @@ fn run<S: System, W: Write, E: Write + IsTerminal>(
     let three: TestBox = Box::new(alloc, move |alloc: Global| fits(alloc))?;
     tests.dynamic(factory, "three", three)?;
     run_tests_here(system, tests, writer, errors, &mut ())
-}
-
-fn main(rt: HostRuntime) -> ExitCode {
-    let (writer, errors) = (&mut io::writer(&rt), &mut rt.stderr());
-    let run = run(&rt, writer, errors);
-    exit_code(run, errors)
 }

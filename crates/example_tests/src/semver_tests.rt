@@ -1,17 +1,14 @@
-//! Tests of the kit's crate `semver`, and an observer of their own, for a program that runs them.
-#![tactic(auto)]
+//! Tests of the kit's crate `semver`, watched by an observer of their own.
 
-mod failures;
-
-pub use failures::FailuresByClass;
+use crate::failures::FailuresByClass;
 use harness::{
     BuildFault, Checked, Ending, Facts, LockMode, ReportFiles, TestBox, Tests, TextFiles, assume,
     check, check_same, named, run_tests,
 };
 use semver::{Version, VersionReq};
 use std::alloc::Global;
-use std::env::Args;
-use std::io::{self, Write};
+use std::io::Write;
+use std::mem::replace;
 use std::sync::Wait;
 use std::thread::Threads;
 use std::time::Clock;
@@ -57,20 +54,20 @@ fn matches(alloc: Global, minor: u64, wanted: bool) -> Checked {
     check_same(&requirement.matches(&Version::new(1, minor, 0)), &wanted)
 }
 
-/// Builds the tests, and runs them as the words ask for; the failures are counted. What is built here is not handed out,
-/// so nothing is hidden.
+/// Builds the tests, and runs them as the words ask for, which it takes; the failures are counted. What is built here is
+/// not handed out, so nothing is hidden. Clock and words are lent: what is owned would have to be dropped at each `?`.
 pub fn run_semver_tests<
     T: Threads + Wait + Sync,
-    C: Clock + Sync + Drop,
+    C: Clock + Sync,
     F: TextFiles,
     W: Write,
     E: Write,
     K: ReportFiles,
 >(
     rt: &T,
-    clock: C,
+    clock: &C,
     alloc: Global,
-    words: io::Result<Args>,
+    words: &mut Vec<String>,
     texts: &mut F,
     facts: &Facts<'_>,
     writer: &mut W,
@@ -107,6 +104,17 @@ pub fn run_semver_tests<
     let one: TestBox = Box::new(alloc, move |alloc: Global| matches(alloc, 1, false))?;
     tests.dynamic(caret, "1.1.0", one)?;
     run_tests(
-        rt, clock, alloc, words, texts, facts, false, tests, writer, errors, files, failures,
+        rt,
+        clock,
+        alloc,
+        Ok(replace(words, Vec::new(alloc)).into_iter()),
+        texts,
+        facts,
+        false,
+        tests,
+        writer,
+        errors,
+        files,
+        failures,
     )
 }
