@@ -2,8 +2,8 @@
 
 use crate::failures::FailuresByClass;
 use harness::{
-    BuildFault, Checked, Ending, Facts, LockMode, ReportFiles, TestBox, Tests, TextFiles, assume,
-    check, check_same, named, run_tests,
+    BuildFault, Checked, ClassId, Ending, EngineId, Facts, LockMode, NamedTest, ReportFiles,
+    TestBox, TestFn, Tests, TextFiles, assume, check, check_same, named, run_tests,
 };
 use semver::{Version, VersionReq};
 use std::alloc::Global;
@@ -54,8 +54,81 @@ fn matches(alloc: Global, minor: u64, wanted: bool) -> Checked {
     check_same(&requirement.matches(&Version::new(1, minor, 0)), &wanted)
 }
 
+/// Adds a test that is wrong, and tagged so.
+fn add_wrong(tests: &mut Tests, class: ClassId, name: &str, run: TestFn) -> Result<(), BuildFault>
+    requires { TestFn.IsAlwaysCallable run }
+{
+    tests.tag("wrong")?;
+    tests.test(class, name, run)
+}
+
+/// Begins the tests, with the class of versions: right ones, two wrong ones, one that is aborted, and the after-body.
+fn add_versions(
+    tests: &mut Tests,
+    right: &[NamedTest<'_>],
+    reading: TestFn,
+    comparing: TestFn,
+    aborting: TestFn,
+    closing: TestFn,
+) -> Result<EngineId, BuildFault>
+    requires reading { TestFn.IsAlwaysCallable reading }
+    requires comparing { TestFn.IsAlwaysCallable comparing }
+    requires aborting { TestFn.IsAlwaysCallable aborting }
+    requires closing { TestFn.IsAlwaysCallable closing }
+{
+    tests.property("junit.jupiter.execution.parallel.enabled", "true")?;
+    tests.property(
+        "junit.jupiter.execution.parallel.mode.default",
+        "concurrent",
+    )?;
+    let engine = tests.engine("semver")?;
+    let versions = tests.class(engine, "semver.Versions")?;
+    tests.functions(versions, right)?;
+    add_wrong(tests, versions, "reads_wrongly()", reading)?;
+    add_wrong(tests, versions, "compares_wrongly()", comparing)?;
+    tests.test(versions, "needs_a_network()", aborting)?;
+    tests.after(versions, closing)?;
+    Ok(engine)
+}
+
+/// Adds the class of requirements, with a test and one that is disabled.
+fn add_requirements(
+    tests: &mut Tests,
+    engine: EngineId,
+    ordering: TestFn,
+    lexing: TestFn,
+) -> Result<ClassId, BuildFault>
+    requires ordering { TestFn.IsAlwaysCallable ordering }
+    requires lexing { TestFn.IsAlwaysCallable lexing }
+{
+    tests.lock("table", LockMode::Read)?;
+    let requirements = tests.class(engine, "semver.Requirements")?;
+    tests.test(requirements, "orders()", ordering)?;
+    tests.disabled("until there is a lexer")?;
+    tests.test(requirements, "lexes()", lexing)?;
+    Ok(requirements)
+}
+
+/// Adds the factory of a caret with two dynamic tests.
+fn add_caret(
+    tests: &mut Tests,
+    requirements: ClassId,
+    closing: TestFn,
+    two: TestBox,
+    one: TestBox,
+) -> Result<(), BuildFault>
+    requires closing { TestFn.IsAlwaysCallable closing }
+    requires two { TestBox.IsAlwaysCallable two }
+    requires one { TestBox.IsAlwaysCallable one }
+{
+    let caret = tests.factory(requirements, "caret()", closing)?;
+    tests.dynamic(caret, "1.2.0", two)?;
+    tests.dynamic(caret, "1.1.0", one)
+}
+
 /// Builds the tests, and runs them as the words ask for, which it takes; the failures are counted. What is built here is
-/// not handed out, so nothing is hidden. Clock and words are lent: what is owned would have to be dropped at each `?`.
+/// not handed out, so nothing is hidden: the functions that add take what they add. Clock and words are lent: what is
+/// owned would have to be dropped at each `?`.
 pub fn run_semver_tests<
     T: Threads + Wait + Sync,
     C: Clock + Sync,
@@ -76,33 +149,19 @@ pub fn run_semver_tests<
     failures: &mut FailuresByClass,
 ) -> Result<Ending, BuildFault> {
     let mut tests = Tests::new(alloc)?;
-    tests.property("junit.jupiter.execution.parallel.enabled", "true")?;
-    tests.property(
-        "junit.jupiter.execution.parallel.mode.default",
-        "concurrent",
+    let right = &[named("reads()", reads), named("refuses()", refuses)];
+    let engine = add_versions(
+        &mut tests,
+        right,
+        reads_wrongly,
+        compares_wrongly,
+        needs_a_network,
+        closes,
     )?;
-    let engine = tests.engine("semver")?;
-    let versions = tests.class(engine, "semver.Versions")?;
-    tests.functions(
-        versions,
-        &[named("reads()", reads), named("refuses()", refuses)],
-    )?;
-    tests.tag("wrong")?;
-    tests.test(versions, "reads_wrongly()", reads_wrongly)?;
-    tests.tag("wrong")?;
-    tests.test(versions, "compares_wrongly()", compares_wrongly)?;
-    tests.test(versions, "needs_a_network()", needs_a_network)?;
-    tests.after(versions, closes)?;
-    tests.lock("table", LockMode::Read)?;
-    let requirements = tests.class(engine, "semver.Requirements")?;
-    tests.test(requirements, "orders()", orders)?;
-    tests.disabled("until there is a lexer")?;
-    tests.test(requirements, "lexes()", closes)?;
-    let caret = tests.factory(requirements, "caret()", closes)?;
+    let requirements = add_requirements(&mut tests, engine, orders, closes)?;
     let two: TestBox = Box::new(alloc, move |alloc: Global| matches(alloc, 2, true))?;
-    tests.dynamic(caret, "1.2.0", two)?;
     let one: TestBox = Box::new(alloc, move |alloc: Global| matches(alloc, 1, false))?;
-    tests.dynamic(caret, "1.1.0", one)?;
+    add_caret(&mut tests, requirements, closes, two, one)?;
     run_tests(
         rt,
         clock,
