@@ -1,10 +1,21 @@
 //! What a request finds in a tree.
 
-use crate::words::{key_and_value, push_refusal, say, selector_kind, show};
 use descriptor::{NodeId, Tree};
-use selectors::{Request, Selector, discover};
+use run_answers::{key_and_value, push_refusal, say, show};
+use selectors::{Request, Selector, SelectorKind, discover};
 use std::alloc::Global;
 use tag_expr::TagExpr;
+
+/// The kind of a selector, by its word.
+pub(crate) fn selector_kind(word: &str) -> SelectorKind {
+    match word {
+        "id" => SelectorKind::UniqueId,
+        "method" => SelectorKind::Method,
+        "package" => SelectorKind::Package,
+        "name" => SelectorKind::Name,
+        _ => SelectorKind::Class,
+    }
+}
 
 /// Adds what was read, and tells whether it could be read.
 fn keep<T: Drop, F: Drop>(list: &mut Vec<T>, read: Result<T, F>) -> bool {

@@ -1,9 +1,9 @@
 //! What was read of a section so far.
 
 use crate::adding::push_added;
-use crate::words::{cut, show};
-use crate::{runs, texts, trees};
+use crate::{texts, trees};
 use descriptor::TreeBuilder;
+use run_answers::{cut, push_run_answer, show};
 use std::alloc::{AllocError, Global};
 
 /// What the questions of a section are about.
@@ -61,7 +61,7 @@ impl Table {
         let (asked, words) = cut(asked);
         let suite = self.suite.as_str();
         match self.section {
-            Section::Runs => runs::push_answer(alloc, answer, suite, asked, words),
+            Section::Runs => push_run_answer(alloc, answer, suite, asked, words),
             _ if suite.is_empty() => {
                 trees::push_answer(alloc, answer, self.builder.tree(), asked, words)
             }

@@ -2,8 +2,8 @@
 
 use crate::escapes::push_plain;
 use crate::trees::push_suite_answer;
-use crate::words::{cut, say, subject_and_text};
-use crate::{events, ids, moments, saved, settings, suites, tags};
+use crate::{ids, moments, saved, settings, suites, tags};
+use run_answers::{cut, push_event, say, subject_and_text};
 use std::alloc::Global;
 use unique_id::UniqueId;
 
@@ -31,7 +31,7 @@ fn push_asked(alloc: Global, answer: &mut String, asked: &str, text: &str) {
         }
         "test" => suites::push_test_line(alloc, answer, text),
         "steps" => suites::push_steps(alloc, answer, text),
-        "word" => events::push_event(answer, text),
+        "word" => push_event(answer, text),
         "again" => saved::push_again(alloc, answer, text),
         "moment" => moments::push_moment(alloc, answer, text),
         "get" | "settings" => settings::push_settings_row(alloc, answer, asked, text),

@@ -1,32 +1,21 @@
-//! What no row of a table can say: readers and writers that fail, a listener of one's own, values
-//! that no text spells, and copies; and of runs on threads what no clause says: that bodies run side
-//! by side, when their jobs are run, and that numbers come out of lanes. For each there is a function
-//! that answers whether what its name says holds; program_tables has the names printed with the answers.
+//! What no row of a table can say: of values, by value_tests, of a suite's run whose reader or writer
+//! fails; and of runs on threads what no clause says: that bodies run side by side, when their jobs are
+//! run, and that numbers come out of lanes. For each there is a function that answers whether what its
+//! name says holds; program_tables has the names printed with the answers.
 #![tactic(auto)]
 
-mod audiences;
 mod behaviours;
 mod boxed;
-mod copies;
-mod cores;
-mod failing;
-mod faults;
 mod lanes;
 mod meeting;
 mod moments;
-mod plans;
-mod printing;
 mod program;
-mod progress_lines;
 mod ring;
 mod rows;
 mod running;
 mod sharing;
-mod slow_names;
 mod stepping;
 mod suite_listeners;
-mod summaries;
-mod texts;
 mod watching;
 
 use crate::behaviours::holds;

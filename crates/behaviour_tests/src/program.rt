@@ -1,6 +1,5 @@
 //! A run whose reader or writer fails.
 
-use crate::failing::{Failing, Full};
 use config_params::Params;
 use launcher::{Details, ExitStatus, LaunchFault, Options, ReadFault, read_front, run_options};
 use run_results::Theme;
@@ -9,6 +8,7 @@ use std::alloc::Global;
 use std::io::{Error, ErrorKind, Read, Result as IoResult};
 use std::sync::Wait;
 use std::thread::Threads;
+use value_tests::{Failing, Full};
 
 /// A suite of one passing test.
 pub(crate) const SUITE: &str = "engine e\n  class a.B\n    test t() pass\n";

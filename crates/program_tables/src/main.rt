@@ -14,26 +14,14 @@
 //! as the words ask for, as a program of these tests alone would.
 #![tactic(auto)]
 
-mod answers;
-mod memory_files;
-mod output;
-mod own_tests;
-mod rows;
-mod table;
-mod table_clock;
-mod texts;
-
-use crate::table::Table;
 use answer_tables::print_answers;
 use behaviour_tests::print_behaviours;
 use example_tests::run_shelf_tests;
 use harness::{System, exit_code};
-use std::alloc::Global;
 use std::env::{Env, args};
 use std::io::{self, IsTerminal, Write};
 use std::process::ExitCode;
-use std::sync::Wait;
-use std::thread::Threads;
+use table_rows::print_rows;
 
 /// The line above the questions.
 const QUESTIONS: &str = "=== texts\n";
@@ -50,21 +38,6 @@ fn cut<'t>(text: &'t str, line: &str) -> (&'t str, Option<&'t str>) {
         Some((before, below)) => (before, Some(below)),
         None => (text, None),
     }
-}
-
-/// Prints the rows of a text with what they ask for.
-fn print_rows<T: Threads + Wait + Sync, W: Write>(
-    rt: &T,
-    alloc: Global,
-    text: &str,
-    writer: &mut W,
-) -> io::Result<()> {
-    let mut table = Table::new(alloc);
-    for line in text.lines() {
-        table.take(rt, alloc, line)?;
-    }
-    table.run(rt, alloc)?;
-    writer.write_all(table.answers())
 }
 
 /// Prints how the tests of the shelf end.

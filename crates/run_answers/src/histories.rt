@@ -52,12 +52,12 @@ fn answers_of(alloc: Global, words: &str) -> Answers {
 }
 
 /// What stands before the steps, and the steps.
-pub(crate) fn cut_steps(words: &str) -> (&str, &str) {
+pub fn cut_steps(words: &str) -> (&str, &str) {
     words.split_once(" : ").unwrap_or((words, ""))
 }
 
 /// How many failures a run goes on after, if one of these words says after how many it stops.
-pub(crate) fn tolerated_by(words: &str) -> Option<u16> {
+pub fn tolerated_by(words: &str) -> Option<u16> {
     for word in words.split(' ') {
         if word == "fail-fast" {
             return Some(0);
@@ -147,13 +147,7 @@ pub(crate) fn push_stepped(
 
 /// Adds what a run of the plan leaves whose bodies answer by the words; steps are taken by as many workers as the first
 /// of them says.
-pub(crate) fn push_history(
-    alloc: Global,
-    answer: &mut String,
-    plan: &Plan,
-    asked: &str,
-    words: &str,
-) {
+pub fn push_history(alloc: Global, answer: &mut String, plan: &Plan, asked: &str, words: &str) {
     let (replies, steps) = cut_steps(words);
     let answers = answers_of(alloc, replies);
     match asked {

@@ -37,7 +37,7 @@ fn push_kept(alloc: Global, answer: &mut String, run: &Run, asked: &str, words: 
 }
 
 /// Adds the answer to what is asked of a run.
-fn push_run_answer(alloc: Global, answer: &mut String, run: Run, asked: &str, words: &str) {
+fn push_answer(alloc: Global, answer: &mut String, run: Run, asked: &str, words: &str) {
     match asked {
         "core" => push_core(alloc, answer, run, words),
         "workers" => push_workers(alloc, answer, run, words),
@@ -49,15 +49,9 @@ fn push_run_answer(alloc: Global, answer: &mut String, run: Run, asked: &str, wo
 }
 
 /// Adds the answer to what is asked of the runs of the suite of a text.
-pub(crate) fn push_answer(
-    alloc: Global,
-    answer: &mut String,
-    suite: &str,
-    asked: &str,
-    words: &str,
-) {
+pub fn push_run_answer(alloc: Global, answer: &mut String, suite: &str, asked: &str, words: &str) {
     match Run::of(alloc, suite) {
-        Some(run) => push_run_answer(alloc, answer, run, asked, words),
+        Some(run) => push_answer(alloc, answer, run, asked, words),
         None => say(answer, " => no suite"),
     }
 }

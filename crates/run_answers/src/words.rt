@@ -1,66 +1,55 @@
 //! What all subjects share: how a line is cut, and how a refusal is told.
 
 use descriptor::NodeId;
-use selectors::SelectorKind;
 use std::alloc::Global;
 use std::fmt::{Debug, Display};
 use unique_id::Text;
 
 /// What the keys of a configuration begin with.
-pub(crate) const PREFIX: &str = "junit.jupiter.execution.parallel.";
+pub const PREFIX: &str = "junit.jupiter.execution.parallel.";
 
 /// What stands before the first blank, and what behind it.
-pub(crate) fn cut(text: &str) -> (&str, &str) {
+pub fn cut(text: &str) -> (&str, &str) {
     text.split_once(' ').unwrap_or((text, ""))
 }
 
 /// The two sides of an assignment.
-pub(crate) fn key_and_value(word: &str) -> (&str, &str) {
+pub fn key_and_value(word: &str) -> (&str, &str) {
     word.split_once('=').unwrap_or((word, ""))
 }
 
 /// What stands before the first bar, and what behind it.
-pub(crate) fn subject_and_text(text: &str) -> (&str, &str) {
+pub fn subject_and_text(text: &str) -> (&str, &str) {
     text.split_once('|').unwrap_or((text, ""))
 }
 
 /// The node of this number.
-pub(crate) fn node_of(digits: &str) -> NodeId {
+pub fn node_of(digits: &str) -> NodeId {
     NodeId::new(digits.parse().unwrap_or(0))
 }
 
-pub(crate) fn selector_kind(word: &str) -> SelectorKind {
-    match word {
-        "id" => SelectorKind::UniqueId,
-        "method" => SelectorKind::Method,
-        "package" => SelectorKind::Package,
-        "name" => SelectorKind::Name,
-        _ => SelectorKind::Class,
-    }
-}
-
 /// Adds a text.
-pub(crate) fn say(answer: &mut String, text: &str) {
+pub fn say(answer: &mut String, text: &str) {
     let _ = answer.push_str(text);
 }
 
 /// The text of these characters.
-pub(crate) fn text_of(alloc: Global, said: &str) -> Text {
+pub fn text_of(alloc: Global, said: &str) -> Text {
     Text::new(alloc, said).unwrap_or(Text::empty())
 }
 
 /// Adds a text, and a value behind it.
-pub(crate) fn show<T: Display + Copy>(answer: &mut String, text: &str, value: T) {
+pub fn show<T: Display + Copy>(answer: &mut String, text: &str, value: T) {
     let _ = write!(answer, "{text}{value}");
 }
 
 /// Adds a text, and behind it a value as it would be written in a program.
-pub(crate) fn quote<T: Debug + Copy>(answer: &mut String, text: &str, value: T) {
+pub fn quote<T: Debug + Copy>(answer: &mut String, text: &str, value: T) {
     let _ = write!(answer, "{text}{value:?}");
 }
 
 /// Adds a refusal: its number, where it is about a place that place, and what it says.
-pub(crate) fn push_refusal<F: Display, P: Display + Copy>(
+pub fn push_refusal<F: Display, P: Display + Copy>(
     answer: &mut String,
     number: u8,
     place: Option<P>,
@@ -74,6 +63,6 @@ pub(crate) fn push_refusal<F: Display, P: Display + Copy>(
 }
 
 /// Adds a refusal that is about no place.
-pub(crate) fn push_fault<F: Display>(answer: &mut String, number: u8, fault: &F) {
+pub fn push_fault<F: Display>(answer: &mut String, number: u8, fault: &F) {
     push_refusal(answer, number, None::<u8>, fault)
 }

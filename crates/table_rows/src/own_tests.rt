@@ -6,8 +6,8 @@ use crate::table_clock::TableClock;
 use crate::texts::RowFiles;
 use example_tests::FailuresByClass;
 use harness::{
-    BuildFault, Checked, Ending, Facts, LockMode, Mode, TestBox, Tests, assume, check_same,
-    run_tests,
+    BuildFault, Checked, ClassId, Ending, EngineId, Facts, LockMode, Mode, TestBox, TestFn, Tests,
+    assume, check_same, run_tests,
 };
 use std::alloc::Global;
 use std::mem::replace;
@@ -26,6 +26,63 @@ fn aborts(_alloc: Global) -> Checked {
     assume(false, "closed today")
 }
 
+/// Adds the first class: a body of its own, tests with a tag and a lock, that fail, and are disabled, and an after-body.
+fn add_class(
+    tests: &mut Tests,
+    engine: EngineId,
+    passing: TestFn,
+    failing: TestFn,
+) -> Result<ClassId, BuildFault>
+    requires passing { TestFn.IsAlwaysCallable passing }
+    requires failing { TestFn.IsAlwaysCallable failing }
+{
+    tests.before(passing)?;
+    let class = tests.class(engine, "a.B")?;
+    tests.tag("slow")?;
+    tests.lock("db", LockMode::Read)?;
+    tests.test(class, "passes()", passing)?;
+    tests.test(class, "fails()", failing)?;
+    tests.disabled("until the queue is up")?;
+    tests.test(class, "waits()", passing)?;
+    tests.after(class, passing)?;
+    Ok(class)
+}
+
+/// Adds a nested class that fails before its test.
+fn add_nested(
+    tests: &mut Tests,
+    class: ClassId,
+    passing: TestFn,
+    failing: TestFn,
+) -> Result<(), BuildFault>
+    requires passing { TestFn.IsAlwaysCallable passing }
+    requires failing { TestFn.IsAlwaysCallable failing }
+{
+    tests.before(failing)?;
+    let inner = tests.nested(class, "Inner")?;
+    tests.test(inner, "is_not_run()", passing)
+}
+
+/// Adds the second class, isolated, of a factory with two dynamic tests.
+fn add_factory(
+    tests: &mut Tests,
+    engine: EngineId,
+    passing: TestFn,
+    first: TestBox,
+    second: TestBox,
+) -> Result<(), BuildFault>
+    requires passing { TestFn.IsAlwaysCallable passing }
+    requires first { TestBox.IsAlwaysCallable first }
+    requires second { TestBox.IsAlwaysCallable second }
+{
+    tests.mode(Mode::Concurrent);
+    tests.isolated();
+    let class = tests.class(engine, "a.C")?;
+    let factory = tests.factory(class, "makes()", passing)?;
+    tests.dynamic(factory, "first", first)?;
+    tests.dynamic(factory, "second", second)
+}
+
 /// Runs these tests with the words of a row, which it takes, and the files that these may name; the failures are counted.
 pub(crate) fn run_own_tests<T: Threads + Wait + Sync>(
     rt: &T,
@@ -42,26 +99,11 @@ pub(crate) fn run_own_tests<T: Threads + Wait + Sync>(
     let mut tests = Tests::new(alloc)?;
     tests.property("junit.jupiter.execution.parallel.config.strategy", "fixed")?;
     let engine = tests.engine("e")?;
-    tests.before(passes)?;
-    let class = tests.class(engine, "a.B")?;
-    tests.tag("slow")?;
-    tests.lock("db", LockMode::Read)?;
-    tests.test(class, "passes()", passes)?;
-    tests.test(class, "fails()", fails)?;
-    tests.disabled("until the queue is up")?;
-    tests.test(class, "waits()", passes)?;
-    tests.after(class, passes)?;
-    tests.before(fails)?;
-    let inner = tests.nested(class, "Inner")?;
-    tests.test(inner, "is_not_run()", passes)?;
-    tests.mode(Mode::Concurrent);
-    tests.isolated();
-    let other = tests.class(engine, "a.C")?;
-    let factory = tests.factory(other, "makes()", passes)?;
+    let class = add_class(&mut tests, engine, passes, fails)?;
+    add_nested(&mut tests, class, passes, fails)?;
     let first: TestBox = Box::new(alloc, move |alloc: Global| aborts(alloc))?;
-    tests.dynamic(factory, "first", first)?;
     let second: TestBox = Box::new(alloc, move |alloc: Global| passes(alloc))?;
-    tests.dynamic(factory, "second", second)?;
+    add_factory(&mut tests, engine, passes, first, second)?;
     run_tests(
         rt,
         clock,

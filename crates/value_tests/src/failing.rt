@@ -6,7 +6,7 @@ use std::io::{Error, ErrorKind, Result as IoResult, Write};
 
 /// What a writer does where it has no room left.
 #[derive(Clone, Copy)]
-pub(crate) enum Full {
+pub enum Full {
     IsInterrupted,
     Fails,
     /// It fails, and takes all that is written afterwards.
@@ -16,11 +16,11 @@ pub(crate) enum Full {
 
 /// Takes so many bytes, a few at a time, and then does this.
 #[derive(Drop)]
-pub(crate) struct Failing {
-    pub(crate) taken: Vec<u8>,
-    pub(crate) room: usize,
-    pub(crate) step: usize,
-    pub(crate) full: Full,
+pub struct Failing {
+    pub taken: Vec<u8>,
+    pub room: usize,
+    pub step: usize,
+    pub full: Full,
 }
 
 impl Write for Failing {
