@@ -10,7 +10,7 @@ ghost use Rattle.test_jobs.specs.Acting.{replies_left};
 ghost use Rattle.workers.specs.Premises.{MayAnswer};
 ghost use Rattle.worker_pool.specs.Premises.{JobsMayAnswer};
 ghost use Rattle.worker_pool.specs.Reports.{run_of};
-ghost use Rattle.worker_pool.specs.Telling.{AreTextsRead, KeepsTexts};
+ghost use Rattle.thread_pool.specs.Telling.{AreTextsRead, KeepsTexts};
 
 use crate::running::{WIDE, push_events, staged};
 use crate::watching::{board_of, one_watcher};

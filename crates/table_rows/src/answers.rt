@@ -52,26 +52,21 @@ impl Asks {
 
 /// The words of a row, and what it asks for, if the line begins one.
 fn row_of(line: &str) -> Option<(&str, Asks)> {
-    if let Some(words) = line.strip_prefix("== ") {
-        return Some((words, Asks::Nothing));
-    }
-    if let Some(words) = line.strip_prefix("=? ") {
-        return Some((words, Asks::Errors));
-    }
-    if let Some(words) = line.strip_prefix("=! ") {
-        return Some((words, Asks::Terminal));
-    }
-    if let Some(words) = line.strip_prefix("=2 ") {
-        return Some((words, Asks::SecondWorker));
-    }
-    if let Some(words) = line.strip_prefix("=t ") {
-        return Some((words, Asks::OwnTests));
-    }
-    if let Some(words) = line.strip_prefix("=v ") {
-        return Some((words, Asks::SemverTests));
-    }
-    let (room, words) = line.strip_prefix("=< ")?.split_once(' ')?;
-    Some((words, Asks::Cut(room.parse().unwrap_or(0))))
+    let (mark, words) = line.split_once(' ')?;
+    let asks = match mark {
+        "==" => Asks::Nothing,
+        "=?" => Asks::Errors,
+        "=!" => Asks::Terminal,
+        "=2" => Asks::SecondWorker,
+        "=t" => Asks::OwnTests,
+        "=v" => Asks::SemverTests,
+        "=<" => {
+            let (room, words) = words.split_once(' ')?;
+            return Some((words, Asks::Cut(room.parse().unwrap_or(0))));
+        }
+        _ => return None,
+    };
+    Some((words, asks))
 }
 
 /// Whether a line begins a row.

@@ -7,9 +7,9 @@ use Rattle.table_rule.specs.Plays.{dispatcher}
 use Rattle.test_jobs.specs.Acting.{replies_left}
 use Rattle.workers.specs.Premises.{MayAnswer}
 use Rattle.worker_pool.specs.Reports.{run_of}
-use Rattle.worker_pool.specs.Telling.{AreTextsRead}
+use Rattle.thread_pool.specs.Telling.{AreTextsRead}
 use Rattle.worker_pool.proofs.Handed.{may_answer}
-use Rattle.worker_pool.proofs.Reported.{carried}
+use Rattle.thread_pool.proofs.Carried.{carried}
 use Rattle.behaviour_tests.proofs.stepping.is_told_of.Goals as goal
 
 pub is_told_at-requires-clause-jobs : goal.is_told_at-requires-clause-jobs

@@ -1,7 +1,7 @@
 -- The texts are those of what was read.
 use Rattle.run_table.specs.Seats.{IsSeatOf}
 use Rattle.test_jobs.specs.Acting.{replies_left}
-use Rattle.worker_pool.specs.Telling.{KeepsTexts}
+use Rattle.thread_pool.specs.Telling.{KeepsTexts}
 use Rattle.behaviour_tests.proofs.stepping.tells_at_last.Given as goal
 
 abbrev pub invariant-loop-call : goal.invariant-loop-call

@@ -8,7 +8,7 @@ use Rattle.run_table.specs.Balance.{IsBalanced}
 use Rattle.job_times.specs.TimedJobs.{job_of, untimed}
 use Rattle.worker_pool.specs.Reports.{run_of, AreParts, AreTexts, EndsAsReplied, IsLeft, IsReport, IsRefusedRun, IsToldAsGiven, IsToldAsSaid}
 use Rattle.listeners.specs.Observing.{HasSeenMore}
-use Rattle.worker_pool.proofs.Reported.{carried}
+use Rattle.thread_pool.proofs.Carried.{carried}
 use Rattle.launcher.proofs.Renamed.{all_there, balanced, few_left, left_over, may_answer, refused, replied, reported, texts_are, told_given, told_said}
 use Rattle.launcher.proofs.timed_run.run_noted.Goals as goal
 

@@ -5,7 +5,7 @@ use Rattle.table_contents.specs.Prepared.{HasAllJobs, IsRightCount, IsRightRing}
 use Rattle.run_table.specs.Balance.{IsBalanced}
 use Rattle.worker_pool.specs.Premises.{JobsMayAnswer}
 use Rattle.worker_pool.specs.Reports.{run_of, AreTexts, EndsAsReplied, IsLeft, IsReport, IsRefusedRun, IsToldAsGiven, IsToldAsSaid}
-use Rattle.worker_pool.proofs.Reported.{carried}
+use Rattle.thread_pool.proofs.Carried.{carried}
 use Rattle.launcher.proofs.timed_run.run_timed.Goals as goal
 
 pub run_noted-requires-clause-jobs : goal.run_noted-requires-clause-jobs

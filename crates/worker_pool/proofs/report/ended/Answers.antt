@@ -6,10 +6,11 @@ use Rattle.event_history.proofs.EventBound.{legal_few}
 use Rattle.table_rule.specs.Picture.{about_of, given_by, replies_of}
 use Rattle.table_rule.specs.Plays.{dispatcher}
 use Rattle.run_table.specs.UsedJobs.{HasSaid}
-use Rattle.worker_pool.specs.Telling.{AreTextsRead}
+use Rattle.thread_pool.specs.Telling.{AreTextsRead}
 use Rattle.worker_pool.proofs.Balance.{at_the_end, balance_reported}
-use Rattle.worker_pool.proofs.TextsRead.{given_reported, said_reported, texts_reported}
-use Rattle.worker_pool.proofs.Reported.{carried, ended_so, kept_apart, reported}
+use Rattle.worker_pool.proofs.TextsReported.{given_reported, said_reported, texts_reported}
+use Rattle.worker_pool.proofs.Reported.{ended_so, kept_apart, reported}
+use Rattle.thread_pool.proofs.Carried.{carried}
 use Rattle.worker_pool.proofs.Shares.{fits_all}
 use Rattle.worker_pool.proofs.report.ended.Goals as goal
 

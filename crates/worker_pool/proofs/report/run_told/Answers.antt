@@ -4,7 +4,7 @@ use Rattle.std.specs.List.{All}
 use Rattle.resource_locks.specs.Plans.{PlanParts, most_events}
 use Rattle.table_rule.specs.Picture.{about_of, replies_of}
 use Rattle.worker_pool.specs.Hearings.{HaveHeardNothing}
-use Rattle.worker_pool.proofs.Reported.{carried}
+use Rattle.thread_pool.proofs.Carried.{carried}
 use Rattle.worker_pool.proofs.ToldAll.{either_way, got_whole, heard_whole, many_whole, under_both, under_refusal}
 use Rattle.worker_pool.proofs.report.run_told.Goals as goal
 

@@ -1,0 +1,7 @@
+-- What the dispatcher of a run keeps.
+pub mod Carried
+pub mod TextsRead
+pub mod DispatcherStates
+pub mod Dealt
+pub mod Moments
+pub mod Seen
