@@ -75,9 +75,31 @@ pub(crate) fn comes_to_the_engine(table: &RunTable<Actor>, worker: &mut WorkerSe
         && worker.draw(table).is_ok()
 }
 
-/// Whether the plan's start is told once it is shown, and not before, and nothing behind it; and
-/// whether the engine's start has room in a ring of one word once that is told, and not before.
-fn starts_are_told_when_shown(
+/// Whether nothing is told as long as the plan's start is not shown, to which the worker comes; it shows it then, and
+/// comes to the engine's.
+fn nothing_is_told_before(
+    table: &RunTable<Actor>,
+    worker: &mut WorkerSeat<Actor>,
+    dispatcher_seat: &mut DispatcherSeat<Actor>,
+    audience: &mut Audience,
+    texts: &mut Texts,
+) -> bool
+    requires worker { IsSeatOf table.now.table worker.old.seat }
+    requires dispatcher_seat { IsSeatOf table.now.table dispatcher_seat.old.seat }
+    requires texts { KeepsTexts replies_left (view_at dispatcher_seat.old.seat) texts.old }
+    ensures worker { IsSeatOf table.now.table worker.new.seat }
+    ensures dispatcher_seat { IsSeatOf table.now.table dispatcher_seat.new.seat }
+    ensures texts { KeepsTexts replies_left (view_at dispatcher_seat.new.seat) texts.new }
+{
+    let is_drawn = worker.claim(table, NodeId::ROOT).is_ok() && worker.draw(table).is_ok();
+    let early = dispatch_one(table, dispatcher_seat, audience, texts);
+    let is_shown = worker.show(table).is_ok() && comes_to_the_engine(table, worker);
+    is_drawn && early.is_none() && is_shown
+}
+
+/// Whether the plan's start, which is shown, is told, and nothing behind it; and whether the engine's start has room in
+/// a ring of one word once that is told, and not before.
+fn room_is_free_once_told(
     table: &RunTable<Actor>,
     worker: &mut WorkerSeat<Actor>,
     dispatcher_seat: &mut DispatcherSeat<Actor>,
@@ -88,22 +110,12 @@ fn starts_are_told_when_shown(
     requires dispatcher_seat { IsSeatOf table.now.table dispatcher_seat.old.seat }
     requires texts { KeepsTexts replies_left (view_at dispatcher_seat.old.seat) texts.old }
 {
-    let is_drawn = worker.claim(table, NodeId::ROOT).is_ok() && worker.draw(table).is_ok();
-    let early = dispatch_one(table, dispatcher_seat, audience, texts);
-    let is_shown = worker.show(table).is_ok() && comes_to_the_engine(table, worker);
     let is_full = worker.room(table) == Ok(false);
     let start = dispatch_one(table, dispatcher_seat, audience, texts);
     let late = dispatch_one(table, dispatcher_seat, audience, texts);
     let is_free = worker.room(table) == Ok(true) && worker.show(table).is_ok();
     let next = dispatch_one(table, dispatcher_seat, audience, texts);
-    is_drawn
-        && early.is_none()
-        && is_shown
-        && is_full
-        && is_start(start, 0)
-        && late.is_none()
-        && is_free
-        && is_start(next, 1)
+    is_full && is_start(start, 0) && late.is_none() && is_free && is_start(next, 1)
 }
 
 /// Calls the dispatcher so often, and says whether the last call told an event.
@@ -169,13 +181,10 @@ fn is_told_at<R: Wait>(
     requires texts { KeepsTexts replies_left (view_at dispatcher_seat.old.seat) texts.old }
 {
     match course {
-        Course::Begins => starts_are_told_when_shown(
-            table,
-            worker,
-            dispatcher_seat,
-            audience,
-            texts,
-        ),
+        Course::Begins => {
+            nothing_is_told_before(table, worker, dispatcher_seat, audience, texts)
+                && room_is_free_once_told(table, worker, dispatcher_seat, audience, texts)
+        }
         Course::Works(calls) => {
             let is_worked = is_worked(rt, alloc, table, worker).is_some();
             let is_told = tells_at_last(table, dispatcher_seat, audience, texts, calls);
