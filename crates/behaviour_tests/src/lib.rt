@@ -1,22 +1,11 @@
-//! What no row of a table can say: of values, by value_tests, of a suite's run whose reader or writer
-//! fails; and of runs on threads what no clause says: that bodies run side by side, when their jobs are
-//! run, and that numbers come out of lanes. For each there is a function that answers whether what its
-//! name says holds; program_tables has the names printed with the answers.
+//! What no row of a table can say: of values, by value_tests, of runs on threads, by pool_tests, and of a suite's run
+//! whose reader or writer fails. For each there is a function that answers whether what its name says holds;
+//! program_tables has the names printed with the answers.
 #![tactic(auto)]
 
 mod behaviours;
-mod boxed;
-mod lanes;
-mod meeting;
-mod moments;
 mod program;
-mod ring;
-mod rows;
-mod running;
-mod sharing;
-mod stepping;
 mod suite_listeners;
-mod watching;
 
 use crate::behaviours::holds;
 use std::alloc::Global;

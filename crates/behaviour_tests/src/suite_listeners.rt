@@ -1,10 +1,10 @@
 //! A listener that is handed to the run of a suite is told its events, though nobody has prepared it.
 
 use crate::program::{SUITE, feed_options};
-use crate::running::push_events;
 use job_times::{NoStopwatch, RunTimes, Timings};
 use launcher::run_options_watched;
 use listeners::{Audience, Listener, Recorder};
+use pool_tests::push_events;
 use std::alloc::Global;
 use std::sync::Wait;
 use std::thread::Threads;

@@ -10,7 +10,7 @@ use Rattle.worker_pool.specs.Reports.{run_of}
 use Rattle.thread_pool.specs.Telling.{AreTextsRead}
 use Rattle.worker_pool.proofs.Handed.{may_answer}
 use Rattle.thread_pool.proofs.Carried.{carried}
-use Rattle.behaviour_tests.proofs.stepping.is_told_of.Goals as goal
+use Rattle.pool_tests.proofs.stepping.is_told_of.Goals as goal
 
 pub is_told_at-requires-clause-jobs : goal.is_told_at-requires-clause-jobs
 is_told_at-requires-clause-jobs g c =

@@ -5,10 +5,10 @@ use Rattle.plan_events.specs.declared.outcome.Reply.{Reply}
 use Rattle.test_jobs.specs.Acting.{replies_left}
 use Rattle.test_jobs.specs.Counting.{replies_counted}
 use Rattle.test_jobs.proofs.Replying.{fresh_still, may_answer}
-use Rattle.behaviour_tests.specs.contracts.boxed.two_boxed.{dyn-1-ghosts}
-use Rattle.behaviour_tests.proofs.boxed.run_both.OwnLists.{own-1, lawful-own-1, at-1-1, at-1-2}
-use Rattle.behaviour_tests.proofs.boxed.run_both.Hidden.{sends-own-1}
-use Rattle.behaviour_tests.proofs.boxed.run_both.Goals as goal
+use Rattle.pool_tests.specs.contracts.boxed.two_boxed.{dyn-1-ghosts}
+use Rattle.pool_tests.proofs.boxed.run_both.OwnLists.{own-1, lawful-own-1, at-1-1, at-1-2}
+use Rattle.pool_tests.proofs.boxed.run_both.Hidden.{sends-own-1}
+use Rattle.pool_tests.proofs.boxed.run_both.Goals as goal
 
 pub two_boxed-requires-clause-one : goal.two_boxed-requires-clause-one
 two_boxed-requires-clause-one g c =

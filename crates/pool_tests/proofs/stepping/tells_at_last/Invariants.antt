@@ -2,7 +2,7 @@
 use Rattle.run_table.specs.Seats.{IsSeatOf}
 use Rattle.test_jobs.specs.Acting.{replies_left}
 use Rattle.thread_pool.specs.Telling.{KeepsTexts}
-use Rattle.behaviour_tests.proofs.stepping.tells_at_last.Given as goal
+use Rattle.pool_tests.proofs.stepping.tells_at_last.Given as goal
 
 abbrev pub invariant-loop-call : goal.invariant-loop-call
 invariant-loop-call g l = record {

@@ -93,7 +93,7 @@ pub(crate) fn show<T: Display + Copy>(text: &mut String, more: &str, value: T) {
 
 /// The events, whoever published them: each by its sign and its node, with a mark where that did
 /// not end well.
-pub(crate) fn push_events(text: &mut String, events: &[Event]) {
+pub fn push_events(text: &mut String, events: &[Event]) {
     for event in events {
         show(text, sign(event), event.node.index());
         show(text, mark(event), " ");

@@ -1,5 +1,5 @@
 use Rattle.std.proofs.Common.{◌≡◌}
-use Rattle.behaviour_tests.proofs.sharing.take.Given as goal
+use Rattle.pool_tests.proofs.sharing.take.Given as goal
 
 abbrev pub invariant-loop-turn : goal.invariant-loop-turn
 invariant-loop-turn l = record {
