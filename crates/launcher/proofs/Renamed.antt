@@ -217,7 +217,7 @@ module _ {J B : Type 0} (job : J → B) where
     given_job number reply is = elim is [ inl x ↦ inl (job x.0, found_some jobs number x.0 x.1, x.2) | inr many ↦ inr many ]
 
     abbrev pub told_given : (events : List Event) (texts : TextParts) → IsToldAsGiven (given_by given (run_of p workers ring jobs)) p workers events texts → IsToldAsGiven (given_by gives (run_of p workers ring (map stands_for jobs))) p workers events texts
-    told_given events texts is = record { told = is.told; given_so = λ number i reply at. given_job number reply (is.given_so number i reply at); once = is.once; legal = is.legal; texts_are = is.texts_are }
+    told_given events texts is = record { told = is.told; given_so = λ number i reply at. given_job number reply (is.given_so number i reply at); once = is.once; legal = is.legal; texts_are = is.texts_are; ran = is.ran }
 
     -- and what the job says, so does the one that it stands for
     pub told_said : (says : B → Outcome → Type 0) (events : List Event) (texts : TextParts) (used : List (ℕ × J)) → IsToldAsSaid (λ j. says (job j)) (given_by given (run_of p workers ring jobs)) p workers events texts used

@@ -37,6 +37,8 @@ use Rattle.table_rule.specs.Words.{status_word, words_of, read_place}
 use Rattle.table_rule.specs.Slots.{after_slot, made_of, slot_count, fresh}
 use Rattle.table_rule.specs.Plays.{dispatcher, seated, reads_on}
 use Rattle.table_rule.specs.Published.{IsTold}
+use Rattle.table_rule.specs.Reached.{IsReached}
+use Rattle.table_rule.proofs.Leading.{opening_reached}
 use Rattle.table_rule.specs.Moments.{KeepsApart, IsMoment, IsMomentOf, IsStart, IsSight, FindsWord}
 use Rattle.table_rule.proofs.Owed.{found_as, sizes, word_same}
 use Rattle.table_rule.proofs.Words.{read_found, status_found}
@@ -68,9 +70,9 @@ module _ {B : Type 0} where
   picture_apart replies told key c dealt s r right safe = apart key.plan r.plan.tree replies key.workers c.published safe right.legal right.order right.exclusive
 
   -- A moment, at which the table is this picture, of the dispatcher that has read so.
-  abbrev pub moment_by : (replies told : ℕ → List Reply) (key : About B) (c : State) (dealt : Dealt) (s : TableState (Slot B) (View B)) → AreAmong told replies → AnswerOnce told → IsPictureOf told key c dealt s
+  abbrev pub moment_by : (replies told : ℕ → List Reply) (key : About B) (c : State) (dealt : Dealt) (s : TableState (Slot B) (View B)) → AreAmong told replies → AnswerOnce told → IsPictureOf told key c dealt s → IsReached key.plan key.workers told c
       → (seats : ℕ) → dealt.many ≡ seats → (read : List Event) → c.given ≡ read → IsTold key.plan key.ring c.seats s.words read c.published → IsMoment replies key seats read
-  moment_by replies told key c dealt s among once r seats many read given shown = record {
+  moment_by replies told key c dealt s among once r reached seats many read given shown = record {
     table = s;
     core = c;
     dealt = dealt;
@@ -78,6 +80,7 @@ module _ {B : Type 0} where
     among = among;
     once = once;
     is = r;
+    reached = reached;
     given = given;
     right = picture_right replies told key c dealt s among r;
     apart = picture_apart replies told key c dealt s r (picture_right replies told key c dealt s among r);
@@ -92,7 +95,7 @@ module _ {B : Type 0} where
       → ((k : ℕ) → k < slot_count key.plan → get_elem? slots k ≡ some (fresh key k)) → IsStart replies key
   starts replies key words slots plan crew few above is many jobs = record {
     moment = moment_by replies none_told key (opening key.plan key.workers) (none_dealt key) (table_opening words slots (opener key)) (λ number i reply q. absurd (none-some reply q)) (λ number i reply q. absurd (none-some reply q))
-        (opening_picture key words slots plan crew few above is many jobs) 0 refl [] refl
+        (opening_picture key words slots plan crew few above is many jobs) (opening_reached key.plan key.workers none_told (λ job i r q. none-some r q)) 0 refl [] refl
         (published_told none_told key (opening key.plan key.workers) (none_dealt key) (table_opening words slots (opener key)) (opening_picture key words slots plan crew few above is many jobs) 0 (dispatcher (opener key)) refl);
     opens = refl;
     jobs = λ k low. at_map (λ (y : Slot B). some y) slots k (fresh key k) (jobs k low);
@@ -141,7 +144,7 @@ module _ {B : Type 0} where
         let whole : v ≡ dispatcher_view key d = λ k. record { about = about k; owner = is k } in
         let told = published_told rule.told key rule.picture.core rule.picture.dealt s rule.picture.is id d (subst (λ (u : View B). get_elem? s.views id ≡ some u) whole at) in
         subst (λ (a : About B). IsMoment (replies_of answers a) a d.dealt d.read) (sym about)
-        (moment_by (replies_of answers key) rule.told key rule.picture.core rule.picture.dealt s rule.among rule.once rule.picture.is d.dealt (sym fits.many) d.read (sym fits.read) told)
+        (moment_by (replies_of answers key) rule.told key rule.picture.core rule.picture.dealt s rule.among rule.once rule.picture.is rule.picture.reached d.dealt (sym fits.many) d.read (sym fits.read) told)
 
     -- So a step that the rule allows tells it besides.
     pub allows_moment : (slots id : ℕ) (m : Me (Slot B) (View B)) (i : ℕ) (f : ℕ → ℕ) (told : ℕ → Me (Slot B) (View B) → Type 0) → Allows (Ruled says given (replies_of answers key) key) slots id m i f told
@@ -155,7 +158,7 @@ module _ {B : Type 0} where
     sight_at s rule id v at i word found w is =
         let about : v.about ≡ key = subst (λ (owner : SeatOwner). Names key v.about owner) is (rule.picture.is.views id v at).names in
         subst (λ (a : About B). (x : IsSight (replies_of answers a) a v) × (get_or x.table.words i 0 ≡ word)) (sym about)
-        (record { table = s; core = rule.picture.core; dealt = rule.picture.dealt; told = rule.told; among = rule.among; once = rule.once; is = rule.picture.is; id = id; here = at }, found)
+        (record { table = s; core = rule.picture.core; dealt = rule.picture.dealt; told = rule.told; among = rule.among; once = rule.once; is = rule.picture.is; reached = rule.picture.reached; id = id; here = at }, found)
 
     -- So a look that the rule allows tells it besides.
     pub allows_sight : (slots id : ℕ) (m : Me (Slot B) (View B)) (i : ℕ) (told : ℕ → Me (Slot B) (View B) → Type 0) → Allows (Ruled says given (replies_of answers key) key) slots id m i (λ x. x) told

@@ -23,6 +23,7 @@ use Rattle.table_rule.specs.Endings.{IsNotStuckWithin}
 use Rattle.table_rule.specs.Picture.{Dealt, AreAmong, AnswerOnce, IsPictureOf, replies_of}
 use Rattle.table_rule.specs.Plays.{dispatcher}
 use Rattle.table_rule.specs.Published.{IsTold}
+use Rattle.table_rule.specs.Reached.{IsReached}
 use Rattle.table_rule.specs.Slots.{slot_count, fresh}
 
 -- Where the plan holds for its nodes what they declare, as every hoisted plan does, nodes never overlap that declared locks or isolation
@@ -44,6 +45,7 @@ module _ {B : Type 0} where
     pub among : AreAmong told replies
     pub once : AnswerOnce told
     pub is : IsPictureOf told key core dealt table
+    pub reached : IsReached key.plan key.workers told core
     pub given : core.given ≡ read
     pub right : IsRight key.plan replies key.workers core
     pub apart : KeepsApart key.plan core.published
@@ -78,6 +80,7 @@ module _ {B : Type 0} where
     pub among : AreAmong told replies
     pub once : AnswerOnce told
     pub is : IsPictureOf told key core dealt table
+    pub reached : IsReached key.plan key.workers told core
     pub id : ℕ
     pub here : get_elem? table.views id ≡ some v
 

@@ -1,7 +1,7 @@
 //! The steps on a node's counter: a settled node is counted off at its parent, a factory registers one more
 //! dynamic test, and guards are given up: a node's own, and that of the factory in hand.
 
-ghost use Rattle.std.specs.Prelude.{◌≡◌, ℕ, Some, None, IfOk, IfErr, ◌≢◌, ◌<◌, ◌+◌, ◌*◌};
+ghost use Rattle.std.specs.Prelude.{◌≡◌, ℕ, [], Some, None, IfOk, IfErr, ◌≢◌, ◌<◌, ◌+◌, ◌*◌};
 ghost use Rattle.descriptor.specs.Nodes.{parent_of, size};
 ghost use Rattle.scheduling.specs.Choices.{next_spare as next_spare_of};
 ghost use Rattle.scheduling.specs.Rows.{with_task, ends_or_free as ends_or_free_of};
@@ -11,7 +11,7 @@ ghost use Rattle.scheduling.specs.declared.task.Closing.TheVariants.{AwaitingAft
 ghost use Rattle.scheduling.specs.declared.task.Task.TheVariants.{Free, Opens, Closes};
 ghost use Rattle.scheduling.specs.Due.{IsChildDue};
 ghost use Rattle.table_rule.specs.Plays.{outstanding_in, result_in, Guard, ended_seat};
-ghost use Rattle.table_rule.specs.Slots.{after_slot, made_of};
+ghost use Rattle.table_rule.specs.Slots.{after_slot, made_of, told_by};
 ghost use Rattle.table_rule.specs.declared.view.SlotState.TheVariants.{Unmoved};
 ghost use Rattle.run_table.specs.Handles.{guard_due_at, plan_at, worker_at, IsUnchanged};
 ghost use Rattle.run_table.specs.Seats.{IsSeatOf, IsMove, SameSeat, seated, IsReadyMove, IsDone, guard_to};
@@ -28,9 +28,12 @@ use table_rule::{AddsChild, CountsOff, GivesGuard};
 
 impl<B: Job> WorkerSeat<B> {
     /// Goes on to the next dynamic test of the factory in its hand, which waits for none. It is for
-    /// the caller to do so only where the factory's body has answered that there is one more.
+    /// the caller to do so only where the factory's body, which has not given its reply yet, has
+    /// answered that there is one more.
     pub fn add_child(&mut self, table: &RunTable<B>) -> Result<Task, NotEnabled>
-        requires { IsSeatOf table.now.table self.old.seat }
+        requires table { IsSeatOf table.now.table self.old.seat }
+        requires unheard { (h : HandValue) → self.old.hand ≡ Some h →
+            told_by (made_of (worker_at self.old.seat).slots h.factory) ≡ [] }
         ensures same { SameSeat self.old.seat self.new.seat }
         ensures done { IfOk result (λ t. (h : HandValue) × (n : ℕ) × (self.old.task ≡ Free) × (self.old.hand ≡ Some h)
             × (h.waiting ≡ None) × (next_spare_of (plan_at self.old.seat) h.factory h.registered ≡ Some n)
@@ -52,6 +55,8 @@ impl<B: Job> WorkerSeat<B> {
         requires table { IsSeatOf table.now.table self.old.seat }
         requires due { (h : HandValue) × (n : ℕ)
             × IsChildDue (plan_at self.old.seat) self.old.task self.old.hand h n }
+        requires unheard { (h : HandValue) → self.old.hand ≡ Some h →
+            told_by (made_of (worker_at self.old.seat).slots h.factory) ≡ [] }
         ensures same { SameSeat self.old.seat self.new.seat }
         ensures done { (h : HandValue) × (n : ℕ)
             × IsChildDue (plan_at self.old.seat) self.old.task self.old.hand h n
@@ -68,6 +73,7 @@ impl<B: Job> WorkerSeat<B> {
     fn add_next(&mut self, table: &RunTable<B>, held: &Hand, child: NodeId)
         requires table { IsSeatOf table.now.table self.old.seat }
         requires due { IsChildDue (plan_at self.old.seat) self.old.task self.old.hand held.now child }
+        requires unheard { told_by (made_of (worker_at self.old.seat).slots held.now.factory) ≡ [] }
         ensures same { SameSeat self.old.seat self.new.seat }
         ensures done { IsMove self.old.seat self.new.seat
             (with_task (seated self.old.task self.old.hand) (Opens child Registering)) self.new.task }

@@ -24,7 +24,7 @@ fetch_add-requires g c =
       c.requires.table.same,
       omega (arith, fit.words, low, c.counter_at.ensures),
       add_asks _ _ _ _ _ add_child_tells _ _ _ _ (c.counter_at.ensures ∙ ap (λ p. counter_place p held.factory) fit.plan) refl
-          (λ told. add_child_allows told _ _ _ _ _ it.place it.no_slot held c.args.child (ap (λ s. s.task) it.seat_is ∙ due.0) (ap (λ s. s.hand) it.seat_is ∙ due.1) due.2 spare),
+          (λ told. add_child_allows told _ _ _ _ _ it.place it.no_slot held c.args.child (ap (λ s. s.task) it.seat_is ∙ due.0) (ap (λ s. s.hand) it.seat_is ∙ due.1) due.2 spare c.requires.unheard),
     )
 
 pub invariant_of-self : goal.invariant_of-self

@@ -1,0 +1,4 @@
+-- That what threads report has a schedule.
+pub mod Scheduled
+pub mod Agreeing
+pub mod Headlined

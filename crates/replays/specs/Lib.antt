@@ -1,0 +1,2 @@
+-- What has a schedule.
+pub mod Schedules

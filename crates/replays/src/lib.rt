@@ -1,0 +1,2 @@
+//! What threads report has a schedule: steps of the core that lead to just that.
+#![tactic(auto)]
