@@ -20,7 +20,7 @@ ghost use Rattle.harness.specs.JobsRuns.{RunsJobs};
 
 use job_times::{RunTimes, Stopwatch};
 use launch_options::ReportAsked;
-use launcher::{ExitStatus, LaunchFault, Options, Program, run_jobs};
+use launcher::{ExitStatus, LaunchFault, Options, Program, bare_places, run_jobs};
 use listeners::Observer;
 use plan_events::Job;
 use report_files::{
@@ -64,7 +64,17 @@ fn run_jobs_recorded<
     ensures unrecorded { is_run None (asked_by options.now).details ≡ false → IfOk result
         (λ _. beside.new.other.now.recorded ≡ Recorded.Nothing) }
 {
-    run_jobs(rt, alloc, options, program, writer, beside, times)
+    let places = bare_places();
+    run_jobs(
+        rt,
+        alloc,
+        options,
+        program,
+        places.as_slice(),
+        writer,
+        beside,
+        times,
+    )
 }
 
 /// Does the same, and writes each report when the run is over.
@@ -354,7 +364,17 @@ pub(crate) fn run_jobs_filed<
 {
     *slowest = None;
     if asks_no_more(options, wanted) {
-        return run_jobs(rt, alloc, options, program, writer, observer, times);
+        let places = bare_places();
+        return run_jobs(
+            rt,
+            alloc,
+            options,
+            program,
+            places.as_slice(),
+            writer,
+            observer,
+            times,
+        );
     }
     let mut reports = open_wanted(alloc, &mut *files, wanted)?;
     run_jobs_opened(

@@ -8,6 +8,7 @@ mod program;
 mod report;
 mod reported_run;
 mod run;
+mod timed_place;
 mod timed_run;
 
 pub use filed_run::run_filed;
@@ -20,4 +21,5 @@ pub use ready_runs::{ReadFault, read_front, read_suite};
 pub use reported_run::run_reported;
 pub use run::{run_options, run_options_watched, run_suite};
 pub use run_outputs::{AfterRun, ExitStatus};
+pub use timed_place::{TimedPlace, bare_places};
 pub use timed_run::run_timed;

@@ -24,8 +24,10 @@ ghost use Rattle.worker_pool.specs.Reports.{run_of};
 
 use crate::report::program_report;
 use crate::run::{broken_off, form_for, outlet_for};
+use crate::timed_place::TimedPlace;
 use config_params::{Params, Settings};
 use descriptor::{BodyId, Tree};
+use job_places::Place;
 use job_times::{RunTimes, Stopwatch};
 use launch_options::{LaunchFault, Options};
 use listeners::Observer;
@@ -37,7 +39,7 @@ use run_outputs::{ExitStatus, Output, WatchedFeed, answer_unless};
 use run_table::Jobs;
 use std::alloc::Global;
 use std::io::Write;
-use std::sync::Wait;
+use std::sync::{Mutex, Wait};
 use std::thread::Threads;
 
 /// What a program has to be run: a tree, what it says of the configuration below the options, a job
@@ -54,6 +56,7 @@ pub struct Program<B> {
 /// What the options print of these jobs on a plan, and the program's status, of which a feed may have printed a part.
 fn shown_program<
     B: Job + Send,
+    K: Place<B> + Send,
     T: Threads + Wait + Sync,
     W: Write,
     V: Observer,
@@ -65,6 +68,7 @@ fn shown_program<
     settings: &Settings,
     plan: Plan,
     jobs: Jobs<B>,
+    places: &[Mutex<TimedPlace<K>>],
     live: &mut WatchedFeed<'_, '_, '_, '_, W, V, S>,
     stopwatch: &S,
 ) -> Result<Output, LaunchFault>
@@ -96,17 +100,27 @@ fn shown_program<
         (times_of live.new.feed.timings.now) (asked_by options.now) settings.now plan jobs.items) live.new.feed.outlet (W.contents live.old.feed.writer.now) (W.contents live.new.feed.writer.now)
         live.new.feed.sent) }
 {
-    program_report(rt, alloc, options, settings, plan, jobs, live, stopwatch)
+    program_report(
+        rt, alloc, options, settings, plan, jobs, places, live, stopwatch,
+    )
 }
 
 /// Runs these jobs on a plan, and writes what the options print of that, behind this text.
-fn run_planned<B: Job + Send, T: Threads + Wait + Sync, W: Write, V: Observer, S: Stopwatch + Sync>(
+fn run_planned<
+    B: Job + Send,
+    K: Place<B> + Send,
+    T: Threads + Wait + Sync,
+    W: Write,
+    V: Observer,
+    S: Stopwatch + Sync,
+>(
     rt: &T,
     alloc: Global,
     options: &Options,
     settings: &Settings,
     plan: Plan,
     jobs: Jobs<B>,
+    places: &[Mutex<TimedPlace<K>>],
     head: &str,
     writer: &mut W,
     observer: &mut V,
@@ -133,7 +147,7 @@ fn run_planned<B: Job + Send, T: Threads + Wait + Sync, W: Write, V: Observer, S
     let feed = LiveFeed::new(alloc, writer, head, form, outlet, timings, stopwatch, timed);
     let mut live = WatchedFeed { feed, observer };
     match shown_program(
-        rt, alloc, options, settings, plan, jobs, &mut live, stopwatch,
+        rt, alloc, options, settings, plan, jobs, places, &mut live, stopwatch,
     ) {
         Ok(report) => {
             live.finish(report.text.as_bytes())?;
@@ -154,6 +168,7 @@ fn run_planned<B: Job + Send, T: Threads + Wait + Sync, W: Write, V: Observer, S
 /// is written.
 pub fn run_jobs<
     B: Job + Send,
+    K: Place<B> + Send,
     T: Threads + Wait + Sync,
     W: Write,
     V: Observer,
@@ -163,6 +178,7 @@ pub fn run_jobs<
     alloc: Global,
     options: &Options,
     program: Program<B>,
+    places: &[Mutex<TimedPlace<K>>],
     writer: &mut W,
     observer: &mut V,
     times: &mut RunTimes<'_, S>,
@@ -206,6 +222,7 @@ pub fn run_jobs<
         &settings,
         plan,
         jobs,
+        places,
         head.as_str(),
         writer,
         observer,

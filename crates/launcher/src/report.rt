@@ -22,8 +22,10 @@ ghost use Rattle.worker_pool.specs.Premises.{JobsMayAnswer};
 ghost use Rattle.worker_pool.specs.Reports.{run_of};
 
 use crate::driven::drive_report;
+use crate::timed_place::{TimedPlace, bare_places};
 use crate::timed_run::run_timed;
 use config_params::Settings;
+use job_places::Place;
 use job_times::{Stopwatch, Timings};
 use launch_options::{Details, LaunchFault, Options};
 use listeners::Observer;
@@ -34,7 +36,7 @@ use run_outputs::{NotesTimes, Output, listing, planned, replay_report, told_repo
 use run_table::{Jobs, TableFault};
 use sched_core::Answers;
 use std::alloc::{AllocError, Global};
-use std::sync::Wait;
+use std::sync::{Mutex, Wait};
 use std::thread::Threads;
 use worker_pool::{Report, RunCause};
 
@@ -98,6 +100,7 @@ fn output_of<B: Job, V: NotesTimes>(
 /// schedule alone.
 fn ran_report<
     B: Job + Send,
+    K: Place<B> + Send,
     T: Threads + Wait + Sync,
     V: Observer + NotesTimes,
     S: Stopwatch + Sync,
@@ -109,6 +112,7 @@ fn ran_report<
     plan: Plan,
     jobs: Jobs<B>,
     known: Option<&Answers>,
+    places: &[Mutex<TimedPlace<K>>],
     observer: &mut V,
     stopwatch: &S,
 ) -> Result<Output, LaunchFault>
@@ -131,6 +135,7 @@ fn ran_report<
         jobs,
         settings.workers,
         options.ring,
+        places,
         observer,
         stopwatch,
     ) {
@@ -163,6 +168,7 @@ fn run_report<T: Threads + Wait + Sync, V: Observer + NotesTimes, S: Stopwatch +
     // the contract of `tree` tells that it is one
     let _ = plan.tree();
     let jobs = scripted_jobs(alloc, &plan, answers, spins)?;
+    let places = bare_places();
     ran_report(
         rt,
         alloc,
@@ -171,6 +177,7 @@ fn run_report<T: Threads + Wait + Sync, V: Observer + NotesTimes, S: Stopwatch +
         plan,
         jobs,
         Some(answers),
+        places.as_slice(),
         observer,
         stopwatch,
     )
@@ -281,6 +288,7 @@ pub(crate) fn report_of<T: Threads + Wait + Sync, V: Observer + NotesTimes, S: S
 /// the list or the nodes are asked for.
 pub(crate) fn program_report<
     B: Job + Send,
+    K: Place<B> + Send,
     T: Threads + Wait + Sync,
     V: Observer + NotesTimes,
     S: Stopwatch + Sync,
@@ -291,6 +299,7 @@ pub(crate) fn program_report<
     settings: &Settings,
     plan: Plan,
     jobs: Jobs<B>,
+    places: &[Mutex<TimedPlace<K>>],
     observer: &mut V,
     stopwatch: &S,
 ) -> Result<Output, LaunchFault>
@@ -315,7 +324,7 @@ pub(crate) fn program_report<
         | Details::Testfeed
         | Details::Json
         | Details::Xml => ran_report(
-            rt, alloc, options, settings, plan, jobs, None, observer, stopwatch,
+            rt, alloc, options, settings, plan, jobs, None, places, observer, stopwatch,
         ),
     }
 }

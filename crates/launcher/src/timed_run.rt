@@ -15,15 +15,17 @@ ghost use Rattle.worker_pool.specs.Reports.{run_of, AreParts, AreTexts, IsReport
 ghost use Rattle.worker_pool.specs.Reports.{EndsAsReplied, IsLeft, IsToldAsGiven, IsToldAsSaid};
 ghost use Rattle.listeners.specs.Observing.{HasSeenMore};
 
+use crate::timed_place::TimedPlace;
+use job_places::Place;
 use job_times::{Stopwatch, TimedJob, timed_jobs, untimed_jobs};
 use listeners::Observer;
 use plan_events::{Job, MOST_WORKERS};
 use resource_locks::Plan;
 use run_table::{Jobs, TableFault};
 use std::alloc::Global;
-use std::sync::Wait;
+use std::sync::{Mutex, Wait};
 use std::thread::Threads;
-use worker_pool::{Report, RunCause, RunFault, run_watched};
+use worker_pool::{Report, RunCause, RunFault, run_placed};
 
 /// The most words that the ring of places may have.
 const MOST_RING: u32 = 16_384;
@@ -117,9 +119,16 @@ fn untimed_fault<'s, B: Job, S: Stopwatch>(
     }
 }
 
-/// Runs a plan as `run_watched` does, with these jobs that are timed, and puts them back into this room, and those that
+/// Runs a plan as `run_placed` does, with these jobs that are timed, and puts them back into this room, and those that
 /// have answered into the other.
-fn run_noted<'s, B: Job + Send, O: Observer, R: Threads + Wait + Sync, S: Stopwatch + Sync>(
+fn run_noted<
+    's,
+    B: Job + Send,
+    K: Place<B> + Send,
+    O: Observer,
+    R: Threads + Wait + Sync,
+    S: Stopwatch + Sync,
+>(
     rt: &R,
     alloc: Global,
     plan: Plan,
@@ -128,6 +137,7 @@ fn run_noted<'s, B: Job + Send, O: Observer, R: Threads + Wait + Sync, S: Stopwa
     used_room: Jobs<B>,
     workers: u32,
     ring: u32,
+    places: &[Mutex<TimedPlace<K>>],
     observer: &mut O,
 ) -> Result<Report<B>, RunFault<B>>
     requires empty { room.items ≡ [] }
@@ -161,21 +171,28 @@ fn run_noted<'s, B: Job + Send, O: Observer, R: Threads + Wait + Sync, S: Stopwa
     ensures jobs_back { IfErr result (λ fault. IsPermutation (untimed timed.entry.items) fault.jobs.items) }
     ensures unseen { IfErr result (λ _. observer.new ≡ observer.old) }
 {
-    match run_watched(rt, alloc, plan, timed, workers, ring, observer) {
+    match run_placed(rt, alloc, plan, timed, workers, ring, places, observer) {
         Ok(report) => Ok(untimed_report(report, room, used_room)),
         Err(fault) => Err(untimed_fault(fault, room)),
     }
 }
 
-/// Runs a plan as `run_watched` of worker_pool does, and a stopwatch takes note of when each job begins and ends. Each
-/// clause is that of `run_watched`, and none speaks of the stopwatch.
-pub fn run_timed<B: Job + Send, O: Observer, R: Threads + Wait + Sync, S: Stopwatch + Sync>(
+/// Runs a plan as `run_placed` of worker_pool does, and a stopwatch takes note of when each job begins and ends. Each
+/// clause is that of `run_placed`, and none speaks of the stopwatch.
+pub fn run_timed<
+    B: Job + Send,
+    K: Place<B> + Send,
+    O: Observer,
+    R: Threads + Wait + Sync,
+    S: Stopwatch + Sync,
+>(
     rt: &R,
     alloc: Global,
     plan: Plan,
     jobs: Jobs<B>,
     workers: u32,
     ring: u32,
+    places: &[Mutex<TimedPlace<K>>],
     observer: &mut O,
     stopwatch: &S,
 ) -> Result<Report<B>, RunFault<B>>
@@ -212,7 +229,7 @@ pub fn run_timed<B: Job + Send, O: Observer, R: Threads + Wait + Sync, S: Stopwa
     };
     match timed_jobs(alloc, jobs, stopwatch) {
         Ok(timed) => run_noted(
-            rt, alloc, plan, timed, room, used_room, workers, ring, observer,
+            rt, alloc, plan, timed, room, used_room, workers, ring, places, observer,
         ),
         Err(jobs) => Err(without_memory(plan, jobs, workers, ring)),
     }

@@ -158,7 +158,7 @@ fn is_worked<R: Wait>(
 {
     let parkers = Arc::new(alloc, Parkers::new(alloc, 1).ok()?).ok()?;
     let mut sources = Sources::new(alloc, &parkers, 0).ok()?;
-    work(rt, table, worker, &mut sources);
+    work(rt, table, worker, &mut (), &mut sources);
     Some(())
 }
 

@@ -19,6 +19,7 @@ ghost use Rattle.thread_pool.specs.Telling.{AreTextsRead, IsNoted, IsOver, Keeps
 use crate::gate::{SharedTable, TableBrand};
 use crate::pool::Pool;
 use crate::running::DispatcherState;
+use job_places::Place;
 use listeners::{Observer, ends_plan};
 use node_sources::{IdleRounds, Parkers};
 use plan_events::{Event, EventKind, Job, Texts};
@@ -105,10 +106,16 @@ const ROOM_TOLD: usize = 64;
 /// There is nothing to read: who waits for room is woken, one more thread is started where all that
 /// were started are busy, and the dispatcher rests. It comes to that only where processors are free,
 /// since before it sleeps it gives its own up to whoever works.
-fn rest<E, B: Job + Send, M: TableBrand<B> + Send + Sync, R: Threads + Wait + Sync>(
+fn rest<
+    E,
+    B: Job + Send,
+    K: Place<B> + Send,
+    M: TableBrand<B> + Send + Sync,
+    R: Threads + Wait + Sync,
+>(
     rt: &R,
     shared: &SharedTable<B, M>,
-    pool: &mut Pool<'_, E, B, M, R>,
+    pool: &mut Pool<'_, E, B, K, M, R>,
     dispatcher_seat: &mut DispatcherSeat<B>,
     idle: &mut IdleRounds,
 )
@@ -137,13 +144,14 @@ fn make_room_behind(parkers: &Parkers, read: usize) {
 pub fn dispatch<
     E,
     B: Job + Send,
+    K: Place<B> + Send,
     M: TableBrand<B> + Send + Sync,
     O: Observer,
     R: Threads + Wait + Sync,
 >(
     rt: &R,
     shared: &SharedTable<B, M>,
-    pool: &mut Pool<'_, E, B, M, R>,
+    pool: &mut Pool<'_, E, B, K, M, R>,
     state: &mut DispatcherState<B>,
     observer: &mut O,
 )

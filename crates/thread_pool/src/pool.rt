@@ -8,11 +8,12 @@ ghost use Rattle.workers.specs.Premises.{MayAnswer};
 
 use crate::gate::{FinishedSeat, FreeSeat, Gate, SharedTable, TableBrand};
 use crate::serving::serve;
+use job_places::Place;
 use node_sources::FEW_WORKERS;
 use plan_events::Job;
 use run_table::DispatcherSeat;
 use std::alloc::{AllocError, Global};
-use std::sync::Wait;
+use std::sync::{Mutex, Wait};
 use std::thread;
 use std::thread::{JoinHandle, Scope, Threads};
 
@@ -57,25 +58,28 @@ fn deal_seat<B: Job, M: TableBrand<B>, R: Wait>(
 /// whenever the dispatcher has nothing to read while all of them are busy. A thread that could not be
 /// started is tried again when one more is wanted.
 #[derive(Drop)]
-pub struct Pool<'s, E, B: Job, M: TableBrand<B>, R> {
+pub struct Pool<'s, E, B: Job, K, M: TableBrand<B>, R> {
     rt: &'s R,
     scope: &'s Scope<'s, E>,
     shared: &'s SharedTable<B, M>,
     // one for each worker
     gates: &'s [Gate<B, M>],
+    // that at which each of their workers runs jobs
+    places: &'s [Mutex<K>],
     /// Those that were started, in order.
     pub started: Vec<JoinHandle<Option<FinishedSeat<B, M>>>>,
     ghost jobs: { MayAnswer B.answers (about_in shared.now.table.table) },
     ghost enough: { length gates.now ≤ vec_capacity started },
 }
 
-impl<'s, E, B: Job + Send, M: TableBrand<B> + Send + Sync, R: Threads + Wait + Sync> Pool<
+impl<
     's,
     E,
-    B,
-    M,
-    R,
-> {
+    B: Job + Send,
+    K: Place<B> + Send,
+    M: TableBrand<B> + Send + Sync,
+    R: Threads + Wait + Sync,
+> Pool<'s, E, B, K, M, R> {
     /// No thread is started yet.
     pub fn new(
         rt: &'s R,
@@ -83,7 +87,8 @@ impl<'s, E, B: Job + Send, M: TableBrand<B> + Send + Sync, R: Threads + Wait + S
         scope: &'s Scope<'s, E>,
         shared: &'s SharedTable<B, M>,
         gates: &'s [Gate<B, M>],
-    ) -> Result<Pool<'s, E, B, M, R>, AllocError>
+        places: &'s [Mutex<K>],
+    ) -> Result<Pool<'s, E, B, K, M, R>, AllocError>
         requires { MayAnswer B.answers (about_in shared.now.table.table) }
         ensures none { IfOk result (λ p. vec_len p.started ≡ 0) }
     {
@@ -93,12 +98,14 @@ impl<'s, E, B: Job + Send, M: TableBrand<B> + Send + Sync, R: Threads + Wait + S
             scope,
             shared,
             gates,
+            places,
             started,
         })
     }
 
     /// Starts the thread of the next gate, if there is one, deals it a seat at once, and says whether
-    /// it did. Where the thread could not be started its gate is the next one still.
+    /// it did. Where the thread could not be started its gate is the next one still. There are no more
+    /// threads than places.
     pub fn start_next(&mut self, shared: &SharedTable<B, M>, seat: &mut DispatcherSeat<B>) -> bool
         requires { IsSeatOf shared.now.table.table seat.old.seat }
         ensures same { IsOf seat.old.seat seat.new.seat }
@@ -115,12 +122,15 @@ impl<'s, E, B: Job + Send, M: TableBrand<B> + Send + Sync, R: Threads + Wait + S
         let Some(gate) = self.gates.get(self.started.len()) else {
             return false;
         };
+        let Some(place) = self.places.get(self.started.len()) else {
+            return false;
+        };
         let rt = self.rt;
         let its = self.shared;
         let Ok(handle) = self.scope.spawn(
             move || -> Option<FinishedSeat<B, M>>
                 requires { MayAnswer B.answers (about_in its.now.table.table) }
-            { serve(rt, its, gate) },
+            { serve(rt, its, gate, place) },
         )
         else {
             return false;
@@ -170,6 +180,7 @@ impl<'s, E, B: Job + Send, M: TableBrand<B> + Send + Sync, R: Threads + Wait + S
             scope: _,
             shared: _,
             gates: _,
+            places: _,
             started,
         } = self;
         started

@@ -9,11 +9,12 @@ ghost use Rattle.thread_pool.specs.Runs.{HasRun, IsReady};
 use crate::dispatching::dispatch;
 use crate::gate::{FinishedSeat, Gate, SharedTable, TableBrand};
 use crate::pool::Pool;
+use job_places::Place;
 use listeners::Observer;
 use plan_events::{Event, Job, Texts};
 use run_table::DispatcherSeat;
 use std::alloc::Global;
-use std::sync::Wait;
+use std::sync::{Mutex, Wait};
 use std::thread;
 use std::thread::{JoinHandle, Threads};
 
@@ -76,13 +77,14 @@ fn take_back<B: Job + Send, M: TableBrand<B> + Send + Sync, R: Threads + Wait>(
 fn tell_run<
     E,
     B: Job + Send,
+    K: Place<B> + Send,
     M: TableBrand<B> + Send + Sync,
     O: Observer,
     R: Threads + Wait + Sync,
 >(
     rt: &R,
     shared: &SharedTable<B, M>,
-    mut pool: Pool<'_, E, B, M, R>,
+    mut pool: Pool<'_, E, B, K, M, R>,
     state: &mut DispatcherState<B>,
     observer: &mut O,
 ) -> Result<(), NotBegun>
@@ -108,6 +110,7 @@ fn run_scoped<
     'd,
     'o,
     B: Job + Send,
+    K: Place<B> + Send,
     M: TableBrand<B> + Send + Sync,
     O: Observer,
     R: Threads + Wait + Sync,
@@ -116,6 +119,7 @@ fn run_scoped<
     alloc: Global,
     shared: &SharedTable<B, M>,
     gates: &[Gate<B, M>],
+    places: &[Mutex<K>],
     state: &'d mut DispatcherState<B>,
     observer: &'o mut O,
 ) -> Lent<'d, 'o, B, O>
@@ -146,7 +150,7 @@ fn run_scoped<
         {
             let state = state;
             let observer = observer;
-            let Ok(mut pool) = Pool::new(rt, alloc, scope, shared, gates) else {
+            let Ok(mut pool) = Pool::new(rt, alloc, scope, shared, gates, places) else {
                 let ran = Err(NotBegun::NoMemory);
                 return Lent {
                     ran,
@@ -165,15 +169,22 @@ fn run_scoped<
     )
 }
 
-/// Starts the threads of these gates, of which there is one for each worker, deals each that was
-/// started a seat at once, and tells what they do until the run is over. Not all are started in the
+/// Starts the threads of these gates, of which there is one for each worker, each of which runs its jobs at the
+/// place of the same index, deals each that was started a seat at once, and tells what they do until the run is over. Not all are started in the
 /// beginning (`Pool`). Where none can be started, or there is no memory for the list of those that are,
 /// the dispatcher's state is as it was, and nothing was told.
-pub fn run_in<B: Job + Send, M: TableBrand<B> + Send + Sync, O: Observer, R: Threads + Wait + Sync>(
+pub fn run_in<
+    B: Job + Send,
+    K: Place<B> + Send,
+    M: TableBrand<B> + Send + Sync,
+    O: Observer,
+    R: Threads + Wait + Sync,
+>(
     rt: &R,
     alloc: Global,
     shared: &SharedTable<B, M>,
     gates: &[Gate<B, M>],
+    places: &[Mutex<K>],
     mut state: DispatcherState<B>,
     observer: &mut O,
 ) -> Result<DispatcherState<B>, Unrun<B>>
@@ -190,7 +201,7 @@ pub fn run_in<B: Job + Send, M: TableBrand<B> + Send + Sync, O: Observer, R: Thr
         ran,
         state: _,
         observer: _,
-    } = run_scoped(rt, alloc, shared, gates, &mut state, observer);
+    } = run_scoped(rt, alloc, shared, gates, places, &mut state, observer);
     match ran {
         Ok(()) => Ok(state),
         Err(cause) => Err(Unrun { cause, state }),

@@ -9,7 +9,7 @@ ghost use Rattle.job_times.specs.Timings.{is_noted};
 use crate::threaded_run::two_jobs;
 use descriptor::{BodyId, NodeId, Tree};
 use job_times::{JobTimes, RunTimes, Stopwatch, Timings};
-use launcher::run_timed;
+use launcher::{bare_places, run_timed};
 use plan_events::Event;
 use resource_locks::Plan;
 use std::alloc::{AllocError, Global};
@@ -51,7 +51,18 @@ pub fn run_two_timed<R: Threads + Wait + Sync + Clock>(
         return None;
     };
     let stopwatch = JobTimes::new(alloc, rt).ok()?;
-    match run_timed(rt, alloc, plan, jobs, 2, 1024, &mut (), &stopwatch) {
+    let places = bare_places();
+    match run_timed(
+        rt,
+        alloc,
+        plan,
+        jobs,
+        2,
+        1024,
+        places.as_slice(),
+        &mut (),
+        &stopwatch,
+    ) {
         Ok(report) => match noted(alloc, report.plan.tree(), &stopwatch) {
             Ok(timings) => Some((report.events, timings)),
             Err(_) => None,

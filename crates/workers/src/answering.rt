@@ -17,6 +17,7 @@ ghost use Rattle.workers.specs.Inside.Steady.{Phase, ReadySteady, Steady};
 
 use crate::task_steps::offer;
 use descriptor::NodeId;
+use job_places::Place;
 use node_sources::Sources;
 use plan_events::{Job, Note, Outcome};
 use run_table::{RunTable, WorkerSeat};
@@ -43,8 +44,14 @@ fn go_on_decided<B: Job>(table: &RunTable<B>, seat: &mut WorkerSeat<B>, sources:
     }
 }
 
-/// Runs the job of this node, which is out, and puts it back with its answer.
-pub(crate) fn run<B: Job>(table: &RunTable<B>, seat: &mut WorkerSeat<B>, node: NodeId, mut job: B)
+/// Runs the job of this node, which is out, at this place, and puts it back with its answer.
+pub(crate) fn run<B: Job, K: Place<B>>(
+    table: &RunTable<B>,
+    seat: &mut WorkerSeat<B>,
+    place: &mut K,
+    node: NodeId,
+    mut job: B,
+)
     requires table { IsSeatOf table.now.table seat.old.seat }
     requires out { (slot number : ℕ)
         × IsOut (B.answers job) (replies_in B.answers (about_at seat.old.seat).jobs number)
@@ -57,7 +64,7 @@ pub(crate) fn run<B: Job>(table: &RunTable<B>, seat: &mut WorkerSeat<B>, node: N
     ensures hand { seat.new.hand ≡ seat.old.hand }
     ensures told { IsTold seat.old.seat seat.new.seat seat.old.task seat.old.hand node }
 {
-    let Outcome { status, text } = job.run();
+    let Outcome { status, text } = place.run(&mut job);
     let Ok(()) = seat.text_in(table, node, status, Note::Own(text), job) else {
         unreachable!()
     };
@@ -65,7 +72,12 @@ pub(crate) fn run<B: Job>(table: &RunTable<B>, seat: &mut WorkerSeat<B>, node: N
 
 /// Runs the job of this node for which the task waits, if there is one, and puts its answer in. Then the task is
 /// decided.
-fn run_awaited<B: Job>(table: &RunTable<B>, seat: &mut WorkerSeat<B>, node: NodeId)
+fn run_awaited<B: Job, K: Place<B>>(
+    table: &RunTable<B>,
+    seat: &mut WorkerSeat<B>,
+    place: &mut K,
+    node: NodeId,
+)
     requires table { IsSeatOf table.now.table seat.old.seat }
     requires jobs { MayAnswer B.answers (about_in table.now.table) }
     requires waits { WaitsFor node seat.old.task }
@@ -75,15 +87,16 @@ fn run_awaited<B: Job>(table: &RunTable<B>, seat: &mut WorkerSeat<B>, node: Node
     ensures steady { (phase : Phase) → Steady phase seat.old.seat → ReadySteady phase seat.new.seat }
 {
     if let Some(job) = seat.body_out(table, node) {
-        run(table, seat, node, job);
+        run(table, seat, place, node, job);
     }
 }
 
 /// The step of a task that waits for a job of this node, its body or its after-body: it runs that, and goes on as the
 /// answer decides.
-pub(crate) fn answer<B: Job>(
+pub(crate) fn answer<B: Job, K: Place<B>>(
     table: &RunTable<B>,
     seat: &mut WorkerSeat<B>,
+    place: &mut K,
     sources: &mut Sources,
     node: NodeId,
 )
@@ -94,6 +107,6 @@ pub(crate) fn answer<B: Job>(
     ensures goes_on { GoesOn seat.old.seat seat.new.seat }
     ensures steady { (phase : Phase) → Steady phase seat.old.seat → Steady phase seat.new.seat }
 {
-    run_awaited(table, seat, node);
+    run_awaited(table, seat, place, node);
     go_on_decided(table, seat, sources);
 }

@@ -18,6 +18,7 @@ ghost use Rattle.workers.specs.Inside.Steady.{Steady, AtNodes, AtTests};
 use crate::answering::run;
 use crate::working::run_tasks;
 use descriptor::NodeId;
+use job_places::Place;
 use node_sources::Sources;
 use plan_events::{Job, Note, Pull, Status};
 use run_table::{RunTable, WorkerSeat};
@@ -47,10 +48,11 @@ fn take_test<B: Job>(table: &RunTable<B>, seat: &mut WorkerSeat<B>, test: NodeId
 }
 
 /// Sees the dynamic test through that was asked for last, and each that the factory waits for.
-fn see_tests_through<B: Job, R: Wait>(
+fn see_tests_through<B: Job, K: Place<B>, R: Wait>(
     rt: &R,
     table: &RunTable<B>,
     seat: &mut WorkerSeat<B>,
+    place: &mut K,
     sources: &mut Sources,
 )
     requires table { IsSeatOf table.now.table seat.old.seat }
@@ -64,7 +66,7 @@ fn see_tests_through<B: Job, R: Wait>(
     ensures idle { (h : HandValue) → seat.new.hand ≡ Some h → h.waiting ≡ None }
 {
     for _ in rt.forever() {
-        let gave_up = run_tasks(rt, table, seat, sources);
+        let gave_up = run_tasks(rt, table, seat, place, sources);
         let Some(test) = waited_for(seat.hand()) else {
             return;
         };
@@ -152,9 +154,10 @@ fn tell_too_many<B: Job>(
 
 /// Runs the job of the factory in hand, which has asked for so many dynamic tests, puts its answer
 /// in, and gives up the factory's guard.
-fn run_factory<B: Job>(
+fn run_factory<B: Job, K: Place<B>>(
     table: &RunTable<B>,
     seat: &mut WorkerSeat<B>,
+    place: &mut K,
     factory: NodeId,
     asked: usize,
     job: B,
@@ -170,17 +173,18 @@ fn run_factory<B: Job>(
     ensures goes_on { GoesOn seat.old.seat seat.new.seat }
     ensures steady { Steady AtNodes seat.new.seat }
 {
-    run(table, seat, factory, job);
+    run(table, seat, place, factory, job);
     let_go(table, seat);
 }
 
 /// Asks the job of the factory in hand for dynamic tests, and sees each through, until there are no
 /// more or more than the factory has; then it puts the job's answer in, and gives up the factory's
 /// guard.
-pub(crate) fn pull_tests<B: Job, R: Wait>(
+pub(crate) fn pull_tests<B: Job, K: Place<B>, R: Wait>(
     rt: &R,
     table: &RunTable<B>,
     seat: &mut WorkerSeat<B>,
+    place: &mut K,
     sources: &mut Sources,
     held: Hand,
 )
@@ -201,13 +205,13 @@ pub(crate) fn pull_tests<B: Job, R: Wait>(
             Pull::More if asked < tests => {
                 add_test(table, seat, factory, asked);
                 asked += 1;
-                see_tests_through(rt, table, seat, sources);
+                see_tests_through(rt, table, seat, place, sources);
             }
             Pull::More => {
                 return tell_too_many(table, seat, factory, asked, job);
             }
             Pull::End => {
-                return run_factory(table, seat, factory, asked, job);
+                return run_factory(table, seat, place, factory, asked, job);
             }
         }
     }

@@ -14,6 +14,7 @@ ghost use Rattle.workers.specs.Inside.Steady.{Phase, ReadySteady, Steady};
 
 use crate::answering::answer;
 use descriptor::NodeId;
+use job_places::Place;
 use node_sources::{IdleRounds, Sources};
 use plan_events::Job;
 use run_table::{RunTable, WorkerSeat};
@@ -204,10 +205,11 @@ fn begin<B: Job>(table: &RunTable<B>, seat: &mut WorkerSeat<B>, sources: &mut So
 }
 
 /// The step of a task that opens a node.
-pub(crate) fn go_on_opening<B: Job, R: Wait>(
+pub(crate) fn go_on_opening<B: Job, K: Place<B>, R: Wait>(
     rt: &R,
     table: &RunTable<B>,
     seat: &mut WorkerSeat<B>,
+    place: &mut K,
     sources: &mut Sources,
     node: NodeId,
     opening: Opening,
@@ -232,16 +234,17 @@ pub(crate) fn go_on_opening<B: Job, R: Wait>(
         Opening::Backing(taken) => back_out(table, seat, sources, taken),
         Opening::Beginning(_) => begin(table, seat, sources, node),
         Opening::StartedAt(_) => show(rt, table, seat, sources),
-        Opening::Awaiting => answer(table, seat, sources, node),
+        Opening::Awaiting => answer(table, seat, place, sources, node),
         Opening::Guarding => seat.give_guard_due(table),
     }
 }
 
 /// The step of a task that closes a node.
-pub(crate) fn go_on_closing<B: Job, R: Wait>(
+pub(crate) fn go_on_closing<B: Job, K: Place<B>, R: Wait>(
     rt: &R,
     table: &RunTable<B>,
     seat: &mut WorkerSeat<B>,
+    place: &mut K,
     sources: &mut Sources,
     node: NodeId,
     closing: Closing,
@@ -254,7 +257,7 @@ pub(crate) fn go_on_closing<B: Job, R: Wait>(
     ensures steady { (phase : Phase) → Steady phase seat.old.seat → Steady phase seat.new.seat }
 {
     match closing {
-        Closing::AwaitingAfter => answer(table, seat, sources, node),
+        Closing::AwaitingAfter => answer(table, seat, place, sources, node),
         Closing::Ending(_) => seat.draw_due(table),
         Closing::FinishedAt(_, _) | Closing::SkippedAt(_) => show(rt, table, seat, sources),
         Closing::Raising => seat.raise_due(table),

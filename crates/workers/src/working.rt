@@ -11,6 +11,7 @@ ghost use Rattle.workers.specs.Inside.Steady.{Phase, Steady, AtNodes};
 use crate::pulling::pull_tests;
 use crate::scan::{is_over, take_node};
 use crate::task_steps::{go_on_closing, go_on_opening};
+use job_places::Place;
 use node_sources::Sources;
 use plan_events::Job;
 use run_table::{RunTable, WorkerSeat};
@@ -19,10 +20,11 @@ use std::sync::Wait;
 
 /// Takes one step after the other, until there is no task, and says whether it gave its node up, a
 /// key of which was busy.
-pub(crate) fn run_tasks<B: Job, R: Wait>(
+pub(crate) fn run_tasks<B: Job, K: Place<B>, R: Wait>(
     rt: &R,
     table: &RunTable<B>,
     seat: &mut WorkerSeat<B>,
+    place: &mut K,
     sources: &mut Sources,
 ) -> bool
     requires table { IsSeatOf table.now.table seat.old.seat }
@@ -38,19 +40,22 @@ pub(crate) fn run_tasks<B: Job, R: Wait>(
             Task::Free => return gave_up,
             Task::Opens(node, opening) => {
                 gave_up = matches!(opening, Opening::Backing(0));
-                go_on_opening(rt, table, seat, sources, node, opening)
+                go_on_opening(rt, table, seat, place, sources, node, opening)
             }
-            Task::Closes(node, closing) => go_on_closing(rt, table, seat, sources, node, closing),
+            Task::Closes(node, closing) => {
+                go_on_closing(rt, table, seat, place, sources, node, closing)
+            }
         }
     }
     unreachable!()
 }
 
 /// Sees the node that it has taken through, or gives it up; and, of a factory, the dynamic tests that its job asks for.
-fn see_through<B: Job, R: Wait>(
+fn see_through<B: Job, K: Place<B>, R: Wait>(
     rt: &R,
     table: &RunTable<B>,
     seat: &mut WorkerSeat<B>,
+    place: &mut K,
     sources: &mut Sources,
 )
     requires table { IsSeatOf table.now.table seat.old.seat }
@@ -62,20 +67,21 @@ fn see_through<B: Job, R: Wait>(
     ensures empty { seat.new.hand ≡ None }
 {
     for _ in rt.forever() {
-        run_tasks(rt, table, seat, sources);
+        run_tasks(rt, table, seat, place, sources);
         match seat.hand() {
             None => return,
-            Some(held) => pull_tests(rt, table, seat, sources, held),
+            Some(held) => pull_tests(rt, table, seat, place, sources, held),
         }
     }
     unreachable!()
 }
 
 /// Takes a node, if it finds one, and sees it through.
-fn take_and_see_through<B: Job, R: Wait>(
+fn take_and_see_through<B: Job, K: Place<B>, R: Wait>(
     rt: &R,
     table: &RunTable<B>,
     seat: &mut WorkerSeat<B>,
+    place: &mut K,
     sources: &mut Sources,
 )
     requires table { IsSeatOf table.now.table seat.old.seat }
@@ -87,19 +93,20 @@ fn take_and_see_through<B: Job, R: Wait>(
     ensures empty { seat.new.hand ≡ None }
 {
     if take_node(table, seat, sources) {
-        see_through(rt, table, seat, sources);
+        see_through(rt, table, seat, place, sources);
     }
 }
 
-/// Works until node 0 is settled. A worker that is free takes the node that it has offered to
+/// Works until node 0 is settled, and runs jobs at this place. A worker that is free takes the node that it has offered to
 /// itself, or else the first one of its lane, or else of another's. Where it has begun none so for
 /// many rounds, it looks round the circle of nodes, behind the one that it took there last, and
 /// takes what is offered to any or to it. Once it came round and has begun none, it rests, longer
 /// each time, until it is woken or has slept long enough.
-pub fn work<B: Job, R: Wait>(
+pub fn work<B: Job, K: Place<B>, R: Wait>(
     rt: &R,
     table: &RunTable<B>,
     seat: &mut WorkerSeat<B>,
+    place: &mut K,
     sources: &mut Sources,
 )
     requires table { IsSeatOf table.now.table seat.old.seat }
@@ -117,7 +124,7 @@ pub fn work<B: Job, R: Wait>(
         if is_over(table, seat) {
             return;
         }
-        take_and_see_through(rt, table, seat, sources);
+        take_and_see_through(rt, table, seat, place, sources);
         sources.rest(rt);
     }
     unreachable!()

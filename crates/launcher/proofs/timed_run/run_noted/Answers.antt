@@ -12,8 +12,8 @@ use Rattle.thread_pool.proofs.Carried.{carried}
 use Rattle.launcher.proofs.Renamed.{all_there, balanced, few_left, left_over, may_answer, refused, replied, reported, texts_are, told_given, told_said}
 use Rattle.launcher.proofs.timed_run.run_noted.Goals as goal
 
-pub run_watched-requires-clause-jobs : goal.run_watched-requires-clause-jobs
-run_watched-requires-clause-jobs g c κs within = may_answer (λ t. t.job) g.B.Job.answers c.args.plan c.args.workers c.args.ring c.args.timed.items c.requires.jobs
+pub run_placed-requires-clause-jobs : goal.run_placed-requires-clause-jobs
+run_placed-requires-clause-jobs g c κs within = may_answer (λ t. t.job) g.B.Job.answers c.args.plan c.args.workers c.args.ring c.args.timed.items c.requires.jobs
 
 pub untimed_report-requires-clause-room : goal.untimed_report-requires-clause-room
 untimed_report-requires-clause-room g c = (let few = few_left (λ t. t.job) c.args.plan c.args.timed.items c.in-Ok.report.unused_jobs.items c.in-Ok.report.events.items c.in-Ok.ensures.balanced in omega (arith, few, c.requires.room))
@@ -79,7 +79,7 @@ returns-in-Ok-clause-balanced g c =
     (balanced (λ t. t.job) c.args.plan c.args.timed.items c.in-Ok.report.unused_jobs.items c.in-Ok.report.events.items c.in-Ok.ensures.balanced))
 
 pub returns-in-Ok-clause-seen : goal.returns-in-Ok-clause-seen
-returns-in-Ok-clause-seen g c = carried c.untimed_report.ensures.same (λ r. HasSeenMore g.O.Observer.saw c.args.plan (tellings_of r.texts r.events.items) c.args.observer.now c.run_watched.new.observer) c.in-Ok.ensures.seen
+returns-in-Ok-clause-seen g c = carried c.untimed_report.ensures.same (λ r. HasSeenMore g.O.Observer.saw c.args.plan (tellings_of r.texts r.events.items) c.args.observer.now c.run_placed.new.observer) c.in-Ok.ensures.seen
 
 pub returns-in-Ok-clause-accepted : goal.returns-in-Ok-clause-accepted
 returns-in-Ok-clause-accepted g c = (c.in-Ok.ensures.accepted.0, c.in-Ok.ensures.accepted.1, all_there (λ t. t.job) c.args.plan c.args.timed.items c.in-Ok.ensures.accepted.2)

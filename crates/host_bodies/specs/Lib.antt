@@ -1,0 +1,7 @@
+-- The definitions that contracts cite.
+pub mod Answers
+pub mod Channels
+pub mod HostJobs
+pub mod Lines
+pub mod Replies
+pub mod Silences

@@ -1,0 +1,2 @@
+-- Jobs that were not run may answer.
+pub mod Answering

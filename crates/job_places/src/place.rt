@@ -1,0 +1,25 @@
+//! What a worker owns, and lends to each job that it runs.
+
+ghost use Rattle.std.specs.Prelude.{◌≡◌, ◌<◌, [], length};
+ghost use Rattle.plan_events.specs.Jobs.{GivesOutcome, IsRun, unpulled};
+
+use plan_events::{Job, Outcome};
+
+/// A place at which jobs are run. Each worker of a run has one of its own, so two jobs are never at the same place at
+/// once: it may be the channel to a process, or a connection to a database.
+pub trait Place<B: Job> {
+    /// Runs a job here, and answers how it ended: what the job may answer, gives, and says once it was run.
+    fn run(&mut self, job: &mut B) -> Outcome
+        requires { 0 < length (unpulled (B.answers job.old)) }
+        ensures outcome { IsRun (B.answers job.old) result }
+        ensures given { GivesOutcome (B.gives job.old) result }
+        ensures said { B.says job.new result }
+        ensures over { B.answers job.new ≡ [] };
+}
+
+/// The place of jobs that need nothing: they run themselves.
+impl<B: Job> Place<B> for () {
+    fn run(&mut self, job: &mut B) -> Outcome {
+        job.run()
+    }
+}
