@@ -23,7 +23,7 @@ use Rattle.listeners.specs.Observing.{HasSeenMore}
 use Rattle.launch_options.specs.Asked.{Asked}
 use Rattle.run_outputs.specs.declared.exit_status.ExitStatus.{ExitStatus}
 use Rattle.run_outputs.specs.ExitStatuses.{status_of_run}
-use Rattle.launcher.specs.Programs.{one_each, IsHistoryBy, IsPrintedJobs}
+use Rattle.launcher.specs.Programs.{one_each, HasRun, IsHistoryBy, IsPrintedJobs, IsPrintedOf}
 use Rattle.run_outputs.specs.ScheduleLines.{IsBehindRun}
 use Rattle.launch_options.specs.declared.details.Details.{Details}
 use Rattle.run_outputs.specs.Outputs.{details_of}
@@ -33,74 +33,82 @@ use Rattle.launcher.specs.Watched.{HasSeenPrinted, SomeOutput}
 use Rattle.launcher.proofs.Answered.{said, legal_said, said_given, texts_said}
 use Rattle.launcher.proofs.Reporting.{expected_output, schedule_behind}
 
--- what is printed behind a run of one plan is what is printed behind a run of the same
-pub moved_behind : {p q : PlanParts} (known : Option (List (ℕ × Reply))) (kind : Details) (asks : Bool) (workers : ℕ) (history : List Event) (texts : TextParts) (behind : List ℕ) → p ≡ q → IsBehindRun kind asks workers p known history texts behind → IsBehindRun kind asks workers q known history texts behind
-moved_behind known kind asks workers history texts behind same is = subst (λ (r : PlanParts). IsBehindRun kind asks workers r known history texts behind) same is
-
-module _ {B : Type 0} (answers : B → List Reply) (gives : B → Reply → Type 0) (asked : Asked) (settings : Settings) (p : PlanParts) (tree : IsTree p.tree) (safe : IsGuarded (declared_of p.tree) p) (jobs : List (ℕ × B)) (history : List Event) (texts : TextParts)
-    (report : IsReport (run_of p settings.workers asked.ring jobs) (replies_of answers (run_of p settings.workers asked.ring jobs)) history) (told : AreTexts p (replies_of answers (run_of p settings.workers asked.ring jobs)) history texts)
-    (gave : IsToldAsGiven (given_by gives (run_of p settings.workers asked.ring jobs)) p settings.workers history texts) where
+module _ {B : Type 0} (answers : B → List Reply) (gives : B → Reply → Type 0) (workers ring : ℕ) (p : PlanParts) (tree : IsTree p.tree) (safe : IsGuarded (declared_of p.tree) p) (jobs : List (ℕ × B)) (history : List Event) (texts : TextParts) (report : IsReport (run_of p workers ring jobs) (replies_of answers (run_of p workers ring jobs)) history)
+    (told : AreTexts p (replies_of answers (run_of p workers ring jobs)) history texts) (gave : IsToldAsGiven (given_by gives (run_of p workers ring jobs)) p workers history texts) where
   abbrev may : ℕ → List Reply
-  may = replies_of answers (run_of p settings.workers asked.ring jobs)
+  may = replies_of answers (run_of p workers ring jobs)
 
   abbrev answered : ℕ → Reply
-  answered = said p tree may settings.workers history texts report.legal told
+  answered = said p tree may workers history texts report.legal told
 
-  published : IsHistoryBy settings.workers p answered history
+  published : IsHistoryBy workers p answered history
   published =
-      let legal = legal_said p tree may settings.workers history texts report.legal told in
+      let legal = legal_said p tree may workers history texts report.legal told in
       record {
         legal = legal;
         order = report.order;
         exclusive = report.exclusive;
         within = report.within;
-        apart = apart p tree (one_each answered) settings.workers history safe legal report.order report.exclusive;
+        apart = apart p tree (one_each answered) workers history safe legal report.order report.exclusive;
         complete = report.complete;
         ends = report.ends;
         only = λ one same h other order complete.
             only_history p tree answered (one_each answered) (λ job. refl) same h history other order complete (subst (λ (w : ℕ). IsLegal p (one_each answered) w history) one legal) report.order report.complete;
-        as_expected = λ calm. as_expected p tree answered (one_each answered) (λ job. refl) calm settings.workers history legal report.complete;
+        as_expected = λ calm. as_expected p tree answered (one_each answered) (λ job. refl) calm workers history legal report.complete;
       }
 
   printed_so : p.fail_fast ≡ false → IsPrintedAsExpected p answered history texts
-  printed_so calm = printed_as_expected p tree answered (one_each answered) (λ job. refl) calm settings.workers history published.legal published.complete texts (texts_said p tree may settings.workers history texts report.legal told)
+  printed_so calm = printed_as_expected p tree answered (one_each answered) (λ job. refl) calm workers history published.legal published.complete texts (texts_said p tree may workers history texts report.legal told)
 
-  -- this is what is printed of it
-  pub printed_jobs : (known : Option (List (ℕ × Reply))) (left : List (ℕ × B)) → IsBalanced p jobs history left → (times : Times) (behind text : List ℕ) (status : ExitStatus) → IsBehindRun asked.details asked.schedule settings.workers p known history texts behind
-      → text ≡ head_of asked.details settings.warnings ++ (details_of asked.details asked.theme p texts (times_asked asked.times times) history ++ behind) → status ≡ status_of_run asked.fail_if_no_tests (tests_found p history) (has_failed p history)
-      → IsPrintedJobs answers gives known asked settings p jobs history texts times text status
-  printed_jobs known left balanced times behind text status is_behind printed exits = record {
+  -- this is known of it
+  pub has_run : (left : List (ℕ × B)) → IsBalanced p jobs history left → HasRun answers gives workers ring p jobs history texts left
+  has_run left balanced = record {
     may_be = report.legal;
     may_say = told;
     reply = answered;
-    given = said_given p tree may settings.workers history texts report.legal told;
+    given = said_given p tree may workers history texts report.legal told;
     published = published;
-    are = texts_said p tree may settings.workers history texts report.legal told;
+    are = texts_said p tree may workers history texts report.legal told;
+    as_expected = printed_so;
     gave = gave;
-    left = left;
     balanced = balanced;
-    behind = behind;
-    is_behind = is_behind;
-    printed = printed;
-    exits = exits;
-    as_expected = λ calm. expected_output asked settings p answered history texts (printed_so calm) times behind text status printed exits;
   }
 
-  -- where there is no memory for a schedule, the line that says so would have been printed
-  some_line : (known : Option (List (ℕ × Reply))) (kind : Details) (asks : Bool) → (behind : List ℕ) × IsBehindRun kind asks settings.workers p known history texts behind
-  some_line (Some replies) kind asks = schedule_behind kind asks settings.workers p replies history
-  some_line None kind false = ([], refl)
-  some_line None kind true = (schedule_line kind None, record { told = []; line = record { found = None; schedule = tt; namable = tt; printed = refl }; explains = tt })
+-- what is printed of a run of one plan, with these times, is what is printed of a run of the same, with the same
+pub moved_print : {p q : PlanParts} {t u : Times} {known : Option (List (ℕ × Reply))} {asked : Asked} {settings : Settings} {history : List Event} {texts : TextParts} {text : List ℕ} {status : ExitStatus} → p ≡ q → t ≡ u → IsPrintedOf known asked settings p history texts t text status → IsPrintedOf known asked settings q history texts u text status
+moved_print {p} {q} {t} {u} {known} {asked} {settings} {history} {texts} {text} {status} same also is = subst (λ (r : PlanParts). IsPrintedOf known asked settings r history texts u text status) same (subst (λ (v : Times). IsPrintedOf known asked settings p history texts v text status) also is)
 
-  -- whoever watches has seen a run of which no report was made
-  pub jobs_in_vain : {L : Type 0} (saw : PlanParts → L → L → List Telling → Type 0) (first now : L) (times : Times) → HasSeenMore saw p (tellings_of texts history) first now → (left : List (ℕ × B)) → IsBalanced p jobs history left → (known : Option (List (ℕ × Reply)))
-      → SomeOutput (HasSeenPrinted saw (IsPrintedJobs answers gives known asked settings p jobs) p first now times)
-  jobs_in_vain saw first now times seen left balanced known =
-      let some_behind = some_line known asked.details asked.schedule in
-      let text = head_of asked.details settings.warnings ++ (details_of asked.details asked.theme p texts (times_asked asked.times times) history ++ some_behind.0) in
-      let status = status_of_run asked.fail_if_no_tests (tests_found p history) (has_failed p history) in
-      record {
-        text = text;
-        status = status;
-        output = record { history = history; texts = texts; prints = printed_jobs known left balanced times some_behind.0 text status some_behind.1 refl refl; seen = seen };
-      }
+-- what is printed of a run is as expected, unless the plan fails fast
+pub printed_jobs : {B : Type 0} (answers : B → List Reply) (gives : B → Reply → Type 0) (known : Option (List (ℕ × Reply))) (asked : Asked) (settings : Settings) (p : PlanParts) (jobs : List (ℕ × B)) (history : List Event) (texts : TextParts) (left : List (ℕ × B))
+    → HasRun answers gives settings.workers asked.ring p jobs history texts left → (times : Times) (text : List ℕ) (status : ExitStatus) → IsPrintedOf known asked settings p history texts times text status → IsPrintedJobs answers gives known asked settings p jobs history texts times text status
+printed_jobs answers gives known asked settings p jobs history texts left ran times text status prints = record {
+  left = left;
+  ran = ran;
+  prints = prints;
+  as_expected = λ calm. expected_output asked settings p ran.reply history texts (ran.as_expected calm) times prints.behind text status prints.printed prints.exits;
+}
+
+-- where there is no memory for a schedule, the line that says so would have been printed
+pub some_line : (known : Option (List (ℕ × Reply))) (kind : Details) (asks : Bool) (workers : ℕ) (p : PlanParts) (history : List Event) (texts : TextParts) → (behind : List ℕ) × IsBehindRun kind asks workers p known history texts behind
+some_line (Some replies) kind asks workers p history texts = schedule_behind kind asks workers p replies history
+some_line None kind false workers p history texts = ([], refl)
+some_line None kind true workers p history texts = (schedule_line kind None, record { told = []; line = record { found = None; schedule = tt; namable = tt; printed = refl }; explains = tt })
+
+-- whoever watches has seen a run of which no report was made
+pub jobs_in_vain : {B : Type 0} (answers : B → List Reply) (gives : B → Reply → Type 0) (known : Option (List (ℕ × Reply))) (asked : Asked) (settings : Settings) (p : PlanParts) (jobs : List (ℕ × B)) (history : List Event) (texts : TextParts) (left : List (ℕ × B))
+    → HasRun answers gives settings.workers asked.ring p jobs history texts left → {L : Type 0} (saw : PlanParts → L → L → List Telling → Type 0) (first now : L) (times : Times) → HasSeenMore saw p (tellings_of texts history) first now
+    → SomeOutput (HasSeenPrinted saw (IsPrintedJobs answers gives known asked settings p jobs) p first now times)
+jobs_in_vain answers gives known asked settings p jobs history texts left ran saw first now times seen =
+    let some_behind = some_line known asked.details asked.schedule settings.workers p history texts in
+    let text = head_of asked.details settings.warnings ++ (details_of asked.details asked.theme p texts (times_asked asked.times times) history ++ some_behind.0) in
+    let status = status_of_run asked.fail_if_no_tests (tests_found p history) (has_failed p history) in
+    record {
+      text = text;
+      status = status;
+      output = record {
+        history = history;
+        texts = texts;
+        prints = printed_jobs answers gives known asked settings p jobs history texts left ran times text status (record { behind = some_behind.0; is_behind = some_behind.1; printed = refl; exits = refl });
+        seen = seen;
+      };
+    }

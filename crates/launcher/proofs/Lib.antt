@@ -4,9 +4,11 @@ pub mod Driving
 pub mod FiledAnswers
 pub mod JobsRan
 pub mod Judging
+pub mod LaunchFiling
 pub mod Launching
 pub mod OneFiling
 pub mod OneHistory
+pub mod PlannedLaunches
 pub mod ProgramRuns
 pub mod ProgramShown
 pub mod ReadyRuns
@@ -16,6 +18,7 @@ pub mod Reporting
 pub mod Scripting
 pub mod Selected
 pub mod Showing
+pub mod ShownRuns
 pub mod SlowestRuns
 pub mod SuiteRan
 pub mod Watched

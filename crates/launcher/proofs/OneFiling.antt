@@ -43,7 +43,7 @@ module _ {F : Type 0} (contents : F → Option (List ℕ)) (theme : Theme) where
   filed_one told times w was now (NotKept name) opened reported ended = ended.0
   filed_one told times w was now (GivenUp name) opened reported ended = ended.0
 
-  filed_each : (told : ToldParts) (times : Times) (ws : List Wanted) (was now : List (Report F)) (ds : List Deed) → length was ≡ length ws → length now ≡ length was → AreOpened contents was ws → EachPlace (IsReported contents theme told times) was now → AreEnded contents now ws ds
+  pub filed_each : (told : ToldParts) (times : Times) (ws : List Wanted) (was now : List (Report F)) (ds : List Deed) → length was ≡ length ws → length now ≡ length was → AreOpened contents was ws → EachPlace (IsReported contents theme told times) was now → AreEnded contents now ws ds
       → AreFiled theme told times ws ds
   filed_each told times [] [] [] [] many same opened each ended = tt
   filed_each told times [] [] [] (d ∷ ds) many same opened each ended = absurd ended

@@ -55,7 +55,7 @@ module _ {B : Type 0} (answers : B → List Reply) (gives : B → Reply → Type
   program_output_of runs text status output = jobs_ran asked.details runs text status output
 
   pub jobs_text_of : (history : List Event) (texts : TextParts) (times : Times) (text : List ℕ) (status : ExitStatus) → IsPrintedJobs answers gives known asked settings p jobs history texts times text status → IsTextOf asked settings p history texts times text
-  jobs_text_of history texts times text status prints = record { ends = prints.published.ends; behind = prints.behind; printed = prints.printed }
+  jobs_text_of history texts times text status prints = record { ends = prints.ran.published.ends; behind = prints.prints.behind; printed = prints.prints.printed }
 
 -- a plan whose feed is printed while it goes on is run
 pub jobs_feed_runs : (asked : Asked) → HasLiveFeed asked → is_run None asked.details ≡ true

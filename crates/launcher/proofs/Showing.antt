@@ -199,7 +199,7 @@ module _ {W V S : Type 0} (contents : W → Option (List ℕ)) (saw : PlanParts 
     is_text : IsTextOf asked settings p watched.history watched.texts noted text
     is_text = as_text watched.history watched.texts noted text status watched.prints
 
-    seen_both : SeesBeside contents saw p at_first_both both (tellings_of watched.texts watched.history)
+    pub seen_both : SeesBeside contents saw p at_first_both both (tellings_of watched.texts watched.history)
     seen_both = watched.seen at_first_both [] beside_nothing
 
     seen : IsPrinted contents p first now (tellings_of watched.texts watched.history)
@@ -219,7 +219,7 @@ module _ {W V S : Type 0} (contents : W → Option (List ℕ)) (saw : PlanParts 
         ∙ ap (λ (times : Times). head_of asked.details settings.warnings ++ (lines_of (form_by asked.details) p watched.texts times watched.history ++ is_text.behind)) shown_so
         ∙ ap₂ (λ (xs : List ℕ) (f : LineForm). xs ++ (lines_of f p watched.texts (shown_times now) watched.history ++ is_text.behind)) (sym head) (sym form)
 
-    watched_front : IsFront was is_now now.outlet now.sent text
+    pub watched_front : IsFront was is_now now.outlet now.sent text
     watched_front = elim (open_or_closed asked.details asked.replay asked.drive) [
       | inl opens ↦ front watched.texts watched.history is_text.ends contents p first now seen (ap is_stopped (outlet ∙ opens)) is_text.behind text (whole_text (lines_asked asked.details asked.replay asked.drive opens).0)
       | inr shut ↦ unsent_front text (shut_unsent (outlet ∙ shut) _ seen)
@@ -240,7 +240,7 @@ module _ {W V S : Type 0} (contents : W → Option (List ℕ)) (saw : PlanParts 
       )
     ]
 
-    watched_broken : IsBrokenOff asked Shown now.outlet was is_now now.sent
+    pub watched_broken : IsBrokenOff asked Shown now.outlet was is_now now.sent
     watched_broken = elim (open_or_closed asked.details asked.replay asked.drive) [
       | inl opens ↦
           (let feed = lines_asked asked.details asked.replay asked.drive opens in

@@ -19,7 +19,7 @@ use Rattle.launch_options.specs.declared.fault.LaunchFault.{LaunchFault}
 use Rattle.run_outputs.specs.declared.exit_status.ExitStatus.{ExitStatus}
 use Rattle.run_outputs.specs.declared.output.Output.{Output}
 use Rattle.ready_runs.specs.declared.scripted.ScriptedJob.{ScriptedJob}
-use Rattle.launcher.specs.Programs.{IsPrintedJobs}
+use Rattle.launcher.specs.Programs.{HasRun, IsPrintedJobs, IsPrintedOf}
 use Rattle.launcher.specs.Reports.{HasHistory, IsPrintedRun, IsRunOutput}
 use Rattle.ready_runs.specs.Scripted.{gives_left, replies_left, AreScripted}
 use Rattle.launcher.specs.Watched.{HasSeenPrinted, Watches}
@@ -29,10 +29,15 @@ module _ (asked : Asked) (settings : Settings) (p : PlanParts) (tree : IsTree p.
   abbrev JobsPrint : List Event → TextParts → Times → List ℕ → ExitStatus → Type 0
   JobsPrint = IsPrintedJobs replies_left gives_left (Some answers) asked settings p jobs
 
+  -- a run of a suite's jobs that is over is a run of what the suite says, and what is printed of it is so
+  pub of_run : (history : List Event) (texts : TextParts) (left : List (ℕ × ScriptedJob)) → HasRun replies_left gives_left settings.workers asked.ring p jobs history texts left → (times : Times) (text : List ℕ) (status : ExitStatus) → IsPrintedOf (Some answers) asked settings p history texts times text status
+      → IsPrintedRun asked settings p answers history texts times text status
+  of_run history texts left ran times text status out =
+      let report : IsReport (run_of p settings.workers asked.ring jobs) (replies_of replies_left (run_of p settings.workers asked.ring jobs)) history = record { legal = ran.may_be; order = ran.published.order; exclusive = ran.published.exclusive; within = ran.published.within; complete = ran.published.complete; ends = ran.published.ends } in
+      printed_run out.behind text status asked settings p answers history texts (told_of p tree safe answers jobs are settings.workers asked.ring history texts report ran.may_say) times out.is_behind out.printed out.exits
+
   suite_prints : (history : List Event) (texts : TextParts) (times : Times) (text : List ℕ) (status : ExitStatus) → JobsPrint history texts times text status → IsPrintedRun asked settings p answers history texts times text status
-  suite_prints history texts times text status out =
-      let report : IsReport (run_of p settings.workers asked.ring jobs) (replies_of replies_left (run_of p settings.workers asked.ring jobs)) history = record { legal = out.may_be; order = out.published.order; exclusive = out.published.exclusive; within = out.published.within; complete = out.published.complete; ends = out.published.ends } in
-      printed_run out.behind text status asked settings p answers history texts (told_of p tree safe answers jobs are settings.workers asked.ring history texts report out.may_say) times out.is_behind out.printed out.exits
+  suite_prints history texts times text status out = of_run history texts out.left out.ran times text status out.prints
 
   pub suite_outputs : (result : Result Output LaunchFault) → IfOk result (λ report. HasHistory JobsPrint (string_bytes report.text) report.status) → IfOk result (λ report. IsRunOutput asked settings p answers (string_bytes report.text) report.status)
   suite_outputs (Ok report) out = record { history = out.history; texts = out.texts; times = out.times; prints = suite_prints out.history out.texts out.times (string_bytes report.text) report.status out.prints }

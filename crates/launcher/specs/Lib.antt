@@ -1,8 +1,12 @@
 pub mod Faults
+pub mod FiledLaunches
 pub mod FiledRuns
+pub mod Launches
+pub mod ProgramLaunches
 pub mod Programs
 pub mod ReportedRuns
 pub mod Reports
+pub mod RunReports
 pub mod Runs
 pub mod SlowestRuns
 pub mod Watched

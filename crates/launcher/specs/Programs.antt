@@ -16,6 +16,7 @@ use Rattle.event_history.specs.History.{IsLegal, IsComplete}
 use Rattle.event_history.specs.Order.{IsInOrder}
 use Rattle.event_history.specs.Parts.{EndsInPlan}
 use Rattle.event_history.specs.Plans.{is_same}
+use Rattle.junit_report.specs.Expectations.{IsPrintedAsExpected}
 use Rattle.never_stuck.specs.Reaching.{NeverStuck}
 use Rattle.suite_text.specs.Reading.Parts.{SuiteParts}
 use Rattle.table_rule.specs.Picture.{given_by, replies_of}
@@ -65,33 +66,46 @@ pub record IsHistoryBy (workers : ℕ) (p : PlanParts) (reply : ℕ → Reply) (
   -- and unless the plan fails fast each node ends as it is expected to by these replies, whatever the number of workers
   pub as_expected : p.fail_fast ≡ false → (n : ℕ) → n < size p.tree → IsAsExpected p (one_each reply) history n (expected p reply n)
 
--- of jobs that may answer so, and what is known beforehand of what they do, if it is
-module _ {B : Type 0} (answers : B → List Reply) (gives : B → Reply → Type 0) (known : Option (List (ℕ × Reply))) where
-  -- What is printed of this history of a run of these jobs by the settings' workers, with these texts and times of its nodes. There is
-  -- one reply of each job, such that the history is one in which the jobs gave these replies: a line for each warning, then the history
-  -- as the options say, with the times if they are asked for, and then what is to stand behind it; its failures make the status.
-  pub record IsPrintedJobs (asked : Asked) (settings : Settings) (p : PlanParts) (jobs : List (ℕ × B)) (history : List Event) (texts : TextParts) (times : Times) (text : List ℕ) (status : ExitStatus) : Type 0 where
+-- of jobs that may answer so, and that give their replies so
+module _ {B : Type 0} (answers : B → List Reply) (gives : B → Reply → Type 0) where
+  -- What is known of a run of these jobs by so many workers that is over, by its own parts: the history, the texts of its nodes, and the
+  -- jobs that are left. There is one reply of each job, such that the history is one in which the jobs gave these replies.
+  pub record HasRun (workers ring : ℕ) (p : PlanParts) (jobs : List (ℕ × B)) (history : List Event) (texts : TextParts) (left : List (ℕ × B)) : Type 0 where
     -- the history is legal by what the jobs may answer, and the texts of its nodes are by that too;
-    pub may_be : IsLegal p (replies_of answers (run_of p settings.workers asked.ring jobs)) settings.workers history
-    pub may_say : AreTexts p (replies_of answers (run_of p settings.workers asked.ring jobs)) history texts
+    pub may_be : IsLegal p (replies_of answers (run_of p workers ring jobs)) workers history
+    pub may_say : AreTexts p (replies_of answers (run_of p workers ring jobs)) history texts
     -- and both are by one reply of each job, which of a job that was used is one that it may give
     pub reply : ℕ → Reply
-    pub given : (number : ℕ) → IsUsed p history number → (place : ℕ) × (slice_get (replies_of answers (run_of p settings.workers asked.ring jobs) number) place ≡ Some (reply number))
-    pub published : IsHistoryBy settings.workers p reply history
+    pub given : (number : ℕ) → IsUsed p history number → (place : ℕ) × (slice_get (replies_of answers (run_of p workers ring jobs) number) place ≡ Some (reply number))
+    pub published : IsHistoryBy workers p reply history
     pub are : AreTexts p (one_each reply) history texts
-    -- and each reply was given so: by the very call of the job, but where a factory's job asked for more dynamic tests than there are;
-    pub gave : IsToldAsGiven (given_by gives (run_of p settings.workers asked.ring jobs)) p settings.workers history texts
+    -- and unless the plan fails fast what is printed of it is as expected by these replies
+    pub as_expected : p.fail_fast ≡ false → IsPrintedAsExpected p reply history texts
+    -- and each reply was given so: by the very call of the job, but where a factory's job asked for more dynamic tests than there are; and
+    -- the history is that of a run of the core in which each job replies just this (`gave.ran`);
+    pub gave : IsToldAsGiven (given_by gives (run_of p workers ring jobs)) p workers history texts
     -- the jobs that were used are just those of the nodes that have finished, each once; all others are left
-    pub left : List (ℕ × B)
     pub balanced : IsBalanced p jobs history left
-    -- what is printed, to the end
-    pub behind : List ℕ
-    pub is_behind : IsBehindRun asked.details asked.schedule settings.workers p known history texts behind
-    pub printed : text ≡ head_of asked.details settings.warnings ++ (details_of asked.details asked.theme p texts (times_asked asked.times times) history ++ behind)
-    pub exits : status ≡ status_of_run asked.fail_if_no_tests (tests_found p history) (has_failed p history)
-    -- and unless the plan fails fast all this but a feed and what stands behind is what is expected by these replies, whatever the
+
+-- What is printed of a run that is over, of whose jobs it may be known what they answer, by its history, and the texts and times of its
+-- nodes: a line for each warning, then the history as the options say, with the times if they are asked for, and then what is to stand
+-- behind it; its failures make the status.
+pub record IsPrintedOf (known : Option (List (ℕ × Reply))) (asked : Asked) (settings : Settings) (p : PlanParts) (history : List Event) (texts : TextParts) (times : Times) (text : List ℕ) (status : ExitStatus) : Type 0 where
+  pub behind : List ℕ
+  pub is_behind : IsBehindRun asked.details asked.schedule settings.workers p known history texts behind
+  pub printed : text ≡ head_of asked.details settings.warnings ++ (details_of asked.details asked.theme p texts (times_asked asked.times times) history ++ behind)
+  pub exits : status ≡ status_of_run asked.fail_if_no_tests (tests_found p history) (has_failed p history)
+
+-- of jobs that may answer so, and what is known beforehand of what they do, if it is
+module _ {B : Type 0} (answers : B → List Reply) (gives : B → Reply → Type 0) (known : Option (List (ℕ × Reply))) where
+  -- there is a run of these jobs by the settings' workers with this history, and these texts and times of its nodes, of which this is printed
+  pub record IsPrintedJobs (asked : Asked) (settings : Settings) (p : PlanParts) (jobs : List (ℕ × B)) (history : List Event) (texts : TextParts) (times : Times) (text : List ℕ) (status : ExitStatus) : Type 0 where
+    pub left : List (ℕ × B)
+    pub ran : HasRun answers gives settings.workers asked.ring p jobs history texts left
+    pub prints : IsPrintedOf known asked settings p history texts times text status
+    -- and unless the plan fails fast all this but a feed and what stands behind is what is expected by the replies of the run, whatever the
     -- workers did
-    pub as_expected : p.fail_fast ≡ false → IsExpectedOutput asked settings p.tree reply behind text status
+    pub as_expected : p.fail_fast ≡ false → IsExpectedOutput asked settings p.tree ran.reply prints.behind text status
 
   -- the settings' workers run these jobs on the plan, and this is printed of it
   abbrev pub IsJobsOutput : Asked → Settings → PlanParts → List (ℕ × B) → List ℕ → ExitStatus → Type 0

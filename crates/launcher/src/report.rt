@@ -1,25 +1,23 @@
 //! What is printed of a suite's plan, or of a program's jobs, and the status: it is run on threads, or not at all.
 
-ghost use Rattle.std.specs.Prelude.{◌≡◌, ℕ, ◌≤◌, List, ◌++◌, ◌⊎◌, None, option_map, IfOk, IfErr, string_bytes};
+ghost use Rattle.std.specs.Prelude.{◌≡◌, ◌≤◌, ◌⊎◌, None, option_map, IfOk, IfErr, string_bytes};
 ghost use Rattle.descriptor.specs.Nodes.{IsTree};
-ghost use Rattle.job_times.specs.Timings.{times_asked, times_of};
-ghost use Rattle.run_results.specs.Results.{tests_found, has_failed};
+ghost use Rattle.job_times.specs.Timings.{times_of};
+ghost use Rattle.listeners.specs.Listeners.{tellings_of};
+ghost use Rattle.listeners.specs.Observing.{HasSeenMore};
 ghost use Rattle.launch_options.specs.Asked.{asked_by};
 ghost use Rattle.launcher.specs.Faults.{unrun_fault};
-ghost use Rattle.launcher.specs.Programs.{IsJobsOutput, IsPrintedJobs, IsProgramOutput};
+ghost use Rattle.launcher.specs.Programs.{HasRun, IsJobsOutput, IsPrintedJobs, IsPrintedOf, IsProgramOutput};
 ghost use Rattle.launcher.specs.Reports.{IsOutput, IsPlanOutput, IsPrintedRun, IsRunOutput};
 ghost use Rattle.launcher.specs.Runs.{IsUnrun};
 ghost use Rattle.launcher.specs.Watched.{LacksBy, LacksMeans, Watches, WatchesBy};
 ghost use Rattle.run_outputs.specs.Outputs.{is_run};
 ghost use Rattle.resource_locks.specs.Declarations.{declared_of};
 ghost use Rattle.resource_locks.specs.Hoisted.{IsGuarded};
-ghost use Rattle.run_outputs.specs.ExitStatuses.{status_of_run};
-ghost use Rattle.run_outputs.specs.Outputs.{details_of};
-ghost use Rattle.run_outputs.specs.ScheduleLines.{IsBehindRun};
-ghost use Rattle.run_outputs.specs.WarningTexts.{head_of};
-ghost use Rattle.table_contents.specs.Prepared.{HasAllJobs};
+ghost use Rattle.table_contents.specs.Prepared.{HasAllJobs, IsRightRing};
+ghost use Rattle.table_rule.specs.Picture.{given_by};
 ghost use Rattle.worker_pool.specs.Premises.{JobsMayAnswer};
-ghost use Rattle.worker_pool.specs.Reports.{run_of};
+ghost use Rattle.worker_pool.specs.Reports.{run_of, IsToldAsSaid};
 
 use crate::driven::drive_report;
 use crate::timed_place::{TimedPlace, bare_places};
@@ -52,8 +50,52 @@ fn unrun(cause: RunCause) -> LaunchFault
     }
 }
 
-/// The report of a run that is over, with these times if they are asked for.
-fn ended_report<B: Job>(
+/// Runs these jobs on a plan by so many workers, on threads of their own, which is shown to whoever watches, and of which
+/// the stopwatch takes note. The run that is over is handed out: each clause is of its own parts.
+pub fn launch<
+    B: Job + Send,
+    K: Place<B> + Send,
+    T: Threads + Wait + Sync,
+    V: Observer,
+    S: Stopwatch + Sync,
+>(
+    rt: &T,
+    alloc: Global,
+    plan: Plan,
+    jobs: Jobs<B>,
+    workers: u32,
+    ring: u32,
+    places: &[Mutex<TimedPlace<K>>],
+    observer: &mut V,
+    stopwatch: &S,
+) -> Result<Report<B>, LaunchFault>
+    requires some { 1 ≤ workers }
+    requires few { workers ≤ 64 }
+    requires ring { IsRightRing ring }
+    requires guarded { IsGuarded (declared_of plan.tree) plan }
+    requires tree { IsTree plan.tree }
+    requires jobs { JobsMayAnswer B.answers (run_of plan workers ring jobs.items) }
+    requires all { HasAllJobs plan jobs.items }
+    ensures plan { IfOk result (λ ran. ran.plan ≡ plan) }
+    ensures ran { IfOk result (λ ran. HasRun B.answers B.gives workers ring plan jobs.items ran.events.items ran.texts
+        ran.unused_jobs.items) }
+    ensures said { IfOk result (λ ran. IsToldAsSaid B.says (given_by B.gives (run_of plan workers ring jobs.items)) plan
+        workers ran.events.items ran.texts ran.used_jobs.items) }
+    ensures seen { IfOk result (λ ran. HasSeenMore V.saw plan (tellings_of ran.texts ran.events.items) observer.old
+        observer.new) }
+    ensures unseen { IfErr result (λ _. observer.new ≡ observer.old) }
+    ensures refused { IfErr result LacksMeans }
+{
+    match run_timed(
+        rt, alloc, plan, jobs, workers, ring, places, observer, stopwatch,
+    ) {
+        Ok(ran) => Ok(ran),
+        Err(fault) => Err(unrun(fault.cause)),
+    }
+}
+
+/// What is printed of a run that is over, with these times if they are asked for.
+pub(crate) fn printed<B: Job>(
     alloc: Global,
     options: &Options,
     settings: &Settings,
@@ -61,13 +103,8 @@ fn ended_report<B: Job>(
     ran: &Report<B>,
     timings: &Timings,
 ) -> Result<Output, AllocError>
-    ensures text { IfOk result (λ report. (schedule : List ℕ) × IsBehindRun options.now.details options.now.schedule
-        settings.now.workers ran.now.plan (option_map (λ a. a.now) known.entry) ran.now.events.items ran.now.texts schedule
-        × (string_bytes report.text ≡ head_of options.now.details settings.now.warnings
-        ++ (details_of options.now.details options.now.theme ran.now.plan ran.now.texts
-        (times_asked options.now.times (times_of timings.now)) ran.now.events.items ++ schedule))) }
-    ensures status { IfOk result (λ report. report.status ≡ status_of_run options.now.fail_if_no_tests
-        (tests_found ran.now.plan ran.now.events.items) (has_failed ran.now.plan ran.now.events.items)) }
+    ensures { IfOk result (λ report. IsPrintedOf (option_map (λ a. a.now) known.entry) (asked_by options.now) settings.now
+        ran.now.plan ran.now.events.items ran.now.texts (times_of timings.now) (string_bytes report.text) report.status) }
 {
     let history = ran.events.as_slice();
     told_report(
@@ -75,28 +112,7 @@ fn ended_report<B: Job>(
     )
 }
 
-/// The same of a report that is not looked at again, with the times that were noted by who watched.
-fn output_of<B: Job, V: NotesTimes>(
-    alloc: Global,
-    options: &Options,
-    settings: &Settings,
-    known: Option<&Answers>,
-    ran: Report<B>,
-    observer: &V,
-) -> Result<Output, AllocError>
-    ensures text { IfOk result (λ report. (schedule : List ℕ) × IsBehindRun options.now.details options.now.schedule
-        settings.now.workers ran.plan (option_map (λ a. a.now) known.entry) ran.events.items ran.texts schedule
-        × (string_bytes report.text ≡ head_of options.now.details settings.now.warnings
-        ++ (details_of options.now.details options.now.theme ran.plan ran.texts
-        (times_asked options.now.times (V.noted observer.now)) ran.events.items ++ schedule))) }
-    ensures status { IfOk result (λ report. report.status ≡ status_of_run options.now.fail_if_no_tests
-        (tests_found ran.plan ran.events.items) (has_failed ran.plan ran.events.items)) }
-{
-    ended_report(alloc, options, settings, known, &ran, observer.timings())
-}
-
-/// The report of a run of these jobs by the settings' workers, on threads of their own, which is shown to
-/// whoever watches, and of which the stopwatch takes note. What is known of what the jobs answer is asked for a
+/// What is printed of a run of these jobs by the settings' workers. What is known of what the jobs answer is asked for a
 /// schedule alone.
 fn ran_report<
     B: Job + Send,
@@ -128,20 +144,21 @@ fn ran_report<
         (V.noted observer.new) result }
     ensures refused { IfErr result LacksMeans }
 {
-    match run_timed(
+    let workers = settings.workers;
+    let ring = options.ring;
+    let ran = launch(
         rt,
         alloc,
         plan,
         jobs,
-        settings.workers,
-        options.ring,
+        workers,
+        ring,
         places,
-        observer,
+        &mut *observer,
         stopwatch,
-    ) {
-        Ok(ran) => Ok(output_of(alloc, options, settings, known, ran, &*observer)?),
-        Err(fault) => Err(unrun(fault.cause)),
-    }
+    )?;
+    let report = printed(alloc, options, settings, known, &ran, observer.timings())?;
+    Ok(report)
 }
 
 /// The report of a run by the settings' workers of the jobs that the suite says.

@@ -8,6 +8,7 @@ mod opening;
 mod recording;
 mod report;
 mod report_text;
+mod run_report;
 mod slowest_tests;
 mod system_files;
 
@@ -17,5 +18,6 @@ pub use keeper::ReportFiles;
 pub use opening::open_all;
 pub use recording::{Recorded, Recording, ToldRun};
 pub use report::{Outcome, Report, write_reports};
+pub use run_report::report_run;
 pub use slowest_tests::slowest_in;
 pub use system_files::{ReportFile, SystemFiles};

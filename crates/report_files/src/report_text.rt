@@ -27,7 +27,7 @@ fn summary_text(alloc: Global, told: &ToldRun) -> Result<String, AllocError>
 }
 
 /// The tree of these results, and the summary behind it.
-fn tree_and_summary(
+pub(crate) fn tree_and_summary(
     alloc: Global,
     theme: Theme,
     results: &Results<'_>,

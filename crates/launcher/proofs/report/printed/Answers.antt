@@ -1,0 +1,1 @@
+-- What is told of the parts of a run is printed of it.

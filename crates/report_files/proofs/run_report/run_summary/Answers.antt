@@ -1,0 +1,13 @@
+-- The results are those of the run.
+use Rattle.std.proofs.Common.{◌≡◌, List, IfOk, subst}
+use Rattle.std.specs.Prelude.{string_bytes}
+use Rattle.plan_events.specs.declared.event.Event.{Event}
+use Rattle.resource_locks.specs.Plans.{PlanParts}
+use Rattle.run_results.specs.Counts.{counts_of}
+use Rattle.run_results.specs.SummaryTexts.{summary_of}
+use Rattle.report_files.proofs.run_report.run_summary.Goals as goal
+
+pub returns : goal.returns
+returns c =
+    let of_events = subst (λ (es : List Event). IfOk c.summary_text.result (λ text. string_bytes text ≡ summary_of (counts_of c.in_ok-results.results.plan es))) c.in_ok-results.ensures.events c.summary_text.ensures.text in
+    subst (λ (p : PlanParts). IfOk c.summary_text.result (λ text. string_bytes text ≡ summary_of (counts_of p c.args.events.now))) c.in_ok-results.ensures.plan of_events
