@@ -5,13 +5,14 @@ use run_moments::moment_by;
 use std::alloc::Global;
 use std::time::Clock;
 
-/// What takes note, by this clock, of when tests begin and end, if there is memory for it; else it takes none, and knows
-/// nothing.
-pub fn times_by<C: Clock>(alloc: Global, clock: &C) -> JobTimes<'_, C> {
-    match JobTimes::new(alloc, clock) {
-        Ok(times) => times,
-        Err(_) => JobTimes::off(alloc, clock),
+/// What takes note, by this clock, of when tests begin and end, if that is asked for, or once a limit is set, if there is
+/// memory for it; else it takes none, and knows nothing.
+pub fn times_by<C: Clock>(alloc: Global, clock: &C, is_asked: bool) -> JobTimes<'_, C> {
+    let times = JobTimes::off(alloc, clock);
+    if is_asked {
+        times.turn_on();
     }
+    times
 }
 
 /// A text of its own, if there is one and there is memory for it.

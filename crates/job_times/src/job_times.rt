@@ -50,35 +50,53 @@ impl JobCell {
     }
 }
 
-/// Takes note of times by a clock, which may go back or fail: what was not read is not known.
+/// Takes note of times by a clock, which may go back or fail: what was not read is not known. It has no cells, and reads
+/// no clock, until somebody asks for times or sets a limit.
 pub struct JobTimes<'c, C: Clock> {
-    // that of each number from 0, or none at all
-    cells: Vec<JobCell>,
+    alloc: Global,
+    // that of each number from 0; none before they are made, or where there was no memory
+    cells: OnceLock<Vec<JobCell>>,
     clock: &'c C,
 }
 
 impl<'c, C: Clock> Drop for JobTimes<'c, C> {
     fn drop(self) {
-        let Self { cells, clock: _ } = self;
+        let Self {
+            alloc: _,
+            cells,
+            clock: _,
+        } = self;
         drop(cells);
     }
 }
 
-impl<'c, C: Clock> JobTimes<'c, C> {
-    /// Nothing is known of any job yet. Of a job whose number is 16,384 or more nothing is ever known.
-    pub fn new(alloc: Global, clock: &'c C) -> Result<JobTimes<'c, C>, AllocError> {
-        let mut cells = Vec::with_capacity(alloc, NUMBERS)?;
-        for _number in 0..NUMBERS {
-            cells.push(JobCell::new())?;
-        }
-        Ok(JobTimes { cells, clock })
+/// A cell for each number.
+fn cells_for(alloc: Global) -> Result<Vec<JobCell>, AllocError> {
+    let mut cells = Vec::with_capacity(alloc, NUMBERS)?;
+    for _number in 0..NUMBERS {
+        cells.push(JobCell::new())?;
     }
+    Ok(cells)
+}
 
-    /// Takes note of nothing, and reads no clock.
+impl<'c, C: Clock> JobTimes<'c, C> {
+    /// Nothing is known of any job, and no note is taken.
     pub fn off(alloc: Global, clock: &'c C) -> JobTimes<'c, C> {
         JobTimes {
-            cells: Vec::new(alloc),
+            alloc,
+            cells: OnceLock::new(),
             clock,
+        }
+    }
+
+    /// From now on note is taken of each job, if there is memory for it. Of a job whose number is 16,384 or more nothing is
+    /// ever known.
+    pub fn turn_on(&self) {
+        if self.cells.get().is_some() {
+            return;
+        }
+        if let Ok(cells) = cells_for(self.alloc) {
+            let _ = self.cells.try_set(cells);
         }
     }
 
@@ -96,7 +114,7 @@ impl<'c, C: Clock> JobTimes<'c, C> {
 
     /// What is known of the job of this number, if it has a cell.
     fn cell(&self, number: BodyId) -> Option<&JobCell> {
-        self.cells.get(number.index())
+        self.cells.get()?.get(number.index())
     }
 
     /// The microseconds that the clock shows, if it can be read.
@@ -133,6 +151,7 @@ impl<'c, C: Clock> Stopwatch for JobTimes<'c, C> {
     }
 
     fn set_limit(&self, number: BodyId, milliseconds: u32) {
+        self.turn_on();
         if let Some(cell) = self.cell(number) {
             let _ = cell.limit.try_set(milliseconds);
         }

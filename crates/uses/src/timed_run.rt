@@ -50,7 +50,8 @@ pub fn run_two_timed<R: Threads + Wait + Sync + Clock>(
     let Ok(jobs) = two_jobs(alloc, first, second) else {
         return None;
     };
-    let stopwatch = JobTimes::new(alloc, rt).ok()?;
+    let stopwatch = JobTimes::off(alloc, rt);
+    stopwatch.turn_on();
     let places = bare_places();
     match run_timed(
         rt,
