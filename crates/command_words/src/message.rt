@@ -29,7 +29,7 @@ Keys of --config and --system that begin with junit.jupiter.execution.parallel.
 and whole keys
   nelborugy.slow.default, nelborugy.lock.LOCK.holders
 
-Nelborugy 2026-11-29
+Nelborugy 2026-12-01
 ";
 
 /// Whether clap says of a word that is no option that it does not expect it: a file's name, for one.
