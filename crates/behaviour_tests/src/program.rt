@@ -72,6 +72,7 @@ pub(crate) fn feed_options(alloc: Global) -> Options {
         schedule: false,
         times: false,
         replay: None,
+        fail_if_passed_over: false,
         drive: None,
     }
 }

@@ -11,7 +11,7 @@ use Rattle.launch_options.specs.declared.fault.LaunchFault.{LaunchFault}
 use Rattle.messages.specs.Messages.{message_text}
 use Rattle.messages.specs.Sentences.{Sentences}
 use Rattle.messages.specs.declared.message.Message.{Message}
-use Rattle.command_line.specs.Runs.{Closes, ClosesRun, HasMessage, PrintsMessage, SaysAll, SaysIfRun, SaysOfRun, SaysSome, SaysText, SaysWhy, WentOut}
+use Rattle.command_line.specs.Runs.{Closes, ClosesRun, HasMessage, PrintsMessage, SaysAll, SaysIfRun, SaysOfRun, SaysSome, SaysText, SaysWhy, WentOut, steps_said}
 use Rattle.command_line.specs.declared.closing.Ending.{Ending}
 
 module _ {E : Type 0} (sentence : Sentences) (said : E → Option (List ℕ)) (quiet told : E) (all : Bool) where
@@ -45,23 +45,33 @@ module _ {E : Type 0} (said : E → Option (List ℕ)) (old new : E) where
 
 -- what is said of a run stands behind what is said of its answer, which is nothing
 pub closes_run : {W E : Type 0} (sentence : Sentences) (contents : W → Option (List ℕ)) (said : E → Option (List ℕ)) (answer : Result ExitStatus LaunchFault) (slowest : Option (List ℕ)) (old new : W) (quiet told last : E) (ending : Ending)
-    → Closes sentence contents said answer old new quiet told ending → IfOk answer (λ status. told ≡ quiet) → SaysIfRun (SaysAll said slowest) answer told last → ClosesRun sentence contents said answer slowest old new quiet last ending
+    → Closes sentence contents said answer old new quiet told ending → IfOk answer (λ status. told ≡ quiet) → SaysIfRun (λ status. SaysAll said (steps_said status) slowest) answer told last → ClosesRun sentence contents said answer slowest old new quiet last ending
 closes_run {E = E} sentence contents said (Ok status) slowest old new quiet told last ending closes same all = record {
   before = all.0;
+  warned = all.1;
   closes = record {
     line = closes.line;
-    message = subst (λ (e : E). SaysOfRun said e all.0) same all.1;
+    message = subst (λ (e : E). SaysOfRun said e all.0) same all.2;
     status = closes.status;
   };
-  listed = all.2;
+  passed_over = all.3;
+  listed = all.4;
 }
 closes_run sentence contents said (Err fault) slowest old new quiet told last ending closes same all = record {
   before = told;
+  warned = told;
   closes = closes;
+  passed_over = refl;
   listed = all;
 }
 
 -- of what was refused no list is made
 pub closes_refused : {W E : Type 0} (sentence : Sentences) (contents : W → Option (List ℕ)) (said : E → Option (List ℕ)) (fault : LaunchFault) (old new : W) (quiet told : E) (ending : Ending) → Closes sentence contents said (Err fault) old new quiet told ending
     → ClosesRun sentence contents said (Err fault) None old new quiet told ending
-closes_refused sentence contents said fault old new quiet told ending closes = record { before = told; closes = closes; listed = refl }
+closes_refused sentence contents said fault old new quiet told ending closes = record {
+  before = told;
+  warned = told;
+  closes = closes;
+  passed_over = refl;
+  listed = refl;
+}

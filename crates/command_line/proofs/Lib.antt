@@ -2,4 +2,5 @@ pub mod Ended
 pub mod GoneOut
 pub mod Running
 pub mod Told
+pub mod Unread
 pub mod Watched

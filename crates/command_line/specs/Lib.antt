@@ -1,2 +1,4 @@
 pub mod GivenRuns
+pub mod Infos
 pub mod Runs
+pub mod Sources

@@ -9,7 +9,9 @@ use Rattle.run_outputs.specs.ExitStatuses.{number_of, status_after}
 use Rattle.launch_options.specs.Faults.{refusal_text}
 use Rattle.launch_options.specs.declared.asked.Options.{Options}
 use Rattle.run_outputs.specs.declared.exit_status.ExitStatus.{ExitStatus}
+use Rattle.run_outputs.specs.declared.exit_status.ExitStatus.TheVariants.{StepsPassedOver}
 use Rattle.launch_options.specs.declared.fault.LaunchFault.{LaunchFault}
+use Rattle.launch_options.specs.declared.fault.LaunchFault.TheVariants.{BadWords, NoMemory, Reading}
 use Rattle.messages.specs.Hints.{hints_text}
 use Rattle.messages.specs.Messages.{message_text}
 use Rattle.messages.specs.Sentences.{Sentences, sentence_of}
@@ -24,7 +26,8 @@ use Rattle.report_files.specs.Deeds.{Deed}
 use Rattle.report_files.specs.FiledReports.{Wanted}
 use Rattle.launcher.specs.FiledRuns.{RunsAsked, RunsFiled}
 use Rattle.launcher.specs.SlowestRuns.{IsSlowestRun}
-use Rattle.command_words.specs.Words.{ReadsWords, reports_wanted}
+use Rattle.command_words.specs.Infos.{AsksForNothing}
+use Rattle.command_words.specs.Words.{ReadsWords, reports_wanted, suite_wanted}
 use Rattle.command_line.specs.declared.closing.Ending.{Ending}
 
 module _ {R W : Type 0} (remaining : R → Option (List ℕ)) (contents : W → Option (List ℕ)) where
@@ -48,16 +51,29 @@ pub record IsTimedRun (asked : Asked) (wanted : List Wanted) (before left old ne
   pub listed : IfOk result (λ status. IsSlowestRun asked times before left old new status slowest)
 
 module _ {R W K : Type 0} (remaining : R → Option (List ℕ)) (contents : W → Option (List ℕ)) (deeds : K → Option (List Deed)) where
-  -- the same with what the words gave: of what is refused no file is touched, and no list is made
-  abbrev pub FilesOptions : Result Options LaunchFault → List Wanted → (before after : R) → (left : Option (List ℕ)) → (old new : W) → (was now : K) → Result ExitStatus LaunchFault → (slowest : Option (List ℕ)) → Type 0
-  FilesOptions (Ok options) wanted before after left old new was now result slowest = IsTimedRun (asked_by options) wanted (remaining before) left (contents old) (contents new) (deeds was) (deeds now) result slowest
-  FilesOptions (Err fault) wanted before after left old new was now result slowest = (result ≡ Err fault) × (after ≡ before) × (new ≡ old) × (now ≡ was) × (slowest ≡ None)
+  -- what is refused before anything is run: nothing is written, no file is touched, and no list is made
+  abbrev pub IsUnrun : LaunchFault → (old new : W) → (was now : K) → Result ExitStatus LaunchFault → (slowest : Option (List ℕ)) → Type 0
+  IsUnrun fault old new was now result slowest = (result ≡ Err fault) × (new ≡ old) × (now ≡ was) × (slowest ≡ None)
 
-  -- the words are read, and what that gave is run, with the reports that they ask for
+  -- These options are run of the suite that the reader holds; or, where a file is named, of that which it has, and the reader is not touched. A
+  -- file that cannot be read is refused.
+  abbrev pub FilesSuite : Options → (suite : Option Text) → List Wanted → (before after : R) → (left : Option (List ℕ)) → (old new : W) → (was now : K) → Result ExitStatus LaunchFault → (slowest : Option (List ℕ)) → Type 0
+  FilesSuite options None wanted before after left old new was now result slowest = IsTimedRun (asked_by options) wanted (remaining before) left (contents old) (contents new) (deeds was) (deeds now) result slowest
+  FilesSuite options (Some name) wanted before after left old new was now result slowest = (after ≡ before) × (
+      ((bytes : List ℕ) × IsTimedRun (asked_by options) wanted (Some bytes) left (contents old) (contents new) (deeds was) (deeds now) result slowest)
+      ⊎ (IsUnrun Reading old new was now result slowest ⊎ IsUnrun NoMemory old new was now result slowest))
+
+  -- what is done with what the words gave: of what is refused neither reader nor writer is touched
+  abbrev pub FilesOptions : Result Options LaunchFault → (suite : Option Text) → List Wanted → (before after : R) → (left : Option (List ℕ)) → (old new : W) → (was now : K) → Result ExitStatus LaunchFault → (slowest : Option (List ℕ)) → Type 0
+  FilesOptions (Ok options) suite wanted before after left old new was now result slowest = FilesSuite options suite wanted before after left old new was now result slowest
+  FilesOptions (Err fault) suite wanted before after left old new was now result slowest = (after ≡ before) × IsUnrun fault old new was now result slowest
+
+  -- the words are read, and what that gave is run, with the reports that they ask for; words that are refused ask for no help
   pub record IsFiledConsoleRun (words : List Text) (before after : R) (left : Option (List ℕ)) (old new : W) (was now : K) (result : Result ExitStatus LaunchFault) (slowest : Option (List ℕ)) : Type 0 where
     pub options : Result Options LaunchFault
     pub reads : ReadsWords words options
-    pub runs : FilesOptions options (reports_wanted words) before after left old new was now result slowest
+    pub unasked : options ≡ Err BadWords → AsksForNothing words
+    pub runs : FilesOptions options (suite_wanted words) (reports_wanted words) before after left old new was now result slowest
 
 -- the message that stands there after this answer: none where nothing was refused, and else one that begins with the refusal's sentence
 -- among these
@@ -78,9 +94,30 @@ abbrev pub WentOut : Bool → (old new : Option (List ℕ)) → List ℕ → Typ
 WentOut true old new text = Appends old new text
 WentOut false old new text = (sent : ℕ) × (sent < length text) × Appends old new (take sent text)
 
+-- what is said of a replay that passed steps over, and of no other run
+abbrev pub steps_said : ExitStatus → Option (List ℕ)
+steps_said (StepsPassedOver fails) = Some (codes "Steps were passed over, since they were not possible in their turn; the last line says how many.\nThey lead to just what happened with the suite and the options of the run that they were printed behind.\n")
+steps_said _ = None
+
+-- the same of an answer: of what is refused nothing is said
+abbrev pub steps_after : Result ExitStatus LaunchFault → Option (List ℕ)
+steps_after (Ok status) = steps_said status
+steps_after (Err fault) = None
+
+-- what is said before a suite is read: what is waited for, where standard input is a terminal and no file is named
+abbrev pub waiting_said : (is_typed : Bool) → (suite : Option Text) → Option (List ℕ)
+waiting_said true None = Some (codes "console: a suite is read from standard input; Ctrl-D ends it. --suite FILE reads one from a file, --help lists the options.\n")
+waiting_said true (Some name) = None
+waiting_said false suite = None
+
+-- the same of options that the words gave, and nothing where they gave none
+abbrev pub waiting_for : (is_typed : Bool) → (suite : Option Text) → Result Options LaunchFault → Option (List ℕ)
+waiting_for is_typed suite (Ok options) = waiting_said is_typed suite
+waiting_for is_typed suite (Err fault) = None
+
 -- this is said of a run alone that was not refused
-abbrev pub SaysIfRun : {W : Type 0} → ((old new : W) → Type 0) → Result ExitStatus LaunchFault → (old new : W) → Type 0
-SaysIfRun Says (Ok status) old new = Says old new
+abbrev pub SaysIfRun : {W : Type 0} → (ExitStatus → (old new : W) → Type 0) → Result ExitStatus LaunchFault → (old new : W) → Type 0
+SaysIfRun Says (Ok status) old new = Says status old new
 SaysIfRun Says (Err fault) old new = new ≡ old
 
 module _ {W : Type 0} (contents : W → Option (List ℕ)) where
@@ -119,9 +156,9 @@ module _ {W : Type 0} (contents : W → Option (List ℕ)) where
   abbrev pub SaysOfRun : (old new : W) → Type 0
   SaysOfRun old new = (seeded : W) × (hinted : W) × SaysSeed old seeded × SaysHints seeded hinted × SaysFailures hinted new
 
-  -- these, and this list of the slowest tests behind them
-  abbrev pub SaysAll : (slowest : Option (List ℕ)) → (old new : W) → Type 0
-  SaysAll slowest old new = (between : W) × SaysOfRun old between × SaysText slowest between new
+  -- these, and behind them what is said of steps, and this list of the slowest tests
+  abbrev pub SaysAll : (steps slowest : Option (List ℕ)) → (old new : W) → Type 0
+  SaysAll steps slowest old new = (between warned : W) × SaysOfRun old between × SaysText steps between warned × SaysText slowest warned new
 
   -- what is said of this answer: of a run its seed, hints, and what failed; and where something was refused, the refusal's sentence among these,
   -- and details below it
@@ -137,11 +174,13 @@ module _ {W E : Type 0} (sentence : Sentences) (contents : W → Option (List �
     pub message : SaysWhy said sentence answer quiet told ending.is_told
     pub status : ending.status ≡ number_of (status_after answer)
 
-  -- the same, and of a run this list of its slowest tests stands behind that on the other writer
+  -- the same, and behind that on the other writer whether steps were passed over, and of a run this list of its slowest tests
   pub record ClosesRun (answer : Result ExitStatus LaunchFault) (slowest : Option (List ℕ)) (old new : W) (quiet told : E) (ending : Ending) : Type 0 where
     pub before : E
+    pub warned : E
     pub closes : Closes answer old new quiet before ending
-    pub listed : SaysIfRun (SaysText said slowest) answer before told
+    pub passed_over : SaysText said (steps_after answer) before warned
+    pub listed : SaysIfRun (λ status. SaysText said slowest) answer warned told
 
 -- what stands behind what the other writer held once a run is over: on a terminal what was drawn of how far the run has come, else lines
 -- of tests that ran longer than their limit
@@ -149,16 +188,44 @@ abbrev pub IsToldMeanwhile : (is_terminal : Bool) → (old new : Option (List �
 IsToldMeanwhile true old new = IsDrawnBehind old new
 IsToldMeanwhile false old new = AreNamedBehind old new
 
-module _ {R W E K : Type 0} (remaining : R → Option (List ℕ)) (contents : W → Option (List ℕ)) (said : E → Option (List ℕ)) (deeds : K → Option (List Deed)) where
-  -- the program, where standard error is a terminal that can be drawn on, or is none: what `run_console` does, with the reports that are
-  -- asked for, which leaves this to read and the writer like this; what is told on the other writer meanwhile; and behind that what is said of
-  -- the answer, and the list of the slowest tests, if times are asked for
-  pub record IsMainRun (is_terminal : Bool) (words : List Text) (before after : R) (old new : W) (first last : E) (was now : K) (ending : Ending) : Type 0 where
+module _ {W E : Type 0} (contents : W → Option (List ℕ)) (said : E → Option (List ℕ)) where
+  -- What is asked for is run of a suite of which this is left to read, with these reports. On the other writer stands first what is waited for, if
+  -- something is said of that; then what is told meanwhile, and behind that what is said of the answer, and the list of the slowest tests.
+  pub record IsSourceRun (is_terminal : Bool) (waited : Option (List ℕ)) (asked : Asked) (wanted : List Wanted) (before : Option (List ℕ)) (old new : W) (first last : E) (was now : Option (List Deed)) (ending : Ending) : Type 0 where
     pub answer : Result ExitStatus LaunchFault
     pub left : Option (List ℕ)
     pub between : W
     pub slowest : Option (List ℕ)
+    pub waiting : E
+    pub during : E
+    pub run : IsTimedRun asked wanted before left (contents old) (contents between) was now answer slowest
+    pub waits : SaysText said waited first waiting
+    pub tells : IsToldMeanwhile is_terminal (said waiting) (said during)
+    pub closed : ClosesRun sentence_of contents said answer slowest between new during last ending
+
+  module _ {K : Type 0} (deeds : K → Option (List Deed)) where
+    -- a file that has no suite to run: that is said, and no file is touched
+    abbrev pub LacksFile : LaunchFault → (old new : W) → (first last : E) → (was now : K) → Ending → Type 0
+    LacksFile fault old new first last was now ending = (now ≡ was) × Closes sentence_of contents said (Err fault) old new first last ending
+
+    -- what is asked for is run of the suite that a file has; or the file cannot be read
+    abbrev pub IsFileRun : (is_terminal : Bool) → Asked → List Wanted → (old new : W) → (first last : E) → (was now : K) → Ending → Type 0
+    IsFileRun is_terminal asked wanted old new first last was now ending =
+        ((bytes : List ℕ) × IsSourceRun is_terminal None asked wanted (Some bytes) old new first last (deeds was) (deeds now) ending)
+        ⊎ (LacksFile Reading old new first last was now ending ⊎ LacksFile NoMemory old new first last was now ending)
+
+module _ {R W E K : Type 0} (remaining : R → Option (List ℕ)) (contents : W → Option (List ℕ)) (said : E → Option (List ℕ)) (deeds : K → Option (List Deed)) where
+  -- the program, where standard error is a terminal that can be drawn on, or is none: what `run_console` does, with the reports that are
+  -- asked for, which leaves this to read and the writer like this; what is said on the other writer where a suite is to be typed, and what is
+  -- told there meanwhile; and behind that what is said of the answer, and the list of the slowest tests, if times are asked for
+  pub record IsMainRun (is_terminal is_typed : Bool) (words : List Text) (before after : R) (old new : W) (first last : E) (was now : K) (ending : Ending) : Type 0 where
+    pub answer : Result ExitStatus LaunchFault
+    pub left : Option (List ℕ)
+    pub between : W
+    pub slowest : Option (List ℕ)
+    pub waiting : E
     pub during : E
     pub run : IsFiledConsoleRun remaining contents deeds words before after left old between was now answer slowest
-    pub tells : IsToldMeanwhile is_terminal (said first) (said during)
+    pub waits : SaysText said (waiting_for is_typed (suite_wanted words) run.options) first waiting
+    pub tells : IsToldMeanwhile is_terminal (said waiting) (said during)
     pub closed : ClosesRun sentence_of contents said answer slowest between new during last ending

@@ -1,19 +1,21 @@
 //! What is said once a run is over.
 
-ghost use Rattle.std.specs.Prelude.{◌≡◌, ◌++◌, Err, IfOk, IfSome, option_map, string_bytes};
+ghost use Rattle.std.specs.Prelude.{◌≡◌, ◌++◌, Err, IfOk, IfSome, map, option_map, string_bytes};
 ghost use Rattle.run_outputs.specs.AfterRuns.{line_after};
 ghost use Rattle.run_outputs.specs.ExitStatuses.{number_of, status_after};
 ghost use Rattle.messages.specs.Sentences.{sentence_by};
 ghost use Rattle.command_line.specs.Runs.{Closes, ClosesRun, HasMessage, PrintsLine, PrintsMessage, WentOut};
 ghost use Rattle.command_line.specs.Runs.{SaysAll, SaysFailures, SaysHints, SaysIfRun, SaysSeed, SaysText};
-ghost use Rattle.command_line.specs.Runs.{refusal_line, seed_line};
+ghost use Rattle.command_line.specs.Runs.{refusal_line, seed_line, steps_said, waiting_said};
+ghost use Rattle.command_line.specs.Infos.{EndsUnread, TellsInfo};
+ghost use Rattle.launch_options.specs.Given.{maybe_behind};
 
 use arrayvec::ArrayString;
-use command_words::{given_by, message_of};
+use command_words::{Info, given_by, info_asked, message_of};
 use launcher::option_names::SELECT_UNIQUE_ID;
 use launcher::{AfterRun, Details, ExitStatus, LaunchFault, Options};
 use live::{Failures, failed_text};
-use messages::{Hints, Message, Subject, hints_of, hints_text};
+use messages::{Message, Subject, hints_of, hints_text, names_no_node};
 use run_results::print_to;
 use std::alloc::{AllocError, Global};
 use std::fmt;
@@ -29,6 +31,15 @@ pub struct Ending {
     /// Whether all of the message of a refusal went out, if there was one.
     pub is_told: bool,
 }
+
+/// What is said behind a replay that passed steps over.
+const STEPS_PASSED_OVER: &str =
+    "Steps were passed over, since they were not possible in their turn; the last line says how many.\n\
+    They lead to just what happened with the suite and the options of the run that they were printed behind.\n";
+
+/// What is said before a suite is read that somebody is to type.
+const WAITING: &str =
+    "console: a suite is read from standard input; Ctrl-D ends it. --suite FILE reads one from a file, --help lists the options.\n";
 
 /// Room for the line of a refusal: its words, a number, and a place of twenty digits.
 const LONGEST_LINE: usize = 48;
@@ -130,6 +141,18 @@ fn message_after(
     }
 }
 
+/// Tells what was asked for in place of a run. The status is 0, and 255 where not all of it went out.
+fn tell_info<W: Write>(info: &Info, writer: &mut W) -> Ending
+    ensures { TellsInfo W.contents (string_bytes info.now.text) writer.old writer.new result }
+{
+    let is_printed = goes_out(writer, info.text.as_str());
+    Ending {
+        status: if is_printed { 0 } else { 255 },
+        is_printed,
+        is_told: true,
+    }
+}
+
 /// Says what there is to say after this answer of a run that these words asked for.
 pub fn close_run<W: Write, E: Write>(
     alloc: Global,
@@ -145,6 +168,67 @@ pub fn close_run<W: Write, E: Write>(
 {
     let message = message_after(alloc, answer, words, subject);
     close(answer, message, writer, errors)
+}
+
+/// Ends where words were refused for this reason. Those that ask for help, or for the version, are told it, and for all
+/// others the refusal is said; want of memory may stand in its place.
+pub fn close_unread<W: Write, E: Write>(
+    alloc: Global,
+    fault: LaunchFault,
+    words: &[String],
+    subject: Subject<'_>,
+    writer: &mut W,
+    errors: &mut E,
+) -> Ending
+    ensures { EndsUnread (sentence_by subject.entry) W.contents E.contents (map string_bytes words.now) fault writer.old
+        writer.new errors.old errors.new result }
+{
+    let info = match fault {
+        LaunchFault::BadWords => info_asked(alloc, words, subject),
+        _ => Ok(None),
+    };
+    match info {
+        Ok(Some(info)) => tell_info(&info, writer),
+        Ok(None) => close_run(alloc, Err(fault), words, subject, writer, errors),
+        Err(AllocError) => close_run(
+            alloc,
+            Err(LaunchFault::NoMemory),
+            words,
+            subject,
+            writer,
+            errors,
+        ),
+    }
+}
+
+/// Says this text, if there is one, as far as the writer takes it.
+fn say_said<E: Write>(said: Option<&str>, errors: &mut E)
+    ensures { SaysText E.contents (maybe_behind said.entry) errors.old errors.new }
+{
+    if let Some(text) = said {
+        let _ = print_to(errors, text.as_bytes());
+    }
+}
+
+/// Says what is waited for, where a suite is to be typed: standard input is a terminal, and no file is named.
+pub(crate) fn say_waiting<E: Write>(is_typed: bool, suite: Option<&str>, errors: &mut E)
+    ensures { SaysText E.contents (waiting_said is_typed (maybe_behind suite.entry)) errors.old errors.new }
+{
+    let said = match suite {
+        None if is_typed => Some(WAITING),
+        _ => None,
+    };
+    say_said(said, errors);
+}
+
+/// What is said of a run with this status, if it passed steps over.
+fn steps_said(status: ExitStatus) -> Option<&'static str>
+    ensures { maybe_behind result ≡ steps_said status }
+{
+    match status {
+        ExitStatus::StepsPassedOver { .. } => Some(STEPS_PASSED_OVER),
+        _ => None,
+    }
 }
 
 /// Says this text, if there is one, as far as the writer takes it.
@@ -198,7 +282,7 @@ fn say_hints_of<E: Write>(
     }
 }
 
-/// Says the same of a suite's run, where that is said.
+/// Says it of a suite's run, behind what people read; and behind all else too where the suite names no node.
 fn say_hints<E: Write>(
     alloc: Global,
     options: &Options,
@@ -209,7 +293,7 @@ fn say_hints<E: Write>(
     ensures { SaysHints E.contents errors.old errors.new }
 {
     if let Subject::Suite(suite) = subject {
-        if says_more(options) {
+        if says_more(options) || names_no_node(suite) {
             say_hints_of(alloc, options, words, suite, errors);
         }
     }
@@ -224,10 +308,12 @@ fn say_failures<E: Write>(alloc: Global, options: &Options, failures: &Failures,
     }
 }
 
-/// Says of a run its seed, what of these words, which asked for these options, and of this suite has another effect than
-/// it seems to have, what failed, and the slowest tests, if there is a list of them.
+/// Says of a run with this status its seed, what of these words, which asked for these options, and of this suite has
+/// another effect than it seems to have, what failed, whether steps were passed over, and the slowest tests, if there is a
+/// list of them.
 fn say_of_run<E: Write>(
     alloc: Global,
+    status: ExitStatus,
     options: &Options,
     words: &[String],
     subject: Subject<'_>,
@@ -235,15 +321,16 @@ fn say_of_run<E: Write>(
     slowest: Option<String>,
     errors: &mut E,
 )
-    ensures { SaysAll E.contents (option_map string_bytes slowest) errors.old errors.new }
+    ensures { SaysAll E.contents (steps_said status) (option_map string_bytes slowest) errors.old errors.new }
 {
     say_seed(alloc, options, &mut *errors);
     say_hints(alloc, options, words, subject, &mut *errors);
     say_failures(alloc, options, failures, &mut *errors);
+    say_said(steps_said(status), &mut *errors);
     say(slowest, errors);
 }
 
-/// Says the same of a run that was not refused.
+/// Says all that of a run that was not refused.
 fn say_if_run<E: Write>(
     alloc: Global,
     answer: Result<ExitStatus, LaunchFault>,
@@ -254,16 +341,20 @@ fn say_if_run<E: Write>(
     slowest: Option<String>,
     errors: &mut E,
 )
-    ensures { SaysIfRun (SaysAll E.contents (option_map string_bytes slowest)) answer errors.old errors.new }
+    ensures { SaysIfRun (λ status. SaysAll E.contents (steps_said status) (option_map string_bytes slowest)) answer
+        errors.old errors.new }
 {
     match answer {
-        Ok(_) => say_of_run(alloc, options, words, subject, failures, slowest, errors),
+        Ok(status) => say_of_run(
+            alloc, status, options, words, subject, failures, slowest, errors,
+        ),
         Err(_) => drop(slowest),
     }
 }
 
 /// Says what there is to say after this answer of a run that these words asked for, of its seed, of
-/// what has another effect than it seems to have, of what failed, and of the slowest tests, if there is a list of them.
+/// what has another effect than it seems to have, of what failed, whether steps were passed over, and of the slowest tests,
+/// if there is a list of them.
 pub fn close_with_failures<W: Write, E: Write>(
     alloc: Global,
     answer: Result<ExitStatus, LaunchFault>,

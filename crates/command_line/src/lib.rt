@@ -10,7 +10,7 @@ mod slow_tests;
 mod terminal;
 mod times;
 
-pub use closing::{Ending, close_run, close_with_failures, refuse};
+pub use closing::{Ending, close_run, close_unread, close_with_failures, refuse};
 pub use drawn_on::is_drawn_on;
 pub use program::{run_console, run_main, run_words};
 pub use terminal::prints_lines;

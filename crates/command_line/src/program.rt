@@ -1,18 +1,21 @@
 //! The program over any reader and writers: all of it but the handles that `main` gets of the system.
 
-ghost use Rattle.std.specs.Prelude.{◌≡◌, IfOk, IfErr, Ok, Err, map, option_map, string_bytes};
+ghost use Rattle.std.specs.Prelude.{◌≡◌, IfOk, IfErr, Ok, Err, Some, map, option_map, string_bytes};
 ghost use Rattle.std.specs.IoError.{error_kind};
 ghost use Rattle.std.specs.Vec.Iter.{into_iter_items};
 ghost use Rattle.command_words.specs.GivenWords.{IsGivenFault};
-ghost use Rattle.command_words.specs.Words.{ReadsWords, reports_wanted};
+ghost use Rattle.command_words.specs.Words.{ReadsWords, reports_wanted, suite_wanted};
 ghost use Rattle.launch_options.specs.Asked.{asked_by};
+ghost use Rattle.launch_options.specs.Given.{maybe_behind};
 ghost use Rattle.launch_options.specs.ReportTexts.{parts_of};
 ghost use Rattle.messages.specs.Sentences.{sentence_of};
-ghost use Rattle.command_line.specs.Runs.{Closes, IsConsoleRun, IsMainRun, IsTimedRun, IsToldMeanwhile};
-ghost use Rattle.command_line.specs.GivenRuns.{IsGivenRun};
+ghost use Rattle.command_line.specs.Runs.{Closes, IsConsoleRun, IsFileRun, IsMainRun, IsSourceRun, IsTimedRun};
+ghost use Rattle.command_line.specs.Runs.{IsToldMeanwhile, waiting_said};
+ghost use Rattle.command_line.specs.GivenRuns.{AnswersWords, IsGivenRun};
+ghost use Rattle.command_line.specs.Sources.{source_remaining};
 
-use crate::closing::{Ending, close_run, close_with_failures, refuse};
-use crate::kept::{Kept, nothing_kept};
+use crate::closing::{Ending, close_run, close_unread, close_with_failures, refuse, say_waiting};
+use crate::kept::{Kept, SuiteSource, nothing_kept};
 use crate::slow_tests::run_quiet;
 use crate::terminal::run_shown;
 use command_words::{Launch, all_words, given_words, read_launch, read_options};
@@ -20,18 +23,22 @@ use launcher::{ExitStatus, LaunchFault, run_options};
 use live::Failures;
 use messages::Subject;
 use report_files::ReportFiles;
-use std::alloc::Global;
+use std::alloc::{AllocError, Global};
 use std::env::Args;
 use std::io::{self, Read, Write};
 use std::sync::Wait;
 use std::thread::Threads;
 use std::time::Clock;
+use suite_text::LONGEST_SUITE;
 use word_files::{Facts, TextFiles};
+
+/// How many bytes are read of a file: one more than a suite may have.
+const MOST_READ: usize = LONGEST_SUITE + 1;
 
 /// Runs the suite that the reader holds, with the options that the words give; the first word is
 /// the program's name. Words that give no options are refused as `read_options` says, and then
 /// nothing is read and nothing is written. Everything else is as `run_options` says. Reports that the words ask for
-/// are not written, and how long tests took is not told, since there is no clock.
+/// are not written, no file that they name is read, and how long tests took is not told, since there is no clock.
 pub fn run_console<T: Threads + Wait + Sync, R: Read, W: Write>(
     rt: &T,
     alloc: Global,
@@ -88,8 +95,9 @@ fn run_told<
     }
 }
 
-/// Runs what these words asked for, and says what there is to say of the answer and of what failed.
-fn run_read<
+/// Runs what these words asked for of the suite of this source, and says what there is to say of the answer and of what
+/// failed.
+fn run_source<
     T: Threads + Wait + Sync,
     C: Clock + Sync + Drop,
     R: Read,
@@ -102,20 +110,21 @@ fn run_read<
     alloc: Global,
     launch: Launch<'_>,
     words: &[String],
-    host: Option<&str>,
+    facts: &Facts<'_>,
     is_terminal: bool,
-    reader: &mut R,
+    source: SuiteSource<'_, R>,
     writer: &mut W,
     errors: &mut E,
     files: &mut K,
 ) -> Ending
-    requires reports { map parts_of launch.reports.items ≡ reports_wanted (map string_bytes words.now) }
-    ensures { ReadsWords (map string_bytes words.now) (Ok launch.entry.options) → IsMainRun R.remaining W.contents
-        E.contents K.deeds is_terminal (map string_bytes words.now) reader.old reader.new writer.old writer.new
-        errors.old errors.new files.old files.new result }
+    ensures { IsSourceRun W.contents E.contents is_terminal
+        (waiting_said facts.now.is_typed (maybe_behind launch.entry.suite)) (asked_by launch.entry.options)
+        (map parts_of launch.entry.reports.items) (source_remaining R.remaining source) writer.old writer.new errors.old
+        errors.new (K.deeds files.old) (K.deeds files.new) result }
 {
+    say_waiting(facts.is_typed, launch.suite, &mut *errors);
     let mut kept = Kept {
-        reader,
+        source,
         bytes: nothing_kept(alloc),
     };
     let mut failures = Failures::new(alloc);
@@ -125,7 +134,7 @@ fn run_read<
         &clock,
         alloc,
         &launch,
-        host,
+        facts.host,
         is_terminal,
         &mut kept,
         &mut *writer,
@@ -143,14 +152,142 @@ fn run_read<
     ending
 }
 
-/// Runs what `run_console` runs, on the machine of this name, and keeps the reports that the words ask for. Meanwhile it
-/// is told on the other writer, if that is a terminal, how far the run has come, and else which tests run longer than
-/// their limit. Then it prints the line of a refusal, unless the writer failed, and its message on the other writer.
-/// Behind a tree or a summary it is said there what of the words and the suite has no effect, and what failed, with
-/// words that select it; and behind any run, if times are asked for, which tests were the slowest by this clock.
+/// Runs what these words asked for of the suite that this file has, and touches no reader; a file that cannot be read is
+/// refusal 106.
+fn run_file<
+    T: Threads + Wait + Sync,
+    C: Clock + Sync + Drop,
+    F: TextFiles,
+    R: Read,
+    W: Write,
+    E: Write,
+    K: ReportFiles,
+>(
+    rt: &T,
+    clock: C,
+    alloc: Global,
+    launch: Launch<'_>,
+    name: &str,
+    words: &[String],
+    texts: &mut F,
+    facts: &Facts<'_>,
+    is_terminal: bool,
+    reader: &mut R,
+    writer: &mut W,
+    errors: &mut E,
+    files: &mut K,
+) -> Ending
+    requires named { maybe_behind launch.suite ≡ Some name.now }
+    ensures same { reader.new ≡ reader.old }
+    ensures run { IsFileRun W.contents E.contents K.deeds is_terminal (asked_by launch.entry.options)
+        (map parts_of launch.entry.reports.items) writer.old writer.new errors.old errors.new files.old files.new result }
+{
+    let subject = Subject::Suite(&[]);
+    match texts.bytes(alloc, name, MOST_READ) {
+        Ok(Some(bytes)) => run_source(
+            rt,
+            clock,
+            alloc,
+            launch,
+            words,
+            facts,
+            is_terminal,
+            SuiteSource::<R>::File(bytes.as_slice()),
+            writer,
+            errors,
+            files,
+        ),
+        Ok(None) => close_run(
+            alloc,
+            Err(LaunchFault::Reading),
+            words,
+            subject,
+            writer,
+            errors,
+        ),
+        Err(AllocError) => close_run(
+            alloc,
+            Err(LaunchFault::NoMemory),
+            words,
+            subject,
+            writer,
+            errors,
+        ),
+    }
+}
+
+/// Runs what these words asked for of the suite that is left of the reader, or of that of a file, if one is named.
+fn run_read<
+    T: Threads + Wait + Sync,
+    C: Clock + Sync + Drop,
+    F: TextFiles,
+    R: Read,
+    W: Write,
+    E: Write,
+    K: ReportFiles,
+>(
+    rt: &T,
+    clock: C,
+    alloc: Global,
+    launch: Launch<'_>,
+    words: &[String],
+    texts: &mut F,
+    facts: &Facts<'_>,
+    is_terminal: bool,
+    reader: &mut R,
+    writer: &mut W,
+    errors: &mut E,
+    files: &mut K,
+) -> Ending
+    requires reports { map parts_of launch.reports.items ≡ reports_wanted (map string_bytes words.now) }
+    requires suite { maybe_behind launch.suite ≡ suite_wanted (map string_bytes words.now) }
+    ensures { ReadsWords (map string_bytes words.now) (Ok launch.entry.options) → IsMainRun R.remaining W.contents
+        E.contents K.deeds is_terminal facts.now.is_typed (map string_bytes words.now) reader.old reader.new writer.old
+        writer.new errors.old errors.new files.old files.new result }
+{
+    match launch.suite {
+        Some(name) => run_file(
+            rt,
+            clock,
+            alloc,
+            launch,
+            name,
+            words,
+            texts,
+            facts,
+            is_terminal,
+            reader,
+            writer,
+            errors,
+            files,
+        ),
+        None => run_source(
+            rt,
+            clock,
+            alloc,
+            launch,
+            words,
+            facts,
+            is_terminal,
+            SuiteSource::Reader(reader),
+            writer,
+            errors,
+            files,
+        ),
+    }
+}
+
+/// Runs what `run_console` runs, on the machine of this name, and keeps the reports that the words ask for; the suite is
+/// read from a file, if the words name one. Meanwhile it is told on the other writer, if that is a terminal, how far the
+/// run has come, and else which tests run longer than their limit; and before it, where standard input is a terminal, that
+/// a suite is waited for. Then it prints the line of a refusal, unless the writer failed, and its message on the other
+/// writer. Behind a tree or a summary it is said there what of the words and the suite has no effect, and what failed, with
+/// words that select it; behind a replay whether steps were passed over; and behind any run, if times are asked for, which
+/// tests were the slowest by this clock. Words that ask for help, or for the version, are told it, and nothing is run.
 pub fn run_words<
     T: Threads + Wait + Sync,
     C: Clock + Sync + Drop,
+    F: TextFiles,
     R: Read,
     W: Write,
     E: Write,
@@ -160,15 +297,17 @@ pub fn run_words<
     clock: C,
     alloc: Global,
     words: &[String],
-    host: Option<&str>,
+    texts: &mut F,
+    facts: &Facts<'_>,
     is_terminal: bool,
     reader: &mut R,
     writer: &mut W,
     errors: &mut E,
     files: &mut K,
 ) -> Ending
-    ensures { IsMainRun R.remaining W.contents E.contents K.deeds is_terminal (map string_bytes words.now) reader.old
-        reader.new writer.old writer.new errors.old errors.new files.old files.new result }
+    ensures { AnswersWords R.remaining W.contents E.contents K.deeds is_terminal facts.now.is_typed
+        (map string_bytes words.now) reader.old reader.new writer.old writer.new errors.old errors.new files.old files.new
+        result }
 {
     match read_launch(alloc, words) {
         Ok(launch) => run_read(
@@ -177,21 +316,15 @@ pub fn run_words<
             alloc,
             launch,
             words,
-            host,
+            texts,
+            facts,
             is_terminal,
             reader,
             writer,
             errors,
             files,
         ),
-        Err(fault) => close_run(
-            alloc,
-            Err(fault),
-            words,
-            Subject::Suite(&[]),
-            writer,
-            errors,
-        ),
+        Err(fault) => close_unread(alloc, fault, words, Subject::Suite(&[]), writer, errors),
     }
 }
 
@@ -227,7 +360,8 @@ fn run_given<
             clock,
             alloc,
             expanded.as_slice(),
-            facts.host,
+            texts,
+            facts,
             is_terminal,
             reader,
             writer,

@@ -8,7 +8,9 @@ use Rattle.clap.specs.declared.parser.matches.ArgMatches.{ArgMatches}
 use Rattle.clap.proofs.OnLiterals.{clap_on_literals}
 use Rattle.launch_options.specs.declared.fault.LaunchFault.{LaunchFault}
 use Rattle.launch_options.specs.declared.fault.LaunchFault.TheVariants.{NoMemory, BadWords}
+use Rattle.command_words.specs.Infos.{IsInfoAsked, request_of}
 use Rattle.command_words.specs.Words.{IsWordsFault}
+use Rattle.command_words.specs.declared.info.InfoRequest.{InfoRequest}
 use Rattle.launch_options.specs.Asked.{refusal_of}
 use Rattle.command_words.specs.Commands.{program}
 use Rattle.command_words.specs.Found.{nothing_given, values_in}
@@ -73,3 +75,16 @@ refused words cause (Ok options) same is = absurd same
 refused words cause (Err fault) same is =
     λ other. let found = is (λ none. other (same ∙ none)) in
     bad_where_faulty (fault_of program words) (refusal_of (values_given words)) found.1 ∙ ap Some (sym (same ∙ found.0))
+
+asks_by : (words : List Text) (k : ErrorKind) (request : Option InfoRequest) → IsAmong k (fault_of program words) → request ≡ request_of k → IsInfoAsked words request
+asks_by words k None among is = inr (k, among, sym is)
+asks_by words k (Some request) among is = (k, among, sym is)
+
+-- what keeps clap from reading the words says what they ask for
+pub asks : (app : App) (words : List Text) (k : ErrorKind) (request : Option InfoRequest) → app ≡ program
+    → (is_simple_and_free app ≡ true → (k ≡ kinds.OutOfMemory) ⊎ IsAmong k (fault_of app words)) → k ≢ kinds.OutOfMemory → request ≡ request_of k → IsInfoAsked words request
+asks app words k request is kind other asked =
+    elim (subst (λ (a : App). (k ≡ kinds.OutOfMemory) ⊎ IsAmong k (fault_of a words)) is (kind (ap is_simple_and_free is ∙ program_is_free))) [
+      | inl memory ↦ absurd (other memory)
+      | inr among ↦ asks_by words k request among asked
+    ]

@@ -5,13 +5,13 @@ use Rattle.std.specs.List.{filter_map}
 use Rattle.std.specs.Result.{IsErrAnd}
 use Rattle.clap.specs.Words.{Text}
 use Rattle.launch_options.specs.Asked.{AreAsked, asked_by, refusal_of}
-use Rattle.launch_options.specs.Given.{Values}
+use Rattle.launch_options.specs.Given.{Values, maybe_behind}
 use Rattle.launch_options.specs.ReportTexts.{parts_of, report_in}
 use Rattle.launch_options.specs.declared.asked.Options.{Options}
 use Rattle.launch_options.specs.declared.fault.LaunchFault.{LaunchFault}
 use Rattle.launch_options.specs.declared.fault.LaunchFault.TheVariants.{NoMemory}
 use Rattle.command_words.specs.Launches.{options_in}
-use Rattle.command_words.specs.Words.{AsksCut, CutsWords, ReadsWords, reports_wanted, values_given, where_faultless, words_refusal}
+use Rattle.command_words.specs.Words.{AsksCut, CutsWords, ReadsWords, reports_wanted, suite_wanted, values_given, where_faultless, words_refusal}
 use Rattle.command_words.specs.declared.launch.Launch.{Launch}
 
 -- what is asked for by values that clap cut
@@ -62,3 +62,7 @@ module _ (words : List Text) where
   pub reports_of : (values : Values) (result : Result Launch LaunchFault) → values ≡ values_given words → IfOk result (λ launch. map parts_of launch.reports.items ≡ filter_map report_in values.reports) → IfOk result (λ launch. map parts_of launch.reports.items ≡ reports_wanted words)
   reports_of values (Ok launch) same is = is ∙ ap (λ (v : Values). filter_map report_in v.reports) same
   reports_of values (Err fault) same is = tt
+
+  pub suite_of : (values : Values) (result : Result Launch LaunchFault) → values ≡ values_given words → IfOk result (λ launch. maybe_behind launch.suite ≡ values.suite) → IfOk result (λ launch. maybe_behind launch.suite ≡ suite_wanted words)
+  suite_of values (Ok launch) same is = is ∙ ap (λ (v : Values). v.suite) same
+  suite_of values (Err fault) same is = tt

@@ -1,6 +1,7 @@
 -- The program's options, as clap is told of them.
-use Rattle.std.specs.Prelude.{ℕ, List, [], ◌∷◌, codes, fold, Some}
-use Rattle.clap.specs.Words.{App, Rule, new_app, new_rule, with_rule}
+use Rattle.std.specs.Prelude.{ℕ, List, [], ◌∷◌, codes, fold, true, Option, Some, None}
+use Rattle.clap.specs.Simple.{new_shape}
+use Rattle.clap.specs.Words.{App, Rule, new_rule, with_rule}
 use Rattle.clap.specs.declared.builder.action.ArgAction.TheVariants.{Append, SetTrue}
 use Rattle.command_words.specs.declared.option_names.OptionForm.{OptionForm}
 use Rattle.command_words.specs.declared.option_names.OptionForm.TheVariants.{Flag, Single, Repeated}
@@ -24,9 +25,18 @@ rule_by name Flag = flag name
 rule_by name (Single value) = single name
 rule_by name (Repeated value) = repeated name
 
+-- an option for which this letter stands behind one dash
+abbrev pub with_letter : (letter : ℕ) → Rule → Rule
+with_letter letter rule = record rule { short = Some letter }
+
+-- the same, if there is such a letter
+abbrev pub maybe_lettered : (letter : Option ℕ) → Rule → Rule
+maybe_lettered None rule = rule
+maybe_lettered (Some letter) rule = with_letter letter rule
+
 -- an option as the program tells it
 abbrev pub rule_told : ProgramOption → Rule
-rule_told told = rule_by told.name.now told.form
+rule_told told = maybe_lettered told.letter (rule_by told.name.now told.form)
 
 -- the options that say which nodes run, and those that look at the names of tests
 abbrev pub selecting : List Rule
@@ -34,7 +44,7 @@ selecting = repeated (codes "select-unique-id")
     ∷ repeated (codes "select-class")
     ∷ repeated (codes "select-method")
     ∷ repeated (codes "select-package")
-    ∷ repeated (codes "include-name")
+    ∷ with_letter 107 (repeated (codes "include-name"))
     ∷ repeated (codes "exclude-name")
     ∷ []
 
@@ -55,18 +65,20 @@ filtering = repeated (codes "include-tag")
     ∷ single (codes "seed")
     ∷ []
 
--- those that say with which settings, and how much runs side by side
+-- those that say which suite, with which settings, and how much runs side by side
 abbrev pub configuring : List Rule
-configuring = repeated (codes "config")
+configuring = single (codes "suite")
+    ∷ repeated (codes "config")
     ∷ repeated (codes "system")
     ∷ single (codes "processors")
-    ∷ single (codes "workers")
+    ∷ with_letter 106 (single (codes "workers"))
     ∷ single (codes "ring")
     ∷ []
 
 -- those that say what is printed of what happened
 abbrev pub printing : List Rule
 printing = single (codes "details")
+    ∷ with_letter 113 (flag (codes "quiet"))
     ∷ single (codes "details-theme")
     ∷ repeated (codes "report")
     ∷ flag (codes "times")
@@ -75,10 +87,11 @@ printing = single (codes "details")
 -- those that say how a run ends, which steps are told, and which are taken
 abbrev pub ending : List Rule
 ending = flag (codes "fail-if-no-tests")
-    ∷ flag (codes "fail-fast")
+    ∷ with_letter 120 (flag (codes "fail-fast"))
     ∷ single (codes "max-fail")
     ∷ flag (codes "schedule")
     ∷ single (codes "replay")
+    ∷ flag (codes "fail-if-passed-over")
     ∷ single (codes "drive")
     ∷ []
 
@@ -86,6 +99,10 @@ ending = flag (codes "fail-if-no-tests")
 abbrev pub with_rules : App → List Rule → App
 with_rules app rules = fold with_rule app rules
 
--- the program and all of its options
+-- the program without its options; it has a version
+abbrev pub bare_program : App
+bare_program = record { top = record (new_shape (codes "console")) { has_version = true }; subs = [] }
+
+-- the program and all of its options, of which some have a letter: j (106), k (107), q (113) and x (120)
 abbrev pub program : App
-program = fold with_rules (new_app (codes "console")) (selecting ∷ excluding ∷ filtering ∷ configuring ∷ printing ∷ ending ∷ [])
+program = fold with_rules bare_program (selecting ∷ excluding ∷ filtering ∷ configuring ∷ printing ∷ ending ∷ [])

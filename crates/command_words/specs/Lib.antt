@@ -2,6 +2,7 @@ pub mod Commands
 pub mod Expansions
 pub mod Found
 pub mod GivenWords
+pub mod Infos
 pub mod Launches
 pub mod RerunWords
 pub mod Roles

@@ -36,6 +36,10 @@ words_refusal words = where_faultless (fault_of program words) (refusal_of (valu
 abbrev pub reports_wanted : List Text → List (Details × Text)
 reports_wanted words = filter_map report_in (values_given words).reports
 
+-- the file in which the suite is to be found, if the words name one
+abbrev pub suite_wanted : List Text → Option Text
+suite_wanted words = (values_given words).suite
+
 -- what clap says of the words: the values of the options, or a refusal
 abbrev pub CutsWords : List Text → Result Values LaunchFault → Type 0
 CutsWords words (Ok values) = (values ≡ values_given words) × (fault_of program words ≡ [])

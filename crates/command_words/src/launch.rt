@@ -7,4 +7,6 @@ use launch_options::{Options, ReportAsked};
 pub struct Launch<'w> {
     pub options: Options,
     pub reports: Vec<ReportAsked<'w>>,
+    /// The file that has the suite, if one is named.
+    pub suite: Option<&'w str>,
 }

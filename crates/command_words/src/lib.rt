@@ -4,6 +4,7 @@
 
 mod again;
 mod found;
+mod info;
 mod launch;
 mod message;
 mod option_names;
@@ -13,6 +14,7 @@ mod system_words;
 mod words;
 
 pub use again::all_words;
+pub use info::{Info, InfoRequest, info_asked};
 pub use launch::Launch;
 pub use message::message_of;
 pub use rerun::rerun_words;

@@ -17,21 +17,6 @@ const UNEXPECTED: &str = "error: unexpected argument '";
 const OF_SAVED_RUN: &str =
     "--rerun-failed names a file that --details testfeed or json has printed.\n";
 
-/// What clap says before the options, where help is asked for.
-const USAGE: &str = "Usage: ";
-
-/// What help says after the options: the keys of the configuration, and the version, which is the latest date of
-/// CHANGELOG.md.
-const KEYS_AND_VERSION: &str = "
-Keys of --config and --system that begin with junit.jupiter.execution.parallel.
-  enabled, mode.default, mode.classes.default, config.strategy,
-  config.fixed.parallelism, config.dynamic.factor
-and whole keys
-  nelborugy.slow.default, nelborugy.lock.LOCK.holders
-
-Nelborugy 2026-12-01
-";
-
 /// Whether clap says of a word that is no option that it does not expect it: a file's name, for one.
 fn is_of_no_option(said: &str) -> bool {
     match said.strip_prefix(UNEXPECTED) {
@@ -44,13 +29,13 @@ fn is_of_no_option(said: &str) -> bool {
 fn said_of_no_option(subject: Subject<'_>) -> &'static str {
     match subject {
         Subject::Suite(_) => {
-            "\nThe suite is read from standard input, as in `./console < FILE`.\n"
+            "\nThe suite is read from standard input, or from FILE with --suite FILE.\n"
         }
         Subject::Tests(_) => "\nThe tests are the program's own, and no suite is read.\n",
     }
 }
 
-/// What clap says of words that it refuses: what is wrong with them, or the options where help is asked for.
+/// What clap says of words that it refuses.
 fn said_by_clap(
     alloc: Global,
     words: &[String],
@@ -60,9 +45,6 @@ fn said_by_clap(
         Ok(_) => Ok(String::new(alloc)),
         Err(error) => {
             let mut said = format!(in alloc; "{error}")?;
-            if said.as_str().starts_with(USAGE) {
-                said.push_str(KEYS_AND_VERSION)?;
-            }
             if is_of_no_option(said.as_str()) {
                 said.push_str(said_of_no_option(subject))?;
             }

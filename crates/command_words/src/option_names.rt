@@ -3,14 +3,17 @@
 ghost use Rattle.std.specs.Prelude.{◌≡◌, ◌∷◌, [], IfOk, false, fold, map};
 ghost use Rattle.clap.specs.Words.{app_of, rule_of, with_rule};
 ghost use Rattle.command_words.specs.Commands.{configuring, ending, excluding, filtering, printing, selecting};
-ghost use Rattle.command_words.specs.Commands.{flag, program, repeated, rule_told, single, with_rules};
+ghost use Rattle.command_words.specs.Commands.{flag, maybe_lettered, bare_program, program, repeated, rule_told, single};
+ghost use Rattle.command_words.specs.Commands.{with_letter, with_rules};
 
+use crate::info::VERSION;
 use clap::{Arg, ArgAction, Command};
 use launch_options::option_names::{
     CONFIG, DETAILS, DETAILS_THEME, DRIVE, EXCLUDE_CLASS, EXCLUDE_METHOD, EXCLUDE_NAME,
-    EXCLUDE_PACKAGE, EXCLUDE_TAG, EXCLUDE_UNIQUE_ID, FAIL_FAST, FAIL_IF_NO_TESTS, INCLUDE_NAME,
-    INCLUDE_TAG, MAX_FAIL, PROCESSORS, REPLAY, REPORT, RERUN, RING, SCHEDULE, SEED, SELECT_CLASS,
-    SELECT_METHOD, SELECT_PACKAGE, SELECT_UNIQUE_ID, SHARD, SYSTEM, TIMES, WORKERS,
+    EXCLUDE_PACKAGE, EXCLUDE_TAG, EXCLUDE_UNIQUE_ID, FAIL_FAST, FAIL_IF_NO_TESTS,
+    FAIL_IF_PASSED_OVER, INCLUDE_NAME, INCLUDE_TAG, MAX_FAIL, PROCESSORS, QUIET, REPLAY, REPORT,
+    RERUN, RING, SCHEDULE, SEED, SELECT_CLASS, SELECT_METHOD, SELECT_PACKAGE, SELECT_UNIQUE_ID,
+    SHARD, SUITE, SYSTEM, TIMES, WORKERS,
 };
 use messages::Subject;
 use std::alloc::{AllocError, Global};
@@ -30,6 +33,8 @@ pub(crate) enum OptionForm<'a> {
 #[derive(Clone, Copy)]
 pub(crate) struct ProgramOption<'a> {
     pub(crate) name: &'a str,
+    /// The letter that stands for it behind one dash, if there is one.
+    pub(crate) letter: Option<char>,
     pub(crate) form: OptionForm<'a>,
     pub(crate) help: &'a str,
 }
@@ -39,6 +44,7 @@ fn single<'a>(name: &'a str, value: &'a str, help: &'a str) -> ProgramOption<'a>
 {
     ProgramOption {
         name,
+        letter: None,
         form: OptionForm::Single(value),
         help,
     }
@@ -49,6 +55,7 @@ fn repeated<'a>(name: &'a str, value: &'a str, help: &'a str) -> ProgramOption<'
 {
     ProgramOption {
         name,
+        letter: None,
         form: OptionForm::Repeated(value),
         help,
     }
@@ -59,8 +66,21 @@ fn flag<'a>(name: &'a str, help: &'a str) -> ProgramOption<'a>
 {
     ProgramOption {
         name,
+        letter: None,
         form: OptionForm::Flag,
         help,
+    }
+}
+
+/// The option with a letter that stands for it behind one dash.
+fn with_letter<'a>(letter: char, told: ProgramOption<'a>) -> ProgramOption<'a>
+    ensures { rule_told result ≡ with_letter letter (rule_told told) }
+{
+    ProgramOption {
+        name: told.name,
+        letter: Some(letter),
+        form: told.form,
+        help: told.help,
     }
 }
 
@@ -100,10 +120,13 @@ fn selecting<'a>() -> [ProgramOption<'a>; 6]
             "PACKAGE",
             "Runs the classes of this package, as in a.b",
         ),
-        repeated(
-            INCLUDE_NAME,
-            "PATTERN",
-            "Runs only what has a CLASS#METHOD like this, as in *#order*",
+        with_letter(
+            'k',
+            repeated(
+                INCLUDE_NAME,
+                "PATTERN",
+                "Runs only what has a CLASS#METHOD like this, as in *#order*",
+            ),
         ),
         repeated(
             EXCLUDE_NAME,
@@ -175,10 +198,19 @@ fn filtering<'a>() -> [ProgramOption<'a>; 4]
 }
 
 /// Those that say with which settings, and how much runs side by side.
-fn configuring<'a>(subject: Subject<'_>) -> [ProgramOption<'a>; 5]
+fn configuring<'a>(subject: Subject<'_>) -> [ProgramOption<'a>; 6]
     ensures { map rule_told result ≡ configuring }
 {
     [
+        single(
+            SUITE,
+            "FILE",
+            help_by(
+                subject,
+                "Reads the suite from this file, and not from standard input",
+                "Is refused: the tests are the program's own",
+            ),
+        ),
         repeated(
             CONFIG,
             "KEY=VALUE",
@@ -202,10 +234,13 @@ fn configuring<'a>(subject: Subject<'_>) -> [ProgramOption<'a>; 5]
             "N",
             "How many processors there are, 1 to 1024 [default: 1]",
         ),
-        single(
-            WORKERS,
-            "N|auto",
-            "Runs side by side on so many workers, 1 to 64; auto: --processors",
+        with_letter(
+            'j',
+            single(
+                WORKERS,
+                "N|auto",
+                "Runs side by side on so many workers, 1 to 64; auto: --processors",
+            ),
         ),
         single(
             RING,
@@ -216,7 +251,7 @@ fn configuring<'a>(subject: Subject<'_>) -> [ProgramOption<'a>; 5]
 }
 
 /// Those that say what is printed of what happened.
-fn printing<'a>() -> [ProgramOption<'a>; 4]
+fn printing<'a>() -> [ProgramOption<'a>; 5]
     ensures { map rule_told result ≡ printing }
 {
     [
@@ -224,6 +259,10 @@ fn printing<'a>() -> [ProgramOption<'a>; 4]
             DETAILS,
             "FORM",
             "none, summary, tree, testfeed, json, xml, list or plan [default: tree]",
+        ),
+        with_letter(
+            'q',
+            flag(QUIET, "Prints the summary alone, as --details summary does"),
         ),
         single(
             DETAILS_THEME,
@@ -243,7 +282,7 @@ fn printing<'a>() -> [ProgramOption<'a>; 4]
 }
 
 /// Those that say how a run ends, which steps are told, and which are taken.
-fn ending<'a>(subject: Subject<'_>) -> [ProgramOption<'a>; 6]
+fn ending<'a>(subject: Subject<'_>) -> [ProgramOption<'a>; 7]
     ensures { map rule_told result ≡ ending }
 {
     [
@@ -251,7 +290,10 @@ fn ending<'a>(subject: Subject<'_>) -> [ProgramOption<'a>; 6]
             FAIL_IF_NO_TESTS,
             "Ends with status 2 where there is no test",
         ),
-        flag(FAIL_FAST, "Starts nothing more once a node has failed"),
+        with_letter(
+            'x',
+            flag(FAIL_FAST, "Starts nothing more once a node has failed"),
+        ),
         single(
             MAX_FAIL,
             "N",
@@ -274,6 +316,14 @@ fn ending<'a>(subject: Subject<'_>) -> [ProgramOption<'a>; 6]
                 IS_REFUSED,
             ),
         ),
+        flag(
+            FAIL_IF_PASSED_OVER,
+            help_by(
+                subject,
+                "Ends with status 1 where --replay passes a step over",
+                "Says nothing here, since nothing is replayed",
+            ),
+        ),
         single(
             DRIVE,
             "N",
@@ -286,12 +336,26 @@ fn ending<'a>(subject: Subject<'_>) -> [ProgramOption<'a>; 6]
     ]
 }
 
+/// The option with this letter, if there is one.
+fn lettered<'a>(option: Arg<'a>, letter: Option<char>) -> Arg<'a>
+    ensures rule { rule_of result ≡ maybe_lettered letter (rule_of option.entry) }
+    ensures local { result.global ≡ option.entry.global }
+{
+    match letter {
+        Some(letter) => option.short(letter),
+        None => option,
+    }
+}
+
 /// The option as clap takes it. Where it has a value its help stands on the next line.
 fn option_of<'a>(alloc: Global, told: &ProgramOption<'a>) -> Arg<'a>
     ensures rule { rule_of result ≡ rule_told told.now }
     ensures local { result.global ≡ false }
 {
-    let option = Arg::new(alloc, told.name).long(told.name).help(told.help);
+    let option = lettered(
+        Arg::new(alloc, told.name).long(told.name).help(told.help),
+        told.letter,
+    );
     match told.form {
         OptionForm::Flag => option.action(ArgAction::SetTrue),
         OptionForm::Single(value) => option.value_name(value).next_line_help(true),
@@ -349,10 +413,17 @@ fn with_settings<'a>(
     with_all(alloc, command, ending(subject).as_slice())
 }
 
+/// The program without its options, of this version.
+fn bare_program<'a>(alloc: Global) -> Command<'a>
+    ensures { app_of result ≡ bare_program }
+{
+    Command::new(alloc, "console").version(VERSION)
+}
+
 /// The program and its options.
 pub(crate) fn command<'a>(alloc: Global, subject: Subject<'_>) -> Result<Command<'a>, AllocError>
     ensures { IfOk result (λ command. app_of command ≡ program) }
 {
-    let command = with_choices(alloc, Command::new(alloc, "console"))?;
+    let command = with_choices(alloc, bare_program(alloc))?;
     with_settings(alloc, command, subject)
 }

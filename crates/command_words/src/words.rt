@@ -4,12 +4,12 @@ ghost use Rattle.std.specs.Prelude.{◌≡◌, ◌≢◌, ◌∷◌, ◌++◌, [
 ghost use Rattle.std.specs.List.{filter_map};
 ghost use Rattle.clap.specs.Words.{fault_of, found_of, kind_of, rows_of};
 ghost use Rattle.launch_options.specs.Asked.{asked_by, AreAsked, refusal_of};
-ghost use Rattle.launch_options.specs.Given.{behind, values_of};
+ghost use Rattle.launch_options.specs.Given.{behind, maybe_behind, values_of};
 ghost use Rattle.launch_options.specs.ReportTexts.{parts_of, report_in};
 ghost use Rattle.launch_options.specs.declared.fault.LaunchFault.TheVariants.{NoMemory};
 ghost use Rattle.command_words.specs.Commands.{program};
 ghost use Rattle.command_words.specs.Found.{values_in};
-ghost use Rattle.command_words.specs.Words.{reports_wanted, values_given, words_refusal, IsWordsFault, ReadsWords};
+ghost use Rattle.command_words.specs.Words.{reports_wanted, suite_wanted, values_given, words_refusal, IsWordsFault, ReadsWords};
 ghost use Rattle.command_words.specs.Launches.{options_in};
 
 use crate::found::{given_in, nothing_given};
@@ -109,16 +109,22 @@ fn launch_of<'w>(alloc: Global, given: &Given<'w>) -> Result<Launch<'w>, LaunchF
     ensures no_memory { IfErr result (λ fault. fault ≡ NoMemory → refusal_of (values_of given.now) ≡ None) }
     ensures reports { IfOk result (λ launch. map parts_of launch.reports.items ≡ filter_map report_in
         (values_of given.now).reports) }
+    ensures suite { IfOk result (λ launch. maybe_behind launch.suite ≡ (values_of given.now).suite) }
 {
     let options = Options::of(alloc, given)?;
     let reports = reports_in(alloc, given.reports.as_slice())?;
-    Ok(Launch { options, reports })
+    Ok(Launch {
+        options,
+        reports,
+        suite: given.suite,
+    })
 }
 
 /// What the words ask for. The options are those of `read_options`, and words are refused as it says.
 pub fn read_launch<'w>(alloc: Global, words: &'w [String]) -> Result<Launch<'w>, LaunchFault>
     ensures reports { IfOk result (λ launch. map parts_of launch.reports.items ≡ reports_wanted
         (map string_bytes words.entry.now)) }
+    ensures suite { IfOk result (λ launch. maybe_behind launch.suite ≡ suite_wanted (map string_bytes words.entry.now)) }
     ensures read { ReadsWords (map string_bytes words.entry.now) (options_in result) }
 {
     let given = given_by(alloc, words)?;

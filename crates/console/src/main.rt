@@ -1,15 +1,16 @@
-//! The program: a suite from standard input, what became of it on standard output, and what is wrong on standard error.
+//! The program: a suite from standard input or from a file, what became of it on standard output, and what is wrong on
+//! standard error.
 #![tactic(auto)]
 
 use command_line::{is_drawn_on, run_main};
 use report_files::SystemFiles;
-use std::io;
+use std::io::{self, IsTerminal};
 use std::process::ExitCode;
 use system_facts::{SystemFacts, SystemTexts};
 
 fn main(rt: HostRuntime) -> ExitCode {
     let words = std::env::args(&rt);
-    let told = SystemFacts::of(&rt);
+    let told = SystemFacts::of(&rt, rt.stdin().is_terminal());
     let is_terminal = is_drawn_on(&rt, &rt.stderr());
     let texts = &mut SystemTexts::new(&rt);
     let reader = &mut rt.reader();

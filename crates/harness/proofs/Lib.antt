@@ -4,3 +4,4 @@ pub mod SeenBeside
 pub mod SeenJobs
 pub mod SystemRuns
 pub mod Told
+pub mod WordsRead

@@ -1,12 +1,15 @@
 -- What a program with tests of its own does by the words of its command line.
-use Rattle.std.specs.Prelude.{◌≡◌, ℕ, Bool, List, Option, Result, Ok, Err}
+use Rattle.std.specs.Prelude.{◌≡◌, ◌⊎◌, ℕ, Bool, List, Option, Some, None, Result, Ok, Err}
 use Rattle.command_line.specs.Runs.{Closes, ClosesRun, IsToldMeanwhile}
 use Rattle.command_line.specs.declared.closing.Ending.{Ending}
-use Rattle.command_words.specs.Words.{ReadsWords, reports_wanted}
+use Rattle.command_words.specs.Infos.{AsksForNothing}
+use Rattle.command_words.specs.Words.{ReadsWords, reports_wanted, suite_wanted}
+use Rattle.command_line.specs.Infos.{AnswersInfo}
 use Rattle.launch_options.specs.Asked.{Asked, asked_by}
 use Rattle.launch_options.specs.Given.{Text}
 use Rattle.launch_options.specs.declared.asked.Options.{Options}
 use Rattle.launch_options.specs.declared.fault.LaunchFault.{LaunchFault}
+use Rattle.launch_options.specs.declared.fault.LaunchFault.TheVariants.{BadWords}
 use Rattle.run_outputs.specs.declared.exit_status.ExitStatus.{ExitStatus}
 use Rattle.messages.specs.Sentences.{tests_sentence_of}
 use Rattle.listeners.specs.Listeners.{Telling}
@@ -34,22 +37,37 @@ module _ {B V W E : Type 0} (answers : B → List Reply) (gives : B → Reply �
     pub closed : ClosesRun tests_sentence_of contents said answer slowest between new during last ending
 
   module _ {K : Type 0} (deeds : K → Option (List Deed)) where
-    -- what is done with what the words gave, and with the reports that they ask for: of what is refused no file is touched, and nothing is seen
-    abbrev pub FilesTests : (is_terminal : Bool) → Result Options LaunchFault → List Wanted → (old new : W) → (first last : E) → (was now : K) → Ending → Type 0
-    FilesTests is_terminal (Ok options) wanted old new first last was now ending = IsRunOfTests is_terminal (asked_by options) wanted old new first last (deeds was) (deeds now) ending
-    FilesTests is_terminal (Err fault) wanted old new first last was now ending = (ended ≡ begun) × (now ≡ was) × Closes tests_sentence_of contents said (Err fault) old new first last ending
+    -- what is refused before anything is run: that is said, no file is touched, and nothing is seen
+    abbrev pub RefusesTests : LaunchFault → (old new : W) → (first last : E) → (was now : K) → Ending → Type 0
+    RefusesTests fault old new first last was now ending = (ended ≡ begun) × (now ≡ was) × Closes tests_sentence_of contents said (Err fault) old new first last ending
 
-    -- the words are read, and what that gave is run, with the reports that they ask for
+    -- these options are run, with the reports that are asked for; a file with a suite is refused, since the tests are the program's own
+    abbrev pub FilesLaunch : (is_terminal : Bool) → Options → (suite : Option Text) → List Wanted → (old new : W) → (first last : E) → (was now : K) → Ending → Type 0
+    FilesLaunch is_terminal options None wanted old new first last was now ending = IsRunOfTests is_terminal (asked_by options) wanted old new first last (deeds was) (deeds now) ending
+    FilesLaunch is_terminal options (Some name) wanted old new first last was now ending = RefusesTests BadWords old new first last was now ending
+
+    -- what is done with what the words gave
+    abbrev pub FilesTests : (is_terminal : Bool) → Result Options LaunchFault → (suite : Option Text) → List Wanted → (old new : W) → (first last : E) → (was now : K) → Ending → Type 0
+    FilesTests is_terminal (Ok options) suite wanted old new first last was now ending = FilesLaunch is_terminal options suite wanted old new first last was now ending
+    FilesTests is_terminal (Err fault) suite wanted old new first last was now ending = RefusesTests fault old new first last was now ending
+
+    -- the words are read, and what that gave is run, with the reports that they ask for; words that are refused ask for no help
     pub record IsFiledTestRun (is_terminal : Bool) (words : List Text) (old new : W) (first last : E) (was now : K) (ending : Ending) : Type 0 where
       pub options : Result Options LaunchFault
       pub reads : ReadsWords words options
-      pub runs : FilesTests is_terminal options (reports_wanted words) old new first last was now ending
+      pub unasked : options ≡ Err BadWords → AsksForNothing words
+      pub runs : FilesTests is_terminal options (suite_wanted words) (reports_wanted words) old new first last was now ending
 
-    -- what is done with the words that others stand for: they are run; or, where a file of words, or a saved run, is refused, that is said, no
-    -- file is touched, and nothing is seen
+    -- words that ask for help, or for the version, are told it, and nothing else is touched; all others are run
+    abbrev pub AnswersTestWords : (is_terminal : Bool) → List Text → (old new : W) → (first last : E) → (was now : K) → Ending → Type 0
+    AnswersTestWords is_terminal words old new first last was now ending =
+        ((ended ≡ begun) × (last ≡ first) × (now ≡ was) × AnswersInfo contents words old new ending) ⊎ IsFiledTestRun is_terminal words old new first last was now ending
+
+    -- what is done with the words that others stand for: they are answered; or, where a file of words, or a saved run, is refused, that is said,
+    -- no file is touched, and nothing is seen
     abbrev pub RunsExpandedTests : (is_terminal : Bool) → Result (List Text) LaunchFault → (old new : W) → (first last : E) → (was now : K) → Ending → Type 0
-    RunsExpandedTests is_terminal (Ok words) old new first last was now ending = IsFiledTestRun is_terminal words old new first last was now ending
-    RunsExpandedTests is_terminal (Err fault) old new first last was now ending = (ended ≡ begun) × (now ≡ was) × Closes tests_sentence_of contents said (Err fault) old new first last ending
+    RunsExpandedTests is_terminal (Ok words) old new first last was now ending = AnswersTestWords is_terminal words old new first last was now ending
+    RunsExpandedTests is_terminal (Err fault) old new first last was now ending = RefusesTests fault old new first last was now ending
 
     -- the program, whose words stand for others by the files that they name and by what the system tells
     pub record IsTestMainRun (is_terminal : Bool) (facts : Facts) (words : List Text) (old new : W) (first last : E) (was now : K) (ending : Ending) : Type 0 where

@@ -46,7 +46,8 @@ pub fn run_tests_here<S: System, W: Write, E: Write + IsTerminal, V: Observer>(
         × (writer.new ≡ writer.old) × (errors.new ≡ errors.old) × (observer.new ≡ observer.old)) }
 {
     let words = args(system);
-    let told = SystemFacts::of(system);
+    // nothing is read from standard input
+    let told = SystemFacts::of(system, false);
     let facts = told.facts();
     let is_terminal = is_drawn_on(system, &*errors);
     let mut texts = SystemTexts::new(system);

@@ -7,16 +7,17 @@ ghost use Rattle.resource_locks.specs.Plans.{PlanParts};
 ghost use Rattle.worker_pool.specs.Premises.{JobsMayAnswer};
 ghost use Rattle.worker_pool.specs.Reports.{run_of};
 ghost use Rattle.launch_options.specs.Asked.{asked_by};
+ghost use Rattle.launch_options.specs.Given.{maybe_behind};
 ghost use Rattle.launch_options.specs.ReportTexts.{parts_of};
 ghost use Rattle.launcher.specs.Programs.{HasJobs};
 ghost use Rattle.ready_runs.specs.ReadyPrograms.{program_parts};
 ghost use Rattle.messages.specs.Sentences.{tests_sentence_of};
 ghost use Rattle.command_line.specs.Runs.{Closes};
 ghost use Rattle.command_words.specs.GivenWords.{IsGivenFault};
-ghost use Rattle.harness.specs.TestRuns.{IsFiledTestRun, IsRunOfTests, IsTestMainRun};
+ghost use Rattle.harness.specs.TestRuns.{AnswersTestWords, FilesLaunch, IsRunOfTests, IsTestMainRun};
 
 use crate::meanwhile::run_jobs_meanwhile;
-use command_line::{Ending, close_run, close_with_failures, refuse};
+use command_line::{Ending, close_run, close_unread, close_with_failures, refuse};
 use command_words::{Launch, all_words, given_words, read_launch};
 use launcher::{LaunchFault, Program};
 use listeners::Observer;
@@ -90,13 +91,68 @@ fn run_launch<
     ending
 }
 
+/// Runs what these words asked for, unless they name a suite: the tests are the program's own, so that is refused with 105.
+fn run_suited<
+    B: Job + Send,
+    T: Threads + Wait + Sync,
+    C: Clock + Sync + Drop,
+    W: Write,
+    E: Write,
+    K: ReportFiles,
+    V: Observer,
+>(
+    rt: &T,
+    clock: C,
+    alloc: Global,
+    launch: Launch<'_>,
+    words: &[String],
+    host: Option<&str>,
+    is_terminal: bool,
+    program: Program<B>,
+    writer: &mut W,
+    errors: &mut E,
+    files: &mut K,
+    observer: &mut V,
+) -> Ending
+    requires jobs { (plan : PlanParts) (workers ring : ℕ) → JobsMayAnswer B.answers
+        (run_of plan workers ring program.jobs.items) }
+    requires all { HasJobs program.tree program.jobs.items }
+    ensures { FilesLaunch B.answers B.gives V.saw W.contents E.contents
+        (program_parts program.tree program.properties) program.jobs.items observer.old observer.new K.deeds
+        is_terminal launch.entry.options (maybe_behind launch.entry.suite) (map parts_of launch.entry.reports.items)
+        writer.old writer.new errors.old errors.new files.old files.new result }
+{
+    match launch.suite {
+        None => run_launch(
+            rt,
+            clock,
+            alloc,
+            launch,
+            words,
+            host,
+            is_terminal,
+            program,
+            writer,
+            errors,
+            files,
+            observer,
+        ),
+        Some(_) => {
+            drop(program);
+            drop(launch);
+            let fault = LaunchFault::BadWords;
+            close_run(alloc, Err(fault), words, Subject::Tests(""), writer, errors)
+        }
+    }
+}
+
 /// Runs of a program's own tests what the words ask for; the first word is the program's name, and this is the machine's.
 /// What they ask for is printed, as of a suite, and the reports that they ask for are kept. Then the line of a refusal is
 /// printed, unless the writer failed, and its message on the other writer, on which what failed is said once more behind a
 /// tree or a summary, and behind any run, if times are asked for, which tests were the slowest by this clock. If the other
 /// writer is a terminal, how far the run has come is drawn there meanwhile. Words that give no options are refused as
 /// `read_launch` says, and then nothing is run; so is `--replay` or `--drive`, by 105, since nobody knows beforehand what
-/// the tests answer. Each body of the tree has a job, and whatever plan is made of the tree, the jobs may answer. Whoever
+/// the tests answer, and `--suite`. Words that ask for help, or for the version, are told it. Each body of the tree has a job, and whatever plan is made of the tree, the jobs may answer. Whoever
 /// watches has seen the history that is printed, each event with its text; nothing, if nothing is run.
 fn run_filed_words<
     B: Job + Send,
@@ -122,12 +178,12 @@ fn run_filed_words<
     requires jobs { (plan : PlanParts) (workers ring : ℕ) → JobsMayAnswer B.answers
         (run_of plan workers ring program.jobs.items) }
     requires all { HasJobs program.tree program.jobs.items }
-    ensures { IsFiledTestRun B.answers B.gives V.saw W.contents E.contents
+    ensures { AnswersTestWords B.answers B.gives V.saw W.contents E.contents
         (program_parts program.tree program.properties) program.jobs.items observer.old observer.new K.deeds
         is_terminal (map string_bytes words.now) writer.old writer.new errors.old errors.new files.old files.new result }
 {
     match read_launch(alloc, words) {
-        Ok(launch) => run_launch(
+        Ok(launch) => run_suited(
             rt,
             clock,
             alloc,
@@ -143,7 +199,7 @@ fn run_filed_words<
         ),
         Err(fault) => {
             drop(program);
-            close_run(alloc, Err(fault), words, Subject::Tests(""), writer, errors)
+            close_unread(alloc, fault, words, Subject::Tests(""), writer, errors)
         }
     }
 }

@@ -25,6 +25,7 @@ in_other_words given asked are number is = record {
   schedule = are.schedule;
   times = are.times;
   replay = are.replay;
+  passed_over = are.passed_over;
   drive = are.drive;
   selectors = are.selectors;
   names = are.names;

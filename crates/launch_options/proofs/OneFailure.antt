@@ -40,6 +40,7 @@ in_a_number given asked are passed one is so = record {
   schedule = are.schedule;
   times = are.times;
   replay = are.replay;
+  passed_over = are.passed_over;
   drive = are.drive;
   selectors = are.selectors;
   names = are.names;

@@ -20,7 +20,7 @@ use Rattle.launch_options.specs.declared.asked.Options.{Options}
 use Rattle.launch_options.specs.declared.fault.LaunchFault.{LaunchFault}
 use Rattle.launch_options.specs.declared.fault.LaunchFault.TheVariants.{BadWords, BadStep, BadSelector, BadTags}
 use Rattle.step_text.specs.StepTexts.{steps_of}
-use Rattle.launch_options.specs.DetailsTexts.{details_named}
+use Rattle.launch_options.specs.DetailsTexts.{details_asked}
 use Rattle.launch_options.specs.Failures.{fails_fast, max_fail_named, tolerated_asked, unless_both}
 use Rattle.launch_options.specs.Given.{Text, Values}
 use Rattle.launch_options.specs.Parameters.{processors_named, ring_named, drive_named, params_refusal}
@@ -32,7 +32,7 @@ use Rattle.launch_options.specs.Workers.{params_said, unless_twice, workers_aske
 -- what is asked for: what is to run, with which parameters and how many processors, how many workers `--workers` has said, if it
 -- is given, how many events may be shown that are not told yet, what is printed and how, whether there have to be tests, or, where a
 -- shard is asked for, whether something has to be selected, whether nothing more is to start once nodes have failed, and after how many failures a run is to go on all the same, whether the steps of a run are to be printed,
--- whether it is to be told how long tests took, the steps that are to be replayed, if any are, and how many workers are to take those of the fixed schedule, if any are
+-- whether it is to be told how long tests took, the steps that are to be replayed, if any are, whether a replay that passes one over is to have status 1, and how many workers are to take those of the fixed schedule, if any are
 pub record Asked : Type 0 where
   pub request : Request
   pub params : Parameters
@@ -48,6 +48,7 @@ pub record Asked : Type 0 where
   pub schedule : Bool
   pub times : Bool
   pub replay : Option (List Step)
+  pub fail_if_passed_over : Bool
   pub drive : Option ℕ
 
 -- options, without where they lie in memory
@@ -67,6 +68,7 @@ asked_by options = record {
   schedule = options.schedule;
   times = options.times;
   replay = option_map (λ steps. steps.items) options.replay;
+  fail_if_passed_over = options.fail_if_passed_over;
   drive = options.drive;
 }
 
@@ -162,7 +164,7 @@ texts_refusal given =
 -- no size of the ring, and what is no number of workers of the fixed schedule
 abbrev pub names_refusal : Values → Option LaunchFault
 names_refusal given =
-    option_or (unless_named (details_named given.details)) (
+    option_or (unless_named (details_asked given.quiet given.details)) (
     option_or (unless_named (theme_named given.theme)) (
     option_or (unless_named (processors_named given.processors)) (
     option_or (unless_named (ring_named given.ring)) (
@@ -193,13 +195,13 @@ refusal_of given =
     option_or (failures_refusal given) (
     option_or (shard_refusal given) (
     option_or (seed_refusal given) (
-    option_or (reports_refusal given.reports given.replay (details_named given.details)) (
+    option_or (reports_refusal given.reports given.replay (details_asked given.quiet given.details)) (
     option_or (texts_refusal given) (
     params_refusal given)))))))
 
 -- the values ask for this
 pub record AreAsked (given : Values) (asked : Asked) : Type 0 where
-  pub details : details_named given.details ≡ Some asked.details
+  pub details : details_asked given.quiet given.details ≡ Some asked.details
   pub theme : theme_named given.theme ≡ Some asked.theme
   pub processors : processors_named given.processors ≡ Some asked.processors
   pub workers : workers_asked given ≡ Some asked.workers
@@ -212,6 +214,7 @@ pub record AreAsked (given : Values) (asked : Asked) : Type 0 where
   pub schedule : asked.schedule ≡ given.schedule
   pub times : asked.times ≡ given.times
   pub replay : IsReplay given.replay asked.replay
+  pub passed_over : asked.fail_if_passed_over ≡ given.fail_if_passed_over
   pub drive : drive_named given.drive ≡ Some asked.drive
   pub selectors : asked.request.selectors.items ≡ filter_map spelled given.selectors
   pub names : asked.request.names.items ≡ filter_map spelled given.names

@@ -18,6 +18,12 @@ details_named (Some name) =
     else (if bytes_eq name (codes "list") then Some details.List
     else (if bytes_eq name (codes "plan") then Some details.Plan else None)))))))
 
+-- what `--details` and `--quiet` ask for: the summary alone with the latter, beside which the former may not be given
+abbrev pub details_asked : (quiet : Bool) → Option Text → Option Details
+details_asked false name = details_named name
+details_asked true None = Some details.Summary
+details_asked true (Some name) = None
+
 -- the name of what is printed
 abbrev pub details_text : Details → Text
 details_text details.None = codes "none"

@@ -19,14 +19,17 @@ pub record Values : Type 0 where
   pub config : List Text
   pub system : List Text
   pub reports : List Text
+  pub suite : Option Text
   pub processors : Option Text
   pub workers : Option Text
   pub ring : Option Text
   pub shard : Option Text
   pub seed : Option Text
   pub details : Option Text
+  pub quiet : Bool
   pub theme : Option Text
   pub replay : Option Text
+  pub fail_if_passed_over : Bool
   pub drive : Option Text
   pub fail_if_no_tests : Bool
   pub fail_fast : Bool
@@ -58,14 +61,17 @@ values_of given = record {
   config = behind given.config.items;
   system = behind given.system.items;
   reports = behind given.reports.items;
+  suite = maybe_behind given.suite;
   processors = maybe_behind given.processors;
   workers = maybe_behind given.workers;
   ring = maybe_behind given.ring;
   shard = maybe_behind given.shard;
   seed = maybe_behind given.seed;
   details = maybe_behind given.details;
+  quiet = given.quiet;
   theme = maybe_behind given.theme;
   replay = maybe_behind given.replay;
+  fail_if_passed_over = given.fail_if_passed_over;
   drive = maybe_behind given.drive;
   fail_if_no_tests = given.fail_if_no_tests;
   fail_fast = given.fail_fast;

@@ -44,6 +44,8 @@ pub struct Options {
     /// The steps that are run in place of the fixed schedule. Then their text alone is printed,
     /// whatever the details are.
     pub replay: Option<Vec<Step>>,
+    /// Whether a replay in which a step was passed over has status 1.
+    pub fail_if_passed_over: bool,
     /// How many workers run the plan by the fixed schedule, without threads, or take the steps of
     /// `replay`, if any are to: from 1 to 64. They count in place of those of the configuration.
     pub drive: Option<u32>,
@@ -71,6 +73,7 @@ impl Drop for Options {
             schedule: _,
             times: _,
             replay: _,
+            fail_if_passed_over: _,
             drive: _,
         } = self;
     }

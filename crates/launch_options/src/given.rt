@@ -25,6 +25,8 @@ pub struct Given<'a> {
     pub system: Vec<&'a str>,
     /// `--report`.
     pub reports: Vec<&'a str>,
+    /// `--suite`.
+    pub suite: Option<&'a str>,
     /// `--processors`.
     pub processors: Option<&'a str>,
     /// `--workers`.
@@ -37,10 +39,14 @@ pub struct Given<'a> {
     pub seed: Option<&'a str>,
     /// `--details`.
     pub details: Option<&'a str>,
+    /// `--quiet`.
+    pub quiet: bool,
     /// `--details-theme`.
     pub theme: Option<&'a str>,
     /// `--replay`.
     pub replay: Option<&'a str>,
+    /// `--fail-if-passed-over`.
+    pub fail_if_passed_over: bool,
     /// `--drive`.
     pub drive: Option<&'a str>,
     /// `--fail-if-no-tests`.
@@ -68,14 +74,17 @@ impl Drop for Given<'_> {
             config: _,
             system: _,
             reports: _,
+            suite: _,
             processors: _,
             workers: _,
             ring: _,
             shard: _,
             seed: _,
             details: _,
+            quiet: _,
             theme: _,
             replay: _,
+            fail_if_passed_over: _,
             drive: _,
             fail_if_no_tests: _,
             fail_fast: _,

@@ -26,6 +26,8 @@ pub const INCLUDE_TAG: &str = "include-tag";
 
 pub const EXCLUDE_TAG: &str = "exclude-tag";
 
+pub const SUITE: &str = "suite";
+
 pub const CONFIG: &str = "config";
 
 pub const SYSTEM: &str = "system";
@@ -44,6 +46,8 @@ pub const DETAILS: &str = "details";
 
 pub const DETAILS_THEME: &str = "details-theme";
 
+pub const QUIET: &str = "quiet";
+
 pub const REPORT: &str = "report";
 
 pub const FAIL_IF_NO_TESTS: &str = "fail-if-no-tests";
@@ -57,5 +61,7 @@ pub const SCHEDULE: &str = "schedule";
 pub const TIMES: &str = "times";
 
 pub const REPLAY: &str = "replay";
+
+pub const FAIL_IF_PASSED_OVER: &str = "fail-if-passed-over";
 
 pub const DRIVE: &str = "drive";

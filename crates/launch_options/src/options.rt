@@ -6,7 +6,7 @@ ghost use Rattle.std.specs.Option.{is_some, option_or};
 ghost use Rattle.launch_options.specs.declared.fault.LaunchFault.TheVariants.{NoMemory};
 ghost use Rattle.launch_options.specs.Given.{behind, maybe_behind, texts_of, values_of};
 ghost use Rattle.launch_options.specs.Asked.{asked_by, theme_named as theme_of_name};
-ghost use Rattle.launch_options.specs.DetailsTexts.{details_named as details_of_name};
+ghost use Rattle.launch_options.specs.DetailsTexts.{details_asked as details_of_both, details_named as details_of_name};
 ghost use Rattle.launch_options.specs.Asked.{unless_named, IsReplay, refusal_of, AreAsked, spelled, IsExpression};
 ghost use Rattle.launch_options.specs.Asked.{AreExpressions, names_refusal, texts_refusal};
 ghost use Rattle.launch_options.specs.Failures.{max_fail_named as max_fail_of_name, tolerated_asked, with_max_fail};
@@ -48,6 +48,20 @@ fn details_named(name: Option<&str>) -> Result<Details, LaunchFault>
     match Details::named(name) {
         Some(details) => Ok(details),
         None => Err(LaunchFault::BadWords),
+    }
+}
+
+/// What `--details` and `--quiet` ask for.
+fn details_asked(quiet: bool, name: Option<&str>) -> Result<Details, LaunchFault>
+    ensures named { IfOk result (λ details. details_of_both quiet (maybe_behind name.entry) ≡ Some details) }
+    ensures refused { IfErr result (λ fault. unless_named (details_of_both quiet (maybe_behind name.entry)) ≡ Some fault) }
+{
+    if !quiet {
+        return details_named(name);
+    }
+    match name {
+        None => Ok(Details::Summary),
+        Some(_) => Err(LaunchFault::BadWords),
     }
 }
 
@@ -171,9 +185,10 @@ struct Choices {
     drive: Option<u32>,
 }
 
-/// What `--details`, `--details-theme`, `--processors`, `--ring` and `--drive` ask for, judged in this order.
+/// What `--details` and `--quiet`, `--details-theme`, `--processors`, `--ring` and `--drive` ask for, judged in this order.
 fn choices_of(given: &Given<'_>) -> Result<Choices, LaunchFault>
-    ensures details { IfOk result (λ choices. details_of_name (maybe_behind given.now.details) ≡ Some choices.details) }
+    ensures details { IfOk result (λ choices. details_of_both given.now.quiet (maybe_behind given.now.details)
+        ≡ Some choices.details) }
     ensures theme { IfOk result (λ choices. theme_of_name (maybe_behind given.now.theme) ≡ Some choices.theme) }
     ensures processors { IfOk result (λ choices. processors_of_name (maybe_behind given.now.processors)
         ≡ Some choices.processors) }
@@ -186,7 +201,7 @@ fn choices_of(given: &Given<'_>) -> Result<Choices, LaunchFault>
     ensures real { IfErr result (λ fault. fault ≢ NoMemory) }
 {
     Ok(Choices {
-        details: details_named(given.details)?,
+        details: details_asked(given.quiet, given.details)?,
         theme: theme_named(given.theme)?,
         processors: processors_named(given.processors)?,
         ring: ring_named(given.ring)?,
@@ -237,7 +252,7 @@ fn options_of(
     shard: Option<Shard>,
     seed: Option<u64>,
 ) -> Result<Options, AllocError>
-    requires details { details_of_name (maybe_behind given.now.details) ≡ Some choices.details }
+    requires details { details_of_both given.now.quiet (maybe_behind given.now.details) ≡ Some choices.details }
     requires theme { theme_of_name (maybe_behind given.now.theme) ≡ Some choices.theme }
     requires processors { processors_of_name (maybe_behind given.now.processors) ≡ Some choices.processors }
     requires ring { ring_of_name (maybe_behind given.now.ring) ≡ Some choices.ring }
@@ -273,13 +288,14 @@ fn options_of(
         schedule: given.schedule,
         times: given.times,
         replay,
+        fail_if_passed_over: given.fail_if_passed_over,
         drive: choices.drive,
     })
 }
 
 impl Options {
     /// The options that these values ask for. Details and themes that are none of ours are refusal
-    /// 105, and so is what is no number of processors from 1 to 1,024, what is no number of places of
+    /// 105, and so are details beside `--quiet`, and so is what is no number of processors from 1 to 1,024, what is no number of places of
     /// the ring from 1 to 16,384, what is no number of workers of the fixed schedule from 1 to 64,
     /// what is no number of workers from 1 to 64 and not `auto`, or stands beside one of its keys in
     /// `--config`, what is no number of failures from 1 to 4,095, or stands beside `--fail-fast`, what names no shard, what is no seed, and what asks for no report, for two in one file, or for one of

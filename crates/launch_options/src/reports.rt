@@ -2,7 +2,7 @@
 
 ghost use Rattle.std.specs.Prelude.{◌≡◌, ◌≢◌, None, Some, IfErr, OnOk, option_map};
 ghost use Rattle.std.specs.List.{list_any};
-ghost use Rattle.launch_options.specs.DetailsTexts.{details_named};
+ghost use Rattle.launch_options.specs.DetailsTexts.{details_asked};
 ghost use Rattle.launch_options.specs.Given.{behind, maybe_behind};
 ghost use Rattle.launch_options.specs.ReportTexts.{asks_for_none, file_of, form_named, if_form, is_form};
 ghost use Rattle.launch_options.specs.ReportTexts.{names_file, names_one_twice, parts_of, report_in};
@@ -118,11 +118,11 @@ fn runs_plan(details: Details) -> bool
 
 /// Judges what `--report` asks for, where these are the details.
 pub(crate) fn judge_reports(given: &Given<'_>, details: Details) -> Result<(), LaunchFault>
-    requires details { details_named (maybe_behind given.now.details) ≡ Some details }
+    requires details { details_asked given.now.quiet (maybe_behind given.now.details) ≡ Some details }
     ensures accepted { OnOk result (reports_refusal (behind given.now.reports.items) (maybe_behind given.now.replay)
-        (details_named (maybe_behind given.now.details)) ≡ None) }
+        (details_asked given.now.quiet (maybe_behind given.now.details)) ≡ None) }
     ensures refused { IfErr result (λ fault. reports_refusal (behind given.now.reports.items)
-        (maybe_behind given.now.replay) (details_named (maybe_behind given.now.details)) ≡ Some fault) }
+        (maybe_behind given.now.replay) (details_asked given.now.quiet (maybe_behind given.now.details)) ≡ Some fault) }
     ensures real { IfErr result (λ fault. fault ≢ NoMemory) }
 {
     let texts = given.reports.as_slice();

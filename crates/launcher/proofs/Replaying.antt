@@ -25,6 +25,9 @@ use Rattle.step_text.specs.StepSpelling.{steps_text, AreNamable}
 use Rattle.step_text.proofs.Written.{text_back}
 use Rattle.worker_pool.specs.Reports.{AreTexts as AreRunTexts}
 use Rattle.run_outputs.specs.declared.exit_status.ExitStatus.{ExitStatus}
+use Rattle.run_outputs.specs.declared.exit_status.ExitStatus.TheVariants.{Success}
+use Rattle.run_outputs.specs.declared.replay.ReplayCounts.{ReplayCounts}
+use Rattle.run_outputs.specs.ExitStatuses.{status_of_replay}
 use Rattle.launch_options.specs.Asked.{IsReplay}
 use Rattle.run_outputs.specs.ReplayTexts.{replay_line}
 use Rattle.run_outputs.specs.Outputs.{replayed, replay_counts, IsReplayOutput}
@@ -65,7 +68,11 @@ module _ (p : PlanParts) (tree : IsTree p.tree) (answers : List (ℕ × Reply)) 
     counts : replay_counts workers p answers steps ≡ record { steps = length steps; passed_over = 0; published = length history; given = length history }
     counts = λ i. record { steps = length steps; passed_over = is.possible i; published = length (is.published i); given = length (is.given i) }
 
-    -- A replay of a schedule prints the feed of the run, and that no step was passed over and that all was published and given.
-    pub replay_prints : (text : List ℕ) (status : ExitStatus) → IsReplayOutput steps workers p answers text status
-        → text ≡ feed_of p texts history ++ replay_line (record { steps = length steps; passed_over = 0; published = length history; given = length history })
-    replay_prints text status out = out.printed ∙ ap₂ (λ (feed line : List ℕ). feed ++ line) (given_feed out.texts out.are) (ap replay_line counts)
+    -- A replay of a schedule prints the feed of the run, and that no step was passed over and that all was published and given, and it
+    -- is a success.
+    pub replay_prints : (fails : Bool) (text : List ℕ) (status : ExitStatus) → IsReplayOutput fails steps workers p answers text status
+        → (text ≡ feed_of p texts history ++ replay_line (record { steps = length steps; passed_over = 0; published = length history; given = length history })) × (status ≡ Success)
+    replay_prints fails text status out = (
+      out.printed ∙ ap₂ (λ (feed line : List ℕ). feed ++ line) (given_feed out.texts out.are) (ap replay_line counts),
+      out.exits ∙ ap (λ (c : ReplayCounts). status_of_replay fails c.passed_over) counts,
+    )

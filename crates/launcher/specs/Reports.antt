@@ -83,7 +83,7 @@ IsPlanOutput details.Plan asked settings p answers text status = IsPlanned asked
 -- nothing else counts
 abbrev pub IsOutputWith : Option (List Step) → Asked → Settings → PlanParts → List (ℕ × Reply) → List ℕ → ExitStatus → Type 0
 IsOutputWith None asked settings p answers text status = IsPlanOutput asked.details asked settings p answers text status
-IsOutputWith (Some steps) asked settings p answers text status = IsReplayOutput steps settings.workers p answers text status
+IsOutputWith (Some steps) asked settings p answers text status = IsReplayOutput asked.fail_if_passed_over steps settings.workers p answers text status
 
 abbrev pub IsOutput : Asked → Settings → PlanParts → List (ℕ × Reply) → List ℕ → ExitStatus → Type 0
 IsOutput asked settings p answers text status = IsOutputWith asked.replay asked settings p answers text status

@@ -292,7 +292,14 @@ pub(crate) fn report_of<T: Threads + Wait + Sync, V: Observer + NotesTimes, S: S
 {
     match &options.replay {
         Some(steps) => {
-            let report = replay_report(alloc, steps.as_slice(), &plan, answers, settings.workers)?;
+            let report = replay_report(
+                alloc,
+                options.fail_if_passed_over,
+                steps.as_slice(),
+                &plan,
+                answers,
+                settings.workers,
+            )?;
             Ok(report)
         }
         None => plan_report(

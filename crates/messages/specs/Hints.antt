@@ -7,11 +7,11 @@ use Rattle.config_params.specs.LockKeys.{lock_limited}
 use Rattle.config_params.specs.LockLimits.{limited_as_said}
 use Rattle.config_params.specs.Settings.{Answers, classes_mode_key, enabled_key, factor_key, mode_key, parallelism_key, settings_of, slow_key, strategy_key}
 use Rattle.messages.specs.declared.hint.Cause.{Cause}
-use Rattle.messages.specs.declared.hint.Cause.TheVariants.{UnreadKey, IdleSetting, LockKey, InnerReturn}
+use Rattle.messages.specs.declared.hint.Cause.TheVariants.{UnreadKey, IdleSetting, LockKey, InnerReturn, NoNode}
 use Rattle.messages.specs.declared.hint.Hint.{Hint}
 use Rattle.messages.specs.declared.hint.Hints.{Hints}
 use Rattle.messages.specs.declared.hint.Place.{Place}
-use Rattle.messages.specs.declared.hint.Place.TheVariants.{Config, System, Line}
+use Rattle.messages.specs.declared.hint.Place.TheVariants.{Config, System, Line, Suite}
 use Rattle.resource_locks.specs.Plans.{PlanParts}
 use Rattle.suite_messages.specs.Marks.{shown}
 
@@ -37,6 +37,7 @@ abbrev pub place_text : Place → List ℕ
 place_text Config = codes "--config"
 place_text System = codes "--system"
 place_text (Line number) = codes "line " ++ decimal number
+place_text Suite = codes "the suite"
 
 -- a text between quotes
 abbrev pub quoted : List ℕ → List ℕ
@@ -53,6 +54,7 @@ said_text UnreadKey text meant = codes "nobody reads the key " ++ (quoted text +
 said_text IdleSetting text meant = quoted text ++ codes " changes nothing, since parallel execution is off: it is on with --workers N, or with junit.jupiter.execution.parallel.enabled=true"
 said_text LockKey text meant = codes "the key of this lock is " ++ (quoted text ++ codes ", since no mode stands behind it: a lock is lock=KEY, lock=KEY:r or lock=KEY:rw")
 said_text InnerReturn text meant = codes "a carriage return stands inside the line, and does not end it: a line ends in LF or CR LF"
+said_text NoNode text meant = codes "it is empty, so nothing was run: a suite begins with a line as 'engine NAME', and --suite FILE reads one from a file"
 
 -- its line
 abbrev pub hint_line : Hint → List ℕ

@@ -133,9 +133,19 @@ fn add_line<'a>(
     add_locks(alloc, hints, number, line)
 }
 
+/// Whether no line of a suite's text declares a node: a node stands below an engine.
+fn has_no_engine(lines: &str) -> bool {
+    !lines.lines().any(|line| matches!(Word::spelled(cut(line).0), Some(Word::Engine)))
+}
+
+/// Whether the suite of these bytes, which is read, names no node.
+pub fn names_no_node(suite: &[u8]) -> bool {
+    has_no_engine(text_of(suite).0)
+}
+
 /// What these values, of which these options were made, and the suite of these bytes, which is read,
 /// say that has another effect than it seems to have: first what `--config` says, then `--system`,
-/// then the suite, line by line.
+/// then the suite, line by line, and at last that it names no node.
 pub fn hints_of<'a>(
     alloc: Global,
     given: &Given<'a>,
@@ -162,6 +172,9 @@ pub fn hints_of<'a>(
     for (index, line) in lines.lines().enumerate() {
         let number = index.saturating_add(1);
         add_line(alloc, &mut hints, number, is_off, line)?;
+    }
+    if has_no_engine(lines) {
+        hints.add(alloc, Place::Suite, Cause::NoNode, "")?;
     }
     Ok(hints)
 }

@@ -19,6 +19,8 @@ pub enum Place {
     System,
     /// A line of the suite, from 1.
     Line(usize),
+    /// The whole suite.
+    Suite,
 }
 
 /// Why a hint is given.
@@ -32,6 +34,8 @@ pub enum Cause {
     LockKey,
     /// A carriage return stands inside a line.
     InnerReturn,
+    /// No line declares a node.
+    NoNode,
 }
 
 /// A hint: where it is about, why it is given, the key that it is about, and the key that may have

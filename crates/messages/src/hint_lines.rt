@@ -26,6 +26,7 @@ fn push_place(text: &mut String, place: Place) -> Result<(), AllocError>
         Place::Config => text.push_str("--config"),
         Place::System => text.push_str("--system"),
         Place::Line(number) => write!(text, "line {number}"),
+        Place::Suite => text.push_str("the suite"),
     }
 }
 
@@ -82,6 +83,9 @@ fn push_said(text: &mut String, hint: &Hint<'_>) -> Result<(), AllocError>
         Cause::LockKey => push_lock(text, hint.text),
         Cause::InnerReturn => text.push_str(
             "a carriage return stands inside the line, and does not end it: a line ends in LF or CR LF",
+        ),
+        Cause::NoNode => text.push_str(
+            "it is empty, so nothing was run: a suite begins with a line as 'engine NAME', and --suite FILE reads one from a file",
         ),
     }
 }

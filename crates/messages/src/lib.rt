@@ -14,7 +14,7 @@ mod settings;
 mod subject;
 mod values;
 
-pub use finding::hints_of;
+pub use finding::{hints_of, names_no_node};
 pub use hint::{Cause, Hint, Hints, Place};
 pub use hint_lines::hints_text;
 pub use keys::{cause_of_key, is_read};

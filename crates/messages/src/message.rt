@@ -9,8 +9,8 @@ use crate::sentence::sentence_by;
 use crate::settings::push_settings;
 use crate::subject::Subject;
 use crate::values::{
-    push_covering, push_pair, push_report, push_selector, push_step, push_step_option, push_tags,
-    push_words,
+    push_covering, push_pair, push_report, push_selector, push_step, push_suite_option, push_tags,
+    push_unread_suite, push_words,
 };
 use config_params::SettingsFault;
 use launch_options::{CutCause, CutOutput, Given, LaunchFault};
@@ -75,7 +75,7 @@ fn push_refused_words(
 ) -> Result<(), AllocError> {
     push_words(alloc, text, given)?;
     match subject {
-        Subject::Tests(_) if text.is_empty() => push_step_option(text, given),
+        Subject::Tests(_) if text.is_empty() => push_suite_option(text, given),
         _ => Ok(()),
     }
 }
@@ -144,9 +144,7 @@ fn push_details(
         LaunchFault::NoWorker => text.push_str(
             "A run needs one thread besides the program's own: let other programs end, or raise the limits of processes and of memory.\n",
         ),
-        LaunchFault::Reading => {
-            text.push_str("The suite is read from there: give it as in `./console < FILE`.\n")
-        }
+        LaunchFault::Reading => push_unread_suite(text, given),
         LaunchFault::BadReport(number) => push_report(alloc, text, number, given, UNOPENED),
         LaunchFault::CutReport(number) => push_report(alloc, text, number, given, UNKEPT),
         LaunchFault::UnreadRun | LaunchFault::BadSavedLine(_) | LaunchFault::UnreadWords(_) => Ok(

@@ -119,7 +119,7 @@ fn sentence_of(fault: LaunchFault) -> &'static str
         LaunchFault::TooManyKeys => "the nodes that are to run declare too many keys of locks",
         LaunchFault::TooManyWorkers => "the configuration asks for too many workers",
         LaunchFault::NoWorker => "no thread could be started",
-        LaunchFault::Reading => "standard input could not be read",
+        LaunchFault::Reading => "the suite could not be read",
         LaunchFault::BadReport(_) => "the file of a report could not be opened",
         LaunchFault::CutReport(_) => "a report could not be written whole",
         LaunchFault::UnreadRun => "the saved run could not be read",

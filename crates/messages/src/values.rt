@@ -168,7 +168,7 @@ fn push_workers(
     push_max_fail(alloc, text, given)
 }
 
-/// Appends which of the values that stand for something is none: what `--details`, then `--details-theme`, then
+/// Appends which of the values that stand for something is none, or stands beside what it may not: what `--details`, then `--details-theme`, then
 /// `--processors`, then `--ring`, then `--drive`, then `--workers`, then `--max-fail`, then `--shard`, then `--seed`,
 /// and then `--report` may be.
 pub(crate) fn push_words(
@@ -177,6 +177,10 @@ pub(crate) fn push_words(
     given: &Given<'_>,
 ) -> Result<(), AllocError> {
     if let Some(name) = given.details {
+        if given.quiet {
+            text.push_str("--quiet (-q) says --details summary: leave one of the two out\n")?;
+            return push_option(alloc, text, DETAILS, name, 0);
+        }
         if Details::named(name).is_none() {
             return push_choice(alloc, text, DETAILS, name, Details::names().as_slice());
         }
@@ -207,8 +211,12 @@ pub(crate) fn push_words(
     }
 }
 
-/// Appends which option has steps taken in a run whose bodies nobody has scripted.
-pub(crate) fn push_step_option(text: &mut String, given: &Given<'_>) -> Result<(), AllocError> {
+/// Appends which option asks for what a program's own tests do not have: steps that are taken in a run whose bodies nobody
+/// has scripted, or a suite.
+pub(crate) fn push_suite_option(text: &mut String, given: &Given<'_>) -> Result<(), AllocError> {
+    if given.replay.is_none() && given.drive.is_none() {
+        return text.push_str("--suite is for suites alone: the tests are the program's own\n");
+    }
     let option = if given.replay.is_some() {
         REPLAY
     } else {
@@ -218,6 +226,19 @@ pub(crate) fn push_step_option(text: &mut String, given: &Given<'_>) -> Result<(
         text,
         "--{option} is for suites alone: what real tests answer nobody knows before they have run\n"
     )
+}
+
+/// Appends which file has no suite that can be read, or that standard input has none.
+pub(crate) fn push_unread_suite(text: &mut String, given: &Given<'_>) -> Result<(), AllocError> {
+    match given.suite {
+        Some(name) => write!(
+            text,
+            "The file is {name}: it has to be there, and one that may be read.\n"
+        ),
+        None => text.push_str(
+            "It is read from standard input, as in `./console < FILE`, or from FILE with --suite FILE.\n",
+        ),
+    }
 }
 
 /// Appends which word of the replay names no step.

@@ -24,8 +24,7 @@ use Rattle.reports.specs.Lists.{list_of}
 use Rattle.reports.specs.PlanNodes.{plan_lines}
 use Rattle.launch_options.specs.declared.details.Details.{Details}
 use Rattle.run_outputs.specs.declared.exit_status.ExitStatus.{ExitStatus}
-use Rattle.run_outputs.specs.declared.exit_status.ExitStatus.TheVariants.{Success}
-use Rattle.run_outputs.specs.ExitStatuses.{status_of_run}
+use Rattle.run_outputs.specs.ExitStatuses.{status_of_replay, status_of_run}
 use Rattle.junit_report.specs.Expectations.{expected_tree, expected_xml, expected_counts, expected_tests, expects_failure}
 use Rattle.launch_options.specs.declared.details.Details.TheVariants as details
 use Rattle.run_outputs.specs.declared.replay.ReplayCounts.{ReplayCounts}
@@ -93,12 +92,12 @@ counts_of steps final missed = record { steps = length steps; passed_over = miss
 abbrev pub replay_counts : ℕ → PlanParts → List (ℕ × Reply) → List Step → ReplayCounts
 replay_counts workers p answers steps = counts_of steps (replayed workers p answers steps) (passed_over p answers (opening p workers) steps)
 
--- so many workers replay the steps: the feed of what they gave is printed, then the line of counts, and the status is success
-pub record IsReplayOutput (steps : List Step) (workers : ℕ) (p : PlanParts) (answers : List (ℕ × Reply)) (text : List ℕ) (status : ExitStatus) : Type 0 where
+-- so many workers replay the steps: the feed of what they gave is printed, then the line of counts, and the status says whether steps were passed over
+pub record IsReplayOutput (fails : Bool) (steps : List Step) (workers : ℕ) (p : PlanParts) (answers : List (ℕ × Reply)) (text : List ℕ) (status : ExitStatus) : Type 0 where
   pub texts : TextParts
   pub are : AreTexts p answers (replayed workers p answers steps).given texts
   pub printed : text ≡ feed_of p texts (replayed workers p answers steps).given ++ replay_line (replay_counts workers p answers steps)
-  pub exits : status ≡ Success
+  pub exits : status ≡ status_of_replay fails (replay_counts workers p answers steps).passed_over
 
 -- nothing is run: what would be is listed, and the status is success, unless there had to be tests and nothing is listed
 pub record IsListing (needs_tests : Bool) (p : PlanParts) (text : List ℕ) (status : ExitStatus) : Type 0 where

@@ -1,8 +1,7 @@
 //! The exit status, and what decides it.
 
 ghost use Rattle.std.specs.Prelude.{◌≡◌};
-ghost use Rattle.run_outputs.specs.ExitStatuses.{number_of, status_of_run, status_after};
-ghost use Rattle.run_outputs.specs.declared.exit_status.ExitStatus.TheVariants.{Success};
+ghost use Rattle.run_outputs.specs.ExitStatuses.{number_of, status_after, status_of_replay, status_of_run};
 
 use launch_options::LaunchFault;
 
@@ -15,6 +14,8 @@ pub enum ExitStatus {
     TestsFailed,
     /// 2: there had to be tests, and none was found.
     NoTestsFound,
+    /// A replay passed steps over that were not possible in their turn: 1 if that is to fail, else 0.
+    StepsPassedOver { fails: bool },
     /// 255: a refusal.
     Refused,
 }
@@ -28,6 +29,7 @@ impl ExitStatus {
             ExitStatus::Success => 0,
             ExitStatus::TestsFailed => 1,
             ExitStatus::NoTestsFound => 2,
+            ExitStatus::StepsPassedOver { fails } => u8::from(fails),
             ExitStatus::Refused => 255,
         }
     }
@@ -46,11 +48,16 @@ impl ExitStatus {
         }
     }
 
-    /// The status of a replay, which tells what the steps do and not whether the suite passes.
-    pub fn of_replay() -> ExitStatus
-        ensures { result ≡ Success }
+    /// The status of a replay that passed so many steps over, which is to fail or not. It tells what the steps do, and not
+    /// whether the suite passes.
+    pub fn of_replay(fails: bool, passed_over: usize) -> ExitStatus
+        ensures { result ≡ status_of_replay fails passed_over }
     {
-        ExitStatus::Success
+        if passed_over == 0 {
+            ExitStatus::Success
+        } else {
+            ExitStatus::StepsPassedOver { fails }
+        }
     }
 
     /// The status that the program ends with after this answer.

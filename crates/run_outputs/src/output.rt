@@ -190,15 +190,16 @@ pub fn told_report(
     )
 }
 
-/// The report of these steps, taken by so many workers.
+/// The report of these steps, taken by so many workers. It may be asked that steps which are passed over make it fail.
 pub fn replay_report(
     alloc: Global,
+    fails: bool,
     steps: &[Step],
     plan: &Plan,
     answers: &Answers,
     workers: u32,
 ) -> Result<Output, AllocError>
-    ensures { IfOk result (λ report. IsReplayOutput steps.now workers plan.now answers.now (string_bytes report.text)
+    ensures { IfOk result (λ report. IsReplayOutput fails steps.now workers plan.now answers.now (string_bytes report.text)
         report.status) }
 {
     // The number of workers was judged before.
@@ -217,7 +218,7 @@ pub fn replay_report(
     push_replay_line(&mut text, counts)?;
     Ok(Output {
         text,
-        status: ExitStatus::of_replay(),
+        status: ExitStatus::of_replay(fails, trace.passed_over),
     })
 }
 

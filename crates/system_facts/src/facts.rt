@@ -24,12 +24,16 @@ pub struct SystemFacts {
     shard_index: Option<String>,
     seed: Option<u64>,
     host: Option<String>,
+    is_typed: bool,
 }
 
 impl SystemFacts {
-    /// What this system tells now. A build server is told that shards are known here: Bazel asks for a file to be
+    /// What this system tells now, where standard input is a terminal or is none. A build server is told that shards are known here: Bazel asks for a file to be
     /// touched.
-    pub fn of<S: Threads + Clock + Env + Files + AllocGlobal>(system: &S) -> SystemFacts {
+    pub fn of<S: Threads + Clock + Env + Files + AllocGlobal>(
+        system: &S,
+        is_typed: bool,
+    ) -> SystemFacts {
         touch_shard_file(system);
         SystemFacts {
             processors: processors(system),
@@ -37,6 +41,7 @@ impl SystemFacts {
             shard_index: variable(system, SHARD_INDEX),
             seed: any_seed(system),
             host: host_name(system),
+            is_typed,
         }
     }
 
@@ -48,6 +53,7 @@ impl SystemFacts {
             shard_index: text_of(&self.shard_index),
             seed: self.seed,
             host: text_of(&self.host),
+            is_typed: self.is_typed,
         }
     }
 }

@@ -194,6 +194,7 @@ fn has_second<T: Threads + Wait + Sync>(
     rt: &T,
     alloc: Global,
     words: &[String],
+    texts: &Texts,
     suite: &[u8],
 ) -> bool {
     for _ in 0..100 {
@@ -205,7 +206,8 @@ fn has_second<T: Threads + Wait + Sync>(
             &TableClock::still(),
             alloc,
             words,
-            None,
+            &mut RowFiles { texts },
+            &texts.facts(),
             false,
             &mut &*suite,
             &mut feed,
@@ -225,9 +227,10 @@ fn push_second<T: Threads + Wait + Sync>(
     alloc: Global,
     answers: &mut Output,
     words: &[String],
+    texts: &Texts,
     suite: &[u8],
 ) -> Result<(), AllocError> {
-    let said = if has_second(rt, alloc, words, suite) {
+    let said = if has_second(rt, alloc, words, texts, suite) {
         "a second worker\n"
     } else {
         "no second worker\n"
@@ -247,7 +250,7 @@ fn push_asked<T: Threads + Wait + Sync>(
 ) -> Result<(), AllocError> {
     let mut errors = Vec::new(alloc);
     match asks {
-        Asks::SecondWorker => push_second(rt, alloc, answers, words.as_slice(), suite)?,
+        Asks::SecondWorker => push_second(rt, alloc, answers, words.as_slice(), texts, suite)?,
         Asks::OwnTests | Asks::SemverTests => {
             push_tests(rt, alloc, answers, &mut errors, &mut words, texts, asks)?
         }

@@ -91,6 +91,7 @@ impl Texts {
             shard_index: self.get("TEST_SHARD_INDEX"),
             seed: self.seed(),
             host: self.get("HOST"),
+            is_typed: self.get("TYPED").is_some(),
         }
     }
 }
@@ -105,6 +106,23 @@ impl TextFiles for RowFiles<'_> {
     fn text(&mut self, alloc: Global, name: &str) -> Result<Option<String>, AllocError> {
         match self.texts.get(name) {
             Some(text) => Ok(Some(String::from_str(alloc, text)?)),
+            None => Ok(None),
+        }
+    }
+
+    fn bytes(
+        &mut self,
+        alloc: Global,
+        name: &str,
+        most: usize,
+    ) -> Result<Option<Vec<u8>>, AllocError> {
+        match self.texts.get(name) {
+            Some(text) => {
+                let bytes = text.as_bytes();
+                let mut kept = Vec::new(alloc);
+                kept.extend_from_slice(bytes.get(..most).unwrap_or(bytes))?;
+                Ok(Some(kept))
+            }
             None => Ok(None),
         }
     }

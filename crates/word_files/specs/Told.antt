@@ -17,14 +17,24 @@ name_of word = before_first is_equals word
 abbrev pub has_option : (name : Text) → List Text → Bool
 has_option name words = list_any (λ word. bytes_eq (name_of word) name) words
 
+-- whether the value of `--workers` is the next word: behind the option, or behind its letter, which may stand behind those of flags
+abbrev pub awaits_workers : Text → Bool
+awaits_workers word = bytes_eq word (codes "--workers") || (bytes_eq word (codes "-j") || (bytes_eq word (codes "-xj") || (bytes_eq word (codes "-qj") || (bytes_eq word (codes "-xqj") || bytes_eq word (codes "-qxj")))))
+
+-- whether option and value in one word ask for a worker for each processor, by the option's letter
+abbrev pub is_letter_with_auto : Text → Bool
+is_letter_with_auto word =
+    bytes_eq word (codes "-jauto") || (bytes_eq word (codes "-xjauto") || (bytes_eq word (codes "-qjauto") || (bytes_eq word (codes "-xqjauto") || (bytes_eq word (codes "-qxjauto")
+    || (bytes_eq word (codes "-j=auto") || (bytes_eq word (codes "-xj=auto") || (bytes_eq word (codes "-qj=auto") || (bytes_eq word (codes "-xqj=auto") || bytes_eq word (codes "-qxj=auto")))))))))
+
 -- whether a word asks for a worker for each processor; before it may stand the option that has its value in this word
 abbrev pub asks_here : (is_value : Bool) → Text → Bool
-asks_here is_value word = bytes_eq word (codes "--workers=auto") || (is_value && bytes_eq word (codes "auto"))
+asks_here is_value word = bytes_eq word (codes "--workers=auto") || (is_letter_with_auto word || (is_value && bytes_eq word (codes "auto")))
 
 -- whether one of the words does
 abbrev pub asks_for_all : (is_value : Bool) → List Text → Bool
 asks_for_all is_value [] = false
-asks_for_all is_value (word ∷ more) = if asks_here is_value word then true else asks_for_all (bytes_eq word (codes "--workers")) more
+asks_for_all is_value (word ∷ more) = if asks_here is_value word then true else asks_for_all (awaits_workers word) more
 
 -- how many processors there are, where that is asked for and not said
 abbrev pub processors_told : Option ℕ → List Text → List Text

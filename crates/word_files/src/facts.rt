@@ -2,7 +2,8 @@
 
 ghost use Rattle.std.specs.Prelude.{◌≡◌, ◌++◌, ◌∷◌, [], false, map, string_bytes, IfOk, OnOk};
 ghost use Rattle.launch_options.specs.Given.{maybe_behind};
-ghost use Rattle.word_files.specs.Told.{asks_for_all, asks_here, has_option, index_text, name_of, shard_text};
+ghost use Rattle.word_files.specs.Told.{asks_for_all, asks_here, awaits_workers, has_option, index_text};
+ghost use Rattle.word_files.specs.Told.{is_letter_with_auto, name_of, shard_text};
 ghost use Rattle.word_files.specs.Told.{seeded_word, seeded_words, with_processors, with_seed, with_shard, with_told};
 
 use std::alloc::{AllocError, Global};
@@ -51,6 +52,8 @@ pub struct Facts<'a> {
     pub seed: Option<u64>,
     /// The name of the machine. No word stands for it.
     pub host: Option<&'a str>,
+    /// Whether standard input is a terminal, at which somebody may wait. No word stands for it.
+    pub is_typed: bool,
 }
 
 /// What stands before the first equals sign of a word, or all of it.
@@ -75,12 +78,41 @@ fn has_option(words: &[String], name: &str) -> bool
     false
 }
 
+/// Whether the value of `--workers` is the next word: behind the option, or behind its letter, which may stand behind those
+/// of flags.
+fn awaits_workers(word: &str) -> bool
+    ensures { result ≡ awaits_workers word.now }
+{
+    word == WORKERS
+        || word == "-j"
+        || word == "-xj"
+        || word == "-qj"
+        || word == "-xqj"
+        || word == "-qxj"
+}
+
+/// Whether option and value in one word ask for a worker for each processor, by the option's letter.
+fn is_letter_with_auto(word: &str) -> bool
+    ensures { result ≡ is_letter_with_auto word.now }
+{
+    word == "-jauto"
+        || word == "-xjauto"
+        || word == "-qjauto"
+        || word == "-xqjauto"
+        || word == "-qxjauto"
+        || word == "-j=auto"
+        || word == "-xj=auto"
+        || word == "-qj=auto"
+        || word == "-xqj=auto"
+        || word == "-qxj=auto"
+}
+
 /// Whether a word asks for a worker for each processor; before it may stand the option that has its value
 /// in this word.
 fn asks_here(is_value: bool, word: &str) -> bool
     ensures { result ≡ asks_here is_value word.now }
 {
-    word == WORKERS_AUTO || is_value && word == AUTO
+    word == WORKERS_AUTO || is_letter_with_auto(word) || is_value && word == AUTO
 }
 
 /// Whether the words ask for a worker for each processor.
@@ -92,7 +124,7 @@ fn asks_for_all(words: &[String]) -> bool
         if asks_here(is_value, word.as_str()) {
             return true;
         }
-        is_value = word.as_str() == WORKERS;
+        is_value = awaits_workers(word.as_str());
     }
     false
 }

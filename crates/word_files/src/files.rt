@@ -9,10 +9,18 @@ use crate::reading::words_in;
 use crate::role::Role;
 use std::alloc::{AllocError, Global};
 
-/// Whole files of text, by their names.
+/// Files of text, by their names.
 pub trait TextFiles {
     /// The text of the file of this name, or None where it cannot be read or is not UTF-8.
     fn text(&mut self, alloc: Global, name: &str) -> Result<Option<String>, AllocError>;
+
+    /// The first so many bytes of the file of this name, or None where it cannot be read.
+    fn bytes(
+        &mut self,
+        alloc: Global,
+        name: &str,
+        most: usize,
+    ) -> Result<Option<Vec<u8>>, AllocError>;
 }
 
 /// The words of the file of this name, if it can be read and is one of words.

@@ -2,4 +2,10 @@
 use Rattle.command_line.proofs.closing.say_of_run.Goals as goal
 
 pub returns : goal.returns
-returns g c = (c.say_failures.new.errors, (c.say_seed.new.errors, c.say_hints.new.errors, c.say_seed.ensures, c.say_hints.ensures, c.say_failures.ensures), c.say.ensures)
+returns g c = (
+  c.say_failures.new.errors,
+  c.say_said.new.errors,
+  (c.say_seed.new.errors, c.say_hints.new.errors, c.say_seed.ensures, c.say_hints.ensures, c.say_failures.ensures),
+  c.say_said.ensures,
+  c.say.ensures,
+)

@@ -1,19 +1,16 @@
--- What was asked for is run, and then what is said of the answer stands behind what was told meanwhile.
-use Rattle.std.proofs.Common.{map, string_bytes}
-use Rattle.std.specs.Prelude.{option_map}
+-- The suite is that of the file that is named, or what is left of the reader.
+use Rattle.std.proofs.Common.{Some, None, map, string_bytes, ap}
+use Rattle.launch_options.specs.Given.{maybe_behind}
 use Rattle.launch_options.specs.ReportTexts.{parts_of}
-use Rattle.command_line.proofs.Running.{filed_run}
+use Rattle.command_line.proofs.Running.{main_file_run, main_run}
 use Rattle.command_line.proofs.program.run_read.Goals as goal
 
-pub returns : goal.returns
-returns g c reads = record {
-  answer = c.run_told-answer.result;
-  left = g.R.Read.remaining c.run_told-answer.new.reader.reader.now;
-  between = c.run_told-answer.new.writer;
-  slowest = option_map string_bytes c.run_told-answer.new.slowest;
-  during = c.run_told-answer.new.errors;
-  run =
-      filed_run (g.R.Read.remaining) (g.W.Write.contents) (g.K.ReportFiles.deeds) (map string_bytes c.args.words.now) c.args.launch.options (map parts_of c.args.launch.reports.items) c.run_told-answer.result _ _ _ _ _ _ _ _ reads c.requires.reports c.run_told-answer.ensures.runs;
-  tells = c.run_told-answer.ensures.tells;
-  closed = c.close_with_failures-ending.ensures;
-}
+pub returns-in-Some : goal.returns-in-Some
+returns-in-Some g c reads =
+    main_file_run (g.R.Read.remaining) (g.W.Write.contents) (g.E.Write.contents) (g.K.ReportFiles.deeds) c.args.is_terminal c.args.facts.now.is_typed (map string_bytes c.args.words.now) c.args.launch.options (maybe_behind c.args.launch.suite) c.in-Some.name.now (map parts_of c.args.launch.reports.items)
+    _ _ _ _ _ _ _ _ reads c.requires.reports c.requires.suite (ap maybe_behind c.in-Some.is) c.run_file.ensures.run
+
+pub returns-in-None : goal.returns-in-None
+returns-in-None g c reads =
+    main_run (g.R.Read.remaining) (g.W.Write.contents) (g.E.Write.contents) (g.K.ReportFiles.deeds) c.args.is_terminal c.args.facts.now.is_typed (map string_bytes c.args.words.now) c.args.launch.options (maybe_behind c.args.launch.suite) (map parts_of c.args.launch.reports.items)
+    _ _ _ _ _ _ _ _ _ reads c.requires.reports c.requires.suite (ap maybe_behind c.in-None.is) c.run_source.ensures

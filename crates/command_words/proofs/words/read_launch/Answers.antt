@@ -1,7 +1,7 @@
 -- Words that clap refuses are refused; others are judged as their values are.
 use Rattle.std.proofs.Common.{map, string_bytes}
 use Rattle.launch_options.specs.Given.{values_of}
-use Rattle.command_words.proofs.Cutting.{launch_cut, launch_uncut, reports_of}
+use Rattle.command_words.proofs.Cutting.{launch_cut, launch_uncut, reports_of, suite_of}
 use Rattle.command_words.proofs.words.read_launch.Goals as goal
 
 pub returns-in_err-given-clause-read : goal.returns-in_err-given-clause-read
@@ -13,3 +13,6 @@ returns-clause-read c =
 
 pub returns-clause-reports : goal.returns-clause-reports
 returns-clause-reports c = reports_of (map string_bytes c.args.words.now) (values_of c.in_ok-given.given) c.launch_of.result c.in_ok-given.ensures.given c.launch_of.ensures.reports
+
+pub returns-clause-suite : goal.returns-clause-suite
+returns-clause-suite c = suite_of (map string_bytes c.args.words.now) (values_of c.in_ok-given.given) c.launch_of.result c.in_ok-given.ensures.given c.launch_of.ensures.suite

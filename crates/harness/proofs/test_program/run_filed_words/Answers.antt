@@ -1,19 +1,17 @@
--- Where the words are refused nothing is written, and no file is touched; else what they ask for is run.
-use Rattle.std.proofs.Common.{Err, Ok, refl, subst}
-use Rattle.launch_options.specs.Asked.{asked_by}
+-- Where the words are refused no test is run, and no file is touched; else what they ask for is run.
+use Rattle.std.proofs.Common.{map, string_bytes}
+use Rattle.launch_options.specs.Given.{maybe_behind}
+use Rattle.launch_options.specs.ReportTexts.{parts_of}
 use Rattle.ready_runs.specs.ReadyPrograms.{program_parts}
-use Rattle.harness.specs.TestRuns.{IsRunOfTests}
+use Rattle.harness.proofs.WordsRead.{asked_tests, unread_tests}
 use Rattle.harness.proofs.test_program.run_filed_words.Goals as goal
 
 pub returns-in-Ok : goal.returns-in-Ok
-returns-in-Ok g c = record {
-  options = Ok c.in-Ok.launch.options;
-  reads = c.in-Ok.ensures.read;
-  runs =
-      subst (λ wanted. IsRunOfTests (g.B.Job.answers) (g.B.Job.gives) (g.V.Observer.saw) (g.W.Write.contents) (g.E.Write.contents) (program_parts c.args.program.tree c.args.program.properties) c.args.program.jobs.items c.args.observer.now c.run_launch.new.observer c.args.is_terminal (asked_by c.in-Ok.launch.options) wanted c.args.writer.now c.run_launch.new.writer c.args.errors.now c.run_launch.new.errors
-      (g.K.ReportFiles.deeds c.args.files.now) (g.K.ReportFiles.deeds c.run_launch.new.files) c.run_launch.result)
-      c.in-Ok.ensures.reports c.run_launch.ensures;
-}
+returns-in-Ok g c =
+    asked_tests (g.B.Job.answers) (g.B.Job.gives) (g.V.Observer.saw) (g.W.Write.contents) (g.E.Write.contents) (program_parts c.args.program.tree c.args.program.properties) c.args.program.jobs.items (g.K.ReportFiles.deeds) c.args.is_terminal (map string_bytes c.args.words.now)
+    _ _ c.in-Ok.launch.options (maybe_behind c.in-Ok.launch.suite) (map parts_of c.in-Ok.launch.reports.items) _ _ _ _ _ _ c.run_suited.result c.in-Ok.ensures.read c.in-Ok.ensures.suite c.in-Ok.ensures.reports c.run_suited.ensures
 
 pub returns-in-Err : goal.returns-in-Err
-returns-in-Err g c = record { options = Err c.in-Err.fault; reads = c.in-Err.ensures.read; runs = (refl, refl, c.close_run.ensures.closed) }
+returns-in-Err g c =
+    unread_tests (g.B.Job.answers) (g.B.Job.gives) (g.V.Observer.saw) (g.W.Write.contents) (g.E.Write.contents) (program_parts c.args.program.tree c.args.program.properties) c.args.program.jobs.items (g.K.ReportFiles.deeds) c.args.is_terminal (map string_bytes c.args.words.now)
+    _ c.in-Err.fault _ _ _ _ _ c.close_unread.result c.in-Err.ensures.read c.close_unread.ensures
