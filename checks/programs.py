@@ -4,40 +4,31 @@ import os
 import subprocess
 import sys
 
+from kept_programs import answering
+from source_sums import NoKit
+from unproved import CannotBuild
+
 TOP = os.path.dirname(os.path.dirname(os.path.abspath(__file__)))
 PREFIX = "junit.jupiter.execution.parallel."
-# What a program's output is a function of.
-SOURCES = ("src", "specs", "proofs")
 
 
 class Hangs(Exception):
     """A run that had not ended in its time."""
 
 
-def newest_source():
-    """When a source of a crate was changed last."""
-    newest = os.path.getmtime(os.path.join(TOP, "crates.txt"))
-    for folder, folders, names in os.walk(os.path.join(TOP, "crates")):
-        folders[:] = [name for name in folders if name != "out"]
-        if any(f"/{part}" in folder for part in SOURCES):
-            newest = max([newest] + [os.path.getmtime(os.path.join(folder, name)) for name in names])
-    return newest
+def built(crate: str) -> str:
+    """The path of a crate's program: the proved one of these sources, else the one that is compiled without a proof."""
+    try:
+        kind, program = answering("any", crate, is_fast=True)
+    except (CannotBuild, NoKit) as why:
+        sys.exit(f"{crate} cannot be built: {why}")
+    print(f"{crate}: the {kind} program of these sources is checked", file=sys.stderr, flush=True)
+    return str(program)
 
 
-def built(crate):
-    """The path of a crate's program, which is proved and built first where it is not there or a source is newer."""
-    program = os.path.join(TOP, "crates", crate, "out", crate)
-    if not os.path.exists(program) or os.path.getmtime(program) < newest_source():
-        print(f"{crate} is proved and built first", flush=True)
-        if subprocess.run([os.path.join(TOP, "build"), crate], stdin=subprocess.DEVNULL).returncode:
-            sys.exit(f"{crate} cannot be built")
-    return program
-
-
-def built_console():
-    """The path of the program, as ./console builds it."""
-    subprocess.run([os.path.join(TOP, "console"), "--details", "none"], stdin=subprocess.DEVNULL, check=True)
-    return os.path.join(TOP, "crates", "console", "out", "console")
+def built_console() -> str:
+    """The path of the program itself."""
+    return built("console")
 
 
 def ran(program, words, given, seconds, processors=None, **how):
