@@ -1,7 +1,8 @@
 #!/usr/bin/env python3
 """Which program answers for the sources as they stand: the proved one, or one that is compiled without a proof.
 
-checks/kept_programs.py WANT PROGRAM    WANT: any, proved or unproved; what is missing is proved or compiled first
+checks/kept_programs.py WANT PROGRAM    what is missing is proved or compiled first
+  WANT    any; proved; unproved; or optimised: the unproved one, once it is optimised
 Prints `proved` or `unproved`, and the path of the program. Status 254: there is none, and standard error says why; 130:
 it was stopped, and the next run goes on.
 """
@@ -19,6 +20,7 @@ from crates import TOP
 from source_sums import NoKit, proved_sum
 from unproved import CannotBuild, say, unproved_program
 
+WANTS = ("any", "proved", "unproved", "optimised")
 STOPPED = 130
 NOT_BUILT = 254
 
@@ -68,11 +70,11 @@ def answering(want: str, program: str, is_fast: bool = False) -> tuple[str, path
     if want == "proved":
         return "proved", prove(program)
     proved = proved_program(program) if want == "any" else None
-    return ("proved", proved) if proved else ("unproved", unproved_program(program, is_fast))
+    return ("proved", proved) if proved else ("unproved", unproved_program(program, is_fast or want == "optimised"))
 
 
 def main(words: list[str]) -> int:
-    if len(words) != 2 or words[0] not in ("any", "proved", "unproved"):
+    if len(words) != 2 or words[0] not in WANTS:
         print(__doc__)
         return 0 if words in (["-h"], ["--help"]) else 2
     for number in (signal.SIGINT, signal.SIGTERM, signal.SIGHUP):

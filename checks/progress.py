@@ -2,7 +2,7 @@
 """Looks at standard error as a user would: on a terminal stands how far a run has come, and what failed.
 
 checks/progress.py [SUITES] [SEED]   20 suites and the seed 1 where they are not given
-  --program PATH                     another program than crates/console/out/console
+  --program PATH                     another program than the one of these sources
 A pseudo-terminal is used. The line is drawn at most ten times a second, its numbers grow, and it is gone
 at the end, also where the output goes to the same terminal, and where that is narrower than the line. The test
 that it names, if one has been running for two seconds, is the one that runs longest by the feed, which is a report.

@@ -2,7 +2,7 @@
 """Runs suites with a pool in which every lane refuses every number: each run has to end all the same.
 
 checks/refused_puts.py [SUITES] [SEED]   2 suites and the seed 1 where they are not given
-  --program PATH                         another program than crates/console/out/console to compare with
+  --program PATH                         another program than the one of these sources to compare with
 A lane is a hint: a worker without a task comes to each node by a look round all of them too. The sources
 are copied, `Lane::put` of the copy refuses whatever it is given, and the suites, made at random, run by four
 workers as `rt try` runs them, without a proof: that takes some minutes a suite. Tree, summary and status

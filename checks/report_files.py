@@ -2,7 +2,7 @@
 """Looks at the files that --report writes, as a user would.
 
 checks/report_files.py [SUITES] [SEED]   20 suites and the seed 1 where they are not given
-  --program PATH                         another program than crates/console/out/console
+  --program PATH                         another program than the one of these sources
 Of suites made at random each form is written in one run: the XML, as Python reads it, has the counts of the
 summary, feed and JSON tell the same events, and where one worker runs each report is what --details prints of it.
 Folders that are not there or may not be written, what is no file, a file that is full, two names of one place,

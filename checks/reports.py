@@ -2,7 +2,7 @@
 """Holds the program's reports against other readers: Python's json, its xml.etree and its xml.dom.
 
 checks/reports.py [SUITES] [SEED]     200 suites and the seed 1 where they are not given
-  --program PATH                      another program than crates/console/out/console
+  --program PATH                      another program than the one of these sources
 Each suite is made at random, with names and texts that have to be escaped, some with settings that are
 warned of, and run by one worker, some with a schedule. The JSON has to say what the feed says, the XML
 what the definitions say of the suite, as many tests as the summary and a failure where the status is 1,

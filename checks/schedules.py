@@ -2,7 +2,7 @@
 """Holds the steps that --schedule prints behind a run against --replay: it has to print the same feed.
 
 checks/schedules.py [SUITES] [SEED]   100 suites and the seed 1 where they are not given
-  --program PATH                      another program than crates/console/out/console
+  --program PATH                      another program than the one of these sources
 Each suite is made at random, and run by 2, 4 and 8 workers on threads, and then by --drive. Its steps are split
 off and replayed: none may be passed over, and the feeds have to be the same bytes. What --drive prints has to be the
 same a second time. So are the steps of the tests of example_tests, which program_tables runs by four workers: a

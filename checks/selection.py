@@ -2,7 +2,7 @@
 """Holds what is run, and in which order, against definitions of its own.
 
 checks/selection.py [SUITES] [SEED]   300 suites and the seed 1 where they are not given
-  --program PATH                      another program than crates/console/out/console
+  --program PATH                      another program than the one of these sources
   --suite K                           the suite of this number alone, which is printed
   --mistakes                          changes a definition at a time: a suite has to tell each from the program's
 Suites are made at random, with stars, dollars, dots, hashes, percent signs and slashes in their names, and so are

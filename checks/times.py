@@ -2,7 +2,7 @@
 """Looks at the times that --times tells, as a user would.
 
 checks/times.py [SUITES] [SEED]   20 suites and the seed 1 where they are not given
-  --program PATH                  another program than crates/console/out/console
+  --program PATH                  another program than the one of these sources
 Of suites made at random, run by 1, 2, 4 and 8 workers, standard output and the files of --report have the same text,
 be it JSON or XML, and the same time of each node; a suite has the sum of its cases, the name of this machine and the
 moment at which the run began; and standard error has the ten slowest. Where no clock is read, and without --times, no

@@ -2,7 +2,7 @@
 """Watches a run as a user would: what --details testfeed and json print has to come while the run goes on.
 
 checks/watched.py [SUITES] [SEED]   20 suites and the seed 1 where they are not given
-  --program PATH                    another program than crates/console/out/console
+  --program PATH                    another program than the one of these sources
 A suite whose tests take their time is read through a pipe and on a terminal: its lines have to come one
 after the other, and what has come is at any moment a beginning of the whole. To a file it prints the same.
 A writer that takes nothing, and one that closes after some lines, are answered with 255, when the run is

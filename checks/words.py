@@ -2,7 +2,7 @@
 """Gives the program words by files, and what the system tells, and holds what it does against the same words given plainly.
 
 checks/words.py [LISTS] [SEED]   200 lists of words and the seed 1 where they are not given
-  --program PATH                 another program than crates/console/out/console
+  --program PATH                 another program than the one of these sources
 Lists of words are written into files at random, by the grammar of crates/word_files/README.md, and have to be read as
 just these. A schedule of 4,000 tests, which is too long for a word of a command line, is replayed from a file. The
 variables of Bazel have to share a suite as --shard does, and its file has to be touched.

@@ -2,7 +2,7 @@
 """Has the readers that others use for JUnit's XML read the program's reports, and compares what they make of them.
 
 checks/xml_readers.py [SUITES] [SEED]   10 suites and the seed 1 where they are not given
-  --program PATH                        another program than crates/console/out/console
+  --program PATH                        another program than the one of these sources
   --schema FILE                         a schema to hold the reports against, any number of times
 Each suite is made at random, with names and texts that have to be escaped, and reported by one worker without and
 with --times. Python's xml.etree has to find what the definitions say of the suite: how many cases there are, failed,
