@@ -16,6 +16,7 @@ import sys
 
 sys.dont_write_bytecode = True
 
+import rt_store
 from crates import TOP
 from source_sums import NoKit, proved_sum
 from unproved import CannotBuild, say, unproved_program
@@ -53,6 +54,18 @@ def proved_program(program: str) -> pathlib.Path | None:
         return None
 
 
+def taken_program(program: str) -> pathlib.Path | None:
+    """The program, if `rt ci` has proved it here from just these sources, in this folder or in another one."""
+    sources = proved_sum(program)
+    try:
+        if not rt_store.proved_program(program) or proved_sum(program) != sources:
+            return None
+    except rt_store.NoStore:
+        return None
+    record(program, sources)
+    return place_of(program)
+
+
 def prove(program: str) -> pathlib.Path:
     """Proves and builds the program first, if it was not."""
     if proved_program(program) is None:
@@ -69,7 +82,7 @@ def answering(want: str, program: str, is_fast: bool = False) -> tuple[str, path
     """Which kind of program answers, and where it stands."""
     if want == "proved":
         return "proved", prove(program)
-    proved = proved_program(program) if want == "any" else None
+    proved = proved_program(program) or taken_program(program) if want == "any" else None
     return ("proved", proved) if proved else ("unproved", unproved_program(program, is_fast or want == "optimised"))
 
 
