@@ -1,12 +1,16 @@
 -- Which known word is nearest to one that is not known.
 use Rattle.std.specs.Prelude.{ℕ, ◌≤◌, ◌<◌, ◌/◌, max, List, length, Option, Some, None, nat_eq}
 use Rattle.std.specs.List.{All, Contains}
-use Rattle.std.specs.Str.{chars}
+use Rattle.std.specs.Str.{chars, str_to_ascii_lowercase}
 use Rattle.strsim.specs.Edits.{levenshtein_row}
 
--- how many edits lead from one text to another
+-- how many edits lead from one list of characters to another
+abbrev pub edits : List ℕ → List ℕ → ℕ
+edits from to = levenshtein_row nat_eq from to (length to)
+
+-- how many lead from one text to another, without regard to the case of ASCII letters
 abbrev pub apart : List ℕ → List ℕ → ℕ
-apart word name = levenshtein_row nat_eq (chars word) (chars name) (length (chars name))
+apart word name = edits (chars (str_to_ascii_lowercase word)) (chars (str_to_ascii_lowercase name))
 
 -- how far apart a word and the one that is offered for it may be: two edits, or a third of the word's bytes
 abbrev pub most_apart : List ℕ → ℕ

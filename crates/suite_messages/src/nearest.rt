@@ -2,7 +2,7 @@
 
 ghost use Rattle.std.specs.Prelude.{◌≡◌, IfOk, option_map};
 ghost use Rattle.unique_id.specs.Answers.{texts};
-ghost use Rattle.suite_messages.specs.Near.{IsNearest, most_apart};
+ghost use Rattle.suite_messages.specs.Near.{IsNearest, apart, most_apart};
 
 use std::alloc::{AllocError, Global};
 use strsim::levenshtein;
@@ -17,8 +17,16 @@ fn most_apart(word: &str) -> usize
     (word.len() / 3).max(2)
 }
 
-/// The known word that is nearest to this one, where one is near enough: the first of several. For
-/// a long word none is looked for.
+/// How many edits lead from a word to a known one, without regard to the case of ASCII letters.
+fn edits_between(alloc: Global, word: &str, name: &str) -> Result<usize, AllocError>
+    ensures { IfOk result (λ edits. edits ≡ apart word.now name.now) }
+{
+    let word = word.to_ascii_lowercase(alloc)?;
+    let name = name.to_ascii_lowercase(alloc)?;
+    levenshtein(alloc, word.as_str(), name.as_str())
+}
+
+/// The known word that is nearest to this one, where one is near enough: the first of several.
 pub(crate) fn nearest<'a>(
     alloc: Global,
     known: &[&'a str],
@@ -29,7 +37,7 @@ pub(crate) fn nearest<'a>(
     let mut found = None;
     let mut least = most_apart(word) + 1;
     for name in known {
-        let apart = levenshtein(alloc, word, name)?;
+        let apart = edits_between(alloc, word, name)?;
         if apart < least {
             least = apart;
             found = Some(*name);

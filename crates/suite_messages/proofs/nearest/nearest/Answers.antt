@@ -12,9 +12,9 @@ loop-name-preserved c =
       | then-apart-least w ↦
           let near : c.in_ok-apart.apart < c.loop-name.least = grind (arith, common_steps) in
           after_nearer c.args.word.now c.args.known.now c.loop-name.name-index _ c.loop-name-test.true c.loop-name.least c.if-apart-least.least _ _ c.loop-name.invariant
-          (ap (option_map (λ name. name.now)) w.found-is) (w.least-is ∙ c.in_ok-apart.ensures.value) (subst (λ (n : ℕ). n < c.loop-name.least) c.in_ok-apart.ensures.value near)
+          (ap (option_map (λ name. name.now)) w.found-is) (w.least-is ∙ c.in_ok-apart.ensures) (subst (λ (n : ℕ). n < c.loop-name.least) c.in_ok-apart.ensures near)
       | else-apart-least w ↦
           let far : c.loop-name.least ≤ c.in_ok-apart.apart = grind (arith, common_steps) in
           after_farther c.args.word.now c.args.known.now c.loop-name.name-index _ c.loop-name-test.true c.loop-name.least c.if-apart-least.least _ _ c.loop-name.invariant
-          (ap (option_map (λ name. name.now)) w.found-is) w.least-is (subst (λ (n : ℕ). c.loop-name.least ≤ n) c.in_ok-apart.ensures.value far)
+          (ap (option_map (λ name. name.now)) w.found-is) w.least-is (subst (λ (n : ℕ). c.loop-name.least ≤ n) c.in_ok-apart.ensures far)
     ]
