@@ -1,3 +1,4 @@
+pub mod Foreign
 pub mod Marks
 pub mod Near
 pub mod Printable

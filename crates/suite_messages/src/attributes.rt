@@ -4,10 +4,10 @@ ghost use Rattle.std.specs.Prelude.{◌≡◌};
 ghost use Rattle.std.specs.Option.{is_some};
 ghost use Rattle.tag_expr.specs.Tags.{tag_refusal};
 
-use crate::line::cut;
+use crate::line::{cut, push_choices};
 use crate::nearest::is_known;
 use descriptor::Mode;
-use std::alloc::Global;
+use std::alloc::{AllocError, Global};
 use suite_words::{
     Attribute, LONGEST_LIMIT, LONGEST_SPIN, MOST_PULLS, Verdict, Word, key_and_mode, key_and_value,
     number_up_to,
@@ -17,32 +17,57 @@ use tag_expr::{TagFault, tag_of};
 /// One key of locks more than a line may have: where so many were found, further ones change nothing.
 const MOST_COUNTED: usize = 17;
 
-/// The verdicts, and the words and keys of all attributes but tags.
-pub(crate) fn known() -> [&'static str; 11] {
-    let [pass, fail, abort, disabled] = Verdict::all();
-    let [
-        _,
-        concurrent,
-        same_thread,
-        isolated,
-        lock,
-        spin,
-        pulls,
-        slow,
-    ] = Attribute::all();
-    [
-        pass.spelling(),
-        fail.spelling(),
-        abort.spelling(),
-        disabled.spelling(),
-        concurrent.key(),
-        same_thread.key(),
-        isolated.key(),
-        lock.key(),
-        spin.key(),
-        pulls.key(),
-        slow.key(),
-    ]
+/// The verdicts, and the words and keys of the attributes but tags that a line with this first word may have.
+pub(crate) fn known(alloc: Global, first: Word) -> Result<Vec<&'static str>, AllocError> {
+    let mut words = Vec::new(alloc);
+    for verdict in Verdict::all() {
+        words.push(verdict.spelling())?;
+    }
+    for attribute in Attribute::all() {
+        let key = attribute.key();
+        if !matches!(attribute, Attribute::Tag) && Attribute::of(first, key).is_some() {
+            words.push(key)?;
+        }
+    }
+    Ok(words)
+}
+
+/// How an attribute is written.
+fn form_of(attribute: Attribute) -> &'static str {
+    match attribute {
+        Attribute::Tag => "#TAG",
+        Attribute::Spin => "spin=N",
+        Attribute::Pulls => "pulls=N",
+        Attribute::Lock => "lock=KEY",
+        Attribute::Slow => "@slow=MS",
+        Attribute::Runs(_) | Attribute::Isolated => attribute.key(),
+    }
+}
+
+/// How the attributes are written that a line with this first word may have.
+pub(crate) fn attribute_forms(alloc: Global, first: Word) -> Result<String, AllocError> {
+    let mut forms = Vec::new(alloc);
+    for attribute in Attribute::all() {
+        if Attribute::of(first, attribute.key()).is_some() {
+            forms.push(form_of(attribute))?;
+        }
+    }
+    let mut text = String::new(alloc);
+    push_choices(&mut text, forms.as_slice())?;
+    Ok(text)
+}
+
+/// The first words of the lines that may have this attribute, as one is chosen of them; empty where it is none.
+pub(crate) fn lines_with(alloc: Global, attribute: &str) -> Result<String, AllocError> {
+    let mut lines = Vec::new(alloc);
+    for word in Word::all() {
+        if Attribute::of(word, attribute).is_some() {
+            lines.push(word.spelling())?;
+        }
+    }
+    let mut text = String::new(alloc);
+    push_choices(&mut text, lines.as_slice())?;
+    Ok(text)
 }
 
 /// What stands before the first equals sign of a word.

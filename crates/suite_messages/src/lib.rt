@@ -3,16 +3,22 @@
 
 mod attributes;
 mod bytes;
+mod foreign;
+mod foreign_words;
+mod forms;
 mod limits;
 mod line;
 mod lines;
 mod marked;
 mod near_names;
 mod nearest;
+mod place;
 mod plain_lines;
 mod suite;
+mod whole_name;
 
 pub use bytes::text_of;
+pub use foreign::{ForeignWords, meant_by};
 pub use limits::push_limit;
 pub use line::{cut, without_front};
 pub use marked::{push_marked, push_shown};

@@ -23,14 +23,33 @@ pub(crate) fn after_verdicts() -> [&'static str; 3] {
     [pass.spelling(), fail.spelling(), abort.spelling()]
 }
 
+/// What stands before the word of this index in a list whose last is this one.
+fn separator(index: usize, last: usize) -> &'static str {
+    if index == 0 {
+        ""
+    } else if index == last {
+        " or "
+    } else {
+        ", "
+    }
+}
+
+/// Appends these words, as one is chosen of them.
+pub(crate) fn push_choices(text: &mut String, words: &[&str]) -> Result<(), AllocError> {
+    let last = words.len().saturating_sub(1);
+    for (index, word) in words.iter().enumerate() {
+        text.push_str(separator(index, last))?;
+        text.push_str(word)?;
+    }
+    Ok(())
+}
+
 /// How these verdicts are written: each but `pass` with a text behind it.
 pub(crate) fn verdict_forms(alloc: Global, verdicts: &[Verdict]) -> Result<String, AllocError> {
     let mut forms = String::new(alloc);
     let last = verdicts.len().saturating_sub(1);
     for (index, verdict) in verdicts.iter().enumerate() {
-        if index > 0 {
-            forms.push_str(if index == last { " or " } else { ", " })?;
-        }
+        forms.push_str(separator(index, last))?;
         forms.push_str(verdict.spelling())?;
         if !matches!(verdict, Verdict::Pass) {
             forms.push_str(" TEXT")?;

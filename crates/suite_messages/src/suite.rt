@@ -1,17 +1,35 @@
 //! What is wrong with a suite, and where.
 
-use crate::attributes::{first_trouble, key_of, known, locks_in, looks_like_attribute};
+use crate::attributes::{
+    attribute_forms, first_trouble, key_of, known, lines_with, locks_in, looks_like_attribute,
+};
 use crate::bytes::{last_line, text_of};
+use crate::foreign_words::{meant_by_attribute, meant_by_line, meant_by_verdict};
+use crate::forms::{EXAMPLE, is_comment, is_of_other_form};
 use crate::line::{
-    after_verdicts, cut, indentation, line_words, verdict_forms, where_stands, without_front,
+    after_verdicts, cut, indentation, line_words, push_choices, verdict_forms, where_stands,
+    without_front,
 };
 use crate::lines::{deepest, line_at, may_stand, same_node};
 use crate::marked::{push_marked, push_marked_rest};
-use crate::nearest::push_nearest;
+use crate::place::Place;
+use crate::whole_name::{has_verdict, push_whole_name};
 use config_params::ParamsFault;
 use descriptor::TreeFault;
 use std::alloc::{AllocError, Global};
 use suite_words::{LineWord, SuiteFault, Verdict, Word};
+
+/// Where a verdict follows, a word with fewer bytes is more of a name, whatever known word is near.
+const SHORTEST_NEAR: usize = 4;
+
+/// One with fewer bytes may be more of a name, though a known word is near.
+const SHORTEST_CERTAIN: usize = 6;
+
+/// What the line of an engine has.
+const OF_ENGINE: &str = "an engine has a name and tags, as #TAG, and nothing else";
+
+/// Where a comment begins.
+const COMMENT: &str = "a comment begins with # as the first character of its line";
 
 /// Which limit the line of a node is over: that of its name, of a lock's key, of its locks, of its
 /// reason, or else of its unique id.
@@ -58,20 +76,131 @@ impl<'a> Spot<'a> {
         push_marked_rest(alloc, text, self.line, rest)
     }
 
-    /// Appends that this word, with which the rest begins, is none of the known ones, and which is nearest.
+    /// Appends what is said of the word with which the rest begins, which may not stand at this place,
+    /// and by which this is meant, if that is known. Answers whether a word is offered in its place.
     fn push_unknown(
         self,
         alloc: Global,
         text: &mut String,
         rest: &str,
-        what: &str,
-        known: &[&str],
-    ) -> Result<(), AllocError> {
-        let (number, word) = (self.number, cut(rest).0);
-        write!(text, "Line {number}: {what}")?;
-        push_nearest(alloc, text, known, key_of(word))?;
+        place: Place<'_>,
+        meant: Option<&str>,
+    ) -> Result<bool, AllocError> {
+        let number = self.number;
+        write!(text, "Line {number}: ")?;
+        let is_offered = place.push_said(alloc, text, key_of(cut(rest).0), meant)?;
         text.push_str("\n")?;
-        push_marked_rest(alloc, text, self.line, rest)
+        push_marked_rest(alloc, text, self.line, rest)?;
+        Ok(is_offered)
+    }
+
+    /// Appends that a name is one word, if this rest stands right behind that of the line.
+    fn push_name(self, alloc: Global, text: &mut String, rest: &str) -> Result<(), AllocError> {
+        let (name, more) = cut(cut(without_front(self.line)).1);
+        if more.len() == rest.len() {
+            push_whole_name(alloc, text, name, rest)?;
+        }
+        Ok(())
+    }
+
+    /// Appends what is wrong with a word on the line of an engine, with which this rest begins.
+    fn push_on_engine(
+        self,
+        alloc: Global,
+        text: &mut String,
+        rest: &str,
+    ) -> Result<(), AllocError> {
+        let word = cut(rest).0;
+        let is_attribute = looks_like_attribute(word);
+        match meant_by_attribute(word) {
+            Some(meant) if is_attribute => {
+                let said = format!(in alloc; "{OF_ENGINE}; {meant}")?;
+                return self.push_said(alloc, text, rest, said.as_str());
+            }
+            _ => self.push_said(alloc, text, rest, OF_ENGINE)?,
+        }
+        if is_attribute || Verdict::spelled(word).is_some() {
+            return Ok(());
+        }
+        self.push_name(alloc, text, rest)
+    }
+
+    /// Appends what is wrong with what stands behind the verdict `pass`.
+    fn push_behind_pass(
+        self,
+        alloc: Global,
+        text: &mut String,
+        behind: &str,
+    ) -> Result<(), AllocError> {
+        let said = if looks_like_attribute(cut(behind).0) || is_comment(behind) {
+            "nothing stands behind pass: attributes stand before it, and a comment is a line of its own"
+        } else {
+            "nothing stands behind pass"
+        };
+        self.push_said(alloc, text, behind, said)
+    }
+
+    /// Appends what is wrong with an attribute that this line may not have, with which this rest begins.
+    fn push_attribute(
+        self,
+        alloc: Global,
+        text: &mut String,
+        first: Word,
+        rest: &str,
+    ) -> Result<(), AllocError> {
+        let word = cut(rest).0;
+        let lines = lines_with(alloc, word)?;
+        let forms = attribute_forms(alloc, first)?;
+        let known = known(alloc, first)?;
+        let meant = format!(in alloc; "it may stand on a line of {lines}")?;
+        let otherwise = format!(in alloc; "; it may have {forms}")?;
+        let place = Place {
+            said: "this line may have no such attribute",
+            right: "",
+            known: known.as_slice(),
+            otherwise: otherwise.as_str(),
+        };
+        let meant = if lines.is_empty() {
+            meant_by_attribute(word)
+        } else {
+            Some(meant.as_str())
+        };
+        self.push_unknown(alloc, text, rest, place, meant)?;
+        Ok(())
+    }
+
+    /// Appends what is wrong with a word in place of a verdict, with which this rest begins. Right behind
+    /// a name it may be more of that.
+    fn push_word(
+        self,
+        alloc: Global,
+        text: &mut String,
+        first: Word,
+        rest: &str,
+    ) -> Result<(), AllocError> {
+        let (word, behind) = cut(rest);
+        let verdicts = verdict_forms(alloc, Verdict::all().as_slice())?;
+        let forms = attribute_forms(alloc, first)?;
+        let known = if word.len() < SHORTEST_NEAR && has_verdict(behind) {
+            Vec::new(alloc)
+        } else {
+            known(alloc, first)?
+        };
+        let right = format!(in alloc; ": {verdicts}")?;
+        let otherwise = format!(in alloc; "; attributes are {forms}")?;
+        let place = Place {
+            said: "neither an attribute nor a verdict",
+            right: right.as_str(),
+            known: known.as_slice(),
+            otherwise: otherwise.as_str(),
+        };
+        let meant = meant_by_attribute(word).or(meant_by_verdict(word));
+        let is_offered = self.push_unknown(alloc, text, rest, place, meant)?;
+        let is_certain = meant.is_none() && word.len() >= SHORTEST_CERTAIN;
+        if is_offered && (is_certain || !has_verdict(behind)) {
+            return Ok(());
+        }
+        self.push_name(alloc, text, rest)
     }
 
     /// Appends what is wrong with a verdict, with which this rest begins.
@@ -84,23 +213,15 @@ impl<'a> Spot<'a> {
     ) -> Result<(), AllocError> {
         let (word, behind) = cut(rest);
         if let Word::Engine = first {
-            return self.push_said(
-                alloc,
-                text,
-                rest,
-                "an engine has a name and tags, and nothing else",
-            );
+            return self.push_on_engine(alloc, text, rest);
         }
         if let Some(Verdict::Pass) = Verdict::spelled(word) {
-            return self.push_said(alloc, text, behind, "nothing stands behind pass");
+            return self.push_behind_pass(alloc, text, behind);
         }
         if looks_like_attribute(word) {
-            let said = "this line may have no such attribute";
-            return self.push_unknown(alloc, text, rest, said, known().as_slice());
+            return self.push_attribute(alloc, text, first, rest);
         }
-        let forms = verdict_forms(alloc, Verdict::all().as_slice())?;
-        let said = format!(in alloc; "neither an attribute nor a verdict: {forms}")?;
-        self.push_unknown(alloc, text, rest, said.as_str(), known().as_slice())
+        self.push_word(alloc, text, first, rest)
     }
 
     /// Appends what is wrong behind the first word, which may stand there.
@@ -139,17 +260,50 @@ impl<'a> Spot<'a> {
             );
         }
         if let Some(Verdict::Pass) = verdict {
-            return self.push_said(alloc, text, behind, "nothing stands behind pass");
+            return self.push_behind_pass(alloc, text, behind);
         }
         let forms = verdict_forms(alloc, Verdict::of_bodies().as_slice())?;
         let said = format!(in alloc; "{forms} belongs there")?;
-        self.push_unknown(
-            alloc,
-            text,
-            rest,
-            said.as_str(),
-            after_verdicts().as_slice(),
-        )
+        let known = after_verdicts();
+        let place = Place {
+            said: said.as_str(),
+            right: "",
+            known: known.as_slice(),
+            otherwise: "",
+        };
+        self.push_unknown(alloc, text, rest, place, meant_by_verdict(word))?;
+        Ok(())
+    }
+
+    /// Appends what is wrong with a line, of which this stands behind the spaces in front, and which
+    /// begins with no word of a suite.
+    fn push_first(self, alloc: Global, text: &mut String, start: &str) -> Result<(), AllocError> {
+        let first = cut(start).0;
+        if is_of_other_form(start) {
+            self.push_said(
+                alloc,
+                text,
+                start,
+                "a suite is lines of words, two spaces a level",
+            )?;
+            return text.push_str(EXAMPLE);
+        }
+        if !lines_with(alloc, first)?.is_empty() {
+            let said = "an attribute stands on the line of its node, behind the name";
+            return self.push_said(alloc, text, start, said);
+        }
+        let words = line_words();
+        let mut otherwise = String::from_str(alloc, "; a line begins with ")?;
+        push_choices(&mut otherwise, words.as_slice())?;
+        let place = Place {
+            said: "no line begins with that word",
+            right: "",
+            known: words.as_slice(),
+            otherwise: otherwise.as_str(),
+        };
+        let meant = meant_by_line(first).or(meant_by_attribute(first));
+        self.push_unknown(alloc, text, start, place, meant)?;
+        Ok(())
     }
 
     /// Appends what is wrong with this line, one of these, which cannot be read.
@@ -166,9 +320,11 @@ impl<'a> Spot<'a> {
                 "a tab stands there: a level is two spaces, and one space stands between words";
             return self.push_said(alloc, text, start, said);
         }
+        if is_comment(start) {
+            return self.push_said(alloc, text, start, COMMENT);
+        }
         let Some(word) = LineWord::spelled(first) else {
-            let said = "no line begins with that word";
-            return self.push_unknown(alloc, text, start, said, line_words().as_slice());
+            return self.push_first(alloc, text, start);
         };
         let stands = may_stand(lines, self.number, word);
         match word {
@@ -180,6 +336,9 @@ impl<'a> Spot<'a> {
 
     /// Appends why the line may not begin with so many spaces.
     fn push_indent(self, alloc: Global, text: &mut String, most: usize) -> Result<(), AllocError> {
+        if is_comment(without_front(self.line)) {
+            return self.push_said(alloc, text, without_front(self.line), COMMENT);
+        }
         let (number, spaces) = (self.number, indentation(self.line));
         write!(text, "Line {number} begins with {spaces} spaces: ")?;
         if spaces % 2 != 0 {
