@@ -55,6 +55,12 @@ fn limit_passed(alloc: Global, line: &str) -> &'static str {
     }
 }
 
+/// Whether a word that is near to a known one, on a line with this first word and before this text, is
+/// hardly more of a name: it is long, or a verdict has to stand on the line, and none follows.
+fn is_misspelled(first: Word, word: &str, behind: &str) -> bool {
+    word.len() >= SHORTEST_CERTAIN || !(matches!(first, Word::Class) || has_verdict(behind))
+}
+
 /// A line of a suite that is refused, and its number.
 #[derive(Clone, Copy)]
 struct Spot<'a> {
@@ -196,8 +202,11 @@ impl<'a> Spot<'a> {
         };
         let meant = meant_by_attribute(word).or(meant_by_verdict(word));
         let is_offered = self.push_unknown(alloc, text, rest, place, meant)?;
-        let is_certain = meant.is_none() && word.len() >= SHORTEST_CERTAIN;
-        if is_offered && (is_certain || !has_verdict(behind)) {
+        let is_certain = match meant {
+            Some(_) => !has_verdict(behind),
+            None => is_misspelled(first, word, behind),
+        };
+        if is_offered && is_certain {
             return Ok(());
         }
         self.push_name(alloc, text, rest)
