@@ -4,6 +4,7 @@
 #![tactic(auto)]
 
 mod finding;
+mod foreign_forms;
 mod hint;
 mod hint_lines;
 mod keys;

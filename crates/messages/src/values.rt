@@ -4,6 +4,7 @@ ghost use Rattle.std.specs.Prelude.{◌≡◌};
 ghost use Rattle.std.specs.Option.{is_some};
 ghost use Rattle.tag_expr.specs.ExpressionFaults.{expression_refusal};
 
+use crate::foreign_forms::meant_by_form;
 use crate::options::{exclusion_of, form_of, option_of, pair_option};
 use crate::subject::Subject;
 use config_params::ParamsFault;
@@ -35,20 +36,35 @@ fn push_option(
     push_marked(alloc, text, line.as_str(), front.saturating_add(at))
 }
 
-/// Appends that an option's value is none of these.
+/// Appends what is meant by a value, if that is known, or which of these is nearest.
+fn push_meant(
+    alloc: Global,
+    text: &mut String,
+    value: &str,
+    known: &[&str],
+    meant: Option<&str>,
+) -> Result<(), AllocError> {
+    match meant {
+        Some(meant) => write!(text, "; {meant}"),
+        None => push_nearest(alloc, text, known, value),
+    }
+}
+
+/// Appends that an option's value, by which this is meant, if that is known, is none of these.
 fn push_choice(
     alloc: Global,
     text: &mut String,
     option: &str,
     value: &str,
     known: &[&str],
+    meant: Option<&str>,
 ) -> Result<(), AllocError> {
     write!(text, "--{option} is one of")?;
     for (index, name) in known.iter().enumerate() {
         let sign = if index == 0 { "" } else { "," };
         write!(text, "{sign} {name}")?;
     }
-    push_nearest(alloc, text, known, value)?;
+    push_meant(alloc, text, value, known, meant)?;
     text.push_str("\n")?;
     push_option(alloc, text, option, value, 0)
 }
@@ -75,8 +91,13 @@ fn push_reports(alloc: Global, text: &mut String, given: &Given<'_>) -> Result<(
     for word in given.reports.as_slice() {
         if report_in(word).is_none() {
             text.push_str(
-                "--report is FORM=FILE, with summary, tree, testfeed, json, xml or list as FORM\n",
+                "--report is FORM=FILE, with summary, tree, testfeed, json, xml or list as FORM",
             )?;
+            let form = word.split_once('=').unwrap_or(("", "")).0;
+            if let Some(meant) = meant_by_form(form) {
+                write!(text, "; {meant}")?;
+            }
+            text.push_str("\n")?;
             return push_report_word(alloc, text, word);
         }
     }
@@ -182,12 +203,14 @@ pub(crate) fn push_words(
             return push_option(alloc, text, DETAILS, name, 0);
         }
         if Details::named(name).is_none() {
-            return push_choice(alloc, text, DETAILS, name, Details::names().as_slice());
+            let (known, meant) = (Details::names(), meant_by_form(name));
+            return push_choice(alloc, text, DETAILS, name, known.as_slice(), meant);
         }
     }
     if let Some(name) = given.theme {
         if theme_of(name).is_none() {
-            return push_choice(alloc, text, DETAILS_THEME, name, theme_names().as_slice());
+            let known = theme_names();
+            return push_choice(alloc, text, DETAILS_THEME, name, known.as_slice(), None);
         }
     }
     if let Some(number) = given.processors {
@@ -370,6 +393,15 @@ pub(crate) fn push_selector(
     push_option(alloc, text, selector.option, selector.value, 0)
 }
 
+/// Appends what this pattern, which has no `*`, has to match.
+fn push_whole_pattern(alloc: Global, text: &mut String, value: &str) -> Result<(), AllocError> {
+    let pattern = format!(in alloc; "*{value}*")?;
+    write!(
+        text,
+        "; a pattern without * is the whole CLASS#METHOD, and {pattern:?} matches each that contains it"
+    )
+}
+
 /// Appends that no node has this name, and of a suite the name that is nearest.
 fn push_no_node(
     alloc: Global,
@@ -385,9 +417,13 @@ fn push_no_node(
     match subject {
         Subject::Suite(bytes) => {
             write!(text, "no node of the suite has {name}")?;
-            push_nearest_name(alloc, text, kind, value, bytes)
+            push_nearest_name(alloc, text, kind, value, bytes)?;
         }
-        Subject::Tests(_) => write!(text, "no node of these tests has {name}"),
+        Subject::Tests(_) => write!(text, "no node of these tests has {name}")?,
+    }
+    match kind {
+        SelectorKind::Name if !value.contains('*') => push_whole_pattern(alloc, text, value),
+        _ => Ok(()),
     }
 }
 
@@ -422,7 +458,8 @@ fn said_of_tags(fault: TagFault) -> &'static str {
         TagFault::NoMemory => "",
         TagFault::Empty =>
             "It has tags, any(), none(), !, &, | and parentheses, as in \"slow & !db\"",
-        TagFault::BadTag(_) => "A tag has no space, no control character and none of , ( ) & | !",
+        TagFault::BadTag(_) =>
+            "A tag has no space, no control character and none of , ( ) & | !: tags are joined by & or |",
         TagFault::OperandMissing(_) => "A tag, any(), none(), ! or ( belongs there",
         TagFault::OperatorMissing(_) => "An & or an | belongs there",
         TagFault::ParenOpen(_) => "A ) belongs behind it",
