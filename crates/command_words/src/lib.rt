@@ -3,6 +3,7 @@
 #![tactic(auto)]
 
 mod again;
+mod foreign_options;
 mod found;
 mod info;
 mod launch;
@@ -11,6 +12,7 @@ mod option_names;
 mod rerun;
 mod rerun_role;
 mod system_words;
+mod unexpected;
 mod words;
 
 pub use again::all_words;

@@ -4,26 +4,19 @@ ghost use Rattle.std.specs.Prelude.{◌≡◌};
 ghost use Rattle.messages.specs.Sentences.{sentence_by};
 
 use crate::option_names::command;
+use crate::unexpected::{said_of_unexpected, unexpected_word};
 use crate::words::given_by;
 use launch_options::LaunchFault;
 use messages::{Message, Subject};
 use std::alloc::{AllocError, Global};
 use word_files::file_named;
 
-/// What clap says before a word that it does not expect.
-const UNEXPECTED: &str = "error: unexpected argument '";
+/// What there is to say of words that are not UTF-8, none of which is known.
+const OF_NO_TEXT: &str = "A word of the command line is not UTF-8.\n";
 
 /// What there is to say of a file that is no saved run.
 const OF_SAVED_RUN: &str =
     "--rerun-failed names a file that --details testfeed or json has printed.\n";
-
-/// Whether clap says of a word that is no option that it does not expect it: a file's name, for one.
-fn is_of_no_option(said: &str) -> bool {
-    match said.strip_prefix(UNEXPECTED) {
-        Some(word) => !word.starts_with('-'),
-        None => false,
-    }
-}
 
 /// What there is to say of a word that is no option: where that comes from which is run.
 fn said_of_no_option(subject: Subject<'_>) -> &'static str {
@@ -35,7 +28,25 @@ fn said_of_no_option(subject: Subject<'_>) -> &'static str {
     }
 }
 
-/// What clap says of words that it refuses.
+/// What clap says of words that it refuses; where that is one that it does not expect, with what is meant by it.
+fn with_cure(
+    alloc: Global,
+    words: &[String],
+    subject: Subject<'_>,
+    said: String,
+) -> Result<String, AllocError> {
+    let Some(word) = unexpected_word(said.as_str()) else {
+        return Ok(said);
+    };
+    let command = command(alloc, subject)?;
+    let mut cured = said_of_unexpected(alloc, &command, words, word, said.as_str())?;
+    if !word.starts_with('-') {
+        cured.push_str(said_of_no_option(subject))?;
+    }
+    Ok(cured)
+}
+
+/// What clap says of words that it refuses: what is wrong with them.
 fn said_by_clap(
     alloc: Global,
     words: &[String],
@@ -44,11 +55,8 @@ fn said_by_clap(
     match command(alloc, subject)?.try_get_matches_from(words) {
         Ok(_) => Ok(String::new(alloc)),
         Err(error) => {
-            let mut said = format!(in alloc; "{error}")?;
-            if is_of_no_option(said.as_str()) {
-                said.push_str(said_of_no_option(subject))?;
-            }
-            Ok(said)
+            let said = format!(in alloc; "{error}")?;
+            with_cure(alloc, words, subject, said)
         }
     }
 }
@@ -97,6 +105,9 @@ pub fn message_of(
             Ok(said) => Message::with_details(alloc, fault, subject, said.as_str()),
             Err(_) => Message::with_details(alloc, fault, subject, ""),
         },
+        LaunchFault::BadWords if words.is_empty() => {
+            Message::with_details(alloc, fault, subject, OF_NO_TEXT)
+        }
         LaunchFault::UnreadRun | LaunchFault::BadSavedLine(_) => {
             Message::with_details(alloc, fault, subject, OF_SAVED_RUN)
         }
