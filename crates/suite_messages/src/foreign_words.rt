@@ -3,7 +3,7 @@
 use crate::foreign::{ForeignWords, meant_by};
 
 /// Those that lines begin with.
-static LINE_WORDS: [ForeignWords<'static>; 8] = [
+static LINE_WORDS: [ForeignWords<'static>; 10] = [
     ForeignWords {
         words: &[
             "suite",
@@ -104,10 +104,18 @@ static LINE_WORDS: [ForeignWords<'static>; 8] = [
         ],
         meant: "a verdict stands behind the name, as in test NAME pass",
     },
+    ForeignWords {
+        words: &["end", "endclass", "}", "});"],
+        meant: "nothing closes a node but the next line of a lesser level",
+    },
+    ForeignWords {
+        words: &["threads", "workers", "jobs", "parallel", "parallelism"],
+        meant: "the option --workers N says how many run side by side",
+    },
 ];
 
 /// Those that stand before a verdict.
-static ATTRIBUTE_WORDS: [ForeignWords<'static>; 12] = [
+static ATTRIBUTE_WORDS: [ForeignWords<'static>; 13] = [
     ForeignWords {
         words: &[
             "tag",
@@ -223,6 +231,12 @@ static ATTRIBUTE_WORDS: [ForeignWords<'static>; 12] = [
             "priority",
         ],
         meant: "there are no dependencies between tests",
+    },
+    ForeignWords {
+        words: &[
+            "expect", "expected", "expects", "status", "result", "outcome", "verdict", "->", "-",
+        ],
+        meant: "a verdict stands at the end, as in test NAME pass",
     },
 ];
 
