@@ -3,7 +3,7 @@
 use suite_messages::{ForeignWords, meant_by};
 
 /// Those that say which tests are run, and in which order.
-static CHOOSING: [ForeignWords<'static>; 12] = [
+static CHOOSING: [ForeignWords<'static>; 13] = [
     ForeignWords {
         words: &[
             "--filter",
@@ -32,6 +32,10 @@ static CHOOSING: [ForeignWords<'static>; 12] = [
         meant: "write --select-class CLASS",
     },
     ForeignWords {
+        words: &["--engine", "--engines", "--include-engine", "-e"],
+        meant: "write --select-unique-id '[engine:NAME]'",
+    },
+    ForeignWords {
         words: &["--method", "--methods", "--function", "--testcase"],
         meant: "write --select-method CLASS#METHOD",
     },
@@ -45,6 +49,9 @@ static CHOOSING: [ForeignWords<'static>; 12] = [
             "--exclude",
             "--ignore",
             "--deselect",
+            "--exclude-test",
+            "--exclude-tests",
+            "--skip-test",
             "--omit",
             "--without",
         ],
@@ -88,6 +95,9 @@ static CHOOSING: [ForeignWords<'static>; 12] = [
             "--failed-first",
             "--ff",
             "--rerun-failures",
+            "--retry-failed",
+            "--rerun-last",
+            "--failed-only",
         ],
         meant: "write --rerun-failed FILE, with the feed or the JSON of a run as FILE",
     },
@@ -125,21 +135,14 @@ static CHOOSING: [ForeignWords<'static>; 12] = [
             "--show",
             "--plan",
             "--discover",
+            "--names",
             "list",
             "plan",
         ],
         meant: "write --details list, or --details plan; with these nothing is run",
     },
     ForeignWords {
-        words: &[
-            "--file",
-            "--files",
-            "--input",
-            "--stdin",
-            "--tests-file",
-            "-f",
-            "-i",
-        ],
+        words: &["--file", "--files", "--input", "--tests-file", "-f", "-i"],
         meant: "where a suite is run, --suite FILE names it",
     },
 ];
@@ -158,6 +161,10 @@ static RUNNING: [ForeignWords<'static>; 10] = [
             "--concurrent",
             "--test-threads",
             "--num-workers",
+            "--num-threads",
+            "--nthreads",
+            "--max-workers",
+            "--max-threads",
             "--numprocesses",
             "--processes",
             "--procs",
@@ -209,6 +216,10 @@ static RUNNING: [ForeignWords<'static>; 10] = [
             "--exitfirst",
             "--failfast",
             "--stop-on-failure",
+            "--stop-on-first-failure",
+            "--first-failure",
+            "--fail",
+            "--abort-on-failure",
             "--stop-on-fail",
             "--stop",
             "--halt",
@@ -255,7 +266,15 @@ static RUNNING: [ForeignWords<'static>; 10] = [
         meant: "write --config KEY=VALUE",
     },
     ForeignWords {
-        words: &["--step", "--steps", "--record", "--reproduce"],
+        words: &[
+            "--step",
+            "--steps",
+            "--record",
+            "--print-schedule",
+            "--replay-file",
+            "--schedule-file",
+            "--reproduce",
+        ],
         meant: "--schedule prints the steps of a run, and --replay STEPS runs them",
     },
     ForeignWords {
@@ -265,7 +284,7 @@ static RUNNING: [ForeignWords<'static>; 10] = [
 ];
 
 /// Those that say what is printed.
-static PRINTING: [ForeignWords<'static>; 9] = [
+static PRINTING: [ForeignWords<'static>; 10] = [
     ForeignWords {
         words: &[
             "--junit",
@@ -276,6 +295,19 @@ static PRINTING: [ForeignWords<'static>; 9] = [
             "--reports-dir",
         ],
         meant: "write --report xml=FILE, or --details xml",
+    },
+    ForeignWords {
+        words: &[
+            "--html",
+            "--markdown",
+            "--tap",
+            "--teamcity",
+            "--github",
+            "--csv",
+            "--yaml",
+            "--allure",
+        ],
+        meant: "no such form is written; write --report xml=FILE or --report json=FILE",
     },
     ForeignWords {
         words: &["--json", "--ndjson", "--report-log"],
@@ -290,6 +322,9 @@ static PRINTING: [ForeignWords<'static>; 9] = [
             "--outputFile",
             "--format",
             "--formatter",
+            "--output-format",
+            "--report-format",
+            "--report-file",
             "--out",
             "--log",
             "--logger",
@@ -306,6 +341,9 @@ static PRINTING: [ForeignWords<'static>; 9] = [
             "--trace",
             "--show-output",
             "--nocapture",
+            "--no-capture",
+            "--log-level",
+            "--log-events",
             "--events",
             "-vv",
         ],

@@ -69,6 +69,15 @@ fn name_in(word: &str) -> &str {
     name.split_once('=').unwrap_or((name, "")).0
 }
 
+/// A word with a dash as the long option of this name, and any other as it is.
+fn long_option(alloc: Global, word: &str, name: &str) -> Result<String, AllocError> {
+    if word.starts_with('-') {
+        format!(in alloc; "--{name}")
+    } else {
+        String::from_str(alloc, word)
+    }
+}
+
 /// What is said of a word that is like none of these options, and of which clap says this: which options
 /// there are, if the word has a dash.
 fn said_of_unknown(
@@ -103,14 +112,13 @@ pub(crate) fn said_of_unexpected(
     word: &str,
     said: &str,
 ) -> Result<String, AllocError> {
+    if !word.starts_with('-') && word.contains('#') {
+        let tip = format!(in alloc; "write --select-method '{word}'")?;
+        return with_tip(alloc, word, tip.as_str());
+    }
     let name = name_in(whole_word(words, word));
-    let option = format!(in alloc; "--{name}")?;
-    let long = if word.starts_with('-') {
-        option.as_str()
-    } else {
-        word
-    };
-    if let Some(meant) = meant_by_option(long) {
+    let long = long_option(alloc, word, name)?;
+    if let Some(meant) = meant_by_option(long.as_str()) {
         return with_tip(alloc, word, meant);
     }
     let names = names_of(alloc, command)?;
