@@ -387,6 +387,6 @@ pub fn refuse<W: Write, E: Write>(
     ensures { Closes (sentence_by subject.entry) W.contents E.contents (Err fault) writer.old writer.new errors.old
         errors.new result }
 {
-    let message = Message::with_details(alloc, fault, subject, "");
+    let message = message_of(alloc, fault, &[], subject);
     close(Err(fault), Some(message), writer, errors)
 }

@@ -7,6 +7,6 @@ use Rattle.command_line.proofs.closing.refuse.Goals as goal
 pub returns : goal.returns
 returns g c = record {
   line = c.close.ensures.line;
-  message = says_why (sentence_by c.args.subject) (g.E.Write.contents) _ _ c.close.result.is_told (Err c.args.fault) (Some c.with_details-message.result) c.with_details-message.ensures.sentence c.close.ensures.message;
+  message = says_why (sentence_by c.args.subject) (g.E.Write.contents) _ _ c.close.result.is_told (Err c.args.fault) (Some c.message_of-message.result) c.message_of-message.ensures c.close.ensures.message;
   status = c.close.ensures.status;
 }
