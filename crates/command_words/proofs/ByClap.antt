@@ -1,5 +1,5 @@
 -- From what clap found to what the words give, and to why they are refused.
-use Rattle.std.proofs.Common.{◌≡◌, ◌≢◌, ◌≤◌, List, [], ◌∷◌, length, arith, ◌⊎◌, inl, inr, true, Option, Some, Result, Ok, Err, IfErr, ap, sym, subst, ◌∙◌, refl}
+use Rattle.std.proofs.Common.{◌≡◌, ◌≢◌, ◌≤◌, List, [], ◌∷◌, length, arith, ◌⊎◌, inl, inr, true, Option, None, Some, IfOk, Result, Ok, Err, IfErr, ap, sym, subst, ◌∙◌, refl}
 use Rattle.std.specs.Result.{IsErrAnd}
 use Rattle.clap.specs.Words.{App, HasMatchesOf, IsAmong, Kinds, Text, fault_of, found_of, is_simple, is_simple_and_free, matches_of, rows_of}
 use Rattle.clap.specs.declared.error.kind.ErrorKind.{ErrorKind}
@@ -88,3 +88,9 @@ asks app words k request is kind other asked =
       | inl memory ↦ absurd (other memory)
       | inr among ↦ asks_by words k request among asked
     ]
+
+-- the same of what was made of it, if there was memory for that
+pub asks_if : {X E : Type 0} (request : X → Option InfoRequest) (result : Result X E) (app : App) (words : List Text) (k : ErrorKind) → app ≡ program
+    → (is_simple_and_free app ≡ true → (k ≡ kinds.OutOfMemory) ⊎ IsAmong k (fault_of app words)) → IfOk result (λ x. (k ≢ kinds.OutOfMemory) × (request x ≡ request_of k)) → IfOk result (λ x. IsInfoAsked words (request x))
+asks_if request (Ok x) app words k is kind has = asks app words k (request x) is kind has.0 has.1
+asks_if request (Err error) app words k is kind has = tt

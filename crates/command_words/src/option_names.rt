@@ -3,7 +3,7 @@
 ghost use Rattle.std.specs.Prelude.{◌≡◌, ◌∷◌, [], IfOk, false, fold, map};
 ghost use Rattle.clap.specs.Words.{app_of, rule_of, with_rule};
 ghost use Rattle.command_words.specs.Commands.{configuring, ending, excluding, filtering, printing, selecting};
-ghost use Rattle.command_words.specs.Commands.{flag, maybe_lettered, bare_program, program, repeated, rule_told, single};
+ghost use Rattle.command_words.specs.Commands.{flag, maybe_lettered, bare_program, program, repeated, rule_by, rule_told, single};
 ghost use Rattle.command_words.specs.Commands.{with_letter, with_rules};
 
 use crate::info::VERSION;
@@ -74,7 +74,7 @@ fn flag<'a>(name: &'a str, help: &'a str) -> ProgramOption<'a>
 
 /// The option with a letter that stands for it behind one dash.
 fn with_letter<'a>(letter: char, told: ProgramOption<'a>) -> ProgramOption<'a>
-    ensures { rule_told result ≡ with_letter letter (rule_told told) }
+    ensures { rule_told result ≡ with_letter letter (rule_told told.entry) }
 {
     ProgramOption {
         name: told.name,
@@ -336,6 +336,22 @@ fn ending<'a>(subject: Subject<'_>) -> [ProgramOption<'a>; 7]
     ]
 }
 
+/// The option as clap takes it, without a letter. Where it has a value its help stands on the next line.
+fn long_option<'a>(alloc: Global, told: &ProgramOption<'a>) -> Arg<'a>
+    ensures rule { rule_of result ≡ rule_by told.now.name.now told.now.form }
+    ensures local { result.global ≡ false }
+{
+    let option = Arg::new(alloc, told.name).long(told.name).help(told.help);
+    match told.form {
+        OptionForm::Flag => option.action(ArgAction::SetTrue),
+        OptionForm::Single(value) => option.value_name(value).next_line_help(true),
+        OptionForm::Repeated(value) => option
+            .value_name(value)
+            .next_line_help(true)
+            .action(ArgAction::Append),
+    }
+}
+
 /// The option with this letter, if there is one.
 fn lettered<'a>(option: Arg<'a>, letter: Option<char>) -> Arg<'a>
     ensures rule { rule_of result ≡ maybe_lettered letter (rule_of option.entry) }
@@ -347,23 +363,12 @@ fn lettered<'a>(option: Arg<'a>, letter: Option<char>) -> Arg<'a>
     }
 }
 
-/// The option as clap takes it. Where it has a value its help stands on the next line.
+/// The option as clap takes it.
 fn option_of<'a>(alloc: Global, told: &ProgramOption<'a>) -> Arg<'a>
     ensures rule { rule_of result ≡ rule_told told.now }
     ensures local { result.global ≡ false }
 {
-    let option = lettered(
-        Arg::new(alloc, told.name).long(told.name).help(told.help),
-        told.letter,
-    );
-    match told.form {
-        OptionForm::Flag => option.action(ArgAction::SetTrue),
-        OptionForm::Single(value) => option.value_name(value).next_line_help(true),
-        OptionForm::Repeated(value) => option
-            .value_name(value)
-            .next_line_help(true)
-            .action(ArgAction::Append),
-    }
+    lettered(long_option(alloc, told), told.letter)
 }
 
 /// The command with one more option.
