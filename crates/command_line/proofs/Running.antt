@@ -34,6 +34,14 @@ module _ {R W : Type 0} (remaining : R → Option (List ℕ)) (contents : W → 
       → IfErr result (λ fault. is_writing fault ≡ false → Keeps (contents old) (contents new)) → IsConsoleRun remaining contents words before after left old new result
   words_run options result before after left old new reads exact takes quiet = record { options = Ok options; reads = reads; runs = record { exact = exact; reads = takes; quiet = quiet } }
 
+-- which reason a refusal has
+pub cause_is : (result : Result Options LaunchFault) (cause : LaunchFault) → result ≡ Err cause → result ≡ Err BadWords → cause ≡ BadWords
+cause_is result cause is same = cc
+
+-- what asks for something is not refused
+pub not_refused : (result : Result Options LaunchFault) (options : Options) → result ≡ Ok options → result ≡ Err BadWords → ⊥
+not_refused result options is same = cc
+
 module _ {R W K : Type 0} (remaining : R → Option (List ℕ)) (contents : W → Option (List ℕ)) (deeds : K → Option (List Deed)) (words : List Text) where
   -- words that are refused: no file is touched
   abbrev pub filed_refused : (cause : LaunchFault) (before : R) (left : Option (List ℕ)) (old : W) (was : K) → ReadsWords words (Err cause) → (cause ≡ BadWords → AsksForNothing words)
@@ -41,12 +49,9 @@ module _ {R W K : Type 0} (remaining : R → Option (List ℕ)) (contents : W �
   filed_refused cause before left old was reads unasked = record {
     options = Err cause;
     reads = reads;
-    unasked = λ same. unasked (err-inj same);
-    runs = (refl, refl, refl, refl, refl);
+    unasked = λ same. unasked (cause_is (Err cause) cause refl same);
+    runs = (refl, (refl, refl, refl, refl));
   }
-    where
-      err-inj : Err cause ≡ Err BadWords → cause ≡ BadWords
-      err-inj same = cc
 
   -- words that ask for something, of a suite that is read from somewhere
   abbrev filed_suite : (options : Options) (wanted : List Wanted) (result : Result ExitStatus LaunchFault) (slowest : Option (List ℕ)) (before after : R) (left : Option (List ℕ)) (old new : W) (was now : K) → ReadsWords words (Ok options) → wanted ≡ reports_wanted words
@@ -54,18 +59,20 @@ module _ {R W K : Type 0} (remaining : R → Option (List ℕ)) (contents : W �
   filed_suite options wanted result slowest before after left old new was now reads is runs = record {
     options = Ok options;
     reads = reads;
-    unasked = λ same. absurd (ok≢err same);
+    unasked = λ same. absurd (not_refused (Ok options) options refl same);
     runs = subst (λ (ws : List Wanted). FilesSuite remaining contents deeds options (suite_wanted words) ws before after left old new was now result slowest) is runs;
   }
-    where
-      ok≢err : Ok options ≡ Err BadWords → ⊥
-      ok≢err same = cc
+
+-- nothing is said of what is waited for, where a file is named
+pub named_waits : (is_typed : Bool) (suite : Option Text) (name : Text) → suite ≡ Some name → None ≡ waiting_said is_typed suite
+named_waits true suite name is = ap (waiting_said true) (sym is)
+named_waits false suite name is = ap (waiting_said false) (sym is)
 
 -- what is asked for is run of the suite of a file, or that cannot be read
-abbrev OfFile : {R W K : Type 0} (contents : W → Option (List ℕ)) (deeds : K → Option (List Deed)) → Options → List Wanted → (old : W) → (was now : K) → Result ExitStatus LaunchFault → (slowest left : Option (List ℕ)) → (between : W) → Type 0
-OfFile {R = R} contents deeds options wanted old was now result slowest left between =
+abbrev OfFile : {R W K : Type 0} (remaining : R → Option (List ℕ)) (contents : W → Option (List ℕ)) (deeds : K → Option (List Deed)) → Options → List Wanted → (old : W) → (was now : K) → Result ExitStatus LaunchFault → (slowest left : Option (List ℕ)) → (between : W) → Type 0
+OfFile remaining contents deeds options wanted old was now result slowest left between =
     ((bytes : List ℕ) × IsTimedRun (asked_by options) wanted (Some bytes) left (contents old) (contents between) (deeds was) (deeds now) result slowest)
-    ⊎ (IsUnrun {R = R} contents deeds Reading old between was now result slowest ⊎ IsUnrun {R = R} contents deeds NoMemory old between was now result slowest)
+    ⊎ (IsUnrun remaining contents deeds Reading old between was now result slowest ⊎ IsUnrun remaining contents deeds NoMemory old between was now result slowest)
 
 module _ {R W E K : Type 0} (remaining : R → Option (List ℕ)) (contents : W → Option (List ℕ)) (said : E → Option (List ℕ)) (deeds : K → Option (List Deed)) (is_terminal is_typed : Bool) (words : List Text) where
   -- the suite is what is left of the reader
@@ -89,30 +96,23 @@ module _ {R W E K : Type 0} (remaining : R → Option (List ℕ)) (contents : W 
         closed = run.closed;
       }
 
-  -- nothing is said of what is waited for, where a file is named
-  named_waits : (suite : Option Text) (name : Text) → suite ≡ Some name → None ≡ waiting_said is_typed suite
-  named_waits suite name is = by is_typed
-    where
-      by : (typed : Bool) → None ≡ waiting_said typed suite
-      by true = ap (waiting_said true) (sym is)
-      by false = ap (waiting_said false) (sym is)
-
   -- the suite is that of a file
-  pub main_file_run : (options : Options) (suite : Option Text) (name : Text) (wanted : List Wanted) (before : R) (old new : W) (first last : E) (was now : K) (ending : Ending) → ReadsWords words (Ok options) → wanted ≡ reports_wanted words → suite ≡ suite_wanted words → suite ≡ Some name
+  pub main_file_run : (options : Options) (suite : Option Text) (name : Text) (wanted : List Wanted) (before after : R) (old new : W) (first last : E) (was now : K) (ending : Ending) → ReadsWords words (Ok options) → wanted ≡ reports_wanted words → suite ≡ suite_wanted words → suite ≡ Some name → after ≡ before
       → IsFileRun contents said deeds is_terminal (asked_by options) wanted old new first last was now ending
-      → IsMainRun remaining contents said deeds is_terminal is_typed words before before old new first last was now ending
-  main_file_run options suite name wanted before old new first last was now ending reads is same named run = by run
+      → IsMainRun remaining contents said deeds is_terminal is_typed words before after old new first last was now ending
+  main_file_run options suite name wanted before after old new first last was now ending reads is same named untouched run =
+      subst (λ (r : R). IsMainRun remaining contents said deeds is_terminal is_typed words before r old new first last was now ending) (sym untouched) (by run)
     where
       of_file : suite_wanted words ≡ Some name
       of_file = sym same ∙ named
 
-      filed : (result : Result ExitStatus LaunchFault) (slowest : Option (List ℕ)) (left : Option (List ℕ)) (between : W) → OfFile {R = R} contents deeds options wanted old was now result slowest left between → FilesSuite remaining contents deeds options (suite_wanted words) wanted before before left old between was now result slowest
+      filed : (result : Result ExitStatus LaunchFault) (slowest : Option (List ℕ)) (left : Option (List ℕ)) (between : W) → OfFile remaining contents deeds options wanted old was now result slowest left between → FilesSuite remaining contents deeds options (suite_wanted words) wanted before before left old between was now result slowest
       filed result slowest left between runs = subst (λ (s : Option Text). FilesSuite remaining contents deeds options s wanted before before left old between was now result slowest) (sym of_file) (refl, runs)
 
       waits : (e : E) → e ≡ first → SaysText said (waiting_said is_typed (suite_wanted words)) first e
-      waits e is = subst (λ (o : Option (List ℕ)). SaysText said o first e) (named_waits (suite_wanted words) name of_file) is
+      waits e is = subst (λ (o : Option (List ℕ)). SaysText said o first e) (named_waits is_typed (suite_wanted words) name of_file) is
 
-      whole : (answer : Result ExitStatus LaunchFault) (left : Option (List ℕ)) (between : W) (slowest : Option (List ℕ)) (waiting during : E) → OfFile {R = R} contents deeds options wanted old was now answer slowest left between → waiting ≡ first → IsToldMeanwhile is_terminal (said waiting) (said during)
+      whole : (answer : Result ExitStatus LaunchFault) (left : Option (List ℕ)) (between : W) (slowest : Option (List ℕ)) (waiting during : E) → OfFile remaining contents deeds options wanted old was now answer slowest left between → waiting ≡ first → IsToldMeanwhile is_terminal (said waiting) (said during)
           → ClosesRun sentence_of contents said answer slowest between new during last ending → IsMainRun remaining contents said deeds is_terminal is_typed words before before old new first last was now ending
       whole answer left between slowest waiting during runs waited tells closed = record {
         answer = answer;
@@ -127,7 +127,7 @@ module _ {R W E K : Type 0} (remaining : R → Option (List ℕ)) (contents : W 
         closed = closed;
       }
 
-      lacks : (fault : LaunchFault) → now ≡ was → (IsUnrun {R = R} contents deeds fault old old was now (Err fault) None → OfFile {R = R} contents deeds options wanted old was now (Err fault) None None old) → Closes sentence_of contents said (Err fault) old new first last ending
+      lacks : (fault : LaunchFault) → now ≡ was → (IsUnrun remaining contents deeds fault old old was now (Err fault) None → OfFile remaining contents deeds options wanted old was now (Err fault) None None old) → Closes sentence_of contents said (Err fault) old new first last ending
           → IsMainRun remaining contents said deeds is_terminal is_typed words before before old new first last was now ending
       lacks fault untouched side closes =
           whole (Err fault) None old None first first (side (refl, refl, untouched, refl)) refl (none_told is_terminal (said first)) (closes_refused sentence_of contents said fault old new first last ending closes)

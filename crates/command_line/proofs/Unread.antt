@@ -1,18 +1,29 @@
 -- What is done with words that were refused.
-use Rattle.std.proofs.Common.{◌≡◌, ◌≢◌, ℕ, Bool, List, Option, None, Result, Ok, Err, inl, inr, refl}
+use Rattle.std.proofs.Common.{◌≡◌, ◌≢◌, ℕ, Bool, List, Option, None, Some, IfOk, Result, Ok, Err, inl, inr, refl}
+use Rattle.command_words.specs.Infos.{IsInfoAsked}
 use Rattle.command_words.specs.Words.{ReadsWords}
+use Rattle.command_words.specs.declared.info.InfoRequest.{InfoRequest}
 use Rattle.launch_options.specs.Given.{Text}
 use Rattle.launch_options.specs.declared.fault.LaunchFault.{LaunchFault}
 use Rattle.launch_options.specs.declared.fault.LaunchFault.TheVariants.{NoMemory}
 use Rattle.messages.specs.Sentences.{sentence_of}
 use Rattle.report_files.specs.Deeds.{Deed}
 use Rattle.command_line.specs.GivenRuns.{AnswersWords}
-use Rattle.command_line.specs.Infos.{EndsUnread, RefusesWords}
+use Rattle.command_line.specs.Infos.{AsksAfter, EndsUnread, RefusesWords}
 use Rattle.command_line.specs.Runs.{IsMainRun}
 use Rattle.command_line.specs.declared.closing.Ending.{Ending}
 use Rattle.command_line.proofs.Ended.{closes_refused}
 use Rattle.command_line.proofs.Running.{filed_refused}
 use Rattle.command_line.proofs.Watched.{none_told}
+
+-- what clap says of the words is what they ask for
+pub asked_after : {X E : Type 0} (request : X → Option InfoRequest) (result : Result X E) (fault : LaunchFault) (words : List Text) → IfOk result (λ x. IsInfoAsked words (request x)) → IfOk result (λ x. AsksAfter fault words (request x))
+asked_after request (Ok x) fault words is = by (request x) is
+  where
+    by : (asked : Option InfoRequest) → IsInfoAsked words asked → AsksAfter fault words asked
+    by None is = λ same. is
+    by (Some info) is = is
+asked_after request (Err error) fault words is = tt
 
 -- want of memory is a reading of any words
 pub reads_nothing : (words : List Text) → ReadsWords words (Err NoMemory)

@@ -1,5 +1,5 @@
 -- What is told to whoever asks for help, or for the version.
-use Rattle.std.specs.Prelude.{◌≡◌, ◌⊎◌, ℕ, Bool, true, false, List, Option, Err}
+use Rattle.std.specs.Prelude.{◌≡◌, ◌⊎◌, ℕ, Bool, true, false, List, Option, Some, None, Err}
 use Rattle.launch_options.specs.Given.{Text}
 use Rattle.launch_options.specs.declared.fault.LaunchFault.{LaunchFault}
 use Rattle.launch_options.specs.declared.fault.LaunchFault.TheVariants.{BadWords, NoMemory}
@@ -13,6 +13,11 @@ use Rattle.command_line.specs.declared.closing.Ending.{Ending}
 abbrev pub status_told : (all : Bool) → ℕ
 status_told true = 0
 status_told false = 255
+
+-- what words that were refused for this reason ask for in place of a run, if they do
+abbrev pub AsksAfter : LaunchFault → List Text → Option InfoRequest → Type 0
+AsksAfter fault words None = fault ≡ BadWords → AsksForNothing words
+AsksAfter fault words (Some request) = AsksFor words request
 
 module _ {W : Type 0} (contents : W → Option (List ℕ)) where
   -- this text goes to the writer, and nothing is left to say

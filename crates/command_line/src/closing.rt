@@ -7,7 +7,7 @@ ghost use Rattle.messages.specs.Sentences.{sentence_by};
 ghost use Rattle.command_line.specs.Runs.{Closes, ClosesRun, HasMessage, PrintsLine, PrintsMessage, WentOut};
 ghost use Rattle.command_line.specs.Runs.{SaysAll, SaysFailures, SaysHints, SaysIfRun, SaysSeed, SaysText};
 ghost use Rattle.command_line.specs.Runs.{refusal_line, seed_line, steps_said, waiting_said};
-ghost use Rattle.command_line.specs.Infos.{EndsUnread, TellsInfo};
+ghost use Rattle.command_line.specs.Infos.{AsksAfter, EndsUnread, TellsInfo};
 ghost use Rattle.launch_options.specs.Given.{maybe_behind};
 
 use arrayvec::ArrayString;
@@ -170,6 +170,21 @@ pub fn close_run<W: Write, E: Write>(
     close(answer, message, writer, errors)
 }
 
+/// What words that were refused for this reason ask for in place of a run.
+fn info_after(
+    alloc: Global,
+    fault: LaunchFault,
+    words: &[String],
+    subject: Subject<'_>,
+) -> Result<Option<Info>, AllocError>
+    ensures { IfOk result (λ info. AsksAfter fault (map string_bytes words.now) (option_map (λ i. i.request) info)) }
+{
+    match fault {
+        LaunchFault::BadWords => info_asked(alloc, words, subject),
+        _ => Ok(None),
+    }
+}
+
 /// Ends where words were refused for this reason. Those that ask for help, or for the version, are told it, and for all
 /// others the refusal is said; want of memory may stand in its place.
 pub fn close_unread<W: Write, E: Write>(
@@ -183,11 +198,7 @@ pub fn close_unread<W: Write, E: Write>(
     ensures { EndsUnread (sentence_by subject.entry) W.contents E.contents (map string_bytes words.now) fault writer.old
         writer.new errors.old errors.new result }
 {
-    let info = match fault {
-        LaunchFault::BadWords => info_asked(alloc, words, subject),
-        _ => Ok(None),
-    };
-    match info {
+    match info_after(alloc, fault, words, subject) {
         Ok(Some(info)) => tell_info(&info, writer),
         Ok(None) => close_run(alloc, Err(fault), words, subject, writer, errors),
         Err(AllocError) => close_run(

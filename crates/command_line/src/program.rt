@@ -95,7 +95,7 @@ fn run_told<
     }
 }
 
-/// Runs what these words asked for of the suite of this source, and says what there is to say of the answer and of what
+/// Runs what these words asked for of the suite of this source, of which nothing is kept yet, and says what there is to say of the answer and of what
 /// failed.
 fn run_source<
     T: Threads + Wait + Sync,
@@ -112,21 +112,17 @@ fn run_source<
     words: &[String],
     facts: &Facts<'_>,
     is_terminal: bool,
-    source: SuiteSource<'_, R>,
+    kept: &mut Kept<'_, R>,
     writer: &mut W,
     errors: &mut E,
     files: &mut K,
 ) -> Ending
     ensures { IsSourceRun W.contents E.contents is_terminal
         (waiting_said facts.now.is_typed (maybe_behind launch.entry.suite)) (asked_by launch.entry.options)
-        (map parts_of launch.entry.reports.items) (source_remaining R.remaining source) writer.old writer.new errors.old
-        errors.new (K.deeds files.old) (K.deeds files.new) result }
+        (map parts_of launch.entry.reports.items) (source_remaining R.remaining kept.old.source) writer.old writer.new
+        errors.old errors.new (K.deeds files.old) (K.deeds files.new) result }
 {
     say_waiting(facts.is_typed, launch.suite, &mut *errors);
-    let mut kept = Kept {
-        source,
-        bytes: nothing_kept(alloc),
-    };
     let mut failures = Failures::new(alloc);
     let mut slowest = None;
     let answer = run_told(
@@ -136,7 +132,7 @@ fn run_source<
         &launch,
         facts.host,
         is_terminal,
-        &mut kept,
+        &mut *kept,
         &mut *writer,
         &mut *errors,
         files,
@@ -184,19 +180,25 @@ fn run_file<
 {
     let subject = Subject::Suite(&[]);
     match texts.bytes(alloc, name, MOST_READ) {
-        Ok(Some(bytes)) => run_source(
-            rt,
-            clock,
-            alloc,
-            launch,
-            words,
-            facts,
-            is_terminal,
-            SuiteSource::<R>::File(bytes.as_slice()),
-            writer,
-            errors,
-            files,
-        ),
+        Ok(Some(bytes)) => {
+            let mut kept = Kept::<R> {
+                source: SuiteSource::File(bytes.as_slice()),
+                bytes: nothing_kept(alloc),
+            };
+            run_source(
+                rt,
+                clock,
+                alloc,
+                launch,
+                words,
+                facts,
+                is_terminal,
+                &mut kept,
+                writer,
+                errors,
+                files,
+            )
+        }
         Ok(None) => close_run(
             alloc,
             Err(LaunchFault::Reading),
@@ -261,19 +263,25 @@ fn run_read<
             errors,
             files,
         ),
-        None => run_source(
-            rt,
-            clock,
-            alloc,
-            launch,
-            words,
-            facts,
-            is_terminal,
-            SuiteSource::Reader(reader),
-            writer,
-            errors,
-            files,
-        ),
+        None => {
+            let mut kept = Kept {
+                source: SuiteSource::Reader(reader),
+                bytes: nothing_kept(alloc),
+            };
+            run_source(
+                rt,
+                clock,
+                alloc,
+                launch,
+                words,
+                facts,
+                is_terminal,
+                &mut kept,
+                writer,
+                errors,
+                files,
+            )
+        }
     }
 }
 

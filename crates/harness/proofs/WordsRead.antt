@@ -2,6 +2,7 @@
 use Rattle.std.proofs.Common.{◌≡◌, ℕ, Bool, List, Option, Result, Ok, Err, inl, inr, refl, subst}
 use Rattle.command_line.specs.Infos.{EndsUnread, RefusesWords}
 use Rattle.command_line.specs.declared.closing.Ending.{Ending}
+use Rattle.command_line.proofs.Running.{cause_is, not_refused}
 use Rattle.command_line.proofs.Unread.{reads_nothing}
 use Rattle.command_words.specs.Infos.{AsksForNothing}
 use Rattle.command_words.specs.Words.{ReadsWords, reports_wanted, suite_wanted}
@@ -25,14 +26,11 @@ module _ {B V W E K : Type 0} (answers : B → List Reply) (gives : B → Reply 
   asked_tests begun ended options suite wanted old new first last was now ending reads is_suite are runs = inr (record {
     options = Ok options;
     reads = reads;
-    unasked = λ same. absurd (ok≢err same);
+    unasked = λ same. absurd (not_refused (Ok options) options refl same);
     runs =
         subst (λ (ws : List Wanted). FilesLaunch answers gives saw contents said parts jobs begun ended deeds is_terminal options (suite_wanted words) ws old new first last was now ending) are
         (subst (λ (s : Option Text). FilesLaunch answers gives saw contents said parts jobs begun ended deeds is_terminal options s wanted old new first last was now ending) is_suite runs);
   })
-    where
-      ok≢err : Ok options ≡ Err BadWords → ⊥
-      ok≢err same = cc
 
   -- this is said of words that are refused
   refused : (begun : V) (cause : LaunchFault) (old new : W) (first last : E) (was : K) (ending : Ending) → ReadsWords words (Err cause) → RefusesWords tests_sentence_of contents said words cause old new first last ending
@@ -40,12 +38,9 @@ module _ {B V W E K : Type 0} (answers : B → List Reply) (gives : B → Reply 
   refused begun cause old new first last was ending reads refuses = record {
     options = Err cause;
     reads = reads;
-    unasked = λ same. refuses.unasked (cause_is same);
+    unasked = λ same. refuses.unasked (cause_is (Err cause) cause refl same);
     runs = (refl, refl, refuses.closes);
   }
-    where
-      cause_is : Err cause ≡ Err BadWords → cause ≡ BadWords
-      cause_is same = cc
 
   -- words that ask for help are told it, and of others the refusal is said
   pub unread_tests : (begun : V) (fault : LaunchFault) (old new : W) (first last : E) (was : K) (ending : Ending) → ReadsWords words (Err fault) → EndsUnread tests_sentence_of contents said words fault old new first last ending
