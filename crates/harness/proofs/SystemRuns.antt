@@ -1,5 +1,5 @@
 -- What is done on a system, whatever it gave and told.
-use Rattle.std.proofs.Common.{◌≡◌, ℕ, Bool, List, map, Option, None, IfErr, IfOk, Result, Ok, Err, refl}
+use Rattle.std.proofs.Common.{◌≡◌, ℕ, Bool, List, map, Option, None, Some, IfErr, IfOk, Result, Ok, Err, inl, inr, refl}
 use Rattle.command_line.specs.Runs.{Closes}
 use Rattle.command_line.specs.declared.closing.Ending.{Ending}
 use Rattle.launch_options.specs.Given.{Text}
@@ -17,14 +17,21 @@ use Rattle.harness.specs.SystemRuns.{IsRunHere}
 
 module _ {B V W E K : Type 0} (answers : B → List Reply) (gives : B → Reply → Type 0) (saw : PlanParts → V → V → List Telling → Type 0) (contents : W → Option (List ℕ)) (said : E → Option (List ℕ)) (parts : SuiteParts) (jobs : List (ℕ × B)) (begun ended : V) (is_terminal : Bool) (old new : W) (first last : E) (was now : K) (ending : Ending) where
   -- of files of which there is no account nothing is known
-  filed_somehow : (options : Result Options LaunchFault) (wanted : List Wanted) → FilesTests answers gives saw contents said parts jobs begun ended (λ (files : K). None) is_terminal options wanted old new first last was now ending
-      → FilesTests answers gives saw contents said parts jobs begun ended (λ (files : Unit {0}). None) is_terminal options wanted old new first last tt tt ending
-  filed_somehow (Ok options) wanted is = is
-  filed_somehow (Err fault) wanted is = (is.0, refl, is.2)
+  filed_somehow : (options : Result Options LaunchFault) (suite : Option Text) (wanted : List Wanted) → FilesTests answers gives saw contents said parts jobs begun ended (λ (files : K). None) is_terminal options suite wanted old new first last was now ending
+      → FilesTests answers gives saw contents said parts jobs begun ended (λ (files : Unit {0}). None) is_terminal options suite wanted old new first last tt tt ending
+  filed_somehow (Ok options) None wanted is = is
+  filed_somehow (Ok options) (Some name) wanted is = (is.0, refl, is.2)
+  filed_somehow (Err fault) suite wanted is = (is.0, refl, is.2)
 
   expanded_somehow : (expanded : Result (List Text) LaunchFault) → RunsExpandedTests answers gives saw contents said parts jobs begun ended (λ (files : K). None) is_terminal expanded old new first last was now ending
       → RunsExpandedTests answers gives saw contents said parts jobs begun ended (λ (files : Unit {0}). None) is_terminal expanded old new first last tt tt ending
-  expanded_somehow (Ok words) is = record { options = is.options; reads = is.reads; runs = filed_somehow is.options _ is.runs }
+  expanded_somehow (Ok words) (inl told) = inl (told.0, told.1, refl, told.3)
+  expanded_somehow (Ok words) (inr is) = inr (record {
+    options = is.options;
+    reads = is.reads;
+    unasked = is.unasked;
+    runs = filed_somehow is.options _ _ is.runs;
+  })
   expanded_somehow (Err fault) is = (is.0, refl, is.2)
 
   run_somehow : (facts : Facts) (words : List Text) → IsTestMainRun answers gives saw contents said parts jobs begun ended (λ (files : K). None) is_terminal facts words old new first last was now ending
