@@ -1,8 +1,8 @@
 -- A tree with one more node that is not refused is a tree.
-use Rattle.std.proofs.Common.{◌≡◌, ◌≢◌, ℕ, zero, suc, ◌+◌, ◌-◌, ◌<◌, ◌≤◌, ◌&&◌, not, Bool, true, false, cond, eqb, List, [], ◌∷◌, ◌++◌, length, refl, ap, sym, ◌∙◌, arith, inl, inr, ◌⊎◌, subst, Option, Some, None}
+use Rattle.std.proofs.Common.{◌≡◌, ◌≢◌, ℕ, zero, suc, ◌+◌, ◌-◌, ◌<◌, ◌≤◌, ◌&&◌, not, Bool, true, false, cond, eqb, ltb, List, [], ◌∷◌, ◌++◌, length, refl, ap, sym, ◌∙◌, arith, inl, inr, ◌⊎◌, subst, Option, Some, None}
 use Rattle.std.specs.Prelude.{slice_get, ◌||◌}
 use Rattle.std.specs.Option.{is_some}
-use Rattle.std.proofs.lemmas.Bool.{ne_eqb}
+use Rattle.std.proofs.lemmas.Bool.{ne_eqb, ltb-false, le-ltb}
 use Rattle.std.proofs.lemmas.Option.{same_Some}
 use Rattle.descriptor.specs.declared.kind.Kind.{Kind}
 use Rattle.descriptor.specs.declared.lock.Lock.{Lock}
@@ -100,7 +100,7 @@ after_is_placed sort own None h = refl
 after_is_placed sort own (Some b) h = let is = h b refl in fit_both (is_container sort) (is_factory own) is.0 is.1
 
 pub record IsAccepted (t : Nodes) (a : ℕ) (node : Node) : Type 0 where
-  pub few : size t ≢ 4096
+  pub few : size t ≤ 16383
   pub shallow : depth_of t a ≢ 64
   pub new_id : has_id t node.id ≡ false
   pub container : is_leaf_at t a ≡ false
@@ -112,9 +112,9 @@ pub record IsAccepted (t : Nodes) (a : ℕ) (node : Node) : Type 0 where
   pub short : is_over_limit node ≡ false
   pub after : has_misplaced_after node ≡ false
 
-pub accepted : (t : Nodes) (a : ℕ) (node : Node) → refusal t a node ≡ None → IsAccepted t a node
+pub accepted : (t : Nodes) (a : ℕ) (node : Node) → refusal 16383 t a node ≡ None → IsAccepted t a node
 accepted t a node e =
-    let few = passed_by (eqb (size t) 4096) TooMany _ e in
+    let few = passed_by (ltb 16383 (size t)) TooMany _ e in
     let shallow = passed_by (eqb (depth_of t a) 64) TooDeep _ few.1 in
     let id = passed_by (has_id t node.id) DoubleId _ shallow.1 in
     let container = passed_by (is_leaf_at t a) ParentIsTest _ id.1 in
@@ -126,7 +126,7 @@ accepted t a node e =
     let own = neither (has_body t node.body || has_body t node.after) (repeats_itself node) body.0 in
     let others = neither (has_body t node.body) (has_body t node.after) own.0 in
     record {
-      few = grind (arith, few.0);
+      few = ltb-false 16383 (size t) few.0;
       shallow = grind (arith, shallow.0);
       new_id = id.0;
       container = container.0;
@@ -138,6 +138,12 @@ accepted t a node e =
       short = long.0;
       after = after.0;
     }
+
+-- what is accepted below a limit is accepted below the greatest
+pub accepted_by_most : (limit : ℕ) (t : Nodes) (a : ℕ) (node : Node) → limit ≤ 16383 → refusal limit t a node ≡ None → refusal 16383 t a node ≡ None
+accepted_by_most limit t a node low e =
+    let few = passed_by (ltb limit (size t)) TooMany _ e in
+    pass_by (ltb 16383 (size t)) TooMany _ (le-ltb 16383 (size t) (let within = ltb-false limit (size t) few.0 in omega (arith, within, low))) few.1
 
 pub get_early : {X : Type 0} (xs : List X) (x : X) (n : ℕ) → n < length xs → slice_get (xs ++ x ∷ []) n ≡ slice_get xs n
 get_early [] x n h = absurd (grind arith)
@@ -181,7 +187,7 @@ module _ (t : Nodes) (a : ℕ) (node : Node) where
   below_grown b c (child e) = child (child_grown _ _ e)
   below_grown b c (under d e) = under (below_grown _ _ d) (child_grown _ _ e)
 
-  module _ (tree : IsTree t) (may : MayTake t a) (ok : refusal t a node ≡ None) where
+  module _ (tree : IsTree t) (may : MayTake t a) (ok : refusal 16383 t a node ≡ None) where
     yes : IsAccepted t a node
     yes = accepted t a node ok
 

@@ -1,11 +1,11 @@
 -- The tree of the kept nodes, one node at a time.
-use Rattle.std.proofs.Common.{◌≡◌, ℕ, zero, suc, ◌-◌, ◌<◌, ◌≤◌, ◌&&◌, not, Bool, true, false, cond, eqb, ltb, List, [], ◌∷◌, ◌++◌, length, map, get_or, refl, ap, sym, ◌∙◌, arith, inl, inr, ◌⊎◌, subst, Option, Some, None}
+use Rattle.std.proofs.Common.{◌≡◌, ℕ, zero, suc, ◌-◌, ◌<◌, ◌≤◌, ◌&&◌, not, Bool, true, false, cond, eqb, ltb, ltb, List, [], ◌∷◌, ◌++◌, length, map, get_or, refl, ap, sym, ◌∙◌, arith, inl, inr, ◌⊎◌, subst, Option, Some, None}
 use Rattle.std.specs.Prelude.{slice_get, ◌||◌}
 use Rattle.std.specs.List.{filter_map, cons_option}
 use Rattle.std.specs.Str.{bytes_eq}
 use Rattle.std.proofs.lemmas.List.{append-nil, map-append, length-map}
 use Rattle.std.proofs.lemmas.List.Elements.{filter_map-append}
-use Rattle.std.proofs.lemmas.Bool.{ne_eqb}
+use Rattle.std.proofs.lemmas.Bool.{ne_eqb, le-ltb}
 use Rattle.std.proofs.lemmas.Slice.Eq.{bytes_eq-Decides}
 use Rattle.unique_id.specs.Spelling.{spelling}
 use Rattle.descriptor.specs.declared.node.Node.{Node}
@@ -307,12 +307,12 @@ module _ (t : Nodes) (keep : List Bool) where
       ]
 
       -- and nothing refuses it
-      pub no_refusal : (node : Node) → node_at t n ≡ Some node → refusal (pruned_below t keep n) (new_number keep (parent_of t n)) node ≡ None
+      pub no_refusal : (node : Node) → node_at t n ≡ Some node → refusal 16383 (pruned_below t keep n) (new_number keep (parent_of t n)) node ≡ None
       no_refusal node told =
           let is : size (pruned_below t keep n) ≡ new_number keep n = size_is n closed.root above in
           let most : new_number keep n ≤ n = count_most (is_kept keep) n in
           let smaller : parent_of t n < n = tree.up n above inside in
-          let few : eqb (size (pruned_below t keep n)) 4096 ≡ false = less_eqb _ _ (rw is (omega (arith, tree.few))) in
+          let few : ltb 16383 (size (pruned_below t keep n)) ≡ false = le-ltb 16383 _ (rw is (omega (arith, tree.few))) in
           let deeper : depth_of t n ≡ suc (depth_of t (parent_of t n)) = depth_down n above inside in
           let deep : depth_of (pruned_below t keep n) (new_number keep (parent_of t n)) ≡ depth_of t (parent_of t n) = depth_kept n above (omega arith) upto (parent_of t n) smaller parent_kept in
           let shallow : eqb (depth_of (pruned_below t keep n) (new_number keep (parent_of t n))) 64 ≡ false = less_eqb _ _ (rw deep (omega (arith, tree.shallow n inside))) in

@@ -37,9 +37,9 @@ module _ (t : Nodes) (keep : List Bool) (tree : IsTree t) (closed : IsClosed t k
     taken =
         subst (λ (x : Nodes). MayTake x p) (sym is) (subst (MayTake (pruned_below t keep n)) (sym number) (may_take t keep tree closed n above inside (upto_all t keep tree closed n above (omega arith)) kept))
 
-    pub not_refused : (node : Node) → node_at t n ≡ Some node → refusal u p node ≡ None
+    pub not_refused : (node : Node) → node_at t n ≡ Some node → refusal 16383 u p node ≡ None
     not_refused node told =
-        ap (λ (x : Nodes). refusal x p node) is ∙ ap (λ (x : ℕ). refusal (pruned_below t keep n) x node) number
+        ap (λ (x : Nodes). refusal 16383 x p node) is ∙ ap (λ (x : ℕ). refusal 16383 (pruned_below t keep n) x node) number
         ∙ no_refusal t keep tree closed n above inside (upto_all t keep tree closed n above (omega arith)) kept node told
 
     -- a kept node is the last of the tree that has grown

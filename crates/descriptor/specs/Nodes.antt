@@ -194,8 +194,8 @@ text_of t n = text_or (node_at t n)
 pub record IsTree (t : Nodes) : Type 0 where
   -- there is the plan
   pub root : 0 < size t
-  -- at most 4,095 nodes besides
-  pub few : size t ≤ 4096
+  -- at most 16,383 nodes besides
+  pub few : size t ≤ 16384
   -- each node but the plan is told of
   pub nodes_len : length t.nodes + 1 ≡ size t
   -- a parent has a smaller number

@@ -1,5 +1,5 @@
 -- When a node is refused.
-use Rattle.std.specs.Prelude.{ℕ, ◌==◌, ◌||◌, ◌&&◌, Bool, false, cond, List, Option, Some, None}
+use Rattle.std.specs.Prelude.{ℕ, ◌==◌, ◌||◌, ◌&&◌, nat_lt, Bool, false, cond, List, Option, Some, None}
 use Rattle.std.specs.List.{list_any}
 use Rattle.std.specs.Str.{bytes_eq}
 use Rattle.unique_id.specs.Spelling.{spelling}
@@ -47,10 +47,10 @@ has_body t (Some b) = list_any (uses_body b) t.nodes
 abbrev pub repeats_body : Nodes → Node → Bool
 repeats_body t node = has_body t node.body || has_body t node.after || repeats_itself node
 
--- the first reason to refuse a node below a, in the order in which they are looked for
-abbrev pub refusal : Nodes → ℕ → Node → Option TreeFault
-refusal t a node =
-    cond (size t == 4096) (Some TooMany) (
+-- the first reason to refuse a node below a, in the order in which they are looked for, where there may be so many nodes besides the plan
+abbrev pub refusal : ℕ → Nodes → ℕ → Node → Option TreeFault
+refusal limit t a node =
+    cond (nat_lt limit (size t)) (Some TooMany) (
     cond (depth_of t a == 64) (Some TooDeep) (
     cond (has_id t node.id) (Some DoubleId) (
     cond (is_leaf_at t a) (Some ParentIsTest) (

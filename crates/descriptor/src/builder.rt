@@ -1,6 +1,6 @@
 //! Building a tree node by node.
 
-ghost use Rattle.std.specs.Prelude.{◌≡◌, ◌≢◌, ℕ, ◌<◌, ◌↔◌, IsTrue, None, Some, OnOk, OnErr, IfOk, IfErr, IfSome};
+ghost use Rattle.std.specs.Prelude.{◌≡◌, ◌≢◌, ℕ, ◌<◌, ◌≤◌, ◌↔◌, IsTrue, None, Some, OnOk, OnErr, IfOk, IfErr, IfSome};
 
 use crate::body_id::BodyId;
 use crate::body_marks::BodyMarks;
@@ -8,14 +8,12 @@ use crate::fault::TreeFault;
 use crate::hash::hash_of;
 use crate::node::Node;
 use crate::node_id::NodeId;
+use crate::node_limit::{MOST_NODES, NodeLimit};
 use crate::tree::Tree;
 use std::alloc::{AllocError, Global};
 use std::collections::HashSet;
 use std::marker::Model;
 use unique_id::both;
-
-/// The greatest number of nodes of a tree, the plan included.
-pub const MOST_NODES: usize = 4096;
 
 /// The greatest depth of a node; the plan has depth 0.
 const MOST_DEPTH: u8 = 64;
@@ -91,20 +89,28 @@ impl TreeBuilder {
         parent == last || self.tree.below(last, parent)
     }
 
-    /// Adds the next node as the last child of a node that may take it, and returns its number.
+    /// Adds the next node as the last child of a node that may take it, and returns its number. The tree has no more
+    /// nodes than this limit then.
     ///
     /// Errors: the first of refusals 10 to 18 that holds, and else want of memory.
-    pub fn add(&mut self, alloc: Global, parent: NodeId, node: Node) -> Result<NodeId, TreeFault>
+    pub fn add(
+        &mut self,
+        alloc: Global,
+        limit: NodeLimit,
+        parent: NodeId,
+        node: Node,
+    ) -> Result<NodeId, TreeFault>
         requires { MayTake self.old parent }
-        ensures ok { IfOk result (λ number. (number ≡ size self.old) × (refusal self.old parent node ≡ None)) }
+        ensures ok { IfOk result (λ number. (number ≡ size self.old) × (refusal limit self.old parent node ≡ None)) }
         ensures added { OnOk result (self.new ≡ appended self.old parent node) }
-        ensures refused { IfErr result (λ fault. fault ≢ TreeFault.NoMemory → refusal self.old parent node ≡ Some
-            fault) }
-        ensures no_memory { IfErr result (λ fault. fault ≡ TreeFault.NoMemory → refusal self.old parent node ≡ None) }
+        ensures refused { IfErr result (λ fault. fault ≢ TreeFault.NoMemory →
+            refusal limit self.old parent node ≡ Some fault) }
+        ensures no_memory { IfErr result (λ fault. fault ≡ TreeFault.NoMemory →
+            refusal limit self.old parent node ≡ None) }
         ensures err { OnErr result (self.new ≡ self.old) }
     {
         let hash = hash_of(node.id.text());
-        if let Some(fault) = self.refusal(parent, &node, hash) {
+        if let Some(fault) = self.refusal(limit, parent, &node, hash) {
             drop(node);
             return Err(fault);
         }
@@ -168,14 +174,21 @@ impl TreeBuilder {
         tree
     }
 
-    /// Why a node is refused, whose unique id has this hash.
-    fn refusal(&self, parent: NodeId, node: &Node, hash: u64) -> Option<TreeFault>
+    /// Why a node is refused, whose unique id has this hash, if there may be no more nodes than the limit.
+    fn refusal(
+        &self,
+        limit: NodeLimit,
+        parent: NodeId,
+        node: &Node,
+        hash: u64,
+    ) -> Option<TreeFault>
         requires inside { parent < size self.now }
         requires hashed { hash ≡ hash_of (spelling node.now.id) }
-        ensures first { result ≡ refusal self.now parent node.now }
+        ensures first { result ≡ refusal limit self.now parent node.now }
         ensures no_memory { IfSome result (λ fault. fault ≢ TreeFault.NoMemory) }
+        ensures few { limit ≤ 16383 }
     {
-        if self.tree.len() == MOST_NODES {
+        if self.tree.len() > limit.nodes() {
             Some(TreeFault::TooMany)
         } else if self.tree.depth(parent) == MOST_DEPTH {
             Some(TreeFault::TooDeep)

@@ -13,8 +13,8 @@ pub enum TreeFault {
     /// There was no memory for the node.
     #[error("no memory")]
     NoMemory,
-    /// Refusal 10: the tree has 4,095 nodes besides the plan.
-    #[error("more than 4095 nodes besides the plan")]
+    /// Refusal 10: the tree has as many nodes as it may have, 4,095 besides the plan where nobody asks for more.
+    #[error("more nodes than the tree may have")]
     TooMany,
     /// Refusal 11: the parent has depth 64.
     #[error("deeper than 64")]

@@ -326,7 +326,7 @@ impl Tree {
 
     /// The tree of the plan alone, with room for so many nodes besides.
     pub(crate) fn with_capacity(alloc: Global, nodes: usize) -> Result<Tree, AllocError>
-        requires { nodes ≤ 4096 }
+        requires { nodes ≤ 16384 }
         ensures { IfOk result (λ t. t ≡ plan_alone) }
     {
         let parents = list_of_one(alloc, nodes, NodeId::ROOT);
@@ -349,7 +349,7 @@ impl Tree {
         node: Node,
     ) -> Result<NodeId, AllocError>
         requires may_take { MayTake self.old parent }
-        requires accepted { refusal self.old parent node ≡ None }
+        requires accepted { refusal 16383 self.old parent node ≡ None }
         ensures number { IfOk result (λ number. number ≡ size self.old) }
         ensures ok { OnOk result (self.new ≡ appended self.old parent node) }
         ensures err { OnErr result (self.new ≡ self.old) }
@@ -378,7 +378,7 @@ impl Tree {
     /// Adds a copy of a node as the last node.
     fn push_copy(&mut self, alloc: Global, parent: NodeId, node: &Node) -> Result<(), AllocError>
         requires may_take { MayTake self.old parent }
-        requires accepted { refusal self.old parent node.now ≡ None }
+        requires accepted { refusal 16383 self.old parent node.now ≡ None }
         ensures { OnOk result (self.new ≡ appended self.old parent node.now) }
     {
         let copy = node.copy(alloc)?;
@@ -407,7 +407,7 @@ impl Tree {
     pub(crate) fn last(&self) -> NodeId
         ensures last { result ≡ size self.now - 1 }
         ensures inside { result < size self.now }
-        ensures few { size self.now ≤ 4096 }
+        ensures few { size self.now ≤ 16384 }
     {
         NodeId::new((self.parents.len() - 1) as u16)
     }
@@ -433,7 +433,7 @@ ghost use Rattle.descriptor.specs.Inside.Fields.{numbers_in, with_child};
 
 /// A list of one item, with room for so many besides.
 fn list_of_one<T: Drop>(alloc: Global, more: usize, item: T) -> Result<Vec<T>, AllocError>
-    requires { more ≤ 4096 }
+    requires { more ≤ 16384 }
     ensures { IfOk result (λ list. list.items ≡ item ∷ []) }
 {
     let mut list = Vec::with_capacity(alloc, more + 1)?;
