@@ -6,8 +6,8 @@ use Rattle.plan_events.specs.Words.{fits_status, plan_may, is_lawful}
 
 lawful_parts : (e : Event) → is_lawful e ≡ true → ((fits_status e.kind e.status ≡ true) × ((leb 1 e.worker && leb e.worker 64) ≡ true)) × ((not (e.node == 0) || plan_may e.kind e.status) ≡ true)
 lawful_parts e q =
-    let four = and_parts (fits_status e.kind e.status && (leb 1 e.worker && leb e.worker 64) && leb e.node 4095) (not (e.node == 0) || plan_may e.kind e.status) q in
-    let three = and_parts (fits_status e.kind e.status && (leb 1 e.worker && leb e.worker 64)) (leb e.node 4095) four.0 in
+    let four = and_parts (fits_status e.kind e.status && (leb 1 e.worker && leb e.worker 64) && leb e.node 16383) (not (e.node == 0) || plan_may e.kind e.status) q in
+    let three = and_parts (fits_status e.kind e.status && (leb 1 e.worker && leb e.worker 64)) (leb e.node 16383) four.0 in
     (and_parts (fits_status e.kind e.status) (leb 1 e.worker && leb e.worker 64) three.0, four.1)
 
 -- a status stands exactly where the node is finished

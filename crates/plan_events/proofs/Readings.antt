@@ -39,7 +39,7 @@ status_in_byte (Some Failed) = omega arith
 pub record IsInRange (e : Event) : Type 0 where
   pub worker_above : 0 < e.worker
   pub worker_below : e.worker ≤ 64
-  pub node_below : e.node ≤ 4095
+  pub node_below : e.node ≤ 16383
 
 pub lawful_ranges : (e : Event) → is_lawful e ≡ true → IsInRange e
 lawful_ranges e h = record {
@@ -52,8 +52,8 @@ lawful_ranges e h = record {
 pub word_above_zero : (e : Event) → 0 < word_of e
 word_above_zero e = omega (arith, kind_in_byte e.kind)
 
--- the word of a lawful event is below 2 ^ 44
-pub lawful_word_fits : (e : Event) → is_lawful e ≡ true → word_of e < 2 ^ 44
+-- the word of a lawful event is below 2 ^ 46
+pub lawful_word_fits : (e : Event) → is_lawful e ≡ true → word_of e < 2 ^ 46
 lawful_word_fits e h = omega (arith, kind_in_byte e.kind, status_in_byte e.status, lawful_ranges e h)
 
 pub parts_of_word : (e : Event) → is_lawful e ≡ true → AreParts (kind_code e.kind) (status_code e.status) e.worker e.node (word_of e)

@@ -22,7 +22,7 @@ plan_may _ status = false
 -- a run may publish the event
 abbrev pub is_lawful : Event → Bool
 is_lawful e =
-    fits_status e.kind e.status && (nat_le 1 e.worker && nat_le e.worker 64) && nat_le e.node 4095 && (not (e.node == 0) || plan_may e.kind e.status)
+    fits_status e.kind e.status && (nat_le 1 e.worker && nat_le e.worker 64) && nat_le e.node 16383 && (not (e.node == 0) || plan_may e.kind e.status)
 
 -- the number of a kind in a word
 abbrev pub kind_code : EventKind → ℕ

@@ -56,7 +56,7 @@ impl Event {
     ghost use Rattle.plan_events.specs.Words.{is_lawful};
 
     /// Whether a run may publish the event: a status stands exactly where the node is finished,
-    /// the worker is from 1 to 64, the node from 0 to 4095, and node 0 only starts, or finishes
+    /// the worker is from 1 to 64, the node from 0 to 16383, and node 0 only starts, or finishes
     /// successfully.
     pub fn is_lawful(&self) -> bool
         ensures { result ≡ is_lawful self.now }

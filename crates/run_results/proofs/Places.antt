@@ -29,7 +29,7 @@ module _ (t : Nodes) (tree : IsTree t) where
       let here : (place_in outline n).parent ≡ parent_of t n = ap (λ (ps : List NodePlace). (place_in ps n).parent) is ∙ ap (λ (p : NodePlace). p.parent) (get_or-map-range_with_len (place_of t) 0 (size t) n n _ within (omega arith)) ∙ parent_kept n above in
       omega (arith, here, tree.up n above within)
 
-  pub places_few : (outline : List NodePlace) → outline ≡ outline_of t → length outline ≤ 4096
+  pub places_few : (outline : List NodePlace) → outline ≡ outline_of t → length outline ≤ 16384
   places_few outline is =
       let len : length outline ≡ length (outline_of t) = ap length is in
       omega (arith, len, places_len, tree.few)

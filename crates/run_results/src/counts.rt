@@ -67,7 +67,7 @@ impl SortCounts {
 
     /// Adds a node, if it is counted.
     fn add(&mut self, counted: bool, told: NodeEvents, found: bool, lost: bool)
-        requires { AreAtMost self.old 4096 }
+        requires { AreAtMost self.old 16384 }
         ensures { self.new ≡ counts_with self.old counted told found lost }
     {
         self.found += one_if(counted, found);
@@ -143,7 +143,7 @@ fn is_found(outline: &[NodePlace], told: &[NodeEvents], node: usize) -> bool
 
 /// What there is of each sort, and what became of it. It takes no memory.
 pub(crate) fn count(outline: &[NodePlace], told: &[NodeEvents]) -> Counts
-    requires few { length outline.now ≤ 4096 }
+    requires few { length outline.now ≤ 16384 }
     requires told { length told.now ≡ length outline.now }
     requires parents { FollowParents outline.now }
     ensures containers { result.containers ≡ counts_below is_container outline.now told.now (length outline.now) }

@@ -33,7 +33,7 @@ fn place_of(tree: &Tree, node: NodeId) -> NodePlace
 pub(crate) fn outline_of(alloc: Global, plan: &Plan) -> Result<Vec<NodePlace>, AllocError>
     ensures places { IfOk result (λ outline. outline.items ≡ outline_of plan.now.tree) }
     ensures parents { IfOk result (λ outline. FollowParents outline.items) }
-    ensures few { IfOk result (λ outline. length outline.items ≤ 4096) }
+    ensures few { IfOk result (λ outline. length outline.items ≤ 16384) }
     ensures tree { IfOk result (λ _. IsTree plan.now.tree) }
 {
     let tree = plan.tree();

@@ -49,7 +49,7 @@ fn first_open(statuses: &[NodeStatus], lowest: usize) -> usize
 
 /// What a free worker does next with nothing in hand: it takes the first node that is open.
 fn next_free(statuses: &[NodeStatus], lowest: usize) -> Next
-    requires few { length statuses.now ≤ 4096 }
+    requires few { length statuses.now ≤ 16384 }
     requires none_below { NoneOpenIn statuses.now lowest }
     requires some { IsSomeOpen statuses.now }
     ensures first { IsFirstIn statuses.now result.lowest }
@@ -69,7 +69,7 @@ fn choice(
     answer: Answer,
     lowest: usize,
 ) -> Next
-    requires few { length statuses.now ≤ 4096 }
+    requires few { length statuses.now ≤ 16384 }
     requires none_below { NoneOpenIn statuses.now lowest }
     requires inside { (h : HandValue) → hand.now ≡ Some h → h.factory < size plan.now.tree }
     requires factory { (h : HandValue) → hand.now ≡ Some h → is_factory_at plan.now.tree h.factory ≡ true }
@@ -110,7 +110,7 @@ pub fn next_step(
     answer: Answer,
     lowest: usize,
 ) -> Next
-    requires few { length statuses.now ≤ 4096 }
+    requires few { length statuses.now ≤ 16384 }
     requires none_below { NoneOpenIn statuses.now lowest }
     requires inside { (h : HandValue) → hand.now ≡ Some h → h.factory < size plan.now.tree }
     requires factory { (h : HandValue) → hand.now ≡ Some h → is_factory_at plan.now.tree h.factory ≡ true }

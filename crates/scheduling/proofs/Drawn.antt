@@ -133,13 +133,13 @@ module _ (p : PlanParts) (core : IsCorePlan p) (replies : ℕ → List Reply) (s
   worker_few : nat_le (w + 1) 64 ≡ true
   worker_few = (let few = h.workers_few in le-leb (w + 1) 64 (omega (arith, within, few)))
 
-  node_few : nat_le x 4095 ≡ true
-  node_few = (let few = core.few in le-leb x 4095 (omega (arith, inside, few)))
+  node_few : nat_le x 16383 ≡ true
+  node_few = (let few = core.few in le-leb x 16383 (omega (arith, inside, few)))
 
   lawful : (k : EventKind) (status : Option Status) → fits_status k status ≡ true → (x ≡ 0 → plan_may k status ≡ true) → is_lawful (event_of k x status w) ≡ true
   lawful k status fits root =
-      and_from (fits_status k status && (nat_le 1 (w + 1) && nat_le (w + 1) 64) && nat_le x 4095) (not (x == 0) || plan_may k status)
-      (and_from (fits_status k status && (nat_le 1 (w + 1) && nat_le (w + 1) 64)) (nat_le x 4095)
+      and_from (fits_status k status && (nat_le 1 (w + 1) && nat_le (w + 1) 64) && nat_le x 16383) (not (x == 0) || plan_may k status)
+      (and_from (fits_status k status && (nat_le 1 (w + 1) && nat_le (w + 1) 64)) (nat_le x 16383)
       (and_from (fits_status k status) (nat_le 1 (w + 1) && nat_le (w + 1) 64) fits (and_from (nat_le 1 (w + 1)) (nat_le (w + 1) 64) above_one worker_few)) node_few)
       (elim (cases_eq x 0) [ inl z ↦ or_right (not (x == 0)) (plan_may k status) (root z) | inr ne ↦ or_left (not (x == 0)) (plan_may k status) (ap not (ne_eqb x 0 ne)) ])
 

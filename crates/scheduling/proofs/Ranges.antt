@@ -72,7 +72,7 @@ module _ (p : PlanParts) (replies : ℕ → List Reply) (s : State) (g : ℕ →
 
   in_range : IsPlan p → IsPlaced s → InRange p s w seat
   in_range plan placed =
-      let few : size p.tree ≤ 4096 = plan.tree.few in
+      let few : size p.tree ≤ 16384 = plan.tree.few in
       record {
         inside = λ n q. task_inside p g w seat.task n mine.task q;
         hand = λ hand q. (in_hand hand q).inside;

@@ -105,7 +105,7 @@ module _ {B : Type 0} where
   pub moment_few : (replies : ℕ → List Reply) (key : About B) {seats : ℕ} (read : List Event) → IsMoment replies key seats read → length read ≤ most_events key.plan
   moment_few replies key read x = legal_few key.plan replies key.workers read x.legal
 
-  pub moment_small : (replies : ℕ → List Reply) (key : About B) {seats : ℕ} (read : List Event) → IsMoment replies key seats read → length read ≤ 12288
+  pub moment_small : (replies : ℕ → List Reply) (key : About B) {seats : ℕ} (read : List Event) → IsMoment replies key seats read → length read ≤ 49152
   moment_small replies key read x =
       let few = moment_few replies key read x in
       let spares = count_most (is_spare_at key.plan.tree) (size key.plan.tree) in

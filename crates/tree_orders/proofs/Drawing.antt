@@ -16,7 +16,7 @@ use Rattle.tree_orders.proofs.Orders.{seeded_is_order}
 abbrev pub rng_at : (seed place : ℕ) → ChaCha
 rng_at seed place = record (of_seed (pcg32_seed 32 seed)) { word_pos = place }
 
-next_place : (n : ℕ) → n < 4096 → (n + 1) % 2 ^ 68 ≡ n + 1
+next_place : (n : ℕ) → n < 16384 → (n + 1) % 2 ^ 68 ≡ n + 1
 next_place n few = omega arith
 
 -- the next word is that of its place
@@ -25,7 +25,7 @@ unfolding word_of
 word_drawn seed n x rng after is step = ap (λ s. s.0) (step ∙ ap (next_word 10) is)
 
 -- and the generator is at the next place
-pub rng_moved : (seed n x : ℕ) (rng after : ChaCha) → n < 4096 → rng ≡ rng_at seed n → (x, after) ≡ next_word 10 rng → after ≡ rng_at seed (n + 1)
+pub rng_moved : (seed n x : ℕ) (rng after : ChaCha) → n < 16384 → rng ≡ rng_at seed n → (x, after) ≡ next_word 10 rng → after ≡ rng_at seed (n + 1)
 rng_moved seed n x rng after few is step = ap (λ s. s.1) (step ∙ ap (next_word 10) is) ∙ ap (rng_at seed) (next_place n few)
 
 -- each word so far and one more

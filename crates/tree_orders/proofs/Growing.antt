@@ -97,11 +97,11 @@ module _ (t : Nodes) (tree : IsTree t) (order : List ℕ) (is : IsOrder t order)
     pub put_inside : x < size t
     put_inside = subst (λ (m : ℕ). m < size t) (sym read_at) (is.listed.low n inside)
 
-    pub put_low : r < 4096
+    pub put_low : r < 16384
     put_low =
         let less : parent_of t x < x = tree.up x put_above put_inside in
         let low : x < size t = put_inside in
-        let few : size t ≤ 4096 = tree.few in
+        let few : size t ≤ 16384 = tree.few in
         let at : place_in order q < size t = is.listed.inside q (omega arith) in
         omega arith
 

@@ -139,7 +139,7 @@ module _ (t : Nodes) (tree : IsTree t) (order : List ℕ) (is : IsOrder t order)
   pub reordered_tree : IsTree (reordered t order)
   reordered_tree = record {
     root = subst (λ (m : ℕ). 0 < m) (sym (size_same t tree order is)) tree.root;
-    few = subst (λ (m : ℕ). m ≤ 4096) (sym (size_same t tree order is)) tree.few;
+    few = subst (λ (m : ℕ). m ≤ 16384) (sym (size_same t tree order is)) tree.few;
     nodes_len = nodes_len t tree order is;
     up = up;
     preorder = preorder;

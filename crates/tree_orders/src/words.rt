@@ -10,7 +10,7 @@ use std::alloc::{AllocError, Global};
 
 /// The first words of ChaCha20 with this seed, so many of them.
 pub(crate) fn words(alloc: Global, seed: u64, count: usize) -> Result<Vec<u32>, AllocError>
-    requires { count ≤ 4096 }
+    requires { count ≤ 16384 }
     ensures counted { IfOk result (λ words. length words.items ≡ count) }
     ensures each { IfOk result (λ words. (k : ℕ) → k < count → slice_index words.items k ≡ word_of seed k) }
 {

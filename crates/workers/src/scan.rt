@@ -114,7 +114,7 @@ fn take_next<B: Job>(
     requires free { seat.old.task ≡ Free }
     requires empty { seat.old.hand ≡ None }
     requires inside { All (λ n. n < size table.now.plan.tree) circle.old }
-    requires few { size table.now.plan.tree ≤ 4096 }
+    requires few { size table.now.plan.tree ≤ 16384 }
     ensures goes_on { GoesOn seat.old.seat seat.new.seat }
     ensures steady { IfSome result (λ _. Steady AtNodes seat.new.seat) }
     ensures free { IsNone result → seat.new.task ≡ Free }

@@ -17,7 +17,7 @@ tally_of t = record { outline = t.outline.items; told = t.told.items }
 
 -- the places are those of a plan, or none, and each node has what was told of it
 pub record IsTally (t : Inside) : Type 0 where
-  pub few : length t.outline.items ≤ 4096
+  pub few : length t.outline.items ≤ 16384
   pub parents : FollowParents t.outline.items
   pub each : length t.told.items ≡ length t.outline.items
 

@@ -35,7 +35,7 @@ use Rattle.scheduling.specs.Inside.Stages.{How, Gave, Kept, Skips, Stage, Opened
 -- children of a factory are spares
 pub record IsCorePlan (p : PlanParts) : Type 0 where
   pub plan : IsPlanTree p.tree
-  pub few : size p.tree ≤ 4096
+  pub few : size p.tree ≤ 16384
   pub makers : (f c : ℕ) → IsChild p.tree f c → sort_of p.tree f ≡ Maker → is_spare_at p.tree c ≡ true
 
 -- Words.

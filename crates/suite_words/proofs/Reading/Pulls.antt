@@ -16,7 +16,7 @@ shorter q (suc n) =
     let before = shorter q n in
     omega (arith, all, one, before)
 
-pub few_children : (t : Nodes) (n : ℕ) → IsTree t → length (children_of t n) ≤ 4096
+pub few_children : (t : Nodes) (n : ℕ) → IsTree t → length (children_of t n) ≤ 16384
 few_children t n tree = let less = shorter (is_child t n) (size t) in omega (arith, less, tree.few)
 
 no_and : (b c : Bool) → c ≡ false → (b && c) ≡ false

@@ -19,7 +19,7 @@ pub struct Pending {
 /// How many lines of the tree hang right below a node; below one that the tree lacks, none.
 pub fn lines_below(tree: &Tree, node: NodeId) -> u16
     ensures lines { result ≡ length (children_of tree.now node) }
-    ensures few { result ≤ 4096 }
+    ensures few { result ≤ 16384 }
 {
     if node.index() < tree.len() {
         tree.children(node).len() as u16

@@ -6,10 +6,10 @@ use Rattle.run_results.proofs.Counting.{counts_small, counts_more}
 use Rattle.run_results.proofs.counts.count.Goals as goal
 
 pub add-requires : goal.add-requires
-add-requires c = counts_small is_container c.args.outline.now c.args.told.now c.loop-index.index 4096 c.loop-index.containers (grind (arith, common_steps)) c.loop-index.invariant.0
+add-requires c = counts_small is_container c.args.outline.now c.args.told.now c.loop-index.index 16384 c.loop-index.containers (grind (arith, common_steps)) c.loop-index.invariant.0
 
 pub add-requires-in-loop-index : goal.add-requires-in-loop-index
-add-requires-in-loop-index c = counts_small is_test c.args.outline.now c.args.told.now c.loop-index.index 4096 c.loop-index.tests (grind (arith, common_steps)) c.loop-index.invariant.1
+add-requires-in-loop-index c = counts_small is_test c.args.outline.now c.args.told.now c.loop-index.index 16384 c.loop-index.tests (grind (arith, common_steps)) c.loop-index.invariant.1
 
 pub loop-index-preserved : goal.loop-index-preserved
 loop-index-preserved c = (

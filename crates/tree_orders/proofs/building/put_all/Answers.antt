@@ -8,7 +8,7 @@ pub overflow_cast-above : goal.overflow_cast-above
 overflow_cast-above c =
     let inside : c.loop-place.place < size c.args.tree.now = omega (arith, c.loop-place-test.true, c.len-place-end.ensures.len) in
     let some : 0 < c.loop-place.place = omega (arith, c.loop-place.auto.place) in
-    let low : c.place_in-above.result < 4096 = put_low c.args.tree.now c.requires.tree c.args.order.now c.requires.order c.loop-place.builder c.loop-place.place c.index-order-place.result c.parent.result c.place_in-above.result some inside c.loop-place.invariant c.index-order-place.is c.parent.ensures c.place_in-above.ensures in
+    let low : c.place_in-above.result < 16384 = put_low c.args.tree.now c.requires.tree c.args.order.now c.requires.order c.loop-place.builder c.loop-place.place c.index-order-place.result c.parent.result c.place_in-above.result some inside c.loop-place.invariant c.index-order-place.is c.parent.ensures c.place_in-above.ensures in
     omega arith
 
 pub add-requires-clause-may_take : goal.add-requires-clause-may_take
