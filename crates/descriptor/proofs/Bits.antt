@@ -1,5 +1,5 @@
 -- What the bits of words say of each mark, however many words there are.
-use Rattle.std.proofs.Common.{◌≡◌, ◌≢◌, ℕ, ◌*◌, ◌^◌, ◌<◌, ◌/◌, ◌%◌, ◌==◌, true, false, List, length, get_or, set, replicate, bit_or, w64, sym, ap, subst, ◌∙◌, arith}
+use Rattle.std.proofs.Common.{◌≡◌, ◌≢◌, ℕ, ◌*◌, ◌^◌, ◌<◌, ◌≤◌, ◌/◌, ◌%◌, ◌==◌, true, false, List, length, get_or, set, replicate, bit_or, w64, sym, ap, subst, ◌∙◌, arith}
 use Rattle.std.proofs.lemmas.List.{ext_get_or, get_or-set_same, get_or-set_other, get_or-replicate, length-set, length-replicate}
 use Rattle.std.proofs.lemmas.List.FromFn.{get_or-map-range_with_len, length-map-range_with_len}
 use Rattle.std.proofs.lemmas.Nat.Bits.{bit_at-zero, bit_at_set_same, bit_at_set_other}
@@ -18,7 +18,7 @@ module _ (many : ℕ) (words : List ℕ) where
   marks_long = length-map-range_with_len (is_marked words) 0 many
 
 -- words without a bit
-module _ (many count : ℕ) (fit : many ≡ count * 64) where
+module _ (many count : ℕ) (fit : many ≤ count * 64) where
   none_at : (k : ℕ) → k < many → get_or (marks_in many (replicate count 0)) k false ≡ get_or (replicate many false) k false
   none_at k low = mark_at many (replicate count 0) k low
       ∙ (ap (λ (n : ℕ). bit_at n (k % 64) == 1) (get_or-replicate count (k / 64) 0 0 (omega (arith, low, fit))) ∙ (ap (λ (n : ℕ). n == 1) (bit_at-zero (k % 64)) ∙ sym (get_or-replicate many k false false low)))
@@ -27,7 +27,7 @@ module _ (many count : ℕ) (fit : many ≡ count * 64) where
   no_marks = ext_get_or false _ _ (marks_long many (replicate count 0) ∙ sym (length-replicate many false)) (λ k inside. none_at k (omega (arith, inside, marks_long many (replicate count 0))))
 
 -- one more bit in its word
-module _ (many : ℕ) (words : List ℕ) (k : ℕ) (fit : many ≡ length words * 64) (low : k < many) where
+module _ (many : ℕ) (words : List ℕ) (k : ℕ) (fit : many ≤ length words * 64) (low : k < many) where
   abbrev marked : List ℕ
   marked = set words (k / 64) (bit_or (get_or words (k / 64) 0) (1 * 2 ^ (k % 64) % 18446744073709551616))
 

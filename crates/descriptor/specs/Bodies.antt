@@ -1,5 +1,5 @@
 -- Which nodes may have an after-body, and a tree in which a node was given one.
-use Rattle.std.specs.Prelude.{ℕ, zero, suc, ◌==◌, ◌&&◌, not, Bool, false, List, [], ◌∷◌, Option, Some, None}
+use Rattle.std.specs.Prelude.{ℕ, zero, suc, ◌+◌, ◌==◌, ◌&&◌, not, Bool, false, List, [], ◌∷◌, Option, Some, None}
 use Rattle.std.specs.Option.{is_some, is_none}
 use Rattle.descriptor.specs.declared.kind.Kind.{Kind}
 use Rattle.descriptor.specs.declared.node.Node.{Node}
@@ -12,6 +12,10 @@ use Rattle.descriptor.specs.Roles.{is_factory}
 abbrev pub is_body : ℕ → Option ℕ → Bool
 is_body b None = false
 is_body b (Some other) = other == b
+
+-- the number of the after-body of node n, in a tree whose bodies have the numbers of their nodes: behind all these
+abbrev pub after_body : ℕ → ℕ
+after_body n = 16384 + n
 
 -- whether one body is the other
 abbrev pub is_same_body : Option ℕ → Option ℕ → Bool
