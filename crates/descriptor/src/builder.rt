@@ -175,13 +175,7 @@ impl TreeBuilder {
     }
 
     /// Why a node is refused, whose unique id has this hash, if there may be no more nodes than the limit.
-    fn refusal(
-        &self,
-        limit: NodeLimit,
-        parent: NodeId,
-        node: &Node,
-        hash: u64,
-    ) -> Option<TreeFault>
+    fn refusal(&self, limit: NodeLimit, parent: NodeId, node: &Node, hash: u64) -> Option<TreeFault>
         requires inside { parent < size self.now }
         requires hashed { hash ≡ hash_of (spelling node.now.id) }
         ensures first { result ≡ refusal limit self.now parent node.now }
