@@ -11,7 +11,7 @@ mod words;
 
 pub use fault::{NotEnabled, TableFault};
 pub use jobs::{Jobs, emptied, fill, job_number, least_bare};
-pub use marks::Marks;
+pub use marks::SeatMarks;
 pub use memory::RunMemory;
 pub use remains::{Closed, Notes, taken_out};
 pub use start::GAP;

@@ -1,59 +1,47 @@
-//! Marks of slots, a bit each.
+//! The marks that the seats of a run keep.
 
-ghost use Rattle.std.specs.Prelude.{◌≡◌, ◌<◌, true, false, get_or, set, length, replicate};
+ghost use Rattle.std.specs.Prelude.{◌≡◌, ◌+◌, ◌≤◌, IfOk, false, replicate};
 
-use std::marker::Model;
+use descriptor::Marks;
+use std::alloc::{AllocError, Global};
 
-/// How many words the marks take.
-const WORDS: usize = 128;
-
-/// How many marks stand in a word.
-const MARKS_IN_WORD: usize = 64;
-
-/// A mark for each number below 8,192. They stand in bits, since a seat is moved by value.
+/// The marks of all seats of a run.
 #[derive(Drop)]
-pub struct Marks {
-    words: [u64; WORDS],
+pub struct SeatMarks {
+    /// The dispatcher's, one for each node.
+    pub ended: Marks,
+    /// The dispatcher's, one for each slot.
+    pub taken: Marks,
+    /// For each worker one for each slot.
+    pub moved: Vec<Marks>,
 }
 
-impl Model for Marks {
-    ghost use Rattle.std.specs.Prelude.{List, Bool};
-    ghost use Rattle.descriptor.specs.Inside.Marks.{marks_in};
-
-    ghost Value = { List Bool };
-
-    ghost view = { λ m. marks_in 8192 m.words };
-}
-
-/// Words with no bit.
-fn no_bits() -> [u64; WORDS]
-    ensures { result ≡ replicate 128 0 }
+/// For each of so many workers a mark for each slot, none of which is set.
+fn unmoved(alloc: Global, slots: usize, workers: u8) -> Result<Vec<Marks>, AllocError>
+    ensures { IfOk result (λ all. all.items ≡ replicate workers (replicate slots false)) }
 {
-    [0; WORDS]
+    let mut all = Vec::with_capacity(alloc, usize::from(workers))?;
+    for _worker in 0..workers {
+        all.push(Marks::none(alloc, slots)?)?;
+    }
+    Ok(all)
 }
 
-impl Marks {
-    /// No mark.
-    pub fn none() -> Marks
-        ensures { result ≡ replicate 8192 false }
+impl SeatMarks {
+    /// Those of a run of a plan of so many nodes, none of which is set.
+    pub(crate) fn none(alloc: Global, nodes: usize, workers: u8) -> Result<SeatMarks, AllocError>
+        requires { nodes ≤ 16384 }
+        ensures ended { IfOk result (λ marks. marks.ended ≡ replicate nodes false) }
+        ensures taken { IfOk result (λ marks. marks.taken ≡ replicate (nodes + nodes) false) }
+        ensures moved { IfOk result (λ marks. marks.moved.items ≡ replicate workers (replicate (nodes + nodes) false)) }
     {
-        Marks { words: no_bits() }
-    }
-
-    /// Whether this number is marked.
-    pub fn has(&self, number: usize) -> bool
-        requires { number < 8192 }
-        ensures { result ≡ get_or self.now number false }
-    {
-        (self.words[number / MARKS_IN_WORD] >> (number % MARKS_IN_WORD)) % 2 == 1
-    }
-
-    /// Marks this number.
-    pub fn put(&mut self, number: usize)
-        requires { number < 8192 }
-        ensures marked { self.new ≡ set self.old number true }
-        ensures long { length self.old ≡ 8192 }
-    {
-        self.words[number / MARKS_IN_WORD] |= 1 << (number % MARKS_IN_WORD);
+        let moved = unmoved(alloc, nodes + nodes, workers)?;
+        let ended = Marks::none(alloc, nodes)?;
+        let taken = Marks::none(alloc, nodes + nodes)?;
+        Ok(SeatMarks {
+            ended,
+            taken,
+            moved,
+        })
     }
 }

@@ -1,6 +1,7 @@
 //! Room for what stands in a running table, and what is there before any job is.
 
-ghost use Rattle.std.specs.Prelude.{◌≡◌, ◌+◌, ◌≤◌, ℕ, [], IfOk, OnOk, vec_len, vec_capacity};
+ghost use Rattle.std.specs.Prelude.{◌≡◌, ◌+◌, ◌≤◌, ℕ, [], false, IfOk, OnOk, replicate, vec_len, vec_capacity};
+ghost use Rattle.descriptor.specs.Nodes.{size};
 ghost use Rattle.resource_locks.specs.Plans.{IsPlan};
 ghost use Rattle.scheduling.specs.LinkLists.{AreTurns};
 ghost use Rattle.scheduling.specs.Runs.{opening};
@@ -10,6 +11,7 @@ ghost use Rattle.table_rule.specs.Words.{words_of};
 ghost use Rattle.table_contents.specs.Filling.{IsIndex, IsFilled};
 
 use crate::jobs::{Jobs, empty_slots, slots_by_number};
+use crate::marks::SeatMarks;
 use crate::remains::Notes;
 use crate::start::words_at_start;
 use plan_events::Job;
@@ -22,6 +24,7 @@ use table_rule::Slot;
 #[derive(Drop)]
 pub struct RunMemory<B> {
     pub turns: Turns,
+    pub marks: SeatMarks,
     pub words: Vec<u64>,
     pub index: Vec<Option<u16>>,
     pub slots: Vec<Slot<B>>,
@@ -32,17 +35,22 @@ pub struct RunMemory<B> {
 
 impl<B: Job> RunMemory<B> {
     /// Room for the slots of a plan, with nothing in them, for their notes and used jobs, for a ring of so many
-    /// words, and beside them for so many jobs.
+    /// words, and beside them for so many jobs; and the marks of the seats of so many workers and the dispatcher.
     pub fn new(
         alloc: Global,
         plan: &Plan,
         ring: usize,
+        workers: u8,
         jobs: usize,
     ) -> Result<RunMemory<B>, AllocError>
         ensures plan { IfOk result (λ memory. IsPlan plan.now) }
         ensures turns { IfOk result (λ memory. AreTurns plan.now memory.turns) }
-        ensures words { IfOk result (λ memory. (workers : ℕ) → memory.words.items ≡ words_of (empty_ring ring)
-            (opening plan.now workers)) }
+        ensures ended { IfOk result (λ memory. memory.marks.ended ≡ replicate (size plan.now.tree) false) }
+        ensures taken { IfOk result (λ memory. memory.marks.taken ≡ replicate (slot_count plan.now) false) }
+        ensures moved { IfOk result (λ memory. memory.marks.moved.items ≡ replicate workers
+            (replicate (slot_count plan.now) false)) }
+        ensures words { IfOk result (λ memory. (count : ℕ) → memory.words.items ≡ words_of (empty_ring ring)
+            (opening plan.now count)) }
         ensures index { IfOk result (λ memory. IsIndex plan.now memory.index.items) }
         ensures slots { IfOk result (λ memory. IsFilled plan.now [] memory.slots.items memory.unused.items) }
         ensures unused { IfOk result (λ memory. vec_len memory.unused ≡ 0) }
@@ -56,17 +64,20 @@ impl<B: Job> RunMemory<B> {
         let Some(most) = jobs.checked_add(count) else {
             return Err(AllocError);
         };
-        let mut memory = RunMemory::bare(alloc, Turns::new(alloc, plan)?);
+        let marks = SeatMarks::none(alloc, plan.tree().len(), workers)?;
+        let mut memory = RunMemory::bare(alloc, Turns::new(alloc, plan)?, marks);
         memory.reserve(alloc, plan, ring, most)?;
         Ok(memory)
     }
 
-    /// No memory yet but for these turns.
-    fn bare(alloc: Global, turns: Turns) -> RunMemory<B>
-        ensures { result.turns ≡ turns }
+    /// No memory yet but for these turns and marks.
+    fn bare(alloc: Global, turns: Turns, marks: SeatMarks) -> RunMemory<B>
+        ensures turns { result.turns ≡ turns }
+        ensures marks { result.marks ≡ marks }
     {
         RunMemory {
             turns,
+            marks,
             words: Vec::new(alloc),
             index: Vec::new(alloc),
             slots: Vec::new(alloc),
@@ -86,6 +97,7 @@ impl<B: Job> RunMemory<B> {
         most: usize,
     ) -> Result<(), AllocError>
         ensures turns { self.new.turns ≡ self.old.turns }
+        ensures marks { self.new.marks ≡ self.old.marks }
         ensures words { OnOk result ((workers : ℕ) → self.new.words.items ≡ words_of (empty_ring ring)
             (opening plan.now workers)) }
         ensures index { OnOk result (IsIndex plan.now self.new.index.items) }

@@ -24,7 +24,7 @@ use table_rule::{AnswersIn, Leaves, Lifts, Slot};
 
 /// The slot of this node's job, if it is the one whose answer the seat waits for.
 fn job_slot(nodes: usize, task: Task, hand: Option<Hand>, node: NodeId) -> Option<usize>
-    requires { nodes ≤ 4096 }
+    requires { nodes ≤ 16384 }
     ensures { (p : PlanParts) → size p.tree ≡ nodes → result ≡ job_slot_of p task hand node }
 {
     match task {
@@ -46,7 +46,7 @@ fn job_slot(nodes: usize, task: Task, hand: Option<Hand>, node: NodeId) -> Optio
 impl<B: Job> WorkerSeat<B> {
     /// Whether it has moved this slot.
     fn has_moved(&self, slot: usize) -> bool
-        requires { slot < 8192 }
+        requires { slot < slot_count (plan_at self.now.seat) }
         ensures { result ≡ is_moved (made_of (worker_at self.now.seat).slots slot) }
     {
         self.moved.has(slot)
@@ -55,7 +55,6 @@ impl<B: Job> WorkerSeat<B> {
     /// Takes the job out of this slot, which it has not moved: it takes the slot, and gives it back empty.
     fn take_job(&mut self, table: &RunTable<B>, slot: usize) -> B
         requires table { IsSeatOf table.now.table self.old.seat }
-        requires small { slot < 8192 }
         requires inside { slot < slot_count (plan_at self.old.seat) }
         requires due { slot_due (plan_at self.old.seat) (worker_at self.old.seat).seat
             (worker_at self.old.seat).seat.task ≡ Some slot }
@@ -163,7 +162,6 @@ impl<B: Job> WorkerSeat<B> {
         job: B,
     )
         requires table { IsSeatOf table.now.table self.old.seat }
-        requires small { slot < 8192 }
         requires inside { slot < slot_count (plan_at self.old.seat) }
         requires due { slot_due (plan_at self.old.seat) (seated self.old.task self.old.hand)
             self.old.task ≡ Some slot }
