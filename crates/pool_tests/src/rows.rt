@@ -30,7 +30,7 @@ engine e
     test t() pass
     test u() pass
 ==
-+0 +1 +2 -2! -1 -0 unused 3 4 8194 asked 0 told 4
++0 +1 +2 -2! -1 -0 unused 3 4 16386 asked 0 told 4
 engine e
   class a.B fail boom
     test t() pass
