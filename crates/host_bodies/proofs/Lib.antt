@@ -1,4 +1,2 @@
--- Lemmas on lines, and on jobs of hosts.
+-- Lemmas on lines.
 pub mod Chunks
-pub mod Standing
-pub mod Replying

@@ -10,7 +10,7 @@ use Rattle.worker_pool.specs.Reports.{run_of}
 use Rattle.host_bodies.specs.HostJobs.{is_asked, replies_left}
 use Rattle.host_bodies.specs.Replies.{replies_by}
 use Rattle.host_bodies.specs.declared.host_job.HostJob.{HostJob}
-use Rattle.host_bodies.proofs.Replying.{some_left, some_unpulled}
+use Rattle.test_bodies.proofs.Replying.{some_left, some_unpulled}
 use Rattle.host_runs.specs.Fresh.{are_fresh}
 
 first_true : (a b : Bool) → (a && b) ≡ true → a ≡ true
@@ -44,10 +44,10 @@ found_fresh (x ∷ jobs) each number job q = go (x.0 == number) (found_fresh job
     go false rest h = rest h
 
 fresh_some : (job : HostJob) → is_asked job.heard ≡ false → 0 < length (unpulled (replies_left job))
-fresh_some job fresh = subst (λ (b : Bool). 0 < length (unpulled (replies_by b))) (sym fresh) some_unpulled
+fresh_some job fresh = subst (λ (b : Bool). 0 < length (unpulled (replies_by b))) (sym fresh) (some_unpulled 65536 0)
 
 fresh_any : (job : HostJob) → is_asked job.heard ≡ false → 0 < length (replies_left job)
-fresh_any job fresh = subst (λ (b : Bool). 0 < length (replies_by b)) (sym fresh) some_left
+fresh_any job fresh = subst (λ (b : Bool). 0 < length (replies_by b)) (sym fresh) (some_left 65536 0)
 
 -- whatever the plan
 pub may_answer : (p : PlanParts) (workers ring : ℕ) (jobs : List (ℕ × HostJob)) → are_fresh jobs ≡ true → JobsMayAnswer replies_left (run_of p workers ring jobs)

@@ -14,7 +14,7 @@ use Rattle.plan_events.specs.declared.outcome.Outcome.{Outcome}
 use Rattle.plan_events.specs.declared.outcome.Reply.{Reply}
 use Rattle.plan_events.specs.declared.status.Status.{Status}
 use Rattle.plan_events.specs.declared.status.Status.TheVariants.{Successful, Aborted, Failed}
-use Rattle.test_bodies.specs.Replies.{numbers_below, texts_up_to, statuses, ended, outcomes, IsSayable, ends, replies_up_to, replies_by}
+use Rattle.test_bodies.specs.Replies.{numbers_below, texts_up_to, statuses, ended, outcomes, SaysUpTo, ends, replies_up_to, replies_within}
 use Rattle.test_bodies.proofs.Standing.{Has, later, in_front, mapped, joined, some_there, number_there}
 
 first_true : (a b : Bool) → (a && b) ≡ true → a ≡ true
@@ -50,21 +50,21 @@ status_there Successful = (0, refl)
 status_there Aborted = (1, refl)
 status_there Failed = (2, refl)
 
-pub outcome_there : (o : Outcome) → IsSayable o → Has outcomes o
+pub outcome_there : (longest : ℕ) (o : Outcome) → SaysUpTo longest o → Has (outcomes longest) o
 unfolding outcomes
-outcome_there o is =
-    let text : Has (texts_up_to 512) o.text = subst (λ (t : List ℕ). Has (texts_up_to 512) t) is.0.1.1 (text_there 512 is.0.0 (subst (λ (t : List ℕ). length t ≤ 512) (sym is.0.1.1) is.1) is.0.1.0) in
-    joined (λ status. map (ended status) (texts_up_to 512)) statuses o.status o (status_there o.status) (mapped (ended o.status) (texts_up_to 512) o.text text)
+outcome_there longest o is =
+    let text : Has (texts_up_to longest) o.text = subst (λ (t : List ℕ). Has (texts_up_to longest) t) is.0.1.1 (text_there longest is.0.0 (subst (λ (t : List ℕ). length t ≤ longest) (sym is.0.1.1) is.1) is.0.1.0) in
+    joined (λ status. map (ended status) (texts_up_to longest)) statuses o.status o (status_there o.status) (mapped (ended o.status) (texts_up_to longest) o.text text)
 
-end_there : (o : Outcome) → IsSayable o → Has ends (without_pulls o)
+end_there : (longest : ℕ) (o : Outcome) → SaysUpTo longest o → Has (ends longest) (without_pulls o)
 unfolding ends
-end_there o is = mapped without_pulls outcomes o (outcome_there o is)
+end_there longest o is = mapped without_pulls (outcomes longest) o (outcome_there longest o is)
 
 -- whatever is left, each outcome is that of a reply without pulls
-reply_there : (left : ℕ) (o : Outcome) → IsSayable o → Has (replies_up_to left) (without_pulls o)
+reply_there : (longest left : ℕ) (o : Outcome) → SaysUpTo longest o → Has (replies_up_to longest left) (without_pulls o)
 unfolding replies_up_to
-reply_there zero o is = end_there o is
-reply_there (suc n) o is = in_front ends (map one_pull_more (replies_up_to n)) (without_pulls o) (end_there o is)
+reply_there longest zero o is = end_there longest o is
+reply_there longest (suc n) o is = in_front (ends longest) (map one_pull_more (replies_up_to longest n)) (without_pulls o) (end_there longest o is)
 
 -- which replies have no pulls
 has_more : (reply : Reply) → has_pulls (one_pull_more reply) ≡ true
@@ -93,60 +93,61 @@ all_off : (rs : List Reply) → map one_pull_less (map one_pull_more rs) ≡ rs
 all_off [] = refl
 all_off (r ∷ rs) = ap₂ (λ (x : Reply) (xs : List Reply). x ∷ xs) (one_off r) (all_off rs)
 
-unpulled_ends : unpulled ends ≡ ends
-unfolding ends
-unpulled_ends = stay outcomes
-
-pulled_ends : filter has_pulls ends ≡ []
-unfolding ends
-pulled_ends = go_away outcomes
-
-pub unpulled_left : (left : ℕ) → unpulled (replies_up_to left) ≡ ends
-unfolding replies_up_to
-unpulled_left zero = unpulled_ends
-unpulled_left (suc n) = filter-append (λ reply. not (has_pulls reply)) ends (map one_pull_more (replies_up_to n)) ∙ ap₂ (λ (xs ys : List Reply). xs ++ ys) unpulled_ends (none_stays (replies_up_to n)) ∙ append_none ends
-  where
-    append_none : (xs : List Reply) → xs ++ [] ≡ xs
-    append_none [] = refl
-    append_none (x ∷ xs) = ap (λ (ys : List Reply). x ∷ ys) (append_none xs)
-
-pub pulled_left : (n : ℕ) → pulled (replies_up_to (suc n)) ≡ replies_up_to n
-unfolding replies_up_to
-pulled_left n =
-    ap (map one_pull_less) (filter-append has_pulls ends (map one_pull_more (replies_up_to n)) ∙ ap₂ (λ (xs ys : List Reply). xs ++ ys) pulled_ends (all_stay (replies_up_to n))) ∙ all_off (replies_up_to n)
-
 -- an outcome that says nothing
 quiet : Outcome
 quiet = ended Successful []
 
-quiet_sayable : IsSayable quiet
+quiet_sayable : (longest : ℕ) → SaysUpTo longest quiet
 unfolding quiet
-quiet_sayable = (IsUtf8-nil, omega arith)
+quiet_sayable longest = (IsUtf8-nil, omega arith)
 
--- a body that was not run may give some reply, and one without pulls
-pub some_left : (left : ℕ) → 0 < length (replies_up_to left)
-some_left left = some_there (replies_up_to left) (without_pulls quiet) (reply_there left quiet quiet_sayable)
+append_none : (xs : List Reply) → xs ++ [] ≡ xs
+append_none [] = refl
+append_none (x ∷ xs) = ap (λ (ys : List Reply). x ∷ ys) (append_none xs)
 
-pub pulls_more : (is_spent : Bool) (left : ℕ) → 0 < left → IsPull (replies_by is_spent left) More (replies_by is_spent (left - 1))
-pulls_more true left some = λ none. absurd (omega (arith, none))
-pulls_more false zero some = absurd (omega (arith, some))
-pulls_more false (suc n) some =
-    let less : replies_up_to (suc n - 1) ≡ replies_up_to n = ap replies_up_to (omega arith) in
-    λ given. record { allowed = subst (λ (rs : List Reply). 0 < length rs) (sym (pulled_left n)) (some_left n); left = less ∙ sym (pulled_left n) }
+module _ (longest : ℕ) where
+  unpulled_ends : unpulled (ends longest) ≡ ends longest
+  unfolding ends
+  unpulled_ends = stay (outcomes longest)
 
-nothing_left : unpulled (replies_up_to 0) ≡ replies_up_to 0
-unfolding replies_up_to
-nothing_left = unpulled_ends
+  pulled_ends : filter has_pulls (ends longest) ≡ []
+  unfolding ends
+  pulled_ends = go_away (outcomes longest)
 
-pub pulls_end : (is_spent : Bool) (left : ℕ) → left ≡ 0 → IsPull (replies_by is_spent left) End (replies_by is_spent left)
-pulls_end true left none = λ no_reply. absurd (omega (arith, no_reply))
-pulls_end false left none =
-    let same : unpulled (replies_up_to left) ≡ replies_up_to left = subst (λ (k : ℕ). unpulled (replies_up_to k) ≡ replies_up_to k) (sym none) nothing_left in
-    λ given. record { allowed = subst (λ (rs : List Reply). 0 < length rs) (sym same) (some_left left); left = sym same }
+  pub unpulled_left : (left : ℕ) → unpulled (replies_up_to longest left) ≡ ends longest
+  unfolding replies_up_to
+  unpulled_left zero = unpulled_ends
+  unpulled_left (suc n) = filter-append (λ reply. not (has_pulls reply)) (ends longest) (map one_pull_more (replies_up_to longest n)) ∙ ap₂ (λ (xs ys : List Reply). xs ++ ys) unpulled_ends (none_stays (replies_up_to longest n)) ∙ append_none (ends longest)
 
-pub runs : (is_spent : Bool) (left : ℕ) (o : Outcome) → IsSayable o → IsRun (replies_by is_spent left) o
-runs true left o is = λ none. absurd (omega (arith, none))
-runs false left o is = (let there = reply_there left o is in λ given. record { place = there.0; reply = without_pulls o; stands = there.1; no_pulls = refl; is = refl })
+  pub pulled_left : (n : ℕ) → pulled (replies_up_to longest (suc n)) ≡ replies_up_to longest n
+  unfolding replies_up_to
+  pulled_left n =
+      ap (map one_pull_less) (filter-append has_pulls (ends longest) (map one_pull_more (replies_up_to longest n)) ∙ ap₂ (λ (xs ys : List Reply). xs ++ ys) pulled_ends (all_stay (replies_up_to longest n))) ∙ all_off (replies_up_to longest n)
 
-pub some_unpulled : (left : ℕ) → 0 < length (unpulled (replies_up_to left))
-some_unpulled left = subst (λ (rs : List Reply). 0 < length rs) (sym (unpulled_left left)) (some_there ends (without_pulls quiet) (end_there quiet quiet_sayable))
+  -- a body that was not run may give some reply, and one without pulls
+  pub some_left : (left : ℕ) → 0 < length (replies_up_to longest left)
+  some_left left = some_there (replies_up_to longest left) (without_pulls quiet) (reply_there longest left quiet (quiet_sayable longest))
+
+  pub some_unpulled : (left : ℕ) → 0 < length (unpulled (replies_up_to longest left))
+  some_unpulled left = subst (λ (rs : List Reply). 0 < length rs) (sym (unpulled_left left)) (some_there (ends longest) (without_pulls quiet) (end_there longest quiet (quiet_sayable longest)))
+
+  pub pulls_more : (is_spent : Bool) (left : ℕ) → 0 < left → IsPull (replies_within longest is_spent left) More (replies_within longest is_spent (left - 1))
+  pulls_more true left some = λ none. absurd (omega (arith, none))
+  pulls_more false zero some = absurd (omega (arith, some))
+  pulls_more false (suc n) some =
+      let less : replies_up_to longest (suc n - 1) ≡ replies_up_to longest n = ap (replies_up_to longest) (omega arith) in
+      λ given. record { allowed = subst (λ (rs : List Reply). 0 < length rs) (sym (pulled_left n)) (some_left n); left = less ∙ sym (pulled_left n) }
+
+  nothing_left : unpulled (replies_up_to longest 0) ≡ replies_up_to longest 0
+  unfolding replies_up_to
+  nothing_left = unpulled_ends
+
+  pub pulls_end : (is_spent : Bool) (left : ℕ) → left ≡ 0 → IsPull (replies_within longest is_spent left) End (replies_within longest is_spent left)
+  pulls_end true left none = λ no_reply. absurd (omega (arith, no_reply))
+  pulls_end false left none =
+      let same : unpulled (replies_up_to longest left) ≡ replies_up_to longest left = subst (λ (k : ℕ). unpulled (replies_up_to longest k) ≡ replies_up_to longest k) (sym none) nothing_left in
+      λ given. record { allowed = subst (λ (rs : List Reply). 0 < length rs) (sym same) (some_left left); left = sym same }
+
+  pub runs : (is_spent : Bool) (left : ℕ) (o : Outcome) → SaysUpTo longest o → IsRun (replies_within longest is_spent left) o
+  runs true left o is = λ none. absurd (omega (arith, none))
+  runs false left o is = (let there = reply_there longest left o is in λ given. record { place = there.0; reply = without_pulls o; stands = there.1; no_pulls = refl; is = refl })

@@ -1,5 +1,5 @@
 -- The replies that a body may give of which nobody knows beforehand how it ends: any number of pulls that is left to it, any
--- status, and any text of at most 512 bytes.
+-- status, and any text of at most so many bytes as are its limit: 512, or that of a crate above.
 use Rattle.std.specs.Prelude.{ℕ, zero, suc, ◌≤◌, Bool, true, false, List, [], ◌∷◌, ◌++◌, length, map}
 use Rattle.std.specs.List.{flat_map}
 use Rattle.std.specs.Char.{encode_utf8}
@@ -26,24 +26,32 @@ statuses = Successful ∷ Aborted ∷ Failed ∷ []
 abbrev pub ended : Status → List ℕ → Outcome
 ended status text = record { status = status; text = text }
 
--- all outcomes that a body may have
-unfoldable pub outcomes : List Outcome
-outcomes = flat_map (λ status. map (ended status) (texts_up_to 512)) statuses
+-- all outcomes with a text of at most so many characters
+unfoldable pub outcomes : (longest : ℕ) → List Outcome
+outcomes longest = flat_map (λ status. map (ended status) (texts_up_to longest)) statuses
 
--- an outcome that a body may have
-abbrev pub IsSayable : Outcome → Type 0
-IsSayable o = IsUtf8 o.text × (length o.text ≤ 512)
+-- an outcome with a text of at most so many bytes
+abbrev pub SaysUpTo : (longest : ℕ) → Outcome → Type 0
+SaysUpTo longest o = IsUtf8 o.text × (length o.text ≤ longest)
 
 -- all replies without pulls
-unfoldable pub ends : List Reply
-ends = map without_pulls outcomes
+unfoldable pub ends : (longest : ℕ) → List Reply
+ends longest = map without_pulls (outcomes longest)
 
 -- all replies with at most so many pulls
-unfoldable pub replies_up_to : ℕ → List Reply
-replies_up_to zero = ends
-replies_up_to (suc n) = ends ++ map one_pull_more (replies_up_to n)
+unfoldable pub replies_up_to : (longest : ℕ) → ℕ → List Reply
+replies_up_to longest zero = ends longest
+replies_up_to longest (suc n) = ends longest ++ map one_pull_more (replies_up_to longest n)
 
--- the replies that a body may still give, by whether it was run and how many dynamic tests it still registers: none once it was run
+-- the replies that are left, by whether the body was run and how many dynamic tests it still registers: none once it was run
+abbrev pub replies_within : (longest : ℕ) → Bool → ℕ → List Reply
+replies_within longest true left = []
+replies_within longest false left = replies_up_to longest left
+
+-- an outcome that a body of this crate may have
+abbrev pub IsSayable : Outcome → Type 0
+IsSayable o = SaysUpTo 512 o
+
+-- the replies that a body of this crate may still give
 abbrev pub replies_by : Bool → ℕ → List Reply
-replies_by true left = []
-replies_by false left = replies_up_to left
+replies_by is_spent left = replies_within 512 is_spent left

@@ -22,10 +22,10 @@ module _ {B : Type 0} (is_spent : B → Bool) (left : B → ℕ) where
       go false rest h = rest h
 
   fresh_some : (job : B) → is_spent job ≡ false → 0 < length (unpulled (replies_by (is_spent job) (left job)))
-  fresh_some job fresh = subst (λ (b : Bool). 0 < length (unpulled (replies_by b (left job)))) (sym fresh) (some_unpulled (left job))
+  fresh_some job fresh = subst (λ (b : Bool). 0 < length (unpulled (replies_by b (left job)))) (sym fresh) (some_unpulled 512 (left job))
 
   fresh_any : (job : B) → is_spent job ≡ false → 0 < length (replies_by (is_spent job) (left job))
-  fresh_any job fresh = subst (λ (b : Bool). 0 < length (replies_by b (left job))) (sym fresh) (some_left (left job))
+  fresh_any job fresh = subst (λ (b : Bool). 0 < length (replies_by b (left job))) (sym fresh) (some_left 512 (left job))
 
   -- whatever the plan
   pub may_answer : (p : PlanParts) (workers ring : ℕ) (jobs : List (ℕ × B)) → are_fresh is_spent jobs ≡ true → JobsMayAnswer (λ b. replies_by (is_spent b) (left b)) (run_of p workers ring jobs)

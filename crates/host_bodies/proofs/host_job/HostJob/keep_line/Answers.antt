@@ -1,6 +1,6 @@
 use Rattle.host_bodies.specs.HostJobs.{is_asked}
-use Rattle.host_bodies.proofs.Replying.{runs}
+use Rattle.test_bodies.proofs.Replying.{runs}
 use Rattle.host_bodies.proofs.host_job.HostJob.keep_line.Goals as goal
 
 pub returns-clause-outcome : goal.returns-clause-outcome
-returns-clause-outcome c = runs (is_asked c.args.self.now.heard) c.args.answer.outcome c.requires.sayable
+returns-clause-outcome c = runs 65536 (is_asked c.args.self.now.heard) 0 c.args.answer.outcome c.requires.sayable
