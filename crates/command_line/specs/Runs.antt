@@ -99,7 +99,7 @@ abbrev pub steps_said : ExitStatus → Option (List ℕ)
 steps_said (StepsPassedOver fails) = Some (codes "Steps were passed over, since they were not possible in their turn; the last line says how many.\nThey lead to just what happened with the suite and the options of the run that they were printed behind.\n")
 steps_said _ = None
 
--- the same of an answer: of what is refused nothing is said
+-- what is said of passed-over steps after such an answer: nothing where the run is refused
 abbrev pub steps_after : Result ExitStatus LaunchFault → Option (List ℕ)
 steps_after (Ok status) = steps_said status
 steps_after (Err fault) = None
@@ -110,7 +110,7 @@ waiting_said true None = Some (codes "console: a suite is read from standard inp
 waiting_said true (Some name) = None
 waiting_said false suite = None
 
--- the same of options that the words gave, and nothing where they gave none
+-- what is said before a suite is read with these options: nothing where they are refused
 abbrev pub waiting_for : (is_typed : Bool) → (suite : Option Text) → Result Options LaunchFault → Option (List ℕ)
 waiting_for is_typed suite (Ok options) = waiting_said is_typed suite
 waiting_for is_typed suite (Err fault) = None
@@ -174,7 +174,8 @@ module _ {W E : Type 0} (sentence : Sentences) (contents : W → Option (List �
     pub message : SaysWhy said sentence answer quiet told ending.is_told
     pub status : ending.status ≡ number_of (status_after answer)
 
-  -- the same, and behind that on the other writer whether steps were passed over, and of a run this list of its slowest tests
+  -- what `Closes` says; and behind that it is said on the other writer whether steps were passed over, and of a run this list of its
+  -- slowest tests
   pub record ClosesRun (answer : Result ExitStatus LaunchFault) (slowest : Option (List ℕ)) (old new : W) (quiet told : E) (ending : Ending) : Type 0 where
     pub before : E
     pub warned : E

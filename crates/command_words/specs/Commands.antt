@@ -29,7 +29,7 @@ rule_by name (Repeated value) = repeated name
 abbrev pub with_letter : (letter : ℕ) → Rule → Rule
 with_letter letter rule = record rule { short = Some letter }
 
--- the same, if there is such a letter
+-- an option for which this letter stands behind one dash, if there is such a letter
 abbrev pub maybe_lettered : (letter : Option ℕ) → Rule → Rule
 maybe_lettered None rule = rule
 maybe_lettered (Some letter) rule = with_letter letter rule

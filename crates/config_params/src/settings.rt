@@ -26,9 +26,9 @@ pub struct Settings {
     pub parallel: bool,
     /// How many workers there are, 1 where nothing runs side by side.
     pub workers: u32,
-    /// The mode of nodes that have none of their own.
+    /// The mode of other nodes that have none of their own.
     pub default_mode: Mode,
-    /// The same for the children of engines.
+    /// The mode of children of engines that have none of their own.
     pub classes_mode: Mode,
     /// From how many milliseconds on a test is slow whose own line does not say it.
     pub slow: Option<u32>,

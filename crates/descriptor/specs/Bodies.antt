@@ -38,7 +38,7 @@ has_misplaced_after node = is_some node.after && not (takes_after node.kind node
 abbrev pub may_get_after : Node → Bool
 may_get_after node = is_none node.after && takes_after node.kind node.role
 
--- the same of a node that may be missing; what is missing may not
+-- whether a node that may be missing may be given an after-body; what is missing may not
 abbrev pub may_get_after_or : Option Node → Bool
 may_get_after_or None = false
 may_get_after_or (Some node) = may_get_after node

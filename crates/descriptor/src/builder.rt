@@ -65,7 +65,8 @@ impl TreeBuilder {
         TreeBuilder::with_capacity(alloc, 0)
     }
 
-    /// The same, with room for so many nodes besides, though for no more than a tree may have.
+    /// The builder of a tree of the plan alone, with room for so many nodes besides, but for no more than a tree may
+    /// have.
     pub fn with_capacity(alloc: Global, nodes: usize) -> Result<TreeBuilder, AllocError>
         ensures { IfOk result (λ b. b ≡ plan_alone) }
     {

@@ -5,7 +5,7 @@ ghost use Rattle.descriptor.specs.Inside.Hashes.{hash_of};
 
 use std::hash::{BuildHasher, BuildHasherDefault, FoldHasher};
 
-/// The same for equal texts; texts that are not equal seldom have the same.
+/// The hash of a text. Texts that are not equal seldom have the same.
 pub(crate) fn hash_of(text: &str) -> u64
     ensures { result ≡ hash_of text.now }
 {

@@ -33,7 +33,7 @@ impl Lock {
         })
     }
 
-    /// The same lock, which takes no memory. An `Err` says that no more copies can be counted.
+    /// A copy of the lock. It takes no memory; an `Err` says that no more copies of its key can be counted.
     pub fn copy(&self) -> Result<Lock, AllocError>
         ensures { IfOk result (λ lock. lock ≡ self.now) }
     {
@@ -43,7 +43,7 @@ impl Lock {
         })
     }
 
-    /// The same locks, in a list of their own.
+    /// Copies of these locks, in a list of their own.
     pub fn copy_all(alloc: Global, locks: &[Lock]) -> Result<Vec<Lock>, AllocError>
         ensures { IfOk result (λ copies. copies.items ≡ locks.now) }
     {

@@ -74,7 +74,7 @@ impl Locks {
         }
     }
 
-    /// The same locks, which takes no memory. An `Err` says that no more copies can be counted.
+    /// A copy, which shares the list. It takes no memory; an `Err` says that no more copies can be counted.
     pub fn copy(&self) -> Result<Locks, AllocError>
         ensures { IfOk result (λ locks. locks ≡ self.now) }
     {

@@ -91,7 +91,7 @@ impl Node {
         }
     }
 
-    /// The same node. Its locks and its long texts are shared, the rest is copied.
+    /// A copy, which shares the locks and the long texts with this node; the rest has memory of its own.
     pub fn copy(&self, alloc: Global) -> Result<Node, AllocError>
         ensures { IfOk result (λ node. node ≡ self.now) }
     {

@@ -280,7 +280,7 @@ impl Tree {
         Ok(())
     }
 
-    /// The same as `pruned`, without a copy where every node is kept.
+    /// The tree of the kept nodes, as `pruned` makes it; this very tree, without a copy, where every node is kept.
     pub fn into_pruned(self, alloc: Global, keep: &[bool]) -> Result<Tree, AllocError>
         requires one_each { length keep.now ≡ size self }
         requires closed { IsClosed self keep.now }
@@ -309,7 +309,7 @@ impl Tree {
         are_all(keep)
     }
 
-    /// The same tree, which shares the locks of nodes and their long texts with this one.
+    /// A copy, which shares the locks of nodes and their long texts with this tree.
     pub fn copy(&self, alloc: Global) -> Result<Tree, AllocError>
         ensures { IfOk result (λ tree. tree ≡ self.now) }
     {

@@ -77,7 +77,7 @@ fn run_jobs_recorded<
     )
 }
 
-/// Does the same, and writes each report when the run is over.
+/// Runs these jobs as the options say, and writes each report when the run is over; of what is refused none.
 fn run_jobs_reported<
     B: Job + Send,
     T: Threads + Wait + Sync,
@@ -140,7 +140,8 @@ fn run_jobs_reported<
     }
 }
 
-/// Does the same; then it makes the list of the slowest tests, if times are asked for.
+/// Runs these jobs as the options say, writes each report, and then makes the list of the slowest tests, if times are
+/// asked for.
 fn run_jobs_listed<
     B: Job + Send,
     T: Threads + Wait + Sync,
@@ -192,7 +193,8 @@ fn run_jobs_listed<
     answer
 }
 
-/// Does the same beside who watches.
+/// Runs these jobs, writes the reports and lists the slowest tests; the observer is shown the run beside the recording
+/// that reports and list are made of, which ends here.
 fn run_jobs_beside<
     B: Job + Send,
     T: Threads + Wait + Sync,

@@ -49,7 +49,8 @@ fn collected(alloc: Global, bodies: Jobs<Body>) -> Result<Jobs<TestJob>, AllocEr
     Ok(jobs)
 }
 
-/// The same: they are of the bodies of a tree of which these were, and may answer if these may.
+/// The jobs of these bodies, with their numbers. A tree that had a body for each number has a job for it, and the jobs
+/// may answer if the bodies may.
 pub(crate) fn jobs_of(alloc: Global, bodies: Jobs<Body>) -> Result<Jobs<TestJob>, AllocError>
     ensures items { IfOk result (λ jobs. jobs.items ≡ jobs_by bodies.items) }
     ensures has { IfOk result (λ jobs. (t : Nodes) → HasJobs t bodies.items → HasJobs t jobs.items) }

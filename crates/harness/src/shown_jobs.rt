@@ -69,7 +69,8 @@ fn run_jobs_paired<
     )
 }
 
-/// Does the same: the first who watches has seen the run, and the other the very history that is printed.
+/// Runs what is asked for with these jobs, and keeps its reports: the first who watches has seen the run, and the other
+/// the very history that is printed.
 pub(crate) fn run_jobs_shown<
     B: Job + Send,
     T: Threads + Wait + Sync,

@@ -15,10 +15,10 @@ use std::alloc::{AllocError, Global};
 /// What a host is asked for to run the body of a test.
 const RUN: &str = "run";
 
-/// The same of a container's before-body.
+/// What a host is asked for to run the before-body of a container.
 const BEFORE: &str = "before";
 
-/// The same of its after-body.
+/// What a host is asked for to run the after-body of a container.
 const AFTER: &str = "after";
 
 /// Appends the job of this number, if there is one, which asks a host for this, of the node of this id.

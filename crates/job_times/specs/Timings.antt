@@ -54,10 +54,10 @@ abbrev pub times_asked : Bool → Times → Times
 times_asked true times = times
 times_asked false times = no_times
 
--- the same moment and machine, with a place for each of so many nodes, where nothing is noted yet
+-- these times with a place for each of so many nodes, where nothing is noted yet; moment and machine stay
 abbrev pub with_places : ℕ → Times → Times
 with_places nodes times = record { took = replicate nodes NotYet; moment = times.moment; host = times.host }
 
--- the same without moment and machine
+-- these times without moment and machine
 abbrev pub without_stamp : Times → Times
 without_stamp times = record { took = times.took; moment = None; host = None }

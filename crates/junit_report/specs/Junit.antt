@@ -108,6 +108,6 @@ suites_element plan texts times told =
 abbrev pub timed_junit_of : PlanParts → TextParts → Times → List Event → List ℕ
 timed_junit_of plan texts times events = suites_element plan texts times (all_told (size plan.tree) events)
 
--- the same where no time is known
+-- the whole text where no time is known
 abbrev pub junit_of : PlanParts → TextParts → List Event → List ℕ
 junit_of plan texts events = timed_junit_of plan texts no_times events

@@ -182,7 +182,8 @@ pub fn timed_junit_text(
     Ok(xml)
 }
 
-/// The same where no time is known.
+/// The report of these events in JUnit's XML where no time is known: each case says that its node took no time, and no
+/// suite when the run began and on which machine.
 pub fn junit_text(
     alloc: Global,
     plan: &Plan,

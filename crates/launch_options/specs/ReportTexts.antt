@@ -45,7 +45,7 @@ report_in text =
     then with_file (form_named (before_first is_equals text)) (after_first is_equals text)
     else None
 
--- the same of a report that is asked for
+-- form and file of a report that is asked for
 abbrev pub parts_of : ReportAsked → Details × Text
 parts_of asked = (asked.form, asked.file.now)
 

@@ -32,7 +32,7 @@ pub enum Details {
     Tree,
     /// A line for each event.
     Testfeed,
-    /// The same as JSON: an object for each event.
+    /// An object of JSON for each event, each on a line of its own.
     Json,
     /// The report that build servers read: a case for each test, in XML.
     Xml,

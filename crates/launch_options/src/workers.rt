@@ -134,7 +134,7 @@ fn spread_of(alloc: Global, given: &Given<'_>, number: u32) -> Result<Params, Al
     Ok(spread)
 }
 
-/// The same where `--workers` is given.
+/// The parameters that `spread_of` makes with the number of `--workers`; none where that is not given.
 pub(crate) fn spread_given(
     alloc: Global,
     given: &Given<'_>,

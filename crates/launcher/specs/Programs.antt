@@ -151,7 +151,8 @@ module _ {B : Type 0} (answers : B → List Reply) (gives : B → Reply → Type
   IsProgramRun = IsAnswered asked IsSelectedOutput (FailsProgram asked parts)
 
   module _ {L : Type 0} (saw : PlanParts → L → L → List Telling → Type 0) (first now : L) (times : Times) where
-    -- the same; and whoever watches has seen the very history that is printed, with these times, or, where nothing is run, nothing
+    -- what is printed of a program's jobs, and the status; and whoever watches has seen the very history that is printed, with these
+    -- times, or, where nothing is run, nothing
     abbrev pub IsSeenSelectedOutput : List ℕ → ExitStatus → Type 0
     IsSeenSelectedOutput = IsJudged (is_missing asked parts.tree) (IsSelectedBy (λ settings p. IsSeenProgram answers gives None saw first now times asked settings p jobs) asked parts)
 

@@ -49,7 +49,7 @@ module _ {L : Type 0} (saw : PlanParts → L → L → List Telling → Type 0) 
   abbrev pub IsSeenOutput : Settings → PlanParts → List (ℕ × Reply) → List ℕ → ExitStatus → Type 0
   IsSeenOutput settings p answers text status = IsOutput asked settings p answers text status × SeesTextBy saw (IsPrintedRun asked settings p answers) p first now times (is_run asked.replay asked.details) text status
 
-  -- the same of a suite
+  -- what is printed of a suite, and the status; and whoever watches has seen that history
   abbrev pub IsSeenSuiteOutput : SuiteParts → List ℕ → ExitStatus → Type 0
   IsSeenSuiteOutput suite = IsJudged (is_missing asked suite.tree) (IsSuiteOutputBy IsSeenOutput asked suite)
 
@@ -75,7 +75,7 @@ pub record IsRun (asked : Asked) (read : Result SuiteParts SuiteFault) (old new 
   pub reads : ReadsSuite read loaded
   pub runs : RunsLoaded (λ suite. IsSuiteRun asked suite old new) loaded result
 
--- the same of a run that somebody watches: of what could not be read nothing was seen
+-- a run that somebody watches: of what could not be read nothing was seen
 pub record IsSeenRun {L : Type 0} (saw : PlanParts → L → L → List Telling → Type 0) (first now : L) (times : Times) (asked : Asked) (read : Result SuiteParts SuiteFault) (old new : Option (List ℕ)) (result : Result ExitStatus LaunchFault) : Type 0 where
   pub loaded : Result suites.Suite LaunchFault
   pub reads : ReadsSuite read loaded

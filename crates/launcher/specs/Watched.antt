@@ -62,7 +62,7 @@ module _ {L : Type 0} (saw : PlanParts → L → L → List Telling → Type 0) 
   Watches (Ok report) = HasSeenPrinted (string_bytes report.text) report.status
   Watches (Err fault) = (now ≡ first) ⊎ ((fault ≡ NoMemory) × SomeOutput HasSeenPrinted)
 
-  -- the same where a plan may be run; else nothing was seen
+  -- of a plan that may be run whoever watches has seen that; of another nothing
   abbrev pub WatchesBy : Bool → Result Output LaunchFault → Type 0
   WatchesBy true result = Watches result
   WatchesBy false result = now ≡ first
@@ -126,7 +126,7 @@ IsBrokenOff asked Output outlet old new sent = ((outlet ≢ Failed) × (sent ≡
 abbrev pub LacksMeans : LaunchFault → Type 0
 LacksMeans fault = (fault ≡ NoMemory) ⊎ (fault ≡ NoWorker)
 
--- the same where a plan may be run; else there was no memory
+-- where a plan may be run there was no memory, or no thread could be started; else there was no memory
 abbrev pub LacksBy : Bool → LaunchFault → Type 0
 LacksBy true fault = LacksMeans fault
 LacksBy false fault = fault ≡ NoMemory

@@ -76,7 +76,8 @@ fn run_listed<
     answer
 }
 
-/// Does the same beside who watches.
+/// Runs what these options ask for, writes the reports and lists the slowest tests; the observer is shown the run
+/// beside the recording that reports and list are made of, which ends here.
 fn run_beside<
     T: Threads + Wait + Sync,
     R: Read,

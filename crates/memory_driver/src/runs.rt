@@ -205,7 +205,7 @@ fn run_before<T: Threads + Wait + Sync, W: Write>(
     }
 }
 
-/// The same, for the plan that stands here; the one that came back stands here then.
+/// `run_plan`, for the plan that stands here; the one that came back stands here then.
 fn run_here<T: Threads + Wait + Sync, W: Write>(
     rt: &T,
     alloc: Global,

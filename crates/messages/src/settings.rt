@@ -87,7 +87,7 @@ fn push_asked(
     }
 }
 
-/// The same of the options and of the suite of these bytes.
+/// Appends what `push_asked` says of these options and of the suite of these bytes; nothing where they are no suite.
 fn push_over(
     alloc: Global,
     text: &mut String,
@@ -101,7 +101,8 @@ fn push_over(
     }
 }
 
-/// The same of the options that have these values.
+/// Appends what `push_asked` says of the options that have these values and of the suite of these bytes; nothing where
+/// either is refused.
 pub(crate) fn push_settings(
     alloc: Global,
     text: &mut String,

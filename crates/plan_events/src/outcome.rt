@@ -14,7 +14,7 @@ pub struct Outcome {
 }
 
 impl Outcome {
-    /// The same outcome, which takes no memory. An `Err` says that no more copies can be counted.
+    /// A copy. It takes no memory, since a long text is shared; an `Err` says that no more copies of it can be counted.
     pub fn copy(&self) -> Result<Outcome, AllocError>
         ensures { IfOk result (λ copy. copy ≡ self.now) }
     {

@@ -33,7 +33,7 @@ abbrev pub with_workers : Option ℕ → Settings → Settings
 with_workers None settings = settings
 with_workers (Some workers) settings = record settings { workers = workers }
 
--- the same where there are settings
+-- the settings, if there are any, with so many workers in place of theirs, if a number is asked for
 abbrev pub driven_by : Option ℕ → Result Settings SettingsFault → Result Settings SettingsFault
 driven_by drive (Ok settings) = Ok (with_workers drive settings)
 driven_by drive (Err fault) = Err fault
@@ -87,7 +87,7 @@ plan_refusal asked tree properties = option_or (selection_refusal tree asked.req
 abbrev pub workers_refusal : ℕ → Option LaunchFault
 workers_refusal workers = if nat_lt 64 workers then Some TooManyWorkers else None
 
--- the same of settings
+-- why the number of workers of these settings is refused, if there are settings
 abbrev pub crowd_refusal : Result Settings SettingsFault → Option LaunchFault
 crowd_refusal (Ok settings) = workers_refusal settings.workers
 crowd_refusal (Err fault) = None

@@ -61,7 +61,7 @@ timed_ending_members Skipped status text took = text_member (codes "text") text 
 timed_ending_members Finished (Some status) text took = status_members status text took
 timed_ending_members _ _ text took = no_members
 
--- the same where no time is known
+-- what stands behind the name where no time is known
 abbrev pub ending_members : EventKind → Option Status → List ℕ → Members
 ending_members kind status text = timed_ending_members kind status text None
 
@@ -88,7 +88,7 @@ object_with plan e text = written (event_json plan e text None)
 abbrev pub timed_object_told : PlanParts → TextParts → Took → Event → Json
 timed_object_told plan texts took e = event_json plan e (text_or (text_at texts e.node)) (took_of took e.node)
 
--- the same where no time is known
+-- the object of an event with the text of its node where no time is known
 abbrev pub object_told : PlanParts → TextParts → Event → Json
 object_told plan texts e = timed_object_told plan texts [] e
 
@@ -108,6 +108,6 @@ note_line what name text = written (note_json what name text) ++ codes "\n"
 abbrev pub timed_json_of : PlanParts → TextParts → Took → List Event → List ℕ
 timed_json_of plan texts took events = flat_map (λ e. timed_event_object plan texts took e ++ codes "\n") events
 
--- the same where no time is known
+-- the whole text where no time is known
 abbrev pub json_of : PlanParts → TextParts → List Event → List ℕ
 json_of plan texts events = timed_json_of plan texts [] events

@@ -186,7 +186,7 @@ pub fn timed_json_text(
     Ok(json)
 }
 
-/// The same where no time is known.
+/// The JSON of these events where no time is known: no finish says how long its node took.
 pub fn json_text(
     alloc: Global,
     plan: &Plan,

@@ -16,7 +16,7 @@ abbrev pub stronger : LockMode → LockMode → LockMode
 stronger Read b = b
 stronger ReadWrite b = ReadWrite
 
--- the same where the key may be wanted in neither
+-- the mode in which a key is wanted of two in which it may be wanted: the stronger of both, if there are two
 abbrev pub either : Option LockMode → Option LockMode → Option LockMode
 either None b = b
 either (Some a) None = Some a

@@ -121,7 +121,7 @@ fn tops(alloc: Global, tree: &Tree) -> Result<Vec<usize>, AllocError>
     Ok(tops)
 }
 
-/// The same of one node, by that of its parent.
+/// The top of one node, by that of its parent.
 fn top_of(tree: &Tree, node: usize, above: usize) -> usize
     requires above_zero { 0 < node }
     requires inside { node < size tree.now }
@@ -176,7 +176,7 @@ fn holders(
     Ok(holders)
 }
 
-/// The same of one node, by that of its parent.
+/// The node that holds what one node declares, by the one that holds what its parent declares; 0 where there is none.
 fn holder_of(tree: &Tree, tops: &[usize], wholes: &[bool], node: usize, above: usize) -> usize
     requires above_zero { 0 < node }
     requires inside { node < size tree.now }
@@ -223,7 +223,7 @@ fn own(
     Ok(sets)
 }
 
-/// The same of one node.
+/// The global lock if the node is a top, in READ_WRITE if that is whole; else no lock.
 fn own_of(
     alloc: Global,
     tree: &Tree,

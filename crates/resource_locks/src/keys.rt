@@ -80,7 +80,7 @@ impl Keys {
         Ok(numbers)
     }
 
-    /// The same of each of several sets.
+    /// For each set the numbers of the keys of its locks, all of which are among these.
     pub(crate) fn all_numbers(
         &self,
         alloc: Global,

@@ -131,7 +131,7 @@ impl LockNames {
         self.place_of(name)
     }
 
-    /// The same names, as texts.
+    /// The names as texts, in the order of their numbers.
     pub(crate) fn texts(&self, alloc: Global) -> Result<Vec<Text>, AllocError>
         ensures { IfOk result (λ texts. texts.items ≡ self.now) }
     {

@@ -59,7 +59,7 @@ impl LockSet {
         Ok(set)
     }
 
-    /// The same set.
+    /// A copy, in a list of its own, which shares the texts of long keys with this set.
     pub fn copy(&self, alloc: Global) -> Result<LockSet, AllocError>
         ensures same { IfOk result (λ set. set ≡ self.now) }
         ensures set { IsLockSet self.now }
@@ -111,7 +111,8 @@ impl LockSet {
         self.put_copy(&lock)
     }
 
-    /// The same of a lock that is there, which is copied only where its key is new.
+    /// The set with a lock that is there, which is copied only where its key is new. Where the key stands there,
+    /// READ_WRITE wins. An `Err` leaves the set as it was.
     pub fn put_copy(&mut self, lock: &Lock) -> Result<(), AllocError>
         ensures ok { OnOk result (self.new ≡ put lock.now self.old) }
         ensures err { OnErr result (self.new ≡ self.old) }

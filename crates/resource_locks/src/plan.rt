@@ -210,7 +210,7 @@ impl Plan {
         self.tolerated
     }
 
-    /// The same plan, but for whether nothing more is to start once more nodes have failed than are tolerated.
+    /// The plan with this answer to whether nothing more is to start once more nodes have failed than are tolerated.
     pub fn with_fail_fast(self, fail_fast: bool) -> Plan
         ensures same { result ≡ record self { fail_fast = fail_fast } }
         ensures hoisted { (given : ℕ → ModeValue) → IsHoisted (declared_of self.tree) given self →
@@ -222,7 +222,7 @@ impl Plan {
         plan
     }
 
-    /// The same plan, but for how many failures it tolerates if it fails fast.
+    /// The plan, which tolerates so many failures if it fails fast.
     pub fn with_tolerated(self, tolerated: u16) -> Plan
         ensures same { result ≡ record self { tolerated = tolerated } }
         ensures hoisted { (given : ℕ → ModeValue) → IsHoisted (declared_of self.tree) given self →
@@ -234,7 +234,7 @@ impl Plan {
         plan
     }
 
-    /// The same plan, in which no more nodes hold a key at once than is given for it; a key that is not there has no
+    /// The plan, in which no more nodes hold a key at once than is given for it; a key that is not there has no
     /// limit, and neither has the global one. Below a node that holds a limited key every node is executed in the same
     /// thread as its parent.
     pub fn with_limits(self, alloc: Global, given: &[KeyLimit]) -> Result<Plan, AllocError>
@@ -310,7 +310,7 @@ impl Plan {
         spares
     }
 
-    /// The same plan, which shares long texts and the locks that nodes declare with this one.
+    /// A copy, which shares long texts and the locks that nodes declare with this plan.
     pub fn copy(&self, alloc: Global) -> Result<Plan, AllocError>
         ensures { IfOk result (λ plan. plan ≡ self.now) }
     {
@@ -378,7 +378,7 @@ fn parts_of(alloc: Global, tree: &Tree, given: Vec<Mode>) -> Result<Parts, PlanF
     })
 }
 
-/// The same sets, in a list of their own.
+/// Copies of these sets, in a list of their own.
 fn copied_sets(alloc: Global, sets: &[LockSet]) -> Result<Vec<LockSet>, AllocError>
     ensures { IfOk result (λ copies. copies.items ≡ sets.now) }
 {
@@ -389,7 +389,7 @@ fn copied_sets(alloc: Global, sets: &[LockSet]) -> Result<Vec<LockSet>, AllocErr
     Ok(copies)
 }
 
-/// The same texts, in a list of their own.
+/// Copies of these texts, in a list of their own; long ones are shared.
 fn copied_texts(alloc: Global, texts: &[Text]) -> Result<Vec<Text>, AllocError>
     ensures { IfOk result (λ copies. copies.items ≡ texts.now) }
 {
@@ -400,7 +400,7 @@ fn copied_texts(alloc: Global, texts: &[Text]) -> Result<Vec<Text>, AllocError>
     Ok(copies)
 }
 
-/// The same numbers, in memory of their own.
+/// Copies of these lists of numbers.
 fn copied_numbers(alloc: Global, lists: &[Vec<u8>]) -> Result<Vec<Vec<u8>>, AllocError>
     ensures { IfOk result (λ copies. map (λ v. v.items) copies.items ≡ map (λ v. v.items) lists.now) }
 {

@@ -11,7 +11,7 @@ use Rattle.selectors.specs.Selections.{selects_nothing}
 abbrev pub is_missing_by : Asked → Bool → Bool
 is_missing_by asked nothing = asked.fail_if_nothing_selected && (is_none asked.replay && nothing)
 
--- the same of what the request selects of a tree
+-- whether the request had to select something of a tree, and selects nothing
 abbrev pub is_missing : Asked → Nodes → Bool
 is_missing asked t = is_missing_by asked (selects_nothing t asked.request)
 

@@ -45,7 +45,7 @@ abbrev pub IsBehindJobs : Details → Bool → ℕ → PlanParts → List Event 
 IsBehindJobs kind false workers p history texts behind = behind ≡ []
 IsBehindJobs kind true workers p history texts behind = IsJobsSchedule kind workers p history texts behind
 
--- the same of any run: of jobs of which it is known beforehand what they answer, as of a suite's, or is not
+-- what is printed behind the details of any run: of jobs of which it is known beforehand what they answer, as of a suite's, or is not
 abbrev pub IsBehindRun : Details → Bool → ℕ → PlanParts → Option (List (ℕ × Reply)) → List Event → TextParts → List ℕ → Type 0
 IsBehindRun kind asked workers p None history texts behind = IsBehindJobs kind asked workers p history texts behind
 IsBehindRun kind asked workers p (Some known) history texts behind = IsBehindDetails kind asked workers p known history behind

@@ -41,7 +41,8 @@ fn namable_schedule(
     }
 }
 
-/// The same of a history with these texts, if they too are those of jobs that answer so.
+/// A schedule of this history whose steps a text can name, if one was found and the texts too are those of jobs that
+/// answer so.
 fn explaining_schedule(
     alloc: Global,
     plan: &Plan,
@@ -140,7 +141,8 @@ fn behind_details(
     schedule_line(alloc, details, found)
 }
 
-/// The same of jobs of which nobody knew that beforehand: what they answered is read off the history and its texts.
+/// What is printed behind the details of a run of jobs of which nobody knew beforehand what they answer: nothing,
+/// unless a schedule is asked for. What they answered is read off the history and its texts.
 fn behind_jobs(
     alloc: Global,
     details: Details,

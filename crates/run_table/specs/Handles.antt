@@ -40,7 +40,7 @@ module _ {B : Type 0} where
   abbrev pub worker_at : TableSeat (Slot B) (View B) → WorkerFacts
   worker_at s = worker s.me.0
 
-  -- the same, once the answer of the job that it waits for is made use of
+  -- what the worker of a seat knows once the answer of the job that it waits for is made use of
   abbrev pub ready_at : TableSeat (Slot B) (View B) → WorkerFacts
   ready_at s = ready_in s.me.0
 

@@ -57,7 +57,7 @@ IsBounded p answers workers steps passed = TakesAtMost p answers (opening p work
 abbrev pub IsShort : PlanParts → List (ℕ × Reply) → ℕ → List Step → (passed : ℕ) → Type 0
 IsShort p answers workers steps passed = IsFreeOfConflict p → TakesAtMost p answers (opening p workers) steps passed (most_steps_apart p workers)
 
--- The same of whatever steps are taken from a state on.
+-- whatever steps are taken from a state on: no more than the plan and the workers say, and a try's steps more for each turn back
 abbrev pub IsBoundedOn : PlanParts → List (ℕ × Reply) → State → Type 0
 IsBoundedOn p answers s = (steps : List Step) → TakesAtMost p answers s steps (passed_over p answers s steps) (most_steps_on p (length s.seats) + times_turned_back p answers s steps * steps_of_a_try p)
 

@@ -113,8 +113,8 @@ impl Answers {
         }
     }
 
-    /// The same as `reply`. It is found at once if it stands at this place, from 0, and the bodies rise along the
-    /// replies.
+    /// The first reply that stands with the body, if one does. It is found at once if it stands at this place, from 0,
+    /// and the bodies rise along the replies; else as `reply` finds it.
     pub fn reply_near(&self, place: usize, body: BodyId) -> Option<&Reply>
         ensures { MatchOption result (reply_to self.now body ≡ None)
             (λ reply. reply_to self.now body ≡ Some reply.now) }

@@ -60,7 +60,7 @@ fn next_free(statuses: &[NodeStatus], lowest: usize) -> Next
     Next { action, lowest }
 }
 
-/// The same of a worker whose task is decided, free or not.
+/// What a worker does next, free or not, whose task is decided.
 fn choice(
     plan: &Plan,
     statuses: &[NodeStatus],

@@ -117,7 +117,8 @@ impl Machine {
         }
     }
 
-    /// The same of one with a factory in hand: it takes the dynamic test that this waits for, or goes on with it.
+    /// What a free worker does with a factory in hand, if anything: it takes the dynamic test that this waits for, or
+    /// goes on with it.
     fn next_of_hand(&self, plan: &Plan, hand: &Hand, answer: Answer) -> Option<Action>
         requires inside { hand.now.factory < size plan.now.tree }
         requires factory { is_factory_at plan.now.tree hand.now.factory ≡ true }

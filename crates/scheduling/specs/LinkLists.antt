@@ -23,7 +23,7 @@ is_same_child p n c = is_child p.tree n c && stays p c
 abbrev pub is_offered : PlanParts → ℕ → Bool
 is_offered p c = in_batch p (parent_of p.tree c) c
 
--- the same links where only the nodes from number `from` on are linked
+-- these links, as far as only the nodes from number `from` on are linked
 pub record IsLinkedFrom (t : Nodes) (q : ℕ → ℕ → Bool) (from : ℕ) (l : Links) : Type 0 where
   pub first_len : length l.first.items ≡ size t
   pub next_len : length l.next.items ≡ size t

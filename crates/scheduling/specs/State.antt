@@ -57,7 +57,7 @@ opening_slot (Admitting c) = false
 opening_slot Guarding = false
 opening_slot _ = true
 
--- the same of its after-body
+-- whether the job of its after-body may be in its worker's hands
 abbrev pub closing_slot : Closing → Bool
 closing_slot AwaitingAfter = true
 closing_slot _ = false

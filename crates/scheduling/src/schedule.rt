@@ -57,7 +57,7 @@ pub fn opening_action(opening: &Opening) -> Action
     }
 }
 
-/// The same of one that closes a node.
+/// The one step that a task allows which closes a node and is decided.
 pub fn closing_action(closing: &Closing) -> Action
     ensures { result ≡ closing_action_of closing.now }
 {
@@ -102,7 +102,7 @@ pub fn lowest_opening(node: NodeId, opening: &Opening, lowest: usize) -> usize
     }
 }
 
-/// The same of one which closes a node.
+/// The number after the step of a task which closes a node, where it was `lowest` before.
 pub fn lowest_closing(closing: &Closing, lowest: usize) -> usize
     ensures { result ≡ lower_then (offered_closing closing.now) lowest }
 {

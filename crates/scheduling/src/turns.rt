@@ -122,7 +122,7 @@ pub fn decided(plan: &Plan, turns: &Turns, answer: Answer, task: Task) -> Task
     }
 }
 
-/// The same of a task that opens a node.
+/// A task that opens a node: where it awaits an answer, as the answer decides it.
 fn opened(plan: &Plan, turns: &Turns, answer: Answer, node: NodeId, opening: Opening) -> Task
     requires turns { AreTurns plan.now turns.now }
     requires inside { node < size plan.now.tree }
@@ -134,7 +134,7 @@ fn opened(plan: &Plan, turns: &Turns, answer: Answer, node: NodeId, opening: Ope
     }
 }
 
-/// The same of a task that closes a node.
+/// A task that closes a node: where it awaits the answer of its after-body, as the answer decides it.
 fn closed(answer: Answer, node: NodeId, closing: Closing) -> Task
     ensures { (plan : PlanParts) → result ≡ decided_of plan (reply_by answer) (Task.Closes node closing) }
 {
@@ -152,7 +152,7 @@ fn stays(plan: &Plan, node: NodeId) -> bool
     is_same(plan, node) && !plan.tree().role(node).is_spare()
 }
 
-/// The same for each node.
+/// For each node whether it is executed in the thread of its parent, and is no dynamic test.
 fn same_nodes(alloc: Global, plan: &Plan) -> Result<Vec<bool>, AllocError>
     ensures { IfOk result (λ v. v.items ≡ table (stays_of plan.now) (size plan.now.tree)) }
 {

@@ -17,6 +17,6 @@ lineage t n = path_up t.parents n n
 abbrev pub is_at_or_below : Nodes → ℕ → ℕ → Bool
 is_at_or_below t a n = list_any (nat_eq a) (lineage t n)
 
--- the same as a relation: n is a, or is reached from it by one or more children
+-- that n is at or below a, as a relation: n is a, or is reached from it by one or more children
 abbrev pub AtOrBelow : Nodes → ℕ → ℕ → Type 0
 AtOrBelow t a n = (n ≡ a) ⊎ Below t a n

@@ -55,6 +55,6 @@ HasIdOrSpare t id n = HasId t id n ⊎ ((c : ℕ) × IsChild t n c × (is_spare_
 abbrev pub covers : Nodes → Selector → ℕ → Bool
 covers t selector n = list_any (names t selector) (lineage t n)
 
--- the same in a tree's words
+-- that a selector covers node n: it names n, or a node that n is below
 abbrev pub Covers : Nodes → Selector → ℕ → Type 0
 Covers t selector n = (a : ℕ) × (names t selector a ≡ true) × AtOrBelow t a n

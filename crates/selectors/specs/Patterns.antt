@@ -40,6 +40,6 @@ abbrev pub fits : List ℕ → List ℕ → Bool
 fits [] text = length text == 0
 fits (byte ∷ pattern) text = if byte == 42 then some_end (fits pattern) text else goes_on byte (fits pattern) text
 
--- the same as a test that reads both from their ends, as names are read; `Matches` says what it comes to
+-- whether a text matches a pattern, where both are read from their ends, as names are; `Matches` says what it comes to
 abbrev pub is_match : List ℕ → List ℕ → Bool
 is_match pattern text = fits (reverse pattern) (reverse text)

@@ -34,7 +34,7 @@ lot_of ByHash place unit = hash_of (spelling unit.id)
 abbrev pub gets : Part → ℕ → Node → Bool
 gets part place unit = lot_of part.dealing place unit % part.count == part.number - 1
 
--- the same of what a tree tells of a node; of the plan it tells nothing
+-- whether it gets what a tree tells of a node; of the plan a tree tells nothing
 abbrev pub gets_told : Part → ℕ → Option Node → Bool
 gets_told part place None = false
 gets_told part place (Some unit) = gets part place unit

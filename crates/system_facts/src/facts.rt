@@ -45,7 +45,7 @@ impl SystemFacts {
         }
     }
 
-    /// The same, lent.
+    /// These facts as the program takes them: their texts are lent.
     pub fn facts(&self) -> Facts<'_> {
         Facts {
             processors: self.processors,

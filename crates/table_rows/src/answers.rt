@@ -19,15 +19,15 @@ enum Asks {
     Nothing,
     /// What stands on standard error.
     Errors,
-    /// The same, where that is a terminal.
+    /// What stands on standard error, where that is a terminal.
     Terminal,
-    /// The same as for errors, where the output takes so many bytes, and then fails.
+    /// What stands on standard error, where the output takes so many bytes, and then fails.
     Cut(usize),
     /// Whether a second worker does something, in one of a hundred runs.
     SecondWorker,
     /// What stands on standard error, where tests of the table's own are run.
     OwnTests,
-    /// The same, where the tests of semver are run.
+    /// What stands on standard error, where the tests of semver are run.
     SemverTests,
 }
 

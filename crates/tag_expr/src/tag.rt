@@ -39,7 +39,7 @@ impl Tag {
         self.text.as_str()
     }
 
-    /// The same tag, in memory of its own.
+    /// A copy, in memory of its own.
     pub fn copy(&self, alloc: Global) -> Result<Tag, AllocError>
         ensures { IfOk result (λ tag. tag ≡ self.now) }
     {

@@ -74,7 +74,7 @@ impl TagSet {
         self.tags().is_empty()
     }
 
-    /// The same set, in memory of its own.
+    /// A copy, in memory of its own.
     pub fn copy(&self, alloc: Global) -> Result<TagSet, AllocError>
         ensures { IfOk result (λ set. set ≡ self.now) }
     {

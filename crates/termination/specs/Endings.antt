@@ -15,7 +15,7 @@ abbrev pub IsBounded : PlanParts → Type 0
 IsBounded p = (replies : ℕ → List Reply) (workers : ℕ) → workers ≤ 64 → (list : List Step) → AllReplied p replies (opening p workers) list → AllTaken p (opening p workers) list
     → length list ≤ most_steps p workers + times_turned_back p (opening p workers) list * steps_of_a_try p
 
--- The same, however often workers are turned back: there are no more steps than the plan and the number of workers say.
+-- Whatever steps they take, however often workers are turned back: there are no more than the plan and the number of workers say.
 abbrev pub IsShort : PlanParts → Type 0
 IsShort p = (replies : ℕ → List Reply) (workers : ℕ) → workers ≤ 64 → (list : List Step) → AllReplied p replies (opening p workers) list → AllTaken p (opening p workers) list
     → length list ≤ most_steps_apart p workers

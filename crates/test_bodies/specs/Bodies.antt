@@ -21,7 +21,7 @@ module _ {X Y : Type 0} {Z : Y → Type 0} {f : _} {g : _} where
   abbrev pub tests_left : Body X Y Z f g → ℕ
   tests_left body = body.tests
 
-  -- the same body, which registers one dynamic test more, or as many as before if these are 65,535
+  -- the body, which registers one dynamic test more, or as many as before if these are 65,535
   abbrev pub with_test : Body X Y Z f g → Body X Y Z f g
   with_test body = record { alloc = body.alloc; code = body.code; tests = min (body.tests + 1) 65535; answered = body.answered }
 

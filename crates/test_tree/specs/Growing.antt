@@ -114,11 +114,11 @@ module _ {B : Type 0} where
   abbrev pub IsRefused : Built B → ℕ → Sort → List ℕ → BuildCause → Type 0
   IsRefused b a sort name cause = ((cause ≡ causes.NoClass) × (is_some b.body ≡ true)) ⊎ ((b.body ≡ None) × IsRefusedOf b.tree b.marks None a sort name cause)
 
-  -- the same of a node that has a body of its own
+  -- why a node is refused that has a body of its own
   abbrev pub IsBodyRefused : Built B → ℕ → Sort → List ℕ → BuildCause → Type 0
   IsBodyRefused b a sort name cause = ((cause ≡ causes.NoClass) × (is_some b.body ≡ true)) ⊎ ((b.body ≡ None) × IsRefusedOf b.tree b.marks (Some (size b.tree)) a sort name cause)
 
-  -- the same of a dynamic test: something is declared of it; else as any node with a body
+  -- why a dynamic test is refused: something is declared of it; else as any node with a body
   abbrev pub IsDynamicRefused : Built B → ℕ → List ℕ → BuildCause → Type 0
   IsDynamicRefused b a name cause = ((cause ≡ causes.Marked) × (is_unmarked b.marks ≡ false)) ⊎ ((is_unmarked b.marks ≡ true) × IsBodyRefused b a Dynamic name cause)
 

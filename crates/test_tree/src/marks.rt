@@ -21,7 +21,7 @@ pub(crate) struct Marks {
     pub(crate) slow: Option<u32>,
 }
 
-/// The same reason, if there is one.
+/// A copy of the reason, if there is one.
 fn copied(reason: &Option<Text>) -> Result<Option<Text>, AllocError>
     ensures { IfOk result (λ copy. copy ≡ reason.now) }
 {

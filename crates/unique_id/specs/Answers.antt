@@ -13,7 +13,7 @@ abbrev pub Answers : {X Y F : Type 0} → (X → Y) → Result X F → Result Y 
 Answers view (Ok x) read = read ≡ Ok (view x)
 Answers view (Err fault) read = read ≡ Err fault
 
--- the same, unless memory ran out, which is told by the fault `no_memory`
+-- what a call answers, seen by `view`, is what the definition gives, unless memory ran out, which the fault `no_memory` tells
 abbrev pub Gives : {X Y F : Type 0} → F → (X → Y) → Result X F → Result Y F → Type 0
 Gives no_memory view (Ok x) read = read ≡ Ok (view x)
 Gives no_memory view (Err fault) read = fault ≢ no_memory → read ≡ Err fault

@@ -78,7 +78,7 @@ impl Text {
         }
     }
 
-    /// The same text, which takes no memory. An `Err` says that no more copies can be counted.
+    /// A copy. It takes no memory, since a long text is shared; an `Err` says that no more copies of it can be counted.
     pub fn copy(&self) -> Result<Text, AllocError>
         ensures { IfOk result (λ t. t ≡ self.now) }
     {

@@ -117,7 +117,7 @@ impl Segment {
         self.kind() == other.kind() && self.value() == other.value()
     }
 
-    /// The same segment, which shares its parts with this one.
+    /// A copy, which shares its parts with this segment. An `Err` says that no more copies can be counted.
     pub fn copy(&self) -> Result<Segment, AllocError>
         ensures { IfOk result (λ s. s ≡ self.now) }
     {
@@ -249,7 +249,7 @@ impl UniqueId {
         self.text() == other.text()
     }
 
-    /// The same id, which shares its parts and its text with this one.
+    /// A copy, which shares the segments and the text with this id.
     pub fn copy(&self, alloc: Global) -> Result<UniqueId, AllocError>
         ensures { IfOk result (λ id. id ≡ self.now) }
     {

@@ -79,7 +79,7 @@ abbrev pub seeded_words : (seed : ℕ) → (is_value : Bool) → List Text → L
 seeded_words seed is_value [] = []
 seeded_words seed is_value (word ∷ more) = seeded_word seed is_value word ∷ seeded_words seed (bytes_eq word (codes "--seed")) more
 
--- the same, where there is such a seed
+-- these words, with this seed for each that asks for any; as they stand where there is no seed
 abbrev pub with_seed : Option ℕ → List Text → List Text
 with_seed None words = words
 with_seed (Some seed) words = seeded_words seed false words

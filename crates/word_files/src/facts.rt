@@ -234,7 +234,7 @@ fn seeded_words(alloc: Global, words: &[String], seed: u64) -> Result<Vec<String
     Ok(all)
 }
 
-/// The same, where there is such a seed.
+/// These words, with this seed for each that asks for any; as they stand where there is no seed.
 fn with_seed(
     alloc: Global,
     words: Vec<String>,

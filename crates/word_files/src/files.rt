@@ -48,7 +48,7 @@ fn joined(alloc: Global, front: &str, words: &[String]) -> Result<Vec<String>, A
     Ok(all)
 }
 
-/// The same of words, if there are words.
+/// The one word that `joined` makes of this text and these words, if there are words.
 fn maybe_joined(
     alloc: Global,
     front: &str,

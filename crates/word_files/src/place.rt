@@ -18,7 +18,7 @@ pub(crate) enum Place {
     SingleQuotes,
     /// In a word, between two `"`.
     DoubleQuotes,
-    /// The same, behind a backslash.
+    /// In a word, between two `"`, behind a backslash.
     DoubleEscape,
 }
 

@@ -36,7 +36,7 @@ with_after_body read n said = record {
   properties = read.properties;
 }
 
--- the same, unless the tree refuses it
+-- what was read with the after-body of node n, unless the tree refuses that
 abbrev pub given_after_body : ℕ → LinesRead → ℕ → Status × List ℕ → Result LinesRead SuiteFault
 given_after_body number read n said = unless_refused number (after_refusal read.tree n (after_body n)) (with_after_body read n said)
 

@@ -198,7 +198,7 @@ fn id_declared(
     id_below(alloc, tree, parent, kind, declared.name)
 }
 
-/// The same, of which all refusals but want of memory are one.
+/// The unique id that `id_declared` gives; all its refusals but want of memory are `OverLimit`.
 fn id_within(
     alloc: Global,
     tree: &Tree,
@@ -529,7 +529,7 @@ impl SuiteBuilder {
         Ok(())
     }
 
-    /// The same at the line of this number, which a refusal names.
+    /// Adds the node that a line of this level declares; a refusal names the line by this number, from 1.
     fn declare(
         &mut self,
         alloc: Global,

@@ -21,7 +21,7 @@ pub record Declaration : Type 0 where
   pub verdict : Option Verdict
   pub text : List ℕ
 
--- the same, without where its texts lie in memory
+-- what a line declares, without where its texts lie in memory
 abbrev pub declaration_of : Declared → Declaration
 declaration_of d = record { word = d.word; name = d.name.now; attributes = d.attributes; verdict = d.verdict; text = d.text.now }
 
@@ -54,11 +54,11 @@ with_verdict number word name attributes rest =
     verdict_of number word (first_word rest) (text_after_word rest)
     >>= (λ verdict. Ok (record { word = word; name = name; attributes = attributes; verdict = verdict; text = text_after_word rest }))
 
--- the same before its attributes
+-- what a node of this word and name is declared as by what is left of its line, from its attributes on
 abbrev pub with_attributes : ℕ → Word → List ℕ → List ℕ → Result Declaration SuiteFault
 with_attributes number word name rest = attributes_of number word rest >>= (λ read. with_verdict number word name read.0 read.1)
 
--- the same before its name
+-- what a node of this word is declared as by what is left of its line, from its name on
 abbrev pub with_name : ℕ → Word → List ℕ → Result Declaration SuiteFault
 with_name number word rest = if length (first_word rest) == 0 then Err (BadLine number) else with_attributes number word (first_word rest) (after_word rest)
 
