@@ -25,7 +25,6 @@ pub struct Params {
     file: Table,
 }
 
-// A crate that lets one go takes this call, and proves the drops of the parts no second time.
 impl Drop for Params {
     fn drop(self) {
         let Params {

@@ -27,7 +27,6 @@ pub struct TreeBuilder {
     bodies: BodyMarks,
 }
 
-// A crate that lets one go takes this call, and proves the drops of the parts no second time.
 impl Drop for TreeBuilder {
     fn drop(self) {
         let TreeBuilder {

@@ -15,7 +15,6 @@ pub struct Lock {
     pub mode: LockMode,
 }
 
-// A crate that lets one go takes this call, and proves the drops of the parts no second time.
 impl Drop for Lock {
     fn drop(self) {
         let Lock { key: _, mode: _ } = self;

@@ -16,7 +16,6 @@ pub struct Locks {
     shared: Option<Arc<Vec<Lock>>>,
 }
 
-// A crate that lets one go takes this call, and proves the drops of the parts no second time.
 impl Drop for Locks {
     fn drop(self) {
         let Locks {

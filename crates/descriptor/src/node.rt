@@ -46,7 +46,6 @@ pub struct Node {
     pub tags: TagSet,
 }
 
-// A crate that lets one go takes this call, and proves the drops of the parts no second time.
 impl Drop for Node {
     fn drop(self) {
         let Node {

@@ -26,7 +26,6 @@ pub struct Tree {
     nodes: Vec<Node>,
 }
 
-// A crate that lets one go takes this call, and proves the drops of the parts no second time.
 impl Drop for Tree {
     fn drop(self) {
         let Tree {

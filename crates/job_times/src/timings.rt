@@ -56,7 +56,6 @@ pub struct Timings {
     pub host: Option<String>,
 }
 
-// A crate that lets one go takes this call, and proves the drops of the parts no second time.
 impl Drop for Timings {
     fn drop(self) {
         let Timings {

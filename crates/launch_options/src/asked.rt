@@ -54,7 +54,6 @@ pub struct Options {
     pub ghost is_spread: { IsSpread params workers spread },
 }
 
-// A crate that lets one go takes this call, and proves the drops of the parts no second time.
 impl Drop for Options {
     fn drop(self) {
         let Options {

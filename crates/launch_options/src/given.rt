@@ -61,7 +61,6 @@ pub struct Given<'a> {
     pub times: bool,
 }
 
-// A crate that lets one go takes this call, and proves the drops of the parts no second time.
 impl Drop for Given<'_> {
     fn drop(self) {
         let Given {

@@ -31,7 +31,6 @@ pub struct Parkers {
     state: Parker,
 }
 
-// A crate that lets one go takes this call, and proves the drops of the parts no second time.
 impl Drop for Parkers {
     fn drop(self) {
         let Parkers {

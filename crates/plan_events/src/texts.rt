@@ -22,7 +22,6 @@ pub struct Texts {
     reasons: Vec<Option<Text>>,
 }
 
-// A crate that lets one go takes this call, and proves the drops of the parts no second time.
 impl Drop for Texts {
     fn drop(self) {
         let Texts {

@@ -31,7 +31,6 @@ pub struct ToldRun {
     texts: Texts,
 }
 
-// A crate that lets one go takes this call, and proves the drops of the parts no second time.
 impl Drop for ToldRun {
     fn drop(self) {
         let ToldRun {

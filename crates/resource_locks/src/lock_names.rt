@@ -25,7 +25,6 @@ pub struct LockNames {
     places: HashMap<String, usize>,
 }
 
-// A crate that lets one go takes this call, and proves the drops of the parts no second time.
 impl Drop for LockNames {
     fn drop(self) {
         let LockNames {

@@ -39,7 +39,6 @@ pub struct Plan {
     tolerated: u16,
 }
 
-// A crate that lets one go takes this call, and proves the drops of the parts no second time.
 impl Drop for Plan {
     fn drop(self) {
         let Plan {

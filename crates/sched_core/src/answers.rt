@@ -24,7 +24,6 @@ pub struct Answers {
     in_order: bool,
 }
 
-// A crate that lets one go takes this call, and proves the drops of the parts no second time.
 impl Drop for Answers {
     fn drop(self) {
         let Answers {

@@ -58,7 +58,6 @@ pub struct Core {
     machine: Machine,
 }
 
-// A crate that lets one go takes this call, and proves the drops of the parts no second time.
 impl Drop for Core {
     fn drop(self) {
         let Core {

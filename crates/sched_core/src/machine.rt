@@ -42,7 +42,6 @@ pub(crate) struct Machine {
     pub(crate) given: usize,
 }
 
-// A crate that lets one go takes this call, and proves the drops of the parts no second time.
 impl Drop for Machine {
     fn drop(self) {
         let Machine {

@@ -66,7 +66,6 @@ pub(crate) struct Search {
     pub(crate) is_incomplete: bool,
 }
 
-// A crate that lets one go takes this call, and proves the drops of the parts no second time.
 impl Drop for Search {
     fn drop(self) {
         let Search {

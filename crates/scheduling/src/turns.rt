@@ -28,7 +28,6 @@ pub struct Turns {
     same: Links,
 }
 
-// A crate that lets one go takes this call, and proves the drops of the parts no second time.
 impl Drop for Turns {
     fn drop(self) {
         let Turns { batch: _, same: _ } = self;

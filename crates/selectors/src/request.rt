@@ -27,7 +27,6 @@ pub struct Request {
     pub seed: Option<u64>,
 }
 
-// A crate that lets one go takes this call, and proves the drops of the parts no second time.
 impl Drop for Request {
     fn drop(self) {
         let Request {

@@ -26,7 +26,6 @@ pub struct TagExpr {
     root: Node,
 }
 
-// A crate that lets one go takes this call, and proves the drops of the parts no second time.
 impl Drop for TagExpr {
     fn drop(self) {
         let TagExpr { root: _ } = self;

@@ -15,7 +15,6 @@ pub struct Tag {
     text: String,
 }
 
-// A crate that lets one go takes this call, and proves the drops of the parts no second time.
 impl Drop for Tag {
     fn drop(self) {
         let Tag { text: _ } = self;

@@ -16,7 +16,6 @@ pub struct TagSet {
     table: Option<Box<TagTable>>,
 }
 
-// A crate that lets one go takes this call, and proves the drops of the parts no second time.
 impl Drop for TagSet {
     fn drop(self) {
         let TagSet { alloc: _, table: _ } = self;

@@ -25,7 +25,6 @@ pub struct Text {
     bytes: Bytes,
 }
 
-// A crate that lets one go takes this call, and proves the drops of the parts no second time.
 impl Drop for Text {
     fn drop(self) {
         let Text { bytes: _ } = self;

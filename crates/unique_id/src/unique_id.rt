@@ -53,7 +53,6 @@ pub struct Segment {
     named: Arc<Named>,
 }
 
-// A crate that lets one go takes this call, and proves the drops of the parts no second time.
 impl Drop for Segment {
     fn drop(self) {
         let Segment { named: _ } = self;
@@ -134,7 +133,6 @@ pub struct UniqueId {
     named: Arc<Named>,
 }
 
-// A crate that lets one go takes this call, and proves the drops of the parts no second time.
 impl Drop for UniqueId {
     fn drop(self) {
         let UniqueId { path: _, named: _ } = self;

@@ -36,7 +36,6 @@ pub(crate) struct SuiteBuilder {
     properties: Params,
 }
 
-// A crate that lets one go takes this call, and proves the drops of the parts no second time.
 impl Drop for SuiteBuilder {
     fn drop(self) {
         let SuiteBuilder {
