@@ -67,7 +67,7 @@ fn add_lock(alloc: Global, node: &mut Node, word: &str) {
     let _ = node.locks.push(Lock { key, mode });
 }
 
-/// Gives a node what a word says for which no memory is taken, and tells whether it says that.
+/// Gives a node what a token says for which no memory is taken, and tells whether it says that.
 fn is_set(node: &mut Node, key: &str, value: &str) -> bool {
     match key {
         "body" => node.body = body_of(value),
@@ -80,7 +80,7 @@ fn is_set(node: &mut Node, key: &str, value: &str) -> bool {
     true
 }
 
-/// Gives a node what a word says.
+/// Gives a node what a token says.
 fn attribute(alloc: Global, node: &mut Node, word: &str) {
     let (key, value) = key_and_value(word);
     match key {
@@ -92,7 +92,7 @@ fn attribute(alloc: Global, node: &mut Node, word: &str) {
     }
 }
 
-/// A node of this kind, named by its id, of which the words say more.
+/// A node of this kind, named by its id, of which the tokens say more.
 fn made(alloc: Global, kind: &str, id: UniqueId, words: &str) -> Node {
     let name = text_of(alloc, id.text());
     let mut node = Node::plain(alloc, id, name, kind_of(kind));

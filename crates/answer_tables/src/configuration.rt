@@ -4,7 +4,7 @@ use config_params::{Params, ParamsFault, Settings, SettingsFault, Source, pair_o
 use run_answers::{PREFIX, key_and_value, say, show};
 use std::alloc::Global;
 
-/// Puts one word into a source; the number is the item's.
+/// Puts one token into a source; the number is the item's.
 fn put_word(
     alloc: Global,
     params: &mut Params,
@@ -62,7 +62,7 @@ fn request_word(alloc: Global, params: &mut Params, word: &str) {
     drop(whole)
 }
 
-/// The settings that a request's words give, on a machine of four processors.
+/// The settings that a request's tokens give, on a machine of four processors.
 pub(crate) fn requested(alloc: Global, words: &str) -> Result<Settings, SettingsFault> {
     let mut params = Params::new(alloc);
     for word in words.split(' ') {

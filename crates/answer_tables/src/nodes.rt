@@ -16,7 +16,7 @@ fn kind_word(kind: Kind) -> &'static str {
     }
 }
 
-/// Adds a body behind a word, if there is one.
+/// Adds a body behind a token, if there is one.
 fn push_body(answer: &mut String, word: &str, body: Option<BodyId>) {
     if let Some(body) = body {
         show(answer, word, body.number())
@@ -79,7 +79,7 @@ pub(crate) fn push_nodes_text(answer: &mut String, tree: &Tree) {
     push_each(answer, tree)
 }
 
-/// Adds those of the words that are tags of a node, or that it has none.
+/// Adds those of the tokens that are tags of a node, or that it has none.
 fn push_tags(answer: &mut String, tags: &TagSet, words: &str) {
     if tags.is_empty() {
         return say(answer, " no tags");
@@ -91,7 +91,7 @@ fn push_tags(answer: &mut String, tags: &TagSet, words: &str) {
     }
 }
 
-/// Adds a line for each node, with those of the words that are its tags.
+/// Adds a line for each node, with those of the tokens that are its tags.
 pub(crate) fn push_tags_text(answer: &mut String, tree: &Tree, words: &str) {
     for number in 0..tree.len() {
         show(answer, "\n", number);

@@ -103,7 +103,7 @@ fn push_hoisted(
     }
 }
 
-/// Adds what is asked of the plan of a tree where the request has these words, before the steps. The numbers of nodes
+/// Adds what is asked of the plan of a tree where the request has these tokens, before the steps. The numbers of nodes
 /// are no keys of it.
 pub(crate) fn push_planned(
     alloc: Global,

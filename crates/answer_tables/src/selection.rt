@@ -6,7 +6,7 @@ use selectors::{Request, Selector, SelectorKind, discover};
 use std::alloc::Global;
 use tag_expr::TagExpr;
 
-/// The kind of a selector, by its word.
+/// The kind of a selector, by its name.
 pub(crate) fn selector_kind(word: &str) -> SelectorKind {
     match word {
         "id" => SelectorKind::UniqueId,
@@ -25,7 +25,7 @@ fn keep<T: Drop, F: Drop>(list: &mut Vec<T>, read: Result<T, F>) -> bool {
     }
 }
 
-/// Adds what a word such as `class=a.B` or `include=a & b` asks for, and tells whether it could be read.
+/// Adds what a token such as `class=a.B` or `include=a & b` asks for, and tells whether it could be read.
 fn add(alloc: Global, request: &mut Request, word: &str) -> bool {
     match key_and_value(word) {
         ("", "") => true,
@@ -38,7 +38,7 @@ fn add(alloc: Global, request: &mut Request, word: &str) -> bool {
     }
 }
 
-/// Adds what words between semicolons ask for, and tells whether each could be read.
+/// Adds what tokens between semicolons ask for, and tells whether each could be read.
 fn add_all(alloc: Global, request: &mut Request, words: &str) -> bool {
     for word in words.split("; ") {
         if !add(alloc, request, word) {
@@ -71,7 +71,7 @@ fn push_answered(alloc: Global, answer: &mut String, tree: &Tree, request: &Requ
     }
 }
 
-/// Adds the names of what words between semicolons ask for, or the refusal.
+/// Adds the names of what tokens between semicolons ask for, or the refusal.
 pub(crate) fn push_found(alloc: Global, answer: &mut String, tree: &Tree, words: &str) {
     let mut request = Request {
         selectors: Vec::new(alloc),

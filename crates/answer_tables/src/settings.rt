@@ -1,4 +1,4 @@
-//! Questions about configurations. Behind the question stand, each behind a bar, the words (`R:`,
+//! Questions about configurations. Behind the question stand, each behind a bar, the tokens (`R:`,
 //! `S:`) and the texts of properties (`F:`) that are put in first.
 
 use crate::configuration::put_items;

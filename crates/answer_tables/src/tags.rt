@@ -31,7 +31,7 @@ fn set_of(alloc: Global, tags: &str) -> TagSet {
     set
 }
 
-/// Whether an expression is true of the tags of words, or of those of two sets with `~` between them together.
+/// Whether an expression is true of the tags of tokens, or of those of two sets with `~` between them together.
 fn holds(alloc: Global, expression: &TagExpr, tags: &str) -> bool {
     match tags.split_once('~') {
         Some((one, other)) => {

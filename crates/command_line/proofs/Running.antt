@@ -1,4 +1,4 @@
--- What the words gave is run, or refused, whatever the reader is.
+-- What the arguments gave is run, or refused, whatever the reader is.
 use Rattle.std.proofs.Common.{◌≡◌, ◌⊎◌, ◌∙◌, ℕ, Bool, true, false, List, take, Option, IfErr, IfSome, None, Some, Result, Ok, Err, inl, inr, refl, ap, subst, sym}
 use Rattle.std.specs.Io.KnownBytes.{Keeps}
 use Rattle.std.specs.Result.{IsErrAnd}
@@ -22,12 +22,12 @@ use Rattle.command_line.proofs.Ended.{closes_refused}
 use Rattle.command_line.proofs.Watched.{none_told}
 
 module _ {R W : Type 0} (remaining : R → Option (List ℕ)) (contents : W → Option (List ℕ)) (words : List Text) where
-  -- words that are refused
+  -- arguments that are refused
   pub words_refused : (cause : LaunchFault) (result : Result ExitStatus LaunchFault) (before : R) (left : Option (List ℕ)) (old : W) → IsErrAnd result (λ e. e ≡ cause) → ReadsWords words (Err cause) → IsConsoleRun remaining contents words before before left old old result
   words_refused cause (Ok status) before left old same reads = absurd same
   words_refused cause (Err fault) before left old same reads = record { options = Err cause; reads = reads; runs = (ap Err same, refl, refl) }
 
-  -- words that ask for something
+  -- arguments that ask for something
   pub words_run : (options : Options) (result : Result ExitStatus LaunchFault) (before after : R) (left : Option (List ℕ)) (old new : W) → ReadsWords words (Ok options)
       → IfSome (remaining before) (λ bytes. IsRun (asked_by options) (suite_read (take 1048577 bytes)) (contents old) (contents new) result)
       → TakesFrom (remaining before) left (fault_in result) (λ bytes. IsRun (asked_by options) (suite_read bytes) (contents old) (contents new) result)
@@ -43,7 +43,7 @@ pub not_refused : (result : Result Options LaunchFault) (options : Options) → 
 not_refused result options is same = cc
 
 module _ {R W K : Type 0} (remaining : R → Option (List ℕ)) (contents : W → Option (List ℕ)) (deeds : K → Option (List Deed)) (words : List Text) where
-  -- words that are refused: no file is touched
+  -- arguments that are refused: no file is touched
   abbrev pub filed_refused : (cause : LaunchFault) (before : R) (left : Option (List ℕ)) (old : W) (was : K) → ReadsWords words (Err cause) → (cause ≡ BadWords → AsksForNothing words)
       → IsFiledConsoleRun remaining contents deeds words before before left old old was was (Err cause) None
   filed_refused cause before left old was reads unasked = record {
@@ -53,7 +53,7 @@ module _ {R W K : Type 0} (remaining : R → Option (List ℕ)) (contents : W �
     runs = (refl, (refl, refl, refl, refl));
   }
 
-  -- words that ask for something, of a suite that is read from somewhere
+  -- arguments that ask for something, of a suite that is read from somewhere
   abbrev filed_suite : (options : Options) (wanted : List Wanted) (result : Result ExitStatus LaunchFault) (slowest : Option (List ℕ)) (before after : R) (left : Option (List ℕ)) (old new : W) (was now : K) → ReadsWords words (Ok options) → wanted ≡ reports_wanted words
       → FilesSuite remaining contents deeds options (suite_wanted words) wanted before after left old new was now result slowest → IsFiledConsoleRun remaining contents deeds words before after left old new was now result slowest
   filed_suite options wanted result slowest before after left old new was now reads is runs = record {

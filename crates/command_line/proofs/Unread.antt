@@ -1,4 +1,4 @@
--- What is done with words that were refused.
+-- What is done with arguments that were refused.
 use Rattle.std.proofs.Common.{◌≡◌, ◌≢◌, ℕ, Bool, List, Option, None, Some, IfOk, Result, Ok, Err, inl, inr, refl}
 use Rattle.command_words.specs.Infos.{IsInfoAsked}
 use Rattle.command_words.specs.Words.{ReadsWords}
@@ -16,7 +16,7 @@ use Rattle.command_line.proofs.Ended.{closes_refused}
 use Rattle.command_line.proofs.Running.{filed_refused}
 use Rattle.command_line.proofs.Watched.{none_told}
 
--- what clap says of the words is what they ask for
+-- what clap says of the arguments is what they ask for
 pub asked_after : {X E : Type 0} (request : X → Option InfoRequest) (result : Result X E) (fault : LaunchFault) (words : List Text) → IfOk result (λ x. IsInfoAsked words (request x)) → IfOk result (λ x. AsksAfter fault words (request x))
 asked_after request (Ok x) fault words is = by (request x) is
   where
@@ -25,12 +25,12 @@ asked_after request (Ok x) fault words is = by (request x) is
     by (Some info) is = is
 asked_after request (Err error) fault words is = tt
 
--- want of memory is a reading of any words
+-- want of memory is a reading of any arguments
 pub reads_nothing : (words : List Text) → ReadsWords words (Err NoMemory)
 reads_nothing words = record { cut = Err NoMemory; cuts = λ other. absurd (other refl); asks = refl }
 
 module _ {R W E K : Type 0} (remaining : R → Option (List ℕ)) (contents : W → Option (List ℕ)) (said : E → Option (List ℕ)) (deeds : K → Option (List Deed)) (is_terminal is_typed : Bool) (words : List Text) where
-  -- this is said of words that are refused
+  -- this is said of arguments that are refused
   refused : (cause : LaunchFault) (before : R) (old new : W) (first last : E) (was : K) (ending : Ending) → ReadsWords words (Err cause) → RefusesWords sentence_of contents said words cause old new first last ending
       → IsMainRun remaining contents said deeds is_terminal is_typed words before before old new first last was was ending
   refused cause before old new first last was ending reads refuses = record {
@@ -46,7 +46,7 @@ module _ {R W E K : Type 0} (remaining : R → Option (List ℕ)) (contents : W 
     closed = closes_refused sentence_of contents said cause old new first last ending refuses.closes;
   }
 
-  -- words that ask for help are told it, and of others the refusal is said
+  -- arguments that ask for help are told it, and of others the refusal is said
   pub unread_answer : (fault : LaunchFault) (before : R) (old new : W) (first last : E) (was : K) (ending : Ending) → ReadsWords words (Err fault) → EndsUnread sentence_of contents said words fault old new first last ending
       → AnswersWords remaining contents said deeds is_terminal is_typed words before before old new first last was was ending
   unread_answer fault before old new first last was ending reads (inl told) = inl (refl, told.0, refl, told.1)

@@ -14,7 +14,7 @@ abbrev pub status_told : (all : Bool) → ℕ
 status_told true = 0
 status_told false = 255
 
--- what words that were refused for this reason ask for in place of a run, if they do
+-- what arguments that were refused for this reason ask for in place of a run, if they do
 abbrev pub AsksAfter : LaunchFault → List Text → Option InfoRequest → Type 0
 AsksAfter fault words None = fault ≡ BadWords → AsksForNothing words
 AsksAfter fault words (Some request) = AsksFor words request
@@ -26,7 +26,7 @@ module _ {W : Type 0} (contents : W → Option (List ℕ)) where
     pub silent : ending.is_told ≡ true
     pub status : ending.status ≡ status_told ending.is_printed
 
-  -- the words ask for this in place of a run, and are told a text
+  -- the arguments ask for this in place of a run, and are told a text
   pub record AnswersInfo (words : List Text) (old new : W) (ending : Ending) : Type 0 where
     pub request : InfoRequest
     pub asks : AsksFor words request
@@ -34,13 +34,13 @@ module _ {W : Type 0} (contents : W → Option (List ℕ)) where
     pub tells : TellsInfo text old new ending
 
 module _ {W E : Type 0} (sentence : Sentences) (contents : W → Option (List ℕ)) (said : E → Option (List ℕ)) where
-  -- this cause is said of words that ask for nothing else
+  -- this cause is said of arguments that ask for nothing else
   pub record RefusesWords (words : List Text) (cause : LaunchFault) (old new : W) (first last : E) (ending : Ending) : Type 0 where
     pub unasked : cause ≡ BadWords → AsksForNothing words
     pub closes : Closes sentence contents said (Err cause) old new first last ending
 
-  -- words that were refused for this reason: those that ask for help, or for the version, are told it, and of all others the reason is said,
-  -- or that there was not enough memory
+  -- arguments that were refused for this reason: those that ask for help, or for the version, are told it, and of all others the reason is
+  -- said, or that there was not enough memory
   abbrev pub EndsUnread : List Text → LaunchFault → (old new : W) → (first last : E) → Ending → Type 0
   EndsUnread words fault old new first last ending =
       ((last ≡ first) × AnswersInfo contents words old new ending)

@@ -1,4 +1,4 @@
--- What the program reads and writes by the words of its command line.
+-- What the program reads and writes by the arguments of its command line.
 use Rattle.std.specs.Prelude.{◌≡◌, ◌<◌, ◌⊎◌, ◌++◌, ℕ, Bool, true, false, List, codes, length, take, string_bytes, Option, Some, None, IfErr, IfOk, IfSome, IsSomeAnd, Result, Ok, Err}
 use Rattle.std.specs.Fmt.{decimal}
 use Rattle.std.specs.Io.KnownBytes.{Appends, Keeps}
@@ -31,13 +31,13 @@ use Rattle.command_words.specs.Words.{ReadsWords, reports_wanted, suite_wanted}
 use Rattle.command_line.specs.declared.closing.Ending.{Ending}
 
 module _ {R W : Type 0} (remaining : R → Option (List ℕ)) (contents : W → Option (List ℕ)) where
-  -- what is done with what the words gave: options are run, and this is left to read; a refusal is answered, and neither reader nor
+  -- what is done with what the arguments gave: options are run, and this is left to read; a refusal is answered, and neither reader nor
   -- writer is touched
   abbrev pub RunsOptions : Result Options LaunchFault → (before after : R) → (left : Option (List ℕ)) → (old new : W) → Result ExitStatus LaunchFault → Type 0
   RunsOptions (Ok options) before after left old new result = RunsAsked (asked_by options) (remaining before) left (contents old) (contents new) result
   RunsOptions (Err fault) before after left old new result = (result ≡ Err fault) × (after ≡ before) × (new ≡ old)
 
-  -- the words are read, and what that gave is run
+  -- the arguments are read, and what that gave is run
   pub record IsConsoleRun (words : List Text) (before after : R) (left : Option (List ℕ)) (old new : W) (result : Result ExitStatus LaunchFault) : Type 0 where
     pub options : Result Options LaunchFault
     pub reads : ReadsWords words options
@@ -63,12 +63,12 @@ module _ {R W K : Type 0} (remaining : R → Option (List ℕ)) (contents : W �
       ((bytes : List ℕ) × IsTimedRun (asked_by options) wanted (Some bytes) left (contents old) (contents new) (deeds was) (deeds now) result slowest)
       ⊎ (IsUnrun Reading old new was now result slowest ⊎ IsUnrun NoMemory old new was now result slowest))
 
-  -- what is done with what the words gave: of what is refused neither reader nor writer is touched
+  -- what is done with what the arguments gave: of what is refused neither reader nor writer is touched
   abbrev pub FilesOptions : Result Options LaunchFault → (suite : Option Text) → List Wanted → (before after : R) → (left : Option (List ℕ)) → (old new : W) → (was now : K) → Result ExitStatus LaunchFault → (slowest : Option (List ℕ)) → Type 0
   FilesOptions (Ok options) suite wanted before after left old new was now result slowest = FilesSuite options suite wanted before after left old new was now result slowest
   FilesOptions (Err fault) suite wanted before after left old new was now result slowest = (after ≡ before) × IsUnrun fault old new was now result slowest
 
-  -- the words are read, and what that gave is run, with the reports that they ask for; words that are refused ask for no help
+  -- the arguments are read, and what that gave is run, with the reports that they ask for; arguments that are refused ask for no help
   pub record IsFiledConsoleRun (words : List Text) (before after : R) (left : Option (List ℕ)) (old new : W) (was now : K) (result : Result ExitStatus LaunchFault) (slowest : Option (List ℕ)) : Type 0 where
     pub options : Result Options LaunchFault
     pub reads : ReadsWords words options
@@ -148,7 +148,7 @@ module _ {W : Type 0} (contents : W → Option (List ℕ)) where
   abbrev pub SaysHints : (old new : W) → Type 0
   SaysHints old new = SaysSome hints_text old new
 
-  -- what failed, and words that select it
+  -- what failed, and arguments that select it
   abbrev pub SaysFailures : (old new : W) → Type 0
   SaysFailures old new = SaysSome (failed_of (codes "select-unique-id")) old new
 

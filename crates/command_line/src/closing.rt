@@ -41,7 +41,7 @@ const STEPS_PASSED_OVER: &str =
 const WAITING: &str =
     "console: a suite is read from standard input; Ctrl-D ends it. --suite FILE reads one from a file, --help lists the options.\n";
 
-/// Room for the line of a refusal: its words, a number, and a place of twenty digits.
+/// Room for the line of a refusal: its sentence, a number, and a place of twenty digits.
 const LONGEST_LINE: usize = 48;
 
 /// Hands a text to a writer; tells whether all of it went out.
@@ -153,7 +153,7 @@ fn tell_info<W: Write>(info: &Info, writer: &mut W) -> Ending
     }
 }
 
-/// Says what there is to say after this answer of a run that these words asked for.
+/// Says what there is to say after this answer of a run that these arguments asked for.
 pub fn close_run<W: Write, E: Write>(
     alloc: Global,
     answer: Result<ExitStatus, LaunchFault>,
@@ -170,7 +170,7 @@ pub fn close_run<W: Write, E: Write>(
     close(answer, message, writer, errors)
 }
 
-/// What words that were refused for this reason ask for in place of a run.
+/// What arguments that were refused for this reason ask for in place of a run.
 fn info_after(
     alloc: Global,
     fault: LaunchFault,
@@ -185,8 +185,8 @@ fn info_after(
     }
 }
 
-/// Ends where words were refused for this reason. Those that ask for help, or for the version, are told it, and for all
-/// others the refusal is said; want of memory may stand in its place.
+/// Ends where arguments were refused for this reason. Those that ask for help, or for the version, are told it, and for
+/// all others the refusal is said; want of memory may stand in its place.
 pub fn close_unread<W: Write, E: Write>(
     alloc: Global,
     fault: LaunchFault,
@@ -272,7 +272,7 @@ fn says_more(options: &Options) -> bool {
     options.replay.is_none() && matches!(options.details, Details::Tree | Details::Summary)
 }
 
-/// Says what of these words, which asked for these options, and of this suite has another effect than
+/// Says what of these arguments, which asked for these options, and of this suite has another effect than
 /// it seems to have, if something does.
 fn say_hints_of<E: Write>(
     alloc: Global,
@@ -319,9 +319,9 @@ fn say_failures<E: Write>(alloc: Global, options: &Options, failures: &Failures,
     }
 }
 
-/// Says of a run with this status its seed, what of these words, which asked for these options, and of this suite has
-/// another effect than it seems to have, what failed, whether steps were passed over, and the slowest tests, if there is a
-/// list of them.
+/// Says of a run with this status its seed, what of these arguments, which asked for these options, and of this suite
+/// has another effect than it seems to have, what failed, whether steps were passed over, and the slowest tests, if
+/// there is a list of them.
 fn say_of_run<E: Write>(
     alloc: Global,
     status: ExitStatus,
@@ -363,7 +363,7 @@ fn say_if_run<E: Write>(
     }
 }
 
-/// Says what there is to say after this answer of a run that these words asked for, of its seed, of
+/// Says what there is to say after this answer of a run that these arguments asked for, of its seed, of
 /// what has another effect than it seems to have, of what failed, whether steps were passed over, and of the slowest tests,
 /// if there is a list of them.
 pub fn close_with_failures<W: Write, E: Write>(
@@ -387,7 +387,7 @@ pub fn close_with_failures<W: Write, E: Write>(
     ending
 }
 
-/// Says what there is to say where the system gave no words, for this reason.
+/// Says what there is to say where the system gave no arguments, for this reason.
 pub fn refuse<W: Write, E: Write>(
     alloc: Global,
     fault: LaunchFault,

@@ -1,5 +1,5 @@
-//! The program over any reader and writers: what the words of its command line ask for is run, and what there is to say
-//! of it is said.
+//! The program over any reader and writers: what the arguments of its command line ask for is run, and what there is to
+//! say of it is said.
 #![tactic(auto)]
 
 mod closing;

@@ -35,9 +35,9 @@ use word_files::{Facts, TextFiles};
 /// How many bytes are read of a file: one more than a suite may have.
 const MOST_READ: usize = LONGEST_SUITE + 1;
 
-/// Runs the suite that the reader holds, with the options that the words give; the first word is
-/// the program's name. Words that give no options are refused as `read_options` says, and then
-/// nothing is read and nothing is written. Everything else is as `run_options` says. Reports that the words ask for
+/// Runs the suite that the reader holds, with the options that the arguments give; the first argument is
+/// the program's name. Arguments that give no options are refused as `read_options` says, and then
+/// nothing is read and nothing is written. Everything else is as `run_options` says. Reports that the arguments ask for
 /// are not written, no file that they name is read, and how long tests took is not told, since there is no clock.
 pub fn run_console<T: Threads + Wait + Sync, R: Read, W: Write>(
     rt: &T,
@@ -55,7 +55,7 @@ pub fn run_console<T: Threads + Wait + Sync, R: Read, W: Write>(
     answer
 }
 
-/// Runs what the words ask for on the machine of this name. Meanwhile it is told on the other writer, if that is a
+/// Runs what the arguments ask for on the machine of this name. Meanwhile it is told on the other writer, if that is a
 /// terminal, how far the run has come, and else which tests run longer than their limit. The nodes that failed are kept
 /// in this list.
 fn run_told<
@@ -95,8 +95,8 @@ fn run_told<
     }
 }
 
-/// Runs what these words asked for of the suite of this source, of which nothing is kept yet, and says what there is to say of the answer and of what
-/// failed.
+/// Runs what these arguments asked for of the suite of this source, of which nothing is kept yet, and says what there
+/// is to say of the answer and of what failed.
 fn run_source<
     T: Threads + Wait + Sync,
     C: Clock + Sync + Drop,
@@ -148,8 +148,8 @@ fn run_source<
     ending
 }
 
-/// Runs what these words asked for of the suite that this file has, and touches no reader; a file that cannot be read is
-/// refusal 106.
+/// Runs what these arguments asked for of the suite that this file has, and touches no reader; a file that cannot be
+/// read is refusal 106.
 fn run_file<
     T: Threads + Wait + Sync,
     C: Clock + Sync + Drop,
@@ -218,7 +218,7 @@ fn run_file<
     }
 }
 
-/// Runs what these words asked for of the suite that is left of the reader, or of that of a file, if one is named.
+/// Runs what these arguments asked for of the suite that is left of the reader, or of that of a file, if one is named.
 fn run_read<
     T: Threads + Wait + Sync,
     C: Clock + Sync + Drop,
@@ -285,13 +285,14 @@ fn run_read<
     }
 }
 
-/// Runs what `run_console` runs, on the machine of this name, and keeps the reports that the words ask for; the suite is
-/// read from a file, if the words name one. Meanwhile it is told on the other writer, if that is a terminal, how far the
-/// run has come, and else which tests run longer than their limit; and before it, where standard input is a terminal, that
-/// a suite is waited for. Then it prints the line of a refusal, unless the writer failed, and its message on the other
-/// writer. Behind a tree or a summary it is said there what of the words and the suite has no effect, and what failed, with
-/// words that select it; behind a replay whether steps were passed over; and behind any run, if times are asked for, which
-/// tests were the slowest by this clock. Words that ask for help, or for the version, are told it, and nothing is run.
+/// Runs what `run_console` runs, on the machine of this name, and keeps the reports that the arguments ask for; the
+/// suite is read from a file, if the arguments name one. Meanwhile it is told on the other writer, if that is a
+/// terminal, how far the run has come, and else which tests run longer than their limit; and before it, where standard
+/// input is a terminal, that a suite is waited for. Then it prints the line of a refusal, unless the writer failed, and
+/// its message on the other writer. Behind a tree or a summary it is said there what of the arguments and the suite has
+/// no effect, and what failed, with arguments that select it; behind a replay whether steps were passed over; and
+/// behind any run, if times are asked for, which tests were the slowest by this clock. Arguments that ask for help, or
+/// for the version, are told it, and nothing is run.
 pub fn run_words<
     T: Threads + Wait + Sync,
     C: Clock + Sync + Drop,
@@ -336,8 +337,8 @@ pub fn run_words<
     }
 }
 
-/// Runs what the words ask for that these stand for, by the files that they name and by what the
-/// system tells. Where a file of words or a saved run cannot be read, that is what is refused.
+/// Runs what the arguments ask for that these stand for, by the files that they name and by what the
+/// system tells. Where a file of arguments or a saved run cannot be read, that is what is refused.
 fn run_given<
     T: Threads + Wait + Sync,
     C: Clock + Sync + Drop,
@@ -387,8 +388,9 @@ fn run_given<
     }
 }
 
-/// What `main` does with what the system gives and tells it: what `run_words` does with the words that those stand for
-/// which the system gave. Where it gave none, that is what is refused. All that is left to do is to end with the status.
+/// What `main` does with what the system gives and tells it: what `run_words` does with the arguments that those stand
+/// for which the system gave. Where it gave none, that is what is refused. All that is left to do is to end with the
+/// status.
 pub fn run_main<
     T: Threads + Wait + Sync,
     C: Clock + Sync + Drop,

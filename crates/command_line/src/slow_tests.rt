@@ -18,7 +18,7 @@ use std::sync::Wait;
 use std::thread::Threads;
 use std::time::Clock;
 
-/// Runs what the words ask for; this one names the tests that run longer than their limit.
+/// Runs what the arguments ask for; this one names the tests that run longer than their limit.
 fn run_named<
     T: Threads + Wait + Sync,
     C: Clock + Sync + Drop,
@@ -59,8 +59,8 @@ fn run_named<
     )
 }
 
-/// Runs what the words ask for on the machine of this name, and names the tests that run longer than their limit. The
-/// nodes that failed are kept in this list.
+/// Runs what the arguments ask for on the machine of this name, and names the tests that run longer than their limit.
+/// The nodes that failed are kept in this list.
 pub(crate) fn run_quiet<
     T: Threads + Wait + Sync,
     C: Clock + Sync + Drop,

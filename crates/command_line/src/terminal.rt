@@ -24,7 +24,7 @@ pub fn prints_lines(options: &Options) -> bool {
     options.replay.is_none() && options.drive.is_none() && options.details.prints_live()
 }
 
-/// Runs what the words ask for; this one draws how far the run has come.
+/// Runs what the arguments ask for; this one draws how far the run has come.
 fn run_followed<
     T: Threads + Wait + Sync,
     C: Clock + Sync + Drop,
@@ -65,9 +65,9 @@ fn run_followed<
     )
 }
 
-/// Runs what the words ask for on the machine of this name, and draws on a terminal how far the run has come, on a line
-/// that is drawn anew at most ten times a second by this clock, and is erased at the end. The nodes that failed are
-/// kept in this list.
+/// Runs what the arguments ask for on the machine of this name, and draws on a terminal how far the run has come, on a
+/// line that is drawn anew at most ten times a second by this clock, and is erased at the end. The nodes that failed
+/// are kept in this list.
 pub(crate) fn run_shown<
     T: Threads + Wait + Sync,
     C: Clock + Sync + Drop,

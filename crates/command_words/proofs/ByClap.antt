@@ -1,4 +1,4 @@
--- From what clap found to what the words give, and to why they are refused.
+-- From what clap found to what the arguments give, and to why they are refused.
 use Rattle.std.proofs.Common.{◌≡◌, ◌≢◌, ◌≤◌, List, [], ◌∷◌, length, arith, ◌⊎◌, inl, inr, true, Option, None, Some, IfOk, Result, Ok, Err, IfErr, ap, sym, subst, ◌∙◌, refl}
 use Rattle.std.specs.Result.{IsErrAnd}
 use Rattle.clap.specs.Words.{App, HasMatchesOf, IsAmong, Kinds, Text, fault_of, found_of, is_simple, is_simple_and_free, matches_of, rows_of}
@@ -38,11 +38,11 @@ no_fault [] few = refl
 no_fault (name ∷ []) few = refl
 no_fault (name ∷ word ∷ more) few = absurd (omega arith)
 
--- what clap found is what the words give
+-- what clap found is what the arguments give
 pub given_by : (app : App) (words : List Text) (m : ArgMatches) → app ≡ program → HasMatchesOf app words m → values_in (rows_of (found_of m)) ≡ values_given words
 given_by app words m is has = ap values_in ((has (ap is_simple is ∙ program_is_simple)).0 ∙ ap (λ a. matches_of a words) is)
 
--- words that clap takes have no fault
+-- arguments that clap takes have no fault
 pub faultless : (app : App) (words : List Text) → app ≡ program → (is_simple_and_free app ≡ true → fault_of app words ≡ []) → fault_of program words ≡ []
 faultless app words is kinds = ap (λ a. fault_of a words) (sym is) ∙ kinds (ap is_simple_and_free is ∙ program_is_free)
 
@@ -56,7 +56,7 @@ faulty_by words k fault kind (inl memory) other = absurd (other memory)
 faulty_by words k fault (inl memory) (inr bad) other = absurd (bad.1 memory)
 faulty_by words k fault (inr among) (inr bad) other = (bad.0, λ none. absurd (subst (IsAmong k) none among))
 
--- words that clap refuses are faulty, and are refused as such
+-- arguments that clap refuses are faulty, and are refused as such
 pub faulty : (app : App) (words : List Text) (k : ErrorKind) (fault : LaunchFault) → app ≡ program
     → (is_simple_and_free app ≡ true → (k ≡ kinds.OutOfMemory) ⊎ IsAmong k (fault_of app words)) → IsWordsFault k fault
     → fault ≢ NoMemory → (fault ≡ BadWords) × (fault_of program words ≢ [])
@@ -68,7 +68,7 @@ bad_where_faulty : (found : Kinds) (refusal : Option LaunchFault) → found ≢ 
 bad_where_faulty [] refusal some = absurd (some refl)
 bad_where_faulty (x ∷ xs) refusal some = refl
 
--- faulty words are refused
+-- faulty arguments are refused
 pub refused : {X : Type 0} (words : List Text) (cause : LaunchFault) (result : Result X LaunchFault) → IsErrAnd result (λ e. e ≡ cause)
     → (cause ≢ NoMemory → (cause ≡ BadWords) × (fault_of program words ≢ [])) → IfErr result (λ fault. fault ≢ NoMemory → words_refusal words ≡ Some fault)
 refused words cause (Ok options) same is = absurd same
@@ -80,7 +80,7 @@ asks_by : (words : List Text) (k : ErrorKind) (request : Option InfoRequest) →
 asks_by words k None among is = inr (k, among, sym is)
 asks_by words k (Some request) among is = (k, among, sym is)
 
--- what keeps clap from reading the words says what they ask for
+-- what keeps clap from reading the arguments says what they ask for
 pub asks : (app : App) (words : List Text) (k : ErrorKind) (request : Option InfoRequest) → app ≡ program
     → (is_simple_and_free app ≡ true → (k ≡ kinds.OutOfMemory) ⊎ IsAmong k (fault_of app words)) → k ≢ kinds.OutOfMemory → request ≡ request_of k → IsInfoAsked words request
 asks app words k request is kind other asked =

@@ -1,4 +1,4 @@
--- What the cut words ask for, or why they are refused.
+-- What the cut arguments ask for, or why they are refused.
 use Rattle.std.proofs.Common.{◌≡◌, ◌≢◌, ◌∙◌, map, IfErr, IfOk, List, Result, Ok, Err, ap, ap₂, subst, sym}
 use Rattle.std.specs.Prelude.{None, Some}
 use Rattle.std.specs.List.{filter_map}
@@ -25,7 +25,7 @@ module _ (words : List Text) where
       → IfErr result (λ fault. fault ≢ NoMemory → refusal_of values ≡ Some fault) → IfErr result (λ fault. fault ≡ NoMemory → refusal_of values ≡ None) → ReadsWords words result
   reads_cut values result cuts asked accepted refused no_memory = record { cut = Ok values; cuts = cuts; asks = asks_cut values result asked accepted refused no_memory }
 
-  -- words that clap takes are judged as the values are that it found
+  -- arguments that clap takes are judged as the values are that it found
   judged : (values : Values) → CutsWords words (Ok values) → words_refusal words ≡ refusal_of values
   judged values cuts = ap₂ where_faultless cuts.1 (ap refusal_of (sym cuts.0))
 

@@ -1,4 +1,4 @@
--- The words that words stand for, one word after the other.
+-- The arguments that arguments stand for, one argument after the other.
 use Rattle.std.proofs.Common.{◌≡◌, ◌≢◌, ℕ, ◌+◌, ◌<◌, List, [], ◌∷◌, ◌++◌, length, take, drop, get_or, map, Result, Ok, Err, IfErr, MatchResult, sym, ap, ◌∙◌, subst}
 use Rattle.std.specs.Result.{IsErrAnd}
 use Rattle.std.proofs.lemmas.List.{drop_more, map-append, take-append-drop}
@@ -12,7 +12,7 @@ use Rattle.command_words.specs.declared.rerun_role.Before.{Before}
 use Rattle.command_words.specs.declared.rerun_role.Before.TheVariants.{Nothing}
 
 module _ {X : Type 0} (text : X → Text) (words : List X) (i : ℕ) (d : X) (inside : i < length words) where
-  -- one word more
+  -- one argument more
   pub stand_more : (before next : Before) (all now : List Text) (meaning : Meaning) → StandFor (map text (take i words)) before all
       → meaning ≡ role_of before (text (get_or words i d)) → ((more : List Text) × MeansWords meaning more × (now ≡ all ++ more)) → next ≡ before_of before (text (get_or words i d))
       → StandFor (map text (take (i + 1) words)) next now
@@ -23,7 +23,7 @@ module _ {X : Type 0} (text : X → Text) (words : List X) (i : ℕ) (d : X) (in
       let two = subst (λ (b : Before). StandFor (map text (take (i + 1) words)) b (all ++ pieces.0)) (sym is_next) one in
       subst (λ (ws : List Text). StandFor (map text (take (i + 1) words)) next ws) (sym pieces.2) two
 
-  -- the next word names what is no saved run
+  -- the next argument names what is no saved run
   pub unread : (before : Before) (all : List Text) (meaning : Meaning) (fault : LaunchFault) → StandFor (map text (take i words)) before all
       → meaning ≡ role_of before (text (get_or words i d)) → ((file : Text) × (meaning ≡ Saved file) × IsNoRun fault) → IsUnreadRun (map text words) fault
   unread before all meaning fault so_far is_meaning refused = record {
@@ -41,7 +41,7 @@ module _ {X : Type 0} (text : X → Text) (words : List X) (i : ℕ) (d : X) (in
     why = refused.2;
   }
 
--- no word stands for none
+-- no argument stands for none
 pub stand_none : {X : Type 0} (text : X → Text) (all : List X) → all ≡ [] → StandFor [] Nothing (map text all)
 stand_none text [] is = none_yet
 stand_none text (x ∷ xs) is = cc

@@ -1,4 +1,4 @@
--- The words that the words of a command line stand for, of which some name saved runs.
+-- The arguments that the arguments of a command line stand for, of which some name saved runs.
 use Rattle.std.specs.Prelude.{◌≡◌, ◌≢◌, ◌⊎◌, ℕ, ◌++◌, List, [], ◌∷◌, codes, Result, Ok, Err}
 use Rattle.launch_options.specs.declared.fault.LaunchFault.{LaunchFault}
 use Rattle.launch_options.specs.declared.fault.LaunchFault.TheVariants.{NoMemory, UnreadRun, BadSavedLine}
@@ -12,21 +12,21 @@ use Rattle.command_words.specs.RerunWords.{words_of}
 use Rattle.command_words.specs.declared.rerun_role.Before.{Before}
 use Rattle.command_words.specs.declared.rerun_role.Before.TheVariants.{Nothing, RerunFailed, Other}
 
--- a text tells of a saved run, which stands for these words
+-- a text tells of a saved run, which stands for these arguments
 pub record ArePieces (words : List Text) : Type 0 where
   pub text : Text
   pub told : List Told
   pub tell : Tell (whole_lines text) told
   pub are : words ≡ words_of told
 
--- what a word stands for is these words: of a file, by some text of it
+-- what an argument stands for is these arguments: of a file, by some text of it
 abbrev pub MeansWords : Meaning → List Text → Type 0
 MeansWords (Itself word) words = words ≡ word ∷ []
 MeansWords Naming words = words ≡ []
 MeansWords (Saved file) words = ArePieces words
 
--- The words stand for all of these: of each word, in their order, those that it stands for. What stands before the next word is kept
--- besides.
+-- The arguments stand for all of these: of each argument, in their order, those that it stands for. What stands before the next argument is
+-- kept besides.
 pub data StandFor : (words : List Text) → Before → (all : List Text) → Type 0 where
   none_yet : StandFor [] Nothing []
   one_more : {words : List Text} {before : Before} {all : List Text} → StandFor words before all → (word : Text) (more : List Text) → MeansWords (role_of before word) more
@@ -38,7 +38,7 @@ with_last Nothing all = all
 with_last RerunFailed all = all ++ codes "--rerun-failed" ∷ []
 with_last Other all = all
 
--- the words stand for others, by the saved runs that they name
+-- the arguments stand for others, by the saved runs that they name
 pub record IsRerun (words expanded : List Text) : Type 0 where
   pub last : Before
   pub all : List Text
@@ -49,7 +49,7 @@ pub record IsRerun (words expanded : List Text) : Type 0 where
 abbrev pub IsNoRun : LaunchFault → Type 0
 IsNoRun fault = (fault ≡ UnreadRun) ⊎ ((text : Text) × (number : ℕ) × (fault ≡ BadSavedLine number) × IsFirstBad number (whole_lines text))
 
--- a word names what is no saved run; the words before stand for others
+-- an argument names what is no saved run; the arguments before stand for others
 pub record IsUnreadRun (words : List Text) (fault : LaunchFault) : Type 0 where
   pub front : List Text
   pub word : Text
@@ -62,17 +62,18 @@ pub record IsUnreadRun (words : List Text) (fault : LaunchFault) : Type 0 where
   pub names : role_of before word ≡ Saved file
   pub why : IsNoRun fault
 
--- the words stand for others by the files of words that they name and by what the system tells, and these by the saved runs that they name
+-- the arguments stand for others by the files of arguments that they name and by what the system tells, and these by the saved runs that
+-- they name
 pub record IsWhole (facts : Facts) (words all : List Text) : Type 0 where
   pub between : List Text
   pub expansion : IsExpansion facts words between
   pub rerun : IsRerun between all
 
--- a file of words is refused, or a saved run that is named by what they stand for
+-- a file of arguments is refused, or a saved run that is named by what they stand for
 abbrev pub IsUnreadFile : Facts → List Text → LaunchFault → Type 0
 IsUnreadFile facts words fault = IsUnread words fault ⊎ ((between : List Text) × IsExpansion facts words between × IsUnreadRun between fault)
 
--- what the words stand for, or why they stand for nothing; want of memory may stand in place of either
+-- what the arguments stand for, or why they stand for nothing; want of memory may stand in place of either
 abbrev pub StandsFor : Facts → List Text → Result (List Text) LaunchFault → Type 0
 StandsFor facts words (Ok all) = IsWhole facts words all
 StandsFor facts words (Err fault) = fault ≢ NoMemory → IsUnreadFile facts words fault

@@ -1,15 +1,15 @@
--- The words that a saved run stands for.
+-- The arguments that a saved run stands for.
 use Rattle.std.specs.Prelude.{ℕ, cond, List, [], ◌∷◌, ◌++◌, map, codes}
 use Rattle.unique_id.specs.Spelling.{spelling}
 use Rattle.unique_id.specs.declared.unique_id.Segment.{Segment}
 use Rattle.saved_runs.specs.RunAgain.{is_whole, failed_ids, done_ids}
 use Rattle.saved_runs.specs.declared.told.Told.{Told}
 
--- the word of an option with its value
+-- the argument of an option with its value
 abbrev pub option_word : List ℕ → List ℕ → List ℕ
 option_word name value = codes "--" ++ (name ++ (codes "=" ++ value))
 
--- the words of an option that is given with each of these ids
+-- the arguments of an option that is given with each of these ids
 abbrev pub words_with : List ℕ → List (List Segment) → List (List ℕ)
 words_with name ids = map (λ id. option_word name (spelling id)) ids
 

@@ -1,4 +1,4 @@
--- What the words of the command line ask for, and why they ask for nothing.
+-- What the arguments of the command line ask for, and why they ask for nothing.
 use Rattle.std.specs.Prelude.{◌≡◌, ◌≢◌, List, [], ◌∷◌, Option, Some, None, Result, Ok, Err}
 use Rattle.std.specs.List.{filter_map}
 use Rattle.clap.specs.Words.{Kinds, Text, fault_of, matches_of}
@@ -14,7 +14,7 @@ use Rattle.launch_options.specs.declared.fault.LaunchFault.TheVariants.{NoMemory
 use Rattle.command_words.specs.Commands.{program}
 use Rattle.command_words.specs.Found.{values_in}
 
--- want of memory is told apart; every other refusal of the words is one
+-- want of memory is told apart; every other refusal of the arguments is one
 abbrev pub IsWordsFault : ErrorKind → LaunchFault → Type 0
 IsWordsFault kinds.OutOfMemory fault = fault ≡ NoMemory
 IsWordsFault _ fault = fault ≡ BadWords
@@ -24,23 +24,23 @@ abbrev pub where_faultless : Kinds → Option LaunchFault → Option LaunchFault
 where_faultless [] refusal = refusal
 where_faultless (fault ∷ more) refusal = Some BadWords
 
--- what the words give the options, of which the first is the program's name
+-- what the arguments give the options, of which the first is the program's name
 abbrev pub values_given : List Text → Values
 values_given words = values_in (matches_of program words)
 
--- why the words are refused, if they are
+-- why the arguments are refused, if they are
 abbrev pub words_refusal : List Text → Option LaunchFault
 words_refusal words = where_faultless (fault_of program words) (refusal_of (values_given words))
 
--- the reports that the words ask for, each with its form and the name under which it is to stand
+-- the reports that the arguments ask for, each with its form and the name under which it is to stand
 abbrev pub reports_wanted : List Text → List (Details × Text)
 reports_wanted words = filter_map report_in (values_given words).reports
 
--- the file in which the suite is to be found, if the words name one
+-- the file in which the suite is to be found, if the arguments name one
 abbrev pub suite_wanted : List Text → Option Text
 suite_wanted words = (values_given words).suite
 
--- what clap says of the words: the values of the options, or a refusal
+-- what clap says of the arguments: the values of the options, or a refusal
 abbrev pub CutsWords : List Text → Result Values LaunchFault → Type 0
 CutsWords words (Ok values) = (values ≡ values_given words) × (fault_of program words ≡ [])
 CutsWords words (Err fault) = fault ≢ NoMemory → (fault ≡ BadWords) × (fault_of program words ≢ [])
@@ -54,13 +54,13 @@ pub record IsNotAsked (values : Values) (fault : LaunchFault) : Type 0 where
   pub refused : fault ≢ NoMemory → refusal_of values ≡ Some fault
   pub no_memory : fault ≡ NoMemory → refusal_of values ≡ None
 
--- what the cut words ask for; what clap refuses is refused
+-- what the cut arguments ask for; what clap refuses is refused
 abbrev pub AsksCut : Result Values LaunchFault → Result Options LaunchFault → Type 0
 AsksCut (Ok values) (Ok options) = IsAsked values options
 AsksCut (Ok values) (Err fault) = IsNotAsked values fault
 AsksCut (Err fault) options = options ≡ Err fault
 
--- the words are cut by clap, and then judged: so want of memory is either clap's, or hides no refusal
+-- the arguments are cut by clap, and then judged: so want of memory is either clap's, or hides no refusal
 pub record ReadsWords (words : List Text) (options : Result Options LaunchFault) : Type 0 where
   pub cut : Result Values LaunchFault
   pub cuts : CutsWords words cut

@@ -1,4 +1,4 @@
-//! The words that the words of a command line stand for, of which some name saved runs.
+//! The arguments that the arguments of a command line stand for, of which some name saved runs.
 
 ghost use Rattle.std.specs.Prelude.{◌≡◌, ◌≢◌, ◌++◌, ◌∷◌, [], List, map, string_bytes, IfOk, IfErr, MatchResult, OnOk};
 ghost use Rattle.launch_options.specs.declared.fault.LaunchFault.TheVariants.{NoMemory};
@@ -13,7 +13,7 @@ use launch_options::LaunchFault;
 use std::alloc::{AllocError, Global};
 use word_files::{Facts, TextFiles, expanded_words};
 
-/// The words that the saved run of this file stands for.
+/// The arguments that the saved run of this file stands for.
 fn saved_words<F: TextFiles>(
     alloc: Global,
     files: &mut F,
@@ -28,7 +28,7 @@ fn saved_words<F: TextFiles>(
     }
 }
 
-/// Appends a word.
+/// Appends an argument.
 fn push_word(alloc: Global, all: &mut Vec<String>, word: &str) -> Result<(), AllocError>
     ensures { OnOk result (map string_bytes all.new.items ≡ map string_bytes all.old.items ++ word.now ∷ []) }
 {
@@ -36,7 +36,7 @@ fn push_word(alloc: Global, all: &mut Vec<String>, word: &str) -> Result<(), All
     Ok(())
 }
 
-/// Appends the words that the saved run of this file stands for.
+/// Appends the arguments that the saved run of this file stands for.
 fn push_saved<F: TextFiles>(
     alloc: Global,
     all: &mut Vec<String>,
@@ -52,7 +52,7 @@ fn push_saved<F: TextFiles>(
     Ok(())
 }
 
-/// Appends the words that a word of this role stands for.
+/// Appends the arguments that an argument of this role stands for.
 fn push_pieces<F: TextFiles>(
     alloc: Global,
     all: &mut Vec<String>,
@@ -81,7 +81,7 @@ fn push_last(alloc: Global, all: &mut Vec<String>, last: Before) -> Result<(), A
     }
 }
 
-/// The words that these stand for, of which the first is the program's name: in place of `--rerun-failed`
+/// The arguments that these stand for, of which the first is the program's name: in place of `--rerun-failed`
 /// and its file those by which what failed in that run is run again. A file that cannot be read is
 /// refusal 108, and a line that is none of a saved run 109 at its number.
 fn words_again<F: TextFiles>(
@@ -102,10 +102,10 @@ fn words_again<F: TextFiles>(
     Ok(all)
 }
 
-/// The words that these stand for, of which the first is the program's name: those of the files that
+/// The arguments that these stand for, of which the first is the program's name: those of the files that
 /// they name, behind them what the system tells where they ask for it (`expanded_words` of `word_files`),
-/// and in these in place of `--rerun-failed` and its file the words by which what failed in that run is
-/// run again. Refusals: 110 of a file of words, and then 108 and 109 of a saved run.
+/// and in these in place of `--rerun-failed` and its file the arguments by which what failed in that run is
+/// run again. Refusals: 110 of a file of arguments, and then 108 and 109 of a saved run.
 pub fn all_words<F: TextFiles>(
     alloc: Global,
     words: &[String],

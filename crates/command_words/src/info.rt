@@ -1,4 +1,4 @@
-//! What words ask for in place of a run: the help, or the version.
+//! What arguments ask for in place of a run: the help, or the version.
 
 ghost use Rattle.std.specs.Prelude.{◌≡◌, ◌≢◌, IfOk, map, option_map, string_bytes};
 ghost use Rattle.clap.specs.Words.{kind_of};
@@ -23,7 +23,7 @@ and whole keys
 
 ";
 
-/// What words may ask for in place of a run.
+/// What arguments may ask for in place of a run.
 #[derive(Clone, Copy, Drop)]
 pub enum InfoRequest {
     /// The options, each with its help: `--help`, `-h`.
@@ -32,14 +32,14 @@ pub enum InfoRequest {
     Version,
 }
 
-/// What words ask for in place of a run, and the text that is told for it.
+/// What arguments ask for in place of a run, and the text that is told for it.
 #[derive(Drop)]
 pub struct Info {
     pub request: InfoRequest,
     pub text: String,
 }
 
-/// What is asked for, if it is that which keeps clap from reading the words.
+/// What is asked for, if it is that which keeps clap from reading the arguments.
 fn request_of(kind: ErrorKind) -> Option<InfoRequest>
     ensures { result ≡ request_of kind }
 {
@@ -68,7 +68,7 @@ fn text_of(alloc: Global, request: InfoRequest, said: &clap::Error) -> Result<St
     }
 }
 
-/// What is asked for by words of which clap says this, unless it ran out of memory.
+/// What is asked for by arguments of which clap says this, unless it ran out of memory.
 fn info_said(alloc: Global, said: &clap::Error) -> Result<Option<Info>, AllocError>
     ensures { IfOk result (λ info. (kind_of said.now ≢ OutOfMemory)
         × (option_map (λ i. i.request) info ≡ request_of (kind_of said.now))) }
@@ -85,8 +85,9 @@ fn info_said(alloc: Global, said: &clap::Error) -> Result<Option<Info>, AllocErr
     }
 }
 
-/// What these words ask for in place of a run, if they do: the help of what is run here, or the version. The first word is
-/// the program's name. Words that are read, or that clap refuses for another reason before it comes to it, ask for neither.
+/// What these arguments ask for in place of a run, if they do: the help of what is run here, or the version. The first
+/// argument is the program's name. Arguments that are read, or that clap refuses for another reason before it comes to
+/// it, ask for neither.
 pub fn info_asked(
     alloc: Global,
     words: &[String],

@@ -1,4 +1,4 @@
-//! What the words ask for.
+//! What the arguments ask for.
 
 use launch_options::{Options, ReportAsked};
 

@@ -1,5 +1,5 @@
-//! The words of the command line: the options as clap is told of them, what the words ask for, and what is said of words
-//! that are refused.
+//! The arguments of the command line: the options as clap is told of them, what the arguments ask for, and what is said
+//! of arguments that are refused.
 #![tactic(auto)]
 
 mod again;

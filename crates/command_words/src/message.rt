@@ -1,4 +1,4 @@
-//! What is said of a refusal, by the words that were given and what was to be run.
+//! What is said of a refusal, by the arguments that were given and what was to be run.
 
 ghost use Rattle.std.specs.Prelude.{◌≡◌};
 ghost use Rattle.messages.specs.Sentences.{sentence_by};
@@ -11,14 +11,14 @@ use messages::{Message, Subject};
 use std::alloc::{AllocError, Global};
 use word_files::file_named;
 
-/// What there is to say of words that are not UTF-8, none of which is known.
+/// What there is to say of arguments that are not UTF-8, none of which is known.
 const OF_NO_TEXT: &str = "A word of the command line is not UTF-8.\n";
 
 /// What there is to say of a file that is no saved run.
 const OF_SAVED_RUN: &str =
     "--rerun-failed names a file that --details testfeed or json has printed.\n";
 
-/// What there is to say of a word that is no option: where that comes from which is run.
+/// What there is to say of an argument that is no option: where that comes from which is run.
 fn said_of_no_option(subject: Subject<'_>) -> &'static str {
     match subject {
         Subject::Suite(_) => {
@@ -28,7 +28,7 @@ fn said_of_no_option(subject: Subject<'_>) -> &'static str {
     }
 }
 
-/// What clap says of words that it refuses; where that is one that it does not expect, with what is meant by it.
+/// What clap says of arguments that it refuses; where that is one that it does not expect, with what is meant by it.
 fn with_cure(
     alloc: Global,
     words: &[String],
@@ -46,7 +46,7 @@ fn with_cure(
     Ok(cured)
 }
 
-/// What clap says of words that it refuses: what is wrong with them.
+/// What clap says of arguments that it refuses: what is wrong with them.
 fn said_by_clap(
     alloc: Global,
     words: &[String],
@@ -61,7 +61,7 @@ fn said_by_clap(
     }
 }
 
-/// What there is to say of the file of this number, which is none of words.
+/// What there is to say of the file of this number, which is no file of arguments.
 fn said_of_file(alloc: Global, words: &[String], number: usize) -> Result<String, AllocError> {
     let Some(file) = file_named(words, number) else {
         return Ok(String::new(alloc));
@@ -72,7 +72,7 @@ fn said_of_file(alloc: Global, words: &[String], number: usize) -> Result<String
     )
 }
 
-/// The message of a refusal of words that ask for something, or that clap refuses.
+/// The message of a refusal of arguments that ask for something, or that clap refuses.
 fn message_by_words(
     alloc: Global,
     fault: LaunchFault,
@@ -90,7 +90,7 @@ fn message_by_words(
     }
 }
 
-/// The message of a refusal of these words, of a file that they name, or of what they were to run. It
+/// The message of a refusal of these arguments, of a file that they name, or of what they were to run. It
 /// begins with the refusal's sentence; below it is as much as there was memory for.
 pub fn message_of(
     alloc: Global,

@@ -1,4 +1,4 @@
-//! The words that a saved run stands for.
+//! The arguments that a saved run stands for.
 
 ghost use Rattle.std.specs.Prelude.{◌≡◌, ◌⊎◌, ◌++◌, ◌∷◌, [], ℕ, List, IfOk, IfErr, OnOk, map, string_bytes};
 ghost use Rattle.command_words.specs.RerunWords.{option_word, words_with, words_only, words_of};
@@ -14,14 +14,14 @@ use unique_id::UniqueId;
 /// The pattern that each name matches.
 const ANY_NAME: &str = "*";
 
-/// The word of an option with its value.
+/// The argument of an option with its value.
 fn option_word(alloc: Global, name: &str, value: &str) -> Result<String, AllocError>
     ensures { IfOk result (λ word. string_bytes word ≡ option_word name.now value.now) }
 {
     format!(in alloc; "--{name}={value}")
 }
 
-/// The words of an option that is given with each of these ids.
+/// The arguments of an option that is given with each of these ids.
 fn words_with(alloc: Global, name: &str, ids: &[UniqueId]) -> Result<Vec<String>, AllocError>
     ensures { IfOk result (λ words. map string_bytes words.items ≡ words_with name.now ids.now) }
 {
@@ -32,7 +32,7 @@ fn words_with(alloc: Global, name: &str, ids: &[UniqueId]) -> Result<Vec<String>
     Ok(words)
 }
 
-/// The words by which just these are run again; where there is none, nothing is.
+/// The arguments by which just these are run again; where there is none, nothing is.
 fn words_only(alloc: Global, ids: &[UniqueId]) -> Result<Vec<String>, AllocError>
     ensures { IfOk result (λ words. map string_bytes words.items ≡ words_only ids.now) }
 {
@@ -44,7 +44,7 @@ fn words_only(alloc: Global, ids: &[UniqueId]) -> Result<Vec<String>, AllocError
     Ok(words)
 }
 
-/// The words by which a run is made again.
+/// The arguments by which a run is made again.
 fn words_of(alloc: Global, run: &SavedRun) -> Result<Vec<String>, AllocError>
     ensures { IfOk result (λ words. map string_bytes words.items ≡ words_of run.now) }
 {
@@ -69,7 +69,7 @@ fn saved_run(alloc: Global, text: &str) -> Result<SavedRun, LaunchFault>
     }
 }
 
-/// The words that `--rerun-failed` with a file of this text stands for: those by which what failed in
+/// The arguments that `--rerun-failed` with a file of this text stands for: those by which what failed in
 /// it is run again, and, after a run that was cut off, what had not ended. Refused (109, at its
 /// number) is a line that is neither one of a feed nor one of the JSON of a run.
 pub fn rerun_words(alloc: Global, text: &str) -> Result<Vec<String>, LaunchFault>

@@ -1,4 +1,4 @@
-//! What a word of the command line stands for where saved runs are named.
+//! What an argument of the command line stands for where saved runs are named.
 
 ghost use Rattle.std.specs.Prelude.{◌≡◌};
 ghost use Rattle.command_words.specs.Roles.{before_of, meaning_of, named, role_alone, role_of};
@@ -6,29 +6,29 @@ ghost use Rattle.command_words.specs.Roles.{before_of, meaning_of, named, role_a
 /// The option of which the value is the file of a saved run.
 pub(crate) const RERUN_FAILED: &str = "--rerun-failed";
 
-/// What stands before a word.
+/// What stands before an argument.
 #[derive(Clone, Copy)]
 pub(crate) enum Before {
-    /// Nothing: the word is the program's name.
+    /// Nothing: the argument is the program's name.
     Nothing,
-    /// The option: the word is the file of a saved run.
+    /// The option: the argument is the file of a saved run.
     RerunFailed,
-    /// Any other word.
+    /// Any other argument.
     Other,
 }
 
-/// What a word stands for.
+/// What an argument stands for.
 #[derive(Clone, Copy)]
 pub(crate) enum Role<'a> {
-    /// This word.
+    /// This argument.
     Itself(&'a str),
-    /// No word: the next one names a saved run.
+    /// No argument: the next one names a saved run.
     Naming,
-    /// The words that the saved run of this file stands for.
+    /// The arguments that the saved run of this file stands for.
     Saved(&'a str),
 }
 
-/// What stands before the next word, where it is this one, with this before it.
+/// What stands before the next argument, where it is this one, with this before it.
 pub(crate) fn before_of(before: Before, word: &str) -> Before
     ensures { result ≡ before_of before word.now }
 {
@@ -44,7 +44,7 @@ pub(crate) fn before_of(before: Before, word: &str) -> Before
     }
 }
 
-/// What a word stands for that has this name and this value.
+/// What an argument stands for that has this name and this value.
 fn named<'a>(name: &str, value: &'a str, word: &'a str) -> Role<'a>
     ensures { meaning_of result ≡ named name.now value.now word.now }
 {
@@ -55,7 +55,7 @@ fn named<'a>(name: &str, value: &'a str, word: &'a str) -> Role<'a>
     }
 }
 
-/// What a word stands for that is no value of the option.
+/// What an argument stands for that is no value of the option.
 fn role_alone(word: &str) -> Role<'_>
     ensures { meaning_of result ≡ role_alone word.now }
 {
@@ -68,7 +68,7 @@ fn role_alone(word: &str) -> Role<'_>
     }
 }
 
-/// What a word stands for, with this before it.
+/// What an argument stands for, with this before it.
 pub(crate) fn role_of(before: Before, word: &str) -> Role<'_>
     ensures { meaning_of result ≡ role_of before word.now }
 {

@@ -1,4 +1,4 @@
-//! The words that the system gives the program.
+//! The arguments that the system gives the program.
 
 ghost use Rattle.std.specs.Prelude.{◌≡◌, IfOk, IfErr, MatchResult};
 ghost use Rattle.std.specs.IoError.{error_kind};
@@ -11,7 +11,7 @@ use std::alloc::{AllocError, Global};
 use std::env::Args;
 use std::io::{self, ErrorKind};
 
-/// What it means that the system gave no words: 105, since some of them are not UTF-8, but for want
+/// What it means that the system gave no arguments: 105, since some of them are not UTF-8, but for want
 /// of memory.
 fn given_fault(error: &io::Error) -> LaunchFault
     ensures { IsGivenFault (error_kind error.now) result }
@@ -22,14 +22,14 @@ fn given_fault(error: &io::Error) -> LaunchFault
     }
 }
 
-/// These words, in a list.
+/// These arguments, in a list.
 fn listed(alloc: Global, words: Args) -> Result<Vec<String>, AllocError>
     ensures { IfOk result (λ all. all.items ≡ into_iter_items words) }
 {
     words.collect(alloc)
 }
 
-/// The words that the system gave, all of them, the program's own name first. Words that are not
+/// The arguments that the system gave, all of them, the program's own name first. Arguments that are not
 /// UTF-8 are refusal 105.
 pub fn given_words(alloc: Global, words: io::Result<Args>) -> Result<Vec<String>, LaunchFault>
     ensures all { IfOk words (λ given. MatchResult result (λ all. all.items ≡ into_iter_items given)

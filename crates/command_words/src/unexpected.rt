@@ -1,11 +1,11 @@
-//! What is said of a word that clap does not expect.
+//! What is said of an argument that clap does not expect.
 
 use crate::foreign_options::meant_by_option;
 use clap::Command;
 use std::alloc::{AllocError, Global};
 use suite_messages::nearest_known;
 
-/// What clap says before a word that it does not expect.
+/// What clap says before an argument that it does not expect.
 const UNEXPECTED: &str = "error: unexpected argument '";
 
 /// What clap says behind all else.
@@ -14,7 +14,7 @@ const HELP: &str = "\nFor more information, try '--help'.\n";
 /// How many bytes a line of the options has at most.
 const LONGEST_LINE: usize = 100;
 
-/// The word that clap does not expect, if that is what it says.
+/// The argument that clap does not expect, if that is what it says.
 pub(crate) fn unexpected_word(said: &str) -> Option<&str> {
     let (word, _) = said.strip_prefix(UNEXPECTED)?.split_once("' found")?;
     Some(word)
@@ -31,7 +31,7 @@ fn names_of<'a>(alloc: Global, command: &Command<'a>) -> Result<Vec<&'a str>, Al
     Ok(names)
 }
 
-/// Clap's words, with this tip.
+/// What clap says, with this tip.
 fn with_tip(alloc: Global, word: &str, tip: &str) -> Result<String, AllocError> {
     format!(in alloc; "{UNEXPECTED}{word}' found\n\n  tip: {tip}\n{HELP}")
 }
@@ -52,7 +52,7 @@ fn push_names(text: &mut String, names: &[&str]) -> Result<(), AllocError> {
     text.push_str("\n")
 }
 
-/// The whole of a word of which clap says one dash and a letter, if these have a longer one.
+/// The whole of an argument of which clap says one dash and a letter, if these have a longer one.
 fn whole_word<'a>(words: &'a [String], word: &'a str) -> &'a str {
     if word.len() != 2 || !word.starts_with('-') {
         return word;
@@ -63,13 +63,13 @@ fn whole_word<'a>(words: &'a [String], word: &'a str) -> &'a str {
     }
 }
 
-/// The name of the option that a word is meant to be: without dashes, and what stands behind an `=`.
+/// The name of the option that an argument is meant to be: without dashes, and what stands behind an `=`.
 fn name_in(word: &str) -> &str {
     let name = word.trim_start_matches('-');
     name.split_once('=').unwrap_or((name, "")).0
 }
 
-/// A word with a dash as the long option of this name, and any other as it is.
+/// An argument with a dash as the long option of this name, and any other as it is.
 fn long_option(alloc: Global, word: &str, name: &str) -> Result<String, AllocError> {
     if word.starts_with('-') {
         format!(in alloc; "--{name}")
@@ -78,8 +78,8 @@ fn long_option(alloc: Global, word: &str, name: &str) -> Result<String, AllocErr
     }
 }
 
-/// What is said of a word that is like none of these options, and of which clap says this: which options
-/// there are, if the word has a dash.
+/// What is said of an argument that is like none of these options, and of which clap says this: which options
+/// there are, if the argument has a dash.
 fn said_of_unknown(
     alloc: Global,
     names: &[&str],
@@ -95,7 +95,7 @@ fn said_of_unknown(
     Ok(text)
 }
 
-/// What is said of a word that is like the option of this name, and of which clap says this.
+/// What is said of an argument that is like the option of this name, and of which clap says this.
 fn said_of_near(alloc: Global, near: &str, word: &str, said: &str) -> Result<String, AllocError> {
     let tip = format!(in alloc; "a similar argument exists: '--{near}'")?;
     if said.contains(tip.as_str()) {
@@ -104,7 +104,7 @@ fn said_of_near(alloc: Global, near: &str, word: &str, said: &str) -> Result<Str
     with_tip(alloc, word, tip.as_str())
 }
 
-/// What is said of this word, which clap does not expect among these, and of which it says this.
+/// What is said of this argument, which clap does not expect among these, and of which it says this.
 pub(crate) fn said_of_unexpected(
     alloc: Global,
     command: &Command<'_>,

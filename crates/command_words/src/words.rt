@@ -1,4 +1,4 @@
-//! The words of the command line.
+//! The arguments of the command line.
 
 ghost use Rattle.std.specs.Prelude.{◌≡◌, ◌≢◌, ◌∷◌, ◌++◌, [], Some, None, Ok, IfOk, IfErr, OnOk, map, string_bytes};
 ghost use Rattle.std.specs.List.{filter_map};
@@ -31,7 +31,7 @@ fn words_fault(error: &clap::Error) -> LaunchFault
     }
 }
 
-/// What clap finds in the words.
+/// What clap finds in the arguments.
 fn matches_of<'a>(alloc: Global, words: &'a [String]) -> Result<ArgMatches<'a>, LaunchFault>
     ensures found { IfOk result (λ matches. values_in (rows_of (found_of matches)) ≡ values_given
         (map string_bytes words.entry.now)) }
@@ -46,7 +46,8 @@ fn matches_of<'a>(alloc: Global, words: &'a [String]) -> Result<ArgMatches<'a>, 
     }
 }
 
-/// What the words give the options, each value as text. Clap is not asked where there is none but the program's name.
+/// What the arguments give the options, each value as text. Clap is not asked where there is none but the program's
+/// name.
 pub fn given_by<'a>(alloc: Global, words: &'a [String]) -> Result<Given<'a>, LaunchFault>
     ensures given { IfOk result (λ given. values_of given ≡ values_given (map string_bytes words.entry.now)) }
     ensures accepted { IfOk result (λ _. fault_of program (map string_bytes words.entry.now) ≡ []) }
@@ -60,9 +61,9 @@ pub fn given_by<'a>(alloc: Global, words: &'a [String]) -> Result<Given<'a>, Lau
     Ok(given_in(alloc, &matches)?)
 }
 
-/// The options that the words give. The first word is the program's name, whatever it is. Words
+/// The options that the arguments give. The first argument is the program's name, whatever it is. Arguments
 /// that clap refuses are refusal 105; others ask for what `Options::of` says, and are refused as it
-/// says. Clap takes memory before it judges any other word, so its want of memory may stand in place of
+/// says. Clap takes memory before it judges any other argument, so its want of memory may stand in place of
 /// each of these refusals.
 pub fn read_options(alloc: Global, words: &[String]) -> Result<Options, LaunchFault>
     ensures asked { IfOk result (λ options. AreAsked (values_given (map string_bytes words.now)) (asked_by options)) }
@@ -120,7 +121,7 @@ fn launch_of<'w>(alloc: Global, given: &Given<'w>) -> Result<Launch<'w>, LaunchF
     })
 }
 
-/// What the words ask for. The options are those of `read_options`, and words are refused as it says.
+/// What the arguments ask for. The options are those of `read_options`, and arguments are refused as it says.
 pub fn read_launch<'w>(alloc: Global, words: &'w [String]) -> Result<Launch<'w>, LaunchFault>
     ensures reports { IfOk result (λ launch. map parts_of launch.reports.items ≡ reports_wanted
         (map string_bytes words.entry.now)) }

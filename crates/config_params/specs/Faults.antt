@@ -9,7 +9,7 @@ number NoMemory = 0
 number (NoEquals at) = 30
 number (EmptyKey at) = 31
 
--- the line or the word that it is about, from 1
+-- the line or the argument that it is about, from 1
 abbrev pub place : ParamsFault → Option ℕ
 place NoMemory = None
 place (NoEquals at) = Some at

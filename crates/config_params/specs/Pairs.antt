@@ -1,4 +1,4 @@
--- What a word `KEY=VALUE`, and a line of a text of properties, says.
+-- What an argument `KEY=VALUE`, and a line of a text of properties, says.
 use Rattle.std.specs.Prelude.{ℕ, ◌==◌, ◌||◌, not, Bool, false, List, [], ◌∷◌, length, if◌then◌else◌, Option, None, Some, Result, Ok, Err}
 use Rattle.std.specs.List.{list_any, before_first, after_first}
 use Rattle.config_params.specs.declared.blanks.Blanks.TheVariants.{SpacesAndTabs}
@@ -26,7 +26,7 @@ key_of word = without_ends SpacesAndTabs (before_first is_equals_sign word)
 abbrev pub value_of : List ℕ → List ℕ
 value_of word = without_ends SpacesAndTabs (after_first is_equals_sign word)
 
--- the pair that the word or line of this number says
+-- the pair that the argument or line of this number says
 abbrev pub pair_of : ℕ → List ℕ → Result Pair ParamsFault
 pair_of number word =
     if not (list_any is_equals_sign word) then Err (NoEquals number)

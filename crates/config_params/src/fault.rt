@@ -7,7 +7,7 @@ ghost use Rattle.config_params.specs.declared.fault.ParamsFault.TheVariants.{NoM
 use std::alloc::{AllocError, AllocFailed};
 use thiserror::Error;
 
-/// Why parameters were not taken. The place is the number of a line or of a word, from 1.
+/// Why parameters were not taken. The place is the number of a line or of an argument, from 1.
 #[derive(Clone, Copy, PartialEq, Eq, Debug, Error)]
 pub enum ParamsFault {
     /// The memory ran out.
@@ -33,7 +33,7 @@ impl ParamsFault {
         }
     }
 
-    /// The line or the word that the refusal is about, from 1.
+    /// The line or the argument that the refusal is about, from 1.
     pub fn place(self) -> Option<u64>
         ensures { result ≡ place self }
     {

@@ -1,4 +1,4 @@
-//! A key with its value, as a word or a line says it.
+//! A key with its value, as an argument or a line says it.
 
 ghost use Rattle.std.specs.Prelude.{◌≡◌};
 ghost use Rattle.std.specs.Option.{option_map};
@@ -15,7 +15,7 @@ pub struct Pair<'a> {
     pub value: &'a str,
 }
 
-/// The pair that a word `KEY=VALUE` says: it is cut at its first equals sign, and spaces and tabs
+/// The pair that an argument `KEY=VALUE` says: it is cut at its first equals sign, and spaces and tabs
 /// round key and value are dropped. Refusals, with the number given: 30 where there is no equals
 /// sign, 31 where the key is empty.
 pub fn pair_of(number: usize, word: &str) -> Result<Pair<'_>, ParamsFault>

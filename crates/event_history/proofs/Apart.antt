@@ -1,4 +1,4 @@
--- Whoever is guarded by locks runs apart: what the locks and the order say, in words of the tree alone.
+-- Whoever is guarded by locks runs apart: what the locks and the order say, in terms of the tree alone.
 use Rattle.std.proofs.Common.{◌≡◌, ℕ, ◌<◌, true, List, ◌⊎◌, inl, inr, sym, ap, ◌∙◌, subst, arith}
 use Rattle.std.proofs.lemmas.Bool.{cases_eq}
 use Rattle.descriptor.specs.declared.mode.Mode.{Mode}

@@ -1,4 +1,4 @@
--- Short words for the nodes, events and replies of the tests by rows.
+-- Short names for the nodes, events and replies of the tests by rows.
 use Rattle.std.proofs.Common.{ℕ, ◌==◌, cond, List, [], ◌∷◌, Option, Some, None}
 use Rattle.descriptor.specs.declared.kind.Kind.{Kind}
 use Rattle.descriptor.specs.declared.lock.Lock.{Lock}

@@ -1,4 +1,4 @@
--- What runs apart, in words of the tree alone.
+-- What runs apart, in terms of the tree alone.
 use Rattle.std.specs.Prelude.{◌≡◌, ℕ, true, List, ◌⊎◌}
 use Rattle.descriptor.specs.Nodes.{Nodes, IsChild, is_isolated_at}
 use Rattle.plan_events.specs.declared.event.Event.{Event}

@@ -126,9 +126,9 @@ fn add_caret(
     tests.dynamic(caret, "1.1.0", one)
 }
 
-/// Builds the tests, and runs them as the words ask for, which it takes; the failures are counted. What is built here is
-/// not handed out, so nothing is hidden: the functions that add take what they add. Clock and words are lent: what is
-/// owned would have to be dropped at each `?`.
+/// Builds the tests, and runs them as the arguments ask for, which it takes; the failures are counted. What is built
+/// here is not handed out, so nothing is hidden: the functions that add take what they add. Clock and arguments are
+/// lent: what is owned would have to be dropped at each `?`.
 pub fn run_semver_tests<
     T: Threads + Wait + Sync,
     C: Clock + Sync,

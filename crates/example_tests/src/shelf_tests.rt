@@ -18,7 +18,7 @@ fn fits(_alloc: Global) -> Checked {
     check(Shelf::with_places(3).put(3), "three books have room")
 }
 
-/// Builds the tests, and runs them as the words of the command line ask for.
+/// Builds the tests, and runs them as the arguments of the command line ask for.
 pub fn run_shelf_tests<S: System, W: Write, E: Write + IsTerminal>(
     system: &S,
     writer: &mut W,

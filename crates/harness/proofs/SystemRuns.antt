@@ -38,7 +38,7 @@ module _ {B V W E K : Type 0} (answers : B → List Reply) (gives : B → Reply 
       → IsTestMainRun answers gives saw contents said parts jobs begun ended (λ (files : Unit {0}). None) is_terminal facts words old new first last tt tt ending
   run_somehow facts words is = record { expanded = is.expanded; expands = is.expands; runs = expanded_somehow is.expanded is.runs }
 
-  -- so it is done by some words, or for some reason by none
+  -- so it is done by some arguments, or for some reason by none
   pub run_here : {G F X : Type 0} (Why : F → LaunchFault → Type 0) (given : G → List X) (text : X → Text) (facts : Facts) (words : Result G F)
       → IfOk words (λ some. IsTestMainRun answers gives saw contents said parts jobs begun ended (λ (files : K). None) is_terminal facts (map text (given some)) old new first last was now ending)
       → IfErr words (λ error. (fault : LaunchFault) × Why error fault × (ended ≡ begun) × (now ≡ was) × Closes tests_sentence_of contents said (Err fault) old new first last ending) → IsRunHere answers gives saw contents said parts jobs begun ended old new first last ending

@@ -1,4 +1,4 @@
--- What is done with words that were read, or refused, where a program's own tests are run.
+-- What is done with arguments that were read, or refused, where a program's own tests are run.
 use Rattle.std.proofs.Common.{◌≡◌, ℕ, Bool, List, Option, Result, Ok, Err, inl, inr, refl, subst}
 use Rattle.command_line.specs.Infos.{EndsUnread, RefusesWords}
 use Rattle.command_line.specs.declared.closing.Ending.{Ending}
@@ -20,7 +20,7 @@ use Rattle.suite_text.specs.Reading.Parts.{SuiteParts}
 use Rattle.harness.specs.TestRuns.{AnswersTestWords, FilesLaunch, IsFiledTestRun}
 
 module _ {B V W E K : Type 0} (answers : B → List Reply) (gives : B → Reply → Type 0) (saw : PlanParts → V → V → List Telling → Type 0) (contents : W → Option (List ℕ)) (said : E → Option (List ℕ)) (parts : SuiteParts) (jobs : List (ℕ × B)) (deeds : K → Option (List Deed)) (is_terminal : Bool) (words : List Text) where
-  -- words that ask for something
+  -- arguments that ask for something
   pub asked_tests : (begun ended : V) (options : Options) (suite : Option Text) (wanted : List Wanted) (old new : W) (first last : E) (was now : K) (ending : Ending) → ReadsWords words (Ok options) → suite ≡ suite_wanted words → wanted ≡ reports_wanted words
       → FilesLaunch answers gives saw contents said parts jobs begun ended deeds is_terminal options suite wanted old new first last was now ending → AnswersTestWords answers gives saw contents said parts jobs begun ended deeds is_terminal words old new first last was now ending
   asked_tests begun ended options suite wanted old new first last was now ending reads is_suite are runs = inr (record {
@@ -32,7 +32,7 @@ module _ {B V W E K : Type 0} (answers : B → List Reply) (gives : B → Reply 
         (subst (λ (s : Option Text). FilesLaunch answers gives saw contents said parts jobs begun ended deeds is_terminal options s wanted old new first last was now ending) is_suite runs);
   })
 
-  -- this is said of words that are refused
+  -- this is said of arguments that are refused
   refused : (begun : V) (cause : LaunchFault) (old new : W) (first last : E) (was : K) (ending : Ending) → ReadsWords words (Err cause) → RefusesWords tests_sentence_of contents said words cause old new first last ending
       → IsFiledTestRun answers gives saw contents said parts jobs begun begun deeds is_terminal words old new first last was was ending
   refused begun cause old new first last was ending reads refuses = record {
@@ -42,7 +42,7 @@ module _ {B V W E K : Type 0} (answers : B → List Reply) (gives : B → Reply 
     runs = (refl, refl, refuses.closes);
   }
 
-  -- words that ask for help are told it, and of others the refusal is said
+  -- arguments that ask for help are told it, and of others the refusal is said
   pub unread_tests : (begun : V) (fault : LaunchFault) (old new : W) (first last : E) (was : K) (ending : Ending) → ReadsWords words (Err fault) → EndsUnread tests_sentence_of contents said words fault old new first last ending
       → AnswersTestWords answers gives saw contents said parts jobs begun begun deeds is_terminal words old new first last was was ending
   unread_tests begun fault old new first last was ending reads (inl told) = inl (refl, told.0, refl, told.1)

@@ -13,12 +13,12 @@ use Rattle.harness.specs.TestRuns.{IsTestMainRun}
 use Rattle.word_files.specs.declared.facts.Facts.{Facts}
 
 module _ {B V W E : Type 0} (answers : B → List Reply) (gives : B → Reply → Type 0) (saw : PlanParts → V → V → List Telling → Type 0) (contents : W → Option (List ℕ)) (said : E → Option (List ℕ)) (parts : SuiteParts) (jobs : List (ℕ × B)) (begun ended : V) where
-  -- the words that it gave are run, and there is no account of its files; or it gave none, that is said, and nothing is seen
+  -- the arguments that it gave are run, and there is no account of its files; or it gave none, that is said, and nothing is seen
   abbrev pub RunsGiven : (is_terminal : Bool) → Facts → Result (List Text) LaunchFault → (old new : W) → (first last : E) → Ending → Type 0
   RunsGiven is_terminal facts (Ok words) old new first last ending = IsTestMainRun answers gives saw contents said parts jobs begun ended (λ (files : Unit {0}). None) is_terminal facts words old new first last tt tt ending
   RunsGiven is_terminal facts (Err fault) old new first last ending = (ended ≡ begun) × Closes tests_sentence_of contents said (Err fault) old new first last ending
 
-  -- by some words, or a reason why there are none, and by some facts, on a terminal or none
+  -- by some arguments, or a reason why there are none, and by some facts, on a terminal or none
   pub record IsRunHere (old new : W) (first last : E) (ending : Ending) : Type 0 where
     pub is_terminal : Bool
     pub facts : Facts

@@ -1,4 +1,4 @@
--- What a program with tests of its own does by the words of its command line.
+-- What a program with tests of its own does by the arguments of its command line.
 use Rattle.std.specs.Prelude.{◌≡◌, ◌⊎◌, ℕ, Bool, List, Option, Some, None, Result, Ok, Err}
 use Rattle.command_line.specs.Runs.{Closes, ClosesRun, IsToldMeanwhile}
 use Rattle.command_line.specs.declared.closing.Ending.{Ending}
@@ -46,30 +46,30 @@ module _ {B V W E : Type 0} (answers : B → List Reply) (gives : B → Reply �
     FilesLaunch is_terminal options None wanted old new first last was now ending = IsRunOfTests is_terminal (asked_by options) wanted old new first last (deeds was) (deeds now) ending
     FilesLaunch is_terminal options (Some name) wanted old new first last was now ending = RefusesTests BadWords old new first last was now ending
 
-    -- what is done with what the words gave
+    -- what is done with what the arguments gave
     abbrev pub FilesTests : (is_terminal : Bool) → Result Options LaunchFault → (suite : Option Text) → List Wanted → (old new : W) → (first last : E) → (was now : K) → Ending → Type 0
     FilesTests is_terminal (Ok options) suite wanted old new first last was now ending = FilesLaunch is_terminal options suite wanted old new first last was now ending
     FilesTests is_terminal (Err fault) suite wanted old new first last was now ending = RefusesTests fault old new first last was now ending
 
-    -- the words are read, and what that gave is run, with the reports that they ask for; words that are refused ask for no help
+    -- the arguments are read, and what that gave is run, with the reports that they ask for; arguments that are refused ask for no help
     pub record IsFiledTestRun (is_terminal : Bool) (words : List Text) (old new : W) (first last : E) (was now : K) (ending : Ending) : Type 0 where
       pub options : Result Options LaunchFault
       pub reads : ReadsWords words options
       pub unasked : options ≡ Err BadWords → AsksForNothing words
       pub runs : FilesTests is_terminal options (suite_wanted words) (reports_wanted words) old new first last was now ending
 
-    -- words that ask for help, or for the version, are told it, and nothing else is touched; all others are run
+    -- arguments that ask for help, or for the version, are told it, and nothing else is touched; all others are run
     abbrev pub AnswersTestWords : (is_terminal : Bool) → List Text → (old new : W) → (first last : E) → (was now : K) → Ending → Type 0
     AnswersTestWords is_terminal words old new first last was now ending =
         ((ended ≡ begun) × (last ≡ first) × (now ≡ was) × AnswersInfo contents words old new ending) ⊎ IsFiledTestRun is_terminal words old new first last was now ending
 
-    -- what is done with the words that others stand for: they are answered; or, where a file of words, or a saved run, is refused, that is said,
-    -- no file is touched, and nothing is seen
+    -- what is done with the arguments that others stand for: they are answered; or, where a file of arguments, or a saved run, is refused,
+    -- that is said, no file is touched, and nothing is seen
     abbrev pub RunsExpandedTests : (is_terminal : Bool) → Result (List Text) LaunchFault → (old new : W) → (first last : E) → (was now : K) → Ending → Type 0
     RunsExpandedTests is_terminal (Ok words) old new first last was now ending = AnswersTestWords is_terminal words old new first last was now ending
     RunsExpandedTests is_terminal (Err fault) old new first last was now ending = RefusesTests fault old new first last was now ending
 
-    -- the program, whose words stand for others by the files that they name and by what the system tells
+    -- the program, whose arguments stand for others by the files that they name and by what the system tells
     pub record IsTestMainRun (is_terminal : Bool) (facts : Facts) (words : List Text) (old new : W) (first last : E) (was now : K) (ending : Ending) : Type 0 where
       pub expanded : Result (List Text) LaunchFault
       pub expands : StandsFor facts words expanded

@@ -27,7 +27,7 @@ pub trait System: Threads + Wait + Sync + Clock + Env + Files + AllocGlobal {}
 
 impl<S: Threads + Wait + Sync + Clock + Env + Files + AllocGlobal> System for S {}
 
-/// What `run_tests` does with what this system gives and tells: the words of the command line, the files that they
+/// What `run_tests` does with what this system gives and tells: the arguments of the command line, the files that they
 /// name, how many processors there are, a build server's shard, and whether the other writer is a terminal that can be
 /// drawn on.
 pub fn run_tests_here<S: System, W: Write, E: Write + IsTerminal, V: Observer>(
@@ -37,7 +37,7 @@ pub fn run_tests_here<S: System, W: Write, E: Write + IsTerminal, V: Observer>(
     errors: &mut E,
     observer: &mut V,
 ) -> Result<Ending, BuildFault>
-    // By some words, or for some reason by none: no clause can say what a system gives.
+    // By some arguments, or for some reason by none: no clause can say what a system gives.
     ensures run { IfOk result (λ ending. IsRunHere replies_left gives_left V.saw W.contents E.contents
         (program_parts (held tests.value).tree (properties_of tests.value)) (jobs_by (held tests.value).jobs)
         observer.old observer.new writer.old writer.new errors.old errors.new ending) }

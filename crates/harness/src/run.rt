@@ -30,16 +30,16 @@ use std::time::Clock;
 use test_tree::{BuildFault, Tests};
 use word_files::{Facts, TextFiles};
 
-/// Runs of these tests what the words that the system gave ask for, and says how the program ends: all that is left to do
-/// is to end with the status. It has all that `console` has but `--replay` and `--drive`, which are refused with 105: what
-/// the words ask for that those stand for which the system gave, by the texts of files and by what the system tells; and
-/// the reports that they ask for are kept in these files. What they ask for goes to the writer; what a refusal is for goes
-/// to the other. If that is a terminal that can be drawn on, how far the run has come is drawn there meanwhile. A refusal,
-/// also that of words which are no text, is status 255. Tests of which something was declared that never came are handed
-/// back as a fault, and nothing is run or written. How long the tests took is told by this clock, if that is asked for.
-/// Each event of the run is shown to the observer, in order and with its text; nothing where nothing is run. It may be any
-/// type with `see`, an `Audience` of listeners or `()`, and may borrow what it fills. `run_tests_here` asks a system for
-/// all that this is handed.
+/// Runs of these tests what the arguments that the system gave ask for, and says how the program ends: all that is left
+/// to do is to end with the status. It has all that `console` has but `--replay` and `--drive`, which are refused with
+/// 105: what the arguments ask for that those stand for which the system gave, by the texts of files and by what the
+/// system tells; and the reports that they ask for are kept in these files. What they ask for goes to the writer; what
+/// a refusal is for goes to the other. If that is a terminal that can be drawn on, how far the run has come is drawn
+/// there meanwhile. A refusal, also that of arguments which are no text, is status 255. Tests of which something was
+/// declared that never came are handed back as a fault, and nothing is run or written. How long the tests took is told
+/// by this clock, if that is asked for. Each event of the run is shown to the observer, in order and with its text;
+/// nothing where nothing is run. It may be any type with `see`, an `Audience` of listeners or `()`, and may borrow what
+/// it fills. `run_tests_here` asks a system for all that this is handed.
 pub fn run_tests<
     T: Threads + Wait + Sync,
     C: Clock + Sync + Drop,

@@ -33,7 +33,7 @@ use std::thread::Threads;
 use std::time::Clock;
 use word_files::{Facts, TextFiles};
 
-/// Runs what these words asked for, and says what there is to say of the answer and of what failed.
+/// Runs what these arguments asked for, and says what there is to say of the answer and of what failed.
 fn run_launch<
     B: Job + Send,
     T: Threads + Wait + Sync,
@@ -91,7 +91,8 @@ fn run_launch<
     ending
 }
 
-/// Runs what these words asked for, unless they name a suite: the tests are the program's own, so that is refused with 105.
+/// Runs what these arguments asked for, unless they name a suite: the tests are the program's own, so that is refused
+/// with 105.
 fn run_suited<
     B: Job + Send,
     T: Threads + Wait + Sync,
@@ -146,13 +147,14 @@ fn run_suited<
     }
 }
 
-/// Runs of a program's own tests what the words ask for; the first word is the program's name, and this is the machine's.
-/// What they ask for is printed, as of a suite, and the reports that they ask for are kept. Then the line of a refusal is
-/// printed, unless the writer failed, and its message on the other writer, on which what failed is said once more behind a
-/// tree or a summary, and behind any run, if times are asked for, which tests were the slowest by this clock. If the other
-/// writer is a terminal, how far the run has come is drawn there meanwhile. Words that give no options are refused as
-/// `read_launch` says, and then nothing is run; so is `--replay` or `--drive`, by 105, since nobody knows beforehand what
-/// the tests answer, and `--suite`. Words that ask for help, or for the version, are told it. Each body of the tree has a job, and whatever plan is made of the tree, the jobs may answer. Whoever
+/// Runs of a program's own tests what the arguments ask for; the first argument is the program's name, and this is the
+/// machine's. What they ask for is printed, as of a suite, and the reports that they ask for are kept. Then the line of
+/// a refusal is printed, unless the writer failed, and its message on the other writer, on which what failed is said
+/// once more behind a tree or a summary, and behind any run, if times are asked for, which tests were the slowest by
+/// this clock. If the other writer is a terminal, how far the run has come is drawn there meanwhile. Arguments that
+/// give no options are refused as `read_launch` says, and then nothing is run; so is `--replay` or `--drive`, by 105,
+/// since nobody knows beforehand what the tests answer, and `--suite`. Arguments that ask for help, or for the version,
+/// are told it. Each body of the tree has a job, and whatever plan is made of the tree, the jobs may answer. Whoever
 /// watches has seen the history that is printed, each event with its text; nothing, if nothing is run.
 fn run_filed_words<
     B: Job + Send,
@@ -204,8 +206,8 @@ fn run_filed_words<
     }
 }
 
-/// Runs what the words ask for that these stand for, by the files that they name and by what the
-/// system tells. Where a file of words or a saved run cannot be read, that is what is refused.
+/// Runs what the arguments ask for that these stand for, by the files that they name and by what the
+/// system tells. Where a file of arguments or a saved run cannot be read, that is what is refused.
 fn run_given_tests<
     B: Job + Send,
     T: Threads + Wait + Sync,
@@ -257,10 +259,10 @@ fn run_given_tests<
     }
 }
 
-/// The program: what `run_filed_words` does with the words that those stand for which the system gave, by the files that
-/// they name and by what the system tells; and the reports that they ask for are kept in these files. Where the system
-/// gave no words, or a file of words or a saved run cannot be read, that is what is refused. All that is left to do is to
-/// end with the status.
+/// The program: what `run_filed_words` does with the arguments that those stand for which the system gave, by the files
+/// that they name and by what the system tells; and the reports that they ask for are kept in these files. Where the
+/// system gave no arguments, or a file of arguments or a saved run cannot be read, that is what is refused. All that is
+/// left to do is to end with the status.
 pub fn run_test_main<
     B: Job + Send,
     T: Threads + Wait + Sync,

@@ -1,4 +1,4 @@
--- A number of workers that is refused, and the words that one stands for.
+-- A number of workers that is refused, and the arguments that one stands for.
 use Rattle.std.proofs.Common.{◌≡◌, ℕ, Option, Some, None, IfErr, Result, Ok, Err, refl, ap, sym, ◌∙◌}
 use Rattle.std.specs.Prelude.{option_map}
 use Rattle.std.specs.Result.{IsErrAnd}

@@ -1,4 +1,4 @@
--- What is asked for by `--workers` is asked for by its long words.
+-- What is asked for by `--workers` is asked for by its long arguments.
 use Rattle.std.proofs.Common.{◌≡◌, ℕ, List, [], ◌++◌, Some, None, refl, sym, ap, ◌∙◌}
 use Rattle.std.proofs.lemmas.List.{append-nil}
 use Rattle.config_params.specs.Parameters.{Parameters}

@@ -17,7 +17,7 @@ not_both : (most : Option Text) → unless_both true most ≡ None → most ≡ 
 not_both None is = refl
 not_both (Some text) is = absurd (none-some BadWords (sym is))
 
--- where both words are refused, no number stands beside `--fail-fast`
+-- where both options are refused, no number stands beside `--fail-fast`
 alone : (given : Values) → failures_refusal given ≡ None → given.fail_fast ≡ true → given.max_fail ≡ None
 alone given passed so =
     not_both given.max_fail (

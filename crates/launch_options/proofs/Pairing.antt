@@ -1,4 +1,4 @@
--- Reading the pairs of words one after the other.
+-- Reading the pairs of arguments one after the other.
 use Rattle.std.proofs.Common.{◌≡◌, ◌≢◌, ℕ, ◌+◌, ◌<◌, List, [], ◌∷◌, ◌++◌, length, take, drop, fold, get_or, Bor, OnOk, Option, Result, Ok, Err, refl, sym, ap, ◌∙◌, arith}
 use Rattle.std.proofs.lemmas.Bool.{ne_eqb}
 use Rattle.std.proofs.lemmas.List.{drop_more, map-append}
@@ -14,12 +14,12 @@ use Rattle.launch_options.specs.Given.{Text, behind}
 use Rattle.launch_options.specs.Parameters.{pairs_in, unless_pair, pairs_refusal, without_plus}
 use Rattle.launch_options.proofs.Requesting.{behind_take}
 
--- with the pairs of words, in this order
+-- with the pairs of arguments, in this order
 abbrev pub with_all : Parameters → Source → List Pair → Parameters
 with_all params source pairs = fold (λ all pair. with_value all source pair) params pairs
 
 module _ (texts : List (Bor Text)) (i : ℕ) (d : Bor Text) (inside : i < length texts) where
-  -- a word that says a pair leaves the refusal to the others
+  -- an argument that says a pair leaves the refusal to the others
   pub pairs_next : (whole : Option LaunchFault) (before number : ℕ) (pair : Pair) → pairs_refusal (before + i + 1) (behind (drop i texts)) ≡ whole → number ≡ before + i + 1 → Ok pair ≡ pair_of number (get_or texts i d).now
       → pairs_refusal (before + (i + 1) + 1) (behind (drop (i + 1) texts)) ≡ whole
   pairs_next whole before number pair left counted is =
@@ -28,7 +28,7 @@ module _ (texts : List (Bor Text)) (i : ℕ) (d : Bor Text) (inside : i < length
       ∙ ap (λ (r : Result Pair ParamsFault). unless_pair r (pairs_refusal (before + i + 1 + 1) (behind (drop (i + 1) texts)))) (is ∙ ap (λ n. pair_of n (get_or texts i d).now) counted)
       ∙ ap (λ ts. pairs_refusal (before + i + 1) (behind ts)) (sym (drop_more texts i d inside)) ∙ left
 
-  -- the pairs of one word more
+  -- the pairs of one argument more
   pub pairs_put : (first now next : Parameters) (source : Source) → now ≡ with_all first source (pairs_in (behind (take i texts))) → next ≡ with_value now source (key_of (get_or texts i d).now, value_of (get_or texts i d).now)
       → next ≡ with_all first source (pairs_in (behind (take (i + 1) texts)))
   pairs_put first now next source so_far is =
@@ -45,7 +45,7 @@ pub with_system : (params : Parameters) (pairs : List Pair) → with_all params 
 with_system params [] = refl
 with_system params (pair ∷ more) = with_system (with_value params System pair) more
 
--- the pairs of more words of the request, behind those of others
+-- the pairs of more arguments of the request, behind those of others
 pub more_added : {T E : Type 0} (result : Result T E) (none one two : Parameters) (texts texts_said words : List Text) → texts ≡ texts_said → one ≡ with_all none Request (pairs_in texts)
     → OnOk result (two ≡ with_all one Request (pairs_in words)) → OnOk result (two ≡ with_all none Request (pairs_in (texts_said ++ words)))
 more_added (Ok done) none one two texts texts_said words same is_one is_two =
@@ -55,7 +55,7 @@ more_added (Ok done) none one two texts texts_said words same is_one is_two =
     ∙ ap (λ (all : List Text). with_all none Request (pairs_in (all ++ words))) same
 more_added (Err error) none one two texts texts_said words same is_one is_two = tt
 
--- what the words of both options say
+-- what the arguments of both options say
 pub both_said : (none one two : Parameters) (config system : List Pair) → none ≡ nothing_said → one ≡ with_all none Request config → two ≡ with_all one System system
     → two ≡ record { request = table_of config; system = table_of system; file = [] }
 both_said none one two config system is_none is_one is_two =

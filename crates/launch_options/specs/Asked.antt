@@ -88,12 +88,12 @@ theme_text themes.Ascii = codes "ascii"
 abbrev pub all_themes : List Theme
 all_themes = themes.Unicode ∷ themes.Ascii ∷ []
 
--- refused where the words name nothing
+-- refused where the arguments name nothing
 abbrev pub unless_named : {A : Type 0} → Option A → Option LaunchFault
 unless_named None = Some BadWords
 unless_named (Some named) = None
 
--- refused at the first word that names no step
+-- refused at the first token that names no step
 abbrev pub unless_steps : Result (List Step) ℕ → Option LaunchFault
 unless_steps (Ok steps) = None
 unless_steps (Err number) = Some (BadStep number)

@@ -73,7 +73,7 @@ abbrev pub IsSuiteFault : SuiteFault → LaunchFault → Type 0
 IsSuiteFault suites.NoMemory fault = fault ≡ NoMemory
 IsSuiteFault cause fault = fault ≡ Suite cause
 
--- want of memory is the launch's own, and a word that names no step keeps its number
+-- want of memory is the launch's own, and a token that names no step keeps its number
 abbrev pub IsStepsFault : StepsFault → LaunchFault → Type 0
 IsStepsFault steps.NoMemory fault = fault ≡ NoMemory
 IsStepsFault (steps.BadStep number) fault = fault ≡ BadStep number

@@ -1,4 +1,4 @@
--- What the words of a command line give the options, without where it lies in memory.
+-- What the arguments of a command line give the options, without where it lies in memory.
 use Rattle.std.specs.Prelude.{ℕ, Bool, List, map, Option, option_map}
 use Rattle.std.specs.Borrow.{Bor}
 use Rattle.selectors.specs.declared.selector.SelectorKind.{SelectorKind}

@@ -41,16 +41,16 @@ drive_named (Some text) = option_map Some (number_named 64 64 (Some text))
 abbrev pub IsRightDrive : Option ℕ → Type 0
 IsRightDrive drive = IsRightCount (unwrap_or drive 1)
 
--- the pairs of words that are cut at their first equals sign
+-- the pairs of arguments that are cut at their first equals sign
 abbrev pub pairs_in : List Text → List Pair
 pairs_in words = map (λ word. (key_of word, value_of word)) words
 
--- refused where a word says no pair, and else where another does not
+-- refused where an argument says no pair, and else where another does not
 abbrev pub unless_pair : Result Pair ParamsFault → Option LaunchFault → Option LaunchFault
 unless_pair (Ok pair) others = others
 unless_pair (Err fault) others = Some (BadPair fault)
 
--- why words, of which the first has this number, are refused: the number of the first that says no pair
+-- why arguments, of which the first has this number, are refused: the number of the first that says no pair
 abbrev pub pairs_refusal : ℕ → List Text → Option LaunchFault
 pairs_refusal number [] = None
 pairs_refusal number (word ∷ words) = unless_pair (pair_of number word) (pairs_refusal (number + 1) words)

@@ -28,7 +28,7 @@ workers_named processors (Some text) = option_map Some (crew_named processors te
 abbrev pub workers_asked : Values → Option (Option ℕ)
 workers_asked given = workers_named (unwrap_or (processors_named given.processors) 1) given.workers
 
--- the words of `--config` that so many workers stand for
+-- the arguments of `--config` that so many workers stand for
 abbrev pub long_words : ℕ → List Text
 long_words number =
     codes "junit.jupiter.execution.parallel.enabled=true"
@@ -41,7 +41,7 @@ abbrev pub words_for : Option ℕ → List Text
 words_for None = []
 words_for (Some number) = long_words number
 
--- the keys of these words
+-- the keys of these arguments
 abbrev pub is_long_key : List ℕ → Bool
 is_long_key key = bytes_eq key enabled_key || (bytes_eq key strategy_key || bytes_eq key parallelism_key)
 
@@ -50,11 +50,11 @@ abbrev pub has_long_key : Result Pair ParamsFault → Bool
 has_long_key (Ok pair) = is_long_key pair.0
 has_long_key (Err fault) = false
 
--- whether one of these words says one of the keys
+-- whether one of these arguments says one of the keys
 abbrev pub says_long_key : List Text → Bool
 says_long_key words = list_any (λ word. has_long_key (pair_of 1 word)) words
 
--- refused where `--workers` is given and one of these words says one of its keys
+-- refused where `--workers` is given and one of these arguments says one of its keys
 abbrev pub unless_twice : Option Text → List Text → Option LaunchFault
 unless_twice None words = None
 unless_twice (Some text) words = if says_long_key words then Some BadWords else None
@@ -73,11 +73,11 @@ answer_with workers params properties key = option_or (answer_over params proper
 abbrev pub IsSpread : Parameters → Option ℕ → Option Parameters → Type 0
 IsSpread params workers spread = (key : List ℕ) → answer (unwrap_or spread params) key ≡ option_or (answer params key) (usual_answer workers key)
 
--- what the words say: those of `--config`, and behind them those that `--workers` stands for, for the request, and those of
+-- what the arguments say: those of `--config`, and behind them those that `--workers` stands for, for the request, and those of
 -- `--system` for the system; of a key that one of the two has again the last value counts
 abbrev pub params_said : (workers : Option ℕ) → Values → Parameters
 params_said workers given = record { request = table_of (pairs_in (given.config ++ words_for workers)); system = table_of (pairs_in given.system); file = [] }
 
--- the values with these long words in place of `--workers`
+-- the values with these long arguments in place of `--workers`
 abbrev pub in_long_words : ℕ → Values → Values
 in_long_words number given = record given { workers = None; config = given.config ++ long_words number }

@@ -49,7 +49,7 @@ pub(crate) fn fails_fast(given: &Given<'_>) -> bool
 }
 
 /// How many failures a run is to go on after. Refused are what is no number of failures, and that
-/// both words are given.
+/// both options are given.
 pub(crate) fn tolerated_given(given: &Given<'_>) -> Result<u16, LaunchFault>
     ensures asked { IfOk result (λ tolerated. tolerated_asked (values_of given.now) ≡ Some tolerated) }
     ensures accepted { IfOk result (λ _. failures_refusal (values_of given.now) ≡ None) }

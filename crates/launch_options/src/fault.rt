@@ -47,15 +47,15 @@ pub enum LaunchFault {
     NoMemory,
     /// Refusals 10 to 17 and 100 to 103, at the suite's line where it is about one.
     Suite(SuiteFault),
-    /// Refusal 105: words that give no options.
+    /// Refusal 105: arguments that give no options.
     BadWords,
-    /// Refusal 104: the word of this number, from 1, in the text of a replay names no step.
+    /// Refusal 104: the token of this number, from 1, in the text of a replay names no step.
     BadStep(usize),
     /// Refusals 40 and 43, at the number of the selector that is none of its kind.
     BadSelector(RefusedSelector),
     /// Refusals 20 to 26, at a place in the tag expression.
     BadTags(TagFault),
-    /// Refusals 30 and 31: the word of this number, from 1, among those of `--config` and then of
+    /// Refusals 30 and 31: the argument of this number, from 1, among those of `--config` and then of
     /// `--system`, says no pair.
     BadPair(ParamsFault),
     /// Refusals 32 to 37: what the configuration asks for is none.
@@ -79,8 +79,8 @@ pub enum LaunchFault {
     UnreadRun,
     /// Refusal 109: this line of a saved run, from 1, is no line of a feed, nor of its JSON.
     BadSavedLine(usize),
-    /// Refusal 110: the file that the word of this number names, from 1, of those that name files of
-    /// words, could not be read, or is no list of words.
+    /// Refusal 110: the file that the argument of this number names, from 1, of those that name files of
+    /// arguments, could not be read, or is no list of arguments.
     UnreadWords(usize),
     /// Refusal 81, at the number of bytes that the writer took.
     Writing(CutOutput),
@@ -233,7 +233,7 @@ impl LaunchFault {
     }
 
     /// The line of the suite or of a saved run, or the number of the step, the selector, the pair, the
-    /// report or the word, from 1, or the place in the tag expression, or how many bytes went out.
+    /// report or the argument, from 1, or the place in the tag expression, or how many bytes went out.
     pub fn place(&self) -> Option<u64>
         ensures { result ≡ place_of self.now }
     {

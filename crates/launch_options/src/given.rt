@@ -1,4 +1,4 @@
-//! What the words of a command line give the options, each value as text.
+//! What the arguments of a command line give the options, each value as text.
 
 use selectors::SelectorKind;
 
@@ -6,7 +6,7 @@ use selectors::SelectorKind;
 /// those that select or leave out, which share one numbering.
 pub struct Given<'a> {
     /// `--select-unique-id`, `--select-class`, `--select-method` and `--select-package`: all of the
-    /// first, then all of the next, each option's in the order of the words.
+    /// first, then all of the next, each option's in the order of the arguments.
     pub selectors: Vec<(SelectorKind, &'a str)>,
     /// `--include-name`, numbered behind these.
     pub names: Vec<(SelectorKind, &'a str)>,
@@ -15,7 +15,7 @@ pub struct Given<'a> {
     pub exclusions: Vec<(SelectorKind, &'a str)>,
     /// `--rerun`, numbered behind these.
     pub rerun: Vec<(SelectorKind, &'a str)>,
-    /// `--include-tag`, in the order of the words, as with each that may be given again.
+    /// `--include-tag`, in the order of the arguments, as with each that may be given again.
     pub include_tags: Vec<&'a str>,
     /// `--exclude-tag`.
     pub exclude_tags: Vec<&'a str>,

@@ -1,4 +1,4 @@
-//! What each value means that words give the options of a run.
+//! What each value means that arguments give the options of a run.
 
 ghost use Rattle.std.specs.Prelude.{◌≡◌, ◌≢◌, ◌&&◌, not, ℕ, true, List, Some, None, option_map, IfOk, IfErr, OnOk};
 ghost use Rattle.std.specs.List.{filter_map};
@@ -299,17 +299,17 @@ impl Options {
     /// the ring from 1 to 16,384, what is no number of workers of the fixed schedule from 1 to 64,
     /// what is no number of workers from 1 to 64 and not `auto`, or stands beside one of its keys in
     /// `--config`, what is no number of failures from 1 to 4,095, or stands beside `--fail-fast`, what names no shard, what is no seed, and what asks for no report, for two in one file, or for one of
-    /// nothing that is run; then a word in the text of `--replay` that names no
+    /// nothing that is run; then a token in the text of `--replay` that names no
     /// step is refusal 104, at its number; then a text that spells no selector is refusal 40, and an
     /// empty pattern of names refusal 43, at its number; then an expression of `--include-tag`, and then of `--exclude-tag`,
-    /// is one of 20 to 26, at a place in it; then a word of `--config` or `--system` that has no
+    /// is one of 20 to 26, at a place in it; then an argument of `--config` or `--system` that has no
     /// equals sign or an empty key is refusal 30 or 31, at its number, those of `--config` counted
     /// first. Selectors, names, exclusions
     /// and what is to be run again are numbered from 1 in the order of `Given`. All of these are judged before
     /// any of them is kept, so want of memory stands in their place nowhere.
     pub fn of(alloc: Global, given: &Given<'_>) -> Result<Options, LaunchFault>
         ensures asked { IfOk result (λ options. AreAsked (values_of given.now) (asked_by options)) }
-        // `--workers` asks for just what its long words ask for.
+        // `--workers` asks for just what its long arguments ask for.
         ensures workers { IfOk result (λ options. (number : ℕ) → options.workers ≡ Some number →
             AreAsked (in_long_words number (values_of given.now)) (record (asked_by options) { workers = None })) }
         // `--fail-fast` asks for just what `--max-fail 1` asks for.

@@ -97,7 +97,7 @@ pub fn drive_named(text: Option<&str>) -> Result<Option<u32>, LaunchFault>
     }
 }
 
-/// Judges words, which stand behind so many others: each says a pair.
+/// Judges arguments, which stand behind so many others: each says a pair.
 fn judge_pairs(before: usize, words: &[&str]) -> Result<(), LaunchFault>
     requires few { before + length words.now < 2 ^ 64 }
     ensures accepted { OnOk result (pairs_refusal (before + 1) (behind words.now) ≡ None) }
@@ -112,7 +112,7 @@ fn judge_pairs(before: usize, words: &[&str]) -> Result<(), LaunchFault>
     Ok(())
 }
 
-/// Judges the words of `--config` and `--system`.
+/// Judges the arguments of `--config` and `--system`.
 pub(crate) fn judge_params(given: &Given<'_>) -> Result<(), LaunchFault>
     ensures accepted { OnOk result (params_refusal (values_of given.now) ≡ None) }
     ensures refused { IfErr result (λ fault. params_refusal (values_of given.now) ≡ Some fault) }
@@ -124,7 +124,7 @@ pub(crate) fn judge_params(given: &Given<'_>) -> Result<(), LaunchFault>
     judge_pairs(config.len(), system)
 }
 
-/// Puts the pair that a word says into a source.
+/// Puts the pair that an argument says into a source.
 fn add_pair(
     alloc: Global,
     params: &mut Params,
@@ -133,14 +133,14 @@ fn add_pair(
 ) -> Result<(), AllocError>
     ensures { OnOk result (params.new ≡ with_value params.old source (key_of word.now, value_of word.now)) }
 {
-    // every word was judged
+    // every argument was judged
     let Ok(pair) = pair_of(1, word) else {
         return Err(AllocError);
     };
     params.add(alloc, source, pair.key, pair.value)
 }
 
-/// Puts the pairs that words say into a source.
+/// Puts the pairs that arguments say into a source.
 pub(crate) fn add_pairs(
     alloc: Global,
     params: &mut Params,
@@ -156,7 +156,7 @@ pub(crate) fn add_pairs(
     Ok(())
 }
 
-/// Puts into what the request says the words of `--config`, and behind them those that `--workers`
+/// Puts into what the request says the arguments of `--config`, and behind them those that `--workers`
 /// stands for.
 fn add_request(
     alloc: Global,

@@ -1,4 +1,4 @@
-//! The keys and the words of the settings that a refusal may be about.
+//! The keys and the names of the settings that a refusal may be about.
 
 ghost use Rattle.std.specs.Prelude.{◌≡◌, ℕ, List};
 ghost use Rattle.std.specs.List.{list_any};

@@ -1,4 +1,4 @@
-//! What `--workers` asks for: the workers that its words of `--config` ask for, and nodes that are
+//! What `--workers` asks for: the workers that its arguments of `--config` ask for, and nodes that are
 //! concurrent where nobody says what they are.
 
 ghost use Rattle.std.specs.Prelude.{◌≡◌, ◌≢◌, ℕ, List, None, Some, IfOk, IfErr, OnOk, fold};
@@ -27,7 +27,7 @@ const MOST_WORKERS: u32 = 64;
 /// The value that asks for a worker for each processor.
 const AUTO: &str = "auto";
 
-/// The words of `--config` that `--workers` stands for; the last lacks its number.
+/// The arguments of `--config` that `--workers` stands for; the last lacks its number.
 const IS_ENABLED: &str = "junit.jupiter.execution.parallel.enabled=true";
 
 const IS_FIXED: &str = "junit.jupiter.execution.parallel.config.strategy=fixed";
@@ -61,14 +61,14 @@ pub fn workers_named(processors: u32, text: Option<&str>) -> Result<Option<u32>,
     }
 }
 
-/// Whether `--workers` stands for a word of this key.
+/// Whether `--workers` stands for an argument of this key.
 fn is_long_key(key: &str) -> bool
     ensures { result ≡ is_long_key key.now }
 {
     key == ENABLED || key == STRATEGY || key == PARALLELISM
 }
 
-/// Whether a word of `--config` says a key that `--workers` says.
+/// Whether an argument of `--config` says a key that `--workers` says.
 pub fn has_long_key(word: &str) -> bool
     ensures { result ≡ has_long_key (pair_of 1 word.now) }
 {
@@ -78,7 +78,7 @@ pub fn has_long_key(word: &str) -> bool
     }
 }
 
-/// Whether one of these words says a key that `--workers` says.
+/// Whether one of these arguments says a key that `--workers` says.
 fn says_long_key(words: &[&str]) -> bool
     ensures { result ≡ says_long_key (behind words.now) }
 {
@@ -106,7 +106,7 @@ pub(crate) fn workers_given(given: &Given<'_>, processors: u32) -> Result<Option
     Ok(workers)
 }
 
-/// Puts what `--workers` asks for into what the request says, as its words of `--config` do.
+/// Puts what `--workers` asks for into what the request says, as its arguments of `--config` do.
 pub(crate) fn add_workers(
     alloc: Global,
     params: &mut Params,

@@ -18,11 +18,11 @@ escape_of b = codes "%" ++ (digit_glyph true (b / 16 % 16) ∷ digit_glyph true 
 abbrev pub escapes_of : ℕ → List ℕ
 escapes_of c = cond (nat_lt c 128) (escape_of c) (codes "%C2" ++ escape_of c)
 
--- a character of an id in a shell's word between single quotes: a quote ends the word, stands behind a backslash, and begins the next
+-- a character of an id in a shell's argument, between single quotes: a quote ends them, stands behind a backslash, and opens others
 abbrev pub shell_char : ℕ → List ℕ
 shell_char c = cond (c == 39) (codes "'\\''") (cond (is_control c) (escapes_of c) (encode_utf8 c))
 
--- the option and an id as a shell's words, behind a space
+-- the option and an id as a shell's arguments, behind a space
 abbrev pub word_of : List ℕ → List ℕ → List ℕ
 word_of option id = codes " --" ++ (option ++ (codes " '" ++ (flat_map shell_char (chars id) ++ codes "'")))
 
@@ -39,7 +39,7 @@ failure_lines f =
 abbrev pub more_line : ℕ → List ℕ
 more_line more = cond (more == 0) [] (codes "  and " ++ (decimal more ++ codes " more\n"))
 
--- whether the words select it: not if a node below it failed too, which is selected in its place, nor if they have no room for it
+-- whether the arguments select it: not if a node below it failed too, which is selected in its place, nor if they have no room for it
 abbrev pub is_named : Naming → Bool
 is_named Named = true
 is_named Above = false
@@ -51,7 +51,7 @@ is_left_out Named = false
 is_left_out Above = false
 is_left_out LeftOut = true
 
--- the words that select it, if they do
+-- the arguments that select it, if they do
 abbrev pub failure_word : List ℕ → Failure → List ℕ
 failure_word option f = cond (is_named f.naming) (word_of option (string_bytes f.id)) []
 
@@ -59,23 +59,23 @@ failure_word option f = cond (is_named f.naming) (word_of option (string_bytes f
 abbrev pub selects_below : Failure → Bool
 selects_below f = is_named f.naming && f.holds
 
--- whether the words select not all that failed
+-- whether the arguments select not all that failed
 abbrev pub are_some : Failures → Bool
 are_some fs = nat_lt 0 fs.more || list_any (λ f. is_left_out f.naming) fs.kept.items
 
--- what the words select: all that failed or the first, and these alone or with what is below them
+-- what the arguments select: all that failed or the first, and these alone or with what is below them
 abbrev pub heading : Bool → Bool → List ℕ
 heading false false = codes "To select just these, a dynamic test with its factory:\n "
 heading false true = codes "To select these and what is below them, a dynamic test with its factory:\n "
 heading true false = codes "To select just the first of these, a dynamic test with its factory:\n "
 heading true true = codes "To select the first of these and what is below them, a dynamic test with its factory:\n "
 
--- the words, and what they select
+-- the arguments, and what they select
 abbrev pub selecting : List ℕ → Failures → List ℕ
 selecting option fs =
     heading (are_some fs) (list_any selects_below fs.kept.items) ++ (flat_map (failure_word option) fs.kept.items ++ codes "\n")
 
--- the words, if there are some
+-- the arguments, if there are some
 abbrev pub hint_of : List ℕ → Failures → List ℕ
 hint_of option fs = cond (length fs.kept.items == 0) [] (selecting option fs)
 
@@ -83,6 +83,6 @@ hint_of option fs = cond (length fs.kept.items == 0) [] (selecting option fs)
 abbrev pub title_of : Failures → List ℕ
 title_of fs = codes "Failures (" ++ (decimal (length fs.kept.items + fs.more) ++ codes "):\n")
 
--- that, the lines of those that are kept, how many others there are, and words that select them
+-- that, the lines of those that are kept, how many others there are, and arguments that select them
 abbrev pub failed_of : List ℕ → Failures → List ℕ
 failed_of option fs = title_of fs ++ (flat_map failure_lines fs.kept.items ++ (more_line fs.more ++ hint_of option fs))

@@ -1,4 +1,4 @@
-//! The nodes that failed, once more, and the words that select them.
+//! The nodes that failed, once more, and the arguments that select them.
 
 ghost use Rattle.std.specs.Prelude.{◌≡◌, ◌<◌, ◌++◌, OnOk, IfOk, codes, string_bytes, true};
 ghost use Rattle.std.specs.Fmt.{digit_glyph};
@@ -43,7 +43,7 @@ fn push_escapes(text: &mut String, c: char) -> Result<(), AllocError>
     push_escape(text, u32::from(c))
 }
 
-/// Appends a character of an id as it stands between the quotes of a shell's word.
+/// Appends a character of an id as it stands between the quotes of a shell's argument.
 fn push_char(text: &mut String, c: char) -> Result<(), AllocError>
     ensures { OnOk result (string_bytes text.new ≡ string_bytes text.old ++ shell_char c) }
 {
@@ -54,7 +54,7 @@ fn push_char(text: &mut String, c: char) -> Result<(), AllocError>
     }
 }
 
-/// Appends the characters of an id as they stand between the quotes of a shell's word.
+/// Appends the characters of an id as they stand between the quotes of a shell's argument.
 fn push_escaped(text: &mut String, id: &str) -> Result<(), AllocError>
     ensures { OnOk result (string_bytes text.new ≡ string_bytes text.old ++ flat_map shell_char (chars id.now)) }
 {
@@ -64,7 +64,7 @@ fn push_escaped(text: &mut String, id: &str) -> Result<(), AllocError>
     Ok(())
 }
 
-/// Appends the words that select the node with this id.
+/// Appends the arguments that select the node with this id.
 fn push_word(text: &mut String, option: &str, id: &str) -> Result<(), AllocError>
     ensures { OnOk result (string_bytes text.new ≡ string_bytes text.old ++ word_of option.now id.now) }
 {
@@ -117,7 +117,7 @@ fn push_more(text: &mut String, more: u32) -> Result<(), AllocError>
     writeln!(text, "  and {more} more")
 }
 
-/// Appends the words that select the node, if they name it.
+/// Appends the arguments that select the node, if they name it.
 fn push_failure_word(text: &mut String, option: &str, failure: &Failure) -> Result<(), AllocError>
     ensures { OnOk result (string_bytes text.new ≡ string_bytes text.old ++ failure_word option.now failure.now) }
 {
@@ -127,7 +127,7 @@ fn push_failure_word(text: &mut String, option: &str, failure: &Failure) -> Resu
     Ok(())
 }
 
-/// Appends the words that select these nodes.
+/// Appends the arguments that select these nodes.
 fn push_words(text: &mut String, option: &str, failures: &[Failure]) -> Result<(), AllocError>
     ensures { OnOk result (string_bytes text.new ≡ string_bytes text.old
         ++ flat_map (failure_word option.now) failures.now) }
@@ -138,7 +138,7 @@ fn push_words(text: &mut String, option: &str, failures: &[Failure]) -> Result<(
     Ok(())
 }
 
-/// What the words select.
+/// What the arguments select.
 fn heading(are_some: bool, selects_below: bool) -> &'static str
     ensures { result.now ≡ heading are_some selects_below }
 {
@@ -154,14 +154,14 @@ fn heading(are_some: bool, selects_below: bool) -> &'static str
     }
 }
 
-/// Whether more is selected than the nodes that the words name.
+/// Whether more is selected than the nodes that the arguments name.
 fn any_selects_below(failures: &[Failure]) -> bool
     ensures { result ≡ list_any selects_below failures.now }
 {
     failures.iter().any(|failure| failure.selects_below())
 }
 
-/// Appends the words that select what failed, and what they select.
+/// Appends the arguments that select what failed, and what they select.
 fn push_selecting(text: &mut String, option: &str, failures: &Failures) -> Result<(), AllocError>
     ensures { OnOk result (string_bytes text.new ≡ string_bytes text.old ++ selecting option.now failures.now) }
 {
@@ -192,7 +192,7 @@ fn push_title(text: &mut String, failures: &Failures) -> Result<(), AllocError>
 }
 
 /// How many nodes failed; of those that are kept the name, the unique id and the reason; how many
-/// others there are; and the words, with an option that has ids, which select them.
+/// others there are; and the arguments, with an option that has ids, which select them.
 pub fn failed_text(alloc: Global, option: &str, failures: &Failures) -> Result<String, AllocError>
     ensures { IfOk result (λ text. string_bytes text ≡ failed_of option.now failures.now) }
 {

@@ -13,13 +13,13 @@ use plan_events::Texts;
 use resource_locks::Plan;
 use std::alloc::{AllocError, Global};
 
-/// Whether the words that select what failed name a node.
+/// Whether the arguments that select what failed name a node.
 #[derive(Clone, Copy)]
 pub enum Naming {
     Named,
     /// A node below it failed too, and is named in its place, if there is room.
     Above,
-    /// There are as many words as there may be.
+    /// There are as many arguments as there may be.
     LeftOut,
 }
 
@@ -80,7 +80,7 @@ impl Failure {
         })
     }
 
-    /// Whether more is selected with it by the words.
+    /// Whether more is selected with it by the arguments.
     pub fn selects_below(&self) -> bool
         ensures { result ≡ selects_below self.now }
     {

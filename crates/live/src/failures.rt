@@ -17,10 +17,10 @@ use std::alloc::Global;
 /// How many failures are kept.
 const MOST_KEPT: usize = 20;
 
-/// How many of them the words name.
+/// How many of them the arguments name.
 const MOST_NAMED: usize = 10;
 
-/// Whether the words had no room for one of them.
+/// Whether the arguments had no room for one of them.
 fn any_left_out(failures: &[Failure]) -> bool
     ensures { result ≡ list_any (λ f. is_left_out f.naming) failures.now }
 {
@@ -55,7 +55,7 @@ impl Failures {
         self.kept.is_empty() && self.more == 0
     }
 
-    /// Whether the words select not all that failed.
+    /// Whether the arguments select not all that failed.
     pub fn are_some(&self) -> bool
         ensures { result ≡ are_some self.now }
     {
@@ -94,7 +94,7 @@ impl Failures {
         false
     }
 
-    /// How many the words name.
+    /// How many the arguments name.
     fn named(&self) -> usize {
         self.kept
             .iter()
@@ -102,7 +102,7 @@ impl Failures {
             .count()
     }
 
-    /// Whether the words are to name a node that failed.
+    /// Whether the arguments are to name a node that failed.
     fn naming(&self, plan: &Plan, node: NodeId) -> Naming {
         if self.has_below(plan, node) {
             Naming::Above

@@ -61,7 +61,7 @@ fn add_key<'a>(
     }
 }
 
-/// Adds the hints about the keys of these words.
+/// Adds the hints about the keys of these arguments.
 fn add_words<'a>(
     alloc: Global,
     hints: &mut Hints<'a>,

@@ -13,9 +13,9 @@ const MOST_SHOWN: usize = 100;
 /// Where a hint is about.
 #[derive(Clone, Copy, Drop)]
 pub enum Place {
-    /// A word of `--config`.
+    /// An argument of `--config`.
     Config,
-    /// A word of `--system`.
+    /// An argument of `--system`.
     System,
     /// A line of the suite, from 1.
     Line(usize),

@@ -66,7 +66,7 @@ const UNOPENED: &str =
 const UNKEPT: &str =
     "The run is over. Standard output is whole, and so is each other report that is there.\n";
 
-/// Appends why words that clap took give no options, or none that tests of a program's own can follow.
+/// Appends why arguments that clap took give no options, or none that tests of a program's own can follow.
 fn push_refused_words(
     alloc: Global,
     text: &mut String,

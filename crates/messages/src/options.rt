@@ -39,7 +39,7 @@ pub(crate) fn form_of(kind: SelectorKind) -> &'static str {
     }
 }
 
-/// What one of the two tables of properties calls the word of this number, which counts on behind the first.
+/// What one of the two tables of properties calls the argument of this number, which counts on behind the first.
 pub(crate) fn pair_option(number: usize, config: usize) -> &'static str {
     if number <= config { CONFIG } else { SYSTEM }
 }

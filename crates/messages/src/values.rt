@@ -81,7 +81,7 @@ fn push_range(
     push_option(alloc, text, option, value, 0)
 }
 
-/// Appends a word of `--report`.
+/// Appends an argument of `--report`.
 fn push_report_word(alloc: Global, text: &mut String, word: &str) -> Result<(), AllocError> {
     push_option(alloc, text, REPORT, word, 0)
 }
@@ -264,7 +264,7 @@ pub(crate) fn push_unread_suite(text: &mut String, given: &Given<'_>) -> Result<
     }
 }
 
-/// Appends which word of the replay names no step.
+/// Appends which token of the replay names no step.
 pub(crate) fn push_step(
     alloc: Global,
     text: &mut String,
@@ -292,7 +292,7 @@ pub(crate) fn push_step(
     Ok(())
 }
 
-/// Appends the step that is nearest to that of a word.
+/// Appends the step that is nearest to that of a token.
 fn push_nearest_step(alloc: Global, text: &mut String, word: &str) -> Result<(), AllocError> {
     let (_, step) = word.split_once(':').unwrap_or(("", word));
     push_nearest(alloc, text, step_forms().as_slice(), step)
@@ -524,7 +524,7 @@ pub(crate) fn push_tags(
     Ok(())
 }
 
-/// Appends which word of `--config` or `--system` is no pair.
+/// Appends which argument of `--config` or `--system` is no pair.
 pub(crate) fn push_pair(
     alloc: Global,
     text: &mut String,

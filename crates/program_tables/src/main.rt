@@ -1,6 +1,6 @@
-//! Runs the program over memory, by rows from standard input: a line `== ` with the words of a
+//! Runs the program over memory, by rows from standard input: a line `== ` with the arguments of a
 //! command line, and below it the lines of a suite. A line `=== ` is the title of the rows below it.
-//! Both are printed again, and below the words what the program writes and how it ends; where they
+//! Both are printed again, and below the arguments what the program writes and how it ends; where they
 //! begin with `=? `, what stands on standard error follows; below `=! ` too, where that is a terminal;
 //! below `=< N ` too, with an output that takes N bytes and then fails. Below `=2 ` stands instead
 //! whether a second worker does something. A row that begins with `=t ` has no suite: tests of the
@@ -10,8 +10,8 @@
 //! `=@ NAME` there is none. Below what the program writes stand the reports that are kept, each below a
 //! line `-- ` with its name. From a line `=== texts` on stand questions, which answer_tables answers; at a line
 //! `=== shelf` the tests of a shelf are run; and from a line `=== behaviours` on stand names of behaviour_tests, each
-//! printed with whether what it says holds. A program that is given words reads nothing: it runs the tests of the shelf
-//! as the words ask for, as a program of these tests alone would.
+//! printed with whether what it says holds. A program that is given arguments reads nothing: it runs the tests of the
+//! shelf as the arguments ask for, as a program of these tests alone would.
 #![tactic(auto)]
 
 use answer_tables::print_answers;
@@ -79,7 +79,7 @@ fn print_table<S: System, W: Write, E: Write + IsTerminal>(
     Ok(())
 }
 
-/// Whether the system gave words besides the program's name, or none at all.
+/// Whether the system gave arguments besides the program's name, or none at all.
 fn has_words<S: Env + AllocGlobal>(system: &S) -> bool {
     match args(system) {
         Ok(words) => words.count() != 1,

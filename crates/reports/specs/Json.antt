@@ -1,5 +1,5 @@
 -- The JSON of a run: an object for each event, in their order, each on a line of its own. What an object is, what text is written for
--- it and what a text is read as are the kit's own words, those of its crate `json`.
+-- it and what a text is read as are the kit's own definitions, those of its crate `json`.
 use Rattle.std.specs.Prelude.{◌≡◌, ℕ, ◌==◌, cond, List, [], ◌++◌, map, codes, Option, Some, None}
 use Rattle.std.specs.Fmt.{decimal}
 use Rattle.std.specs.List.{flat_map}
@@ -39,7 +39,7 @@ text_member name text more = member name (string text) more
 abbrev pub number_member : List ℕ → ℕ → Members → Members
 number_member name n more = member name (number (decimal n)) more
 
--- the type of a node, in a word
+-- the name of a node's type
 abbrev pub type_word : Kind → List ℕ
 type_word Container = codes "CONTAINER"
 type_word Test = codes "TEST"

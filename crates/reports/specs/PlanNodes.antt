@@ -13,12 +13,12 @@ use Rattle.run_results.specs.Feed.{id_at}
 use Rattle.run_results.specs.TreeTexts.{name_at}
 use Rattle.reports.specs.Json.{number_member, text_member, type_word, written}
 
--- an execution mode, in a word
+-- the name of an execution mode
 abbrev pub mode_word : Mode → List ℕ
 mode_word SameThread = codes "SAME_THREAD"
 mode_word Concurrent = codes "CONCURRENT"
 
--- how a key is held, in a word
+-- the name of the mode in which a key is held
 abbrev pub lock_word : LockMode → List ℕ
 lock_word Read = codes "READ"
 lock_word ReadWrite = codes "READ_WRITE"

@@ -1,4 +1,4 @@
-//! Events as words: the worker, `+` for a start, `-` for a finish, `~` for a skip and `*` for a
+//! Events as tokens: the worker, `+` for a start, `-` for a finish, `~` for a skip and `*` for a
 //! registration, the node, and behind a finish `!` where it FAILED and `?` where it ABORTED.
 
 use crate::words::{say, show};
@@ -24,7 +24,7 @@ fn end_of(status: Option<Status>) -> &'static str {
     }
 }
 
-/// Adds each event as a word behind a blank.
+/// Adds each event as a token behind a blank.
 pub(crate) fn push_words(text: &mut String, events: &[Event]) {
     for event in events {
         let (sign, end) = (sign_of(event.kind), end_of(event.status));
@@ -34,7 +34,7 @@ pub(crate) fn push_words(text: &mut String, events: &[Event]) {
     }
 }
 
-/// What stands before and behind the sign of a word, and the kind that it stands for.
+/// What stands before and behind the sign of a token, and the kind that it stands for.
 fn cut(word: &str) -> Option<(&str, EventKind, &str)> {
     for (sign, kind) in [
         ('+', EventKind::Started),
@@ -62,7 +62,7 @@ fn ended(kind: EventKind, node: &str) -> (&str, Option<Status>) {
     }
 }
 
-/// The event that a word stands for.
+/// The event that a token stands for.
 fn event_of(word: &str) -> Option<Event> {
     let (worker, kind, node) = cut(word)?;
     let (digits, status) = ended(kind, node);
@@ -74,7 +74,7 @@ fn event_of(word: &str) -> Option<Event> {
     })
 }
 
-/// Adds the events of words between blanks.
+/// Adds the events of tokens between blanks.
 pub(crate) fn push_events(events: &mut Vec<Event>, words: &str) {
     for word in words.split(' ') {
         if let Some(event) = event_of(word) {

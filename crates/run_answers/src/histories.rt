@@ -1,4 +1,4 @@
-//! What a run of a plan leaves: the fixed schedule, or steps by so many workers. A word `fail-fast`
+//! What a run of a plan leaves: the fixed schedule, or steps by so many workers. A token `fail-fast`
 //! or `max-fail:2` says after how many failures the run stops. `3=fail:late` says that body 3 fails with the text `late`, `3=2*pass`
 //! that it is pulled twice before it passes.
 
@@ -34,13 +34,14 @@ fn reply_of(alloc: Global, value: &str) -> Reply {
     }
 }
 
-/// The body whose reply a word gives, and the reply's text. The number of workers, which may stand before, is no body's.
+/// The body whose reply a token gives, and the reply's text. The number of workers, which may stand before, is no
+/// body's.
 fn body_and_value(word: &str) -> Option<(BodyId, &str)> {
     let (body, value) = word.split_once('=')?;
     Some((BodyId::new(body.parse().ok()?), value))
 }
 
-/// What the bodies answer by these words.
+/// What the bodies answer by these tokens.
 fn answers_of(alloc: Global, words: &str) -> Answers {
     let mut replies = Vec::new(alloc);
     for word in words.split(' ') {
@@ -56,7 +57,7 @@ pub fn cut_steps(words: &str) -> (&str, &str) {
     words.split_once(" : ").unwrap_or((words, ""))
 }
 
-/// How many failures a run goes on after, if one of these words says after how many it stops.
+/// How many failures a run goes on after, if one of these tokens says after how many it stops.
 pub fn tolerated_by(words: &str) -> Option<u16> {
     for word in words.split(' ') {
         if word == "fail-fast" {
@@ -145,8 +146,8 @@ pub(crate) fn push_stepped(
     }
 }
 
-/// Adds what a run of the plan leaves whose bodies answer by the words; steps are taken by as many workers as the first
-/// of them says.
+/// Adds what a run of the plan leaves whose bodies answer by the tokens; steps are taken by as many workers as the
+/// first of them says.
 pub fn push_history(alloc: Global, answer: &mut String, plan: &Plan, asked: &str, words: &str) {
     let (replies, steps) = cut_steps(words);
     let answers = answers_of(alloc, replies);

@@ -8,7 +8,7 @@ use crate::traces::{WORKERS, push_core, push_workers};
 use crate::words::{say, show};
 use std::alloc::Global;
 
-/// Adds the answer to what is asked of what is told of a run: of the events of these words, or of the fixed schedule.
+/// Adds the answer to what is asked of what is told of a run: of the events of these tokens, or of the fixed schedule.
 fn push_asked(alloc: Global, answer: &mut String, run: &Run, asked: &str, words: &str) {
     let parts = (&run.plan, &run.answers);
     match words.strip_prefix("of") {

@@ -53,7 +53,7 @@ fn push_done(alloc: Global, answer: &mut String, core: &Core) {
     }
 }
 
-/// Adds what a core answers to each step of these words, and what they leave.
+/// Adds what a core answers to each step of these tokens, and what they leave.
 fn push_taken(alloc: Global, answer: &mut String, core: &mut Core, text: &str) {
     match parse_steps(alloc, text) {
         Ok(steps) => {
@@ -65,7 +65,7 @@ fn push_taken(alloc: Global, answer: &mut String, core: &mut Core, text: &str) {
     }
 }
 
-/// Adds what a core of this run answers to each step of these words, and what they leave.
+/// Adds what a core of this run answers to each step of these tokens, and what they leave.
 pub(crate) fn push_core(alloc: Global, answer: &mut String, run: Run, text: &str) {
     let Run { plan, answers } = run;
     match Core::new(alloc, plan, answers, WORKERS) {

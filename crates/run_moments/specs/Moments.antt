@@ -1,4 +1,4 @@
--- The date and the time of day of a second, by the words of the calendar's library.
+-- The date and the time of day of a second, by the definitions of the calendar's library.
 use Rattle.std.specs.Prelude.{◌≡◌, ℕ, ◌/◌, ◌%◌, pos, unsigned_abs, List, ◌++◌, codes}
 use Rattle.jiff_core.specs.declared.civil.date.Date.{Date}
 use Rattle.jiff_core.specs.declared.civil.time.Time.{Time}

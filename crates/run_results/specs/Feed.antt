@@ -15,7 +15,7 @@ use Rattle.plan_events.specs.declared.status.Status.{Status}
 use Rattle.plan_events.specs.declared.status.Status.TheVariants.{Successful}
 use Rattle.run_results.specs.Printed.{text_after}
 
--- what happened, in a word
+-- the name of what happened
 abbrev pub kind_word : EventKind → List ℕ
 kind_word Started = codes "started"
 kind_word Finished = codes "finished"

@@ -33,7 +33,7 @@ use Rattle.saved_runs.proofs.Splitting.{IsFlat, text_of, all_lines, first_lines}
 
 -- ---- a line
 
--- the word of the worker, and what stands behind it
+-- the token of the worker, and what stands behind it
 abbrev by_worker : ℕ → List ℕ → List ℕ
 by_worker w rest = (119 ∷ decimal w) ++ 32 ∷ rest
 
@@ -62,7 +62,7 @@ worker_is w h = and_from (nat_lt 0 (length (decimal w))) _ (lt_is (length (decim
     lt_is : (n : ℕ) → 0 < n → nat_lt 0 n ≡ true
     lt_is n h = grind (arith, nat_tests, h)
 
--- a worker's line tells what stands behind its word
+-- a worker's line tells what stands behind its token
 worker_line : (w : ℕ) (rest : List ℕ) → w < 2 ^ 64 → line_told (by_worker w rest) ≡ behind_worker rest
 worker_line w rest h =
     let line = by_worker w rest in

@@ -1,4 +1,4 @@
--- When a word is a worker's.
+-- When a token is a worker's.
 use Rattle.std.proofs.Common.{◌≡◌, ◌≢◌, ℕ, ◌&&◌, false, List, [], ◌∷◌, inl, inr, refl, ap}
 use Rattle.std.proofs.lemmas.Bool.Decides.{eqb_tells}
 use Rattle.suite_words.specs.Numbers.{is_number}

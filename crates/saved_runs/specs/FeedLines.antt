@@ -1,5 +1,6 @@
 -- What a line of a saved feed tells, read from left to right: `wN plan WORD`, or `wN WORD ID`, behind which a space and how it ended may stand.
--- A warning is a line `WARNING KEY`, and a schedule a line of steps, whose words have a colon each, or the line that says that there is none.
+-- A warning is a line `WARNING KEY`, and a schedule a line of steps, whose tokens have a colon each, or the line that says that there is
+-- none.
 use Rattle.std.specs.Prelude.{ℕ, ◌+◌, ◌==◌, ◌&&◌, ◌||◌, not, cond, List, [], ◌∷◌, length, take, drop, Bool, false, codes, Option, Some, None}
 use Rattle.std.specs.List.{list_any, before_first, after_first}
 use Rattle.std.specs.Str.{bytes_eq}
@@ -20,7 +21,7 @@ first_word text = before_first is_space text
 abbrev pub after_word : List ℕ → List ℕ
 after_word text = after_first is_space text
 
--- whether a word is a worker's: w (119), and a number
+-- whether a token is a worker's: w (119), and a number
 abbrev pub is_worker : List ℕ → Bool
 is_worker [] = false
 is_worker (b ∷ digits) = (b == 119) && is_number digits
@@ -42,11 +43,11 @@ id_len (b ∷ rest) = cond (ends_id b rest) 1 (1 + id_len rest)
 abbrev pub node_ended : List ℕ → List ℕ → List ℕ → Option Told
 node_ended word id behind = cond (length (first_word behind) == 0) (node_told word id (first_word (after_word behind))) None
 
--- what is told of a node behind the word of what happened
+-- what is told of a node behind the name of what happened
 abbrev pub node_line : List ℕ → List ℕ → Option Told
 node_line word rest = node_ended word (take (id_len rest) rest) (drop (id_len rest) rest)
 
--- what a line tells behind its worker's word
+-- what a line tells behind its worker's token
 abbrev pub behind_worker : List ℕ → Option Told
 behind_worker rest = cond (bytes_eq (first_word rest) (codes "plan")) (plan_told (after_word rest)) (node_line (first_word rest) (after_word rest))
 

@@ -21,7 +21,7 @@ text_at name j = text_or (text_in name j)
 abbrev pub is_note : List ℕ → Bool
 is_note event = bytes_eq event (codes "warning") || bytes_eq event (codes "schedule")
 
--- what is told of the plan, or of a node, by the word of what happened
+-- what is told of the plan, or of a node, by the name of what happened
 abbrev pub event_told : List ℕ → Json → Option Told
 event_told word j =
     cond (bytes_eq (text_at (codes "type") j) (codes "PLAN")) (plan_told word) (node_told word (text_at (codes "id") j) (text_at (codes "status") j))

@@ -1,4 +1,4 @@
--- What a line of a saved run tells, by its words: what happened, to which node, and how it ended.
+-- What a line of a saved run tells, by its texts: what happened, to which node, and how it ended.
 use Rattle.std.specs.Prelude.{ℕ, ◌==◌, cond, List, length, Bool, true, false, Option, Some, None, Result, Ok, Err}
 use Rattle.std.specs.Option.{option_map, option_and_then}
 use Rattle.std.specs.Str.{bytes_eq}
@@ -22,7 +22,7 @@ status_named word =
     cond (bytes_eq word (status_text Aborted)) (Some Aborted) (
     cond (bytes_eq word (status_text Failed)) (Some Failed) None))
 
--- what happened, by its word and what is told of its end: of a finish the status, of a skip anything, else nothing
+-- what happened, by its name and what is told of its end: of a finish the status, of a skip anything, else nothing
 abbrev pub what_by : List ℕ → List ℕ → Option What
 what_by word status =
     cond (bytes_eq word (kind_word kinds.Started)) (cond (length status == 0) (Some Started) None) (
@@ -30,7 +30,7 @@ what_by word status =
     cond (bytes_eq word (kind_word kinds.Skipped)) (Some Skipped) (
     cond (bytes_eq word (kind_word kinds.Finished)) (option_map Finished (status_named status)) None)))
 
--- what happened to the plan, by its word
+-- what happened to the plan, by its name
 abbrev pub plan_told : List ℕ → Option Told
 plan_told word =
     cond (bytes_eq word (kind_word kinds.Started)) (Some PlanStarted) (
@@ -45,7 +45,7 @@ told_of what (Err fault) = None
 abbrev pub told_by : What → List ℕ → Option Told
 told_by what id = told_of what (id_of id)
 
--- what is told of a node, by the word of what happened, the text of its id, and its status
+-- what is told of a node, by the name of what happened, the text of its id, and its status
 abbrev pub node_told : List ℕ → List ℕ → List ℕ → Option Told
 node_told word id status = option_and_then (λ what. told_by what id) (what_by word status)
 

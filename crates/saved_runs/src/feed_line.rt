@@ -20,7 +20,7 @@ fn cut_at_space(text: &str) -> (&str, &str)
     }
 }
 
-/// Whether a word is a worker's.
+/// Whether a token is a worker's.
 fn is_worker(word: &str) -> bool
     ensures { result ≡ is_worker word.now }
 {
@@ -82,7 +82,7 @@ fn node_ended(alloc: Global, word: &str, id: &str, behind: &str) -> Result<Optio
     node_told(alloc, word, id, status)
 }
 
-/// What is told of a node behind the word of what happened.
+/// What is told of a node behind the name of what happened.
 fn node_line(alloc: Global, word: &str, rest: &str) -> Result<Option<Told>, AllocError>
     ensures { IfOk result (λ told. told ≡ node_line word.now rest.now) }
 {
@@ -90,7 +90,7 @@ fn node_line(alloc: Global, word: &str, rest: &str) -> Result<Option<Told>, Allo
     node_ended(alloc, word, id, behind)
 }
 
-/// What a line tells behind its worker's word.
+/// What a line tells behind its worker's token.
 fn behind_worker(alloc: Global, rest: &str) -> Result<Option<Told>, AllocError>
     ensures { IfOk result (λ told. told ≡ behind_worker rest.now) }
 {

@@ -28,7 +28,7 @@ fn is_note(event: &str) -> bool
     }
 }
 
-/// What is told of the plan, or of a node, by the word of what happened.
+/// What is told of the plan, or of a node, by the name of what happened.
 fn event_told(alloc: Global, word: &str, object: &Value) -> Result<Option<Told>, AllocError>
     ensures { IfOk result (λ told. told ≡ event_told word.now (value_view object.now)) }
 {

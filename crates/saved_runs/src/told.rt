@@ -73,7 +73,7 @@ fn without_status(what: What, status: &str) -> Option<What>
     if status.is_empty() { Some(what) } else { None }
 }
 
-/// What happened, by its word and the status that is told with it.
+/// What happened, by its name and the status that is told with it.
 fn what_by(word: &str, status: &str) -> Option<What>
     ensures { result ≡ what_by word.now status.now }
 {
@@ -89,7 +89,7 @@ fn what_by(word: &str, status: &str) -> Option<What>
     }
 }
 
-/// What happened to the plan, by its word.
+/// What happened to the plan, by its name.
 pub(crate) fn plan_told(word: &str) -> Option<Told>
     ensures { result ≡ plan_told word.now }
 {
@@ -111,7 +111,7 @@ fn told_by(alloc: Global, id: &str, what: What) -> Result<Option<Told>, AllocErr
     }
 }
 
-/// What is told of a node, by the word of what happened, the text of its id, and its status.
+/// What is told of a node, by the name of what happened, the text of its id, and its status.
 pub(crate) fn node_told(
     alloc: Global,
     word: &str,

@@ -88,7 +88,7 @@ action_back AddChild h = refl
 action_back Notice h = refl
 action_back Raise h = refl
 
--- a word
+-- a token
 pub step_back : (s : Step) → IsNamable s → step_of (spelled_step s) ≡ Some s
 unfolding step_of
 step_back Read h = refl
@@ -100,7 +100,7 @@ step_back (Worker k a) h =
     ap (λ b. if b then option_and_then (λ w. option_map (Worker w) (action_of (after_first is_colon text))) (worker_of (before_first is_colon text)) else None) (number_colon k small (spelled_action a))
     ∙ ap (option_and_then (λ w. option_map (Worker w) (action_of (after_first is_colon text)))) worker ∙ ap (option_map (Worker k)) action
 
--- the words of steps
+-- the tokens of steps
 pub none_bad : (steps : List Step) → AreNamable steps → length (map spelled_step steps) ≤ position_or_len is_bad_word (map spelled_step steps)
 none_bad [] h = omega arith
 none_bad (s ∷ more) h =

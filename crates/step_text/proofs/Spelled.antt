@@ -1,4 +1,4 @@
--- A word that names a step is that step's spelling.
+-- A token that names a step is that step's spelling.
 use Rattle.std.proofs.Common.{◌≡◌, ℕ, ◌+◌, ◌<◌, ◌≤◌, ◌^◌, ◌&&◌, ◌==◌, List, [], ◌∷◌, ◌++◌, length, map, get_or, drop, slice_index, is_none, Bool, true, false, not, cond, nat_le, if◌then◌else◌, Option, Some, None, option_map, option_and_then, codes, refl, sym, ap, ◌∙◌, inl, inr, ◌⊎◌, arith}
 use Rattle.std.proofs.lemmas.Bool.{eqb-true, leb-true, cases_lt, lt-ltb}
 use Rattle.std.proofs.lemmas.Option.{none-some}
@@ -19,7 +19,7 @@ use Rattle.step_text.specs.StepTexts.{is_colon, is_decimal, number_within, worke
 use Rattle.step_text.specs.StepSpelling.{spelled_action, spelled_step}
 use Rattle.suite_words.proofs.Numbers.{own}
 
--- one branch of a choice by words
+-- one branch of a choice by tokens
 picked : {A : Type 0} (b : Bool) (a x : A) (rest : Option A) → (if b then Some a else rest) ≡ Some x → ((b ≡ true) × (a ≡ x)) ⊎ (rest ≡ Some x)
 picked true a x rest h = inl (refl, cc)
 picked false a x rest h = inr h
@@ -87,7 +87,7 @@ node_action_by name ds a false false p q h = cc
 node_action_spelled : (name ds : List ℕ) (a : Action) → node_action name ds ≡ Some a → spelled_action a ≡ name ++ 58 ∷ ds
 node_action_spelled name ds a h = node_action_by name ds a _ _ refl refl h
 
--- one word of a choice: its step is so spelled, or a later one is chosen
+-- one token of a choice: its step is so spelled, or a later one is chosen
 word_or : (name word : List ℕ) (a x : Action) (rest : Option Action) → spelled_action a ≡ word → (rest ≡ Some x → spelled_action x ≡ name)
     → (if bytes_eq name word then Some a else rest) ≡ Some x → spelled_action x ≡ name
 word_or name word a x rest s later h = elim (picked (bytes_eq name word) a x rest h) [
@@ -132,7 +132,7 @@ step_spelled word s h = elim (picked (bytes_eq word (codes "d:read")) Read s (if
   | inr r ↦ (let c = chosen (slice_index word 0 == 119) (worker_step (drop 1 word)) s r in worker_spelled (drop 1 word) s c.1 ∙ sym (front_kept word c.0))
 ]
 
--- the words of a text, of which none is bad
+-- the tokens of a text, of which none is bad
 words_by : (word : List ℕ) (more : List (List ℕ)) (o : Option Step) → step_of word ≡ o → (length more ≤ position_or_len is_bad_word more → map spelled_step (filter_map step_of more) ≡ more)
     → length (word ∷ more) ≤ position_or_len is_bad_word (word ∷ more) → map spelled_step (filter_map step_of (word ∷ more)) ≡ word ∷ more
 words_by word more None is ih h =

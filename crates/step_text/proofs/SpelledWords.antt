@@ -1,4 +1,4 @@
--- The words of a text, seen through references.
+-- The tokens of a text, seen through references.
 use Rattle.std.proofs.Common.{◌≡◌, ◌≢◌, ℕ, List, [], ◌∷◌, Bool, true, false, ◌==◌, slice_index, refl, ap}
 use Rattle.std.proofs.lemmas.Bool.{eqb-true}
 

@@ -65,7 +65,7 @@ no_space : (text : List ℕ) → is_unspaced text ≡ true → All (λ b. is_spa
 no_space [] h = All-nil (λ b. is_space b ≡ false)
 no_space (b ∷ text) h = (let parts = and_parts (not (is_space b)) (is_unspaced text) h in All-cons (λ b. is_space b ≡ false) b text (not-true (is_space b) parts.0) (no_space text parts.1))
 
--- the words of the text are those of the steps
+-- the tokens of the text are those of the steps
 is_word : (s : Step) → not (length (spelled_step s) == 0) ≡ true
 is_word Read = refl
 is_word (Worker k a) = ap not (ne_eqb (length (spelled_step (Worker k a))) 0 (λ none. omega (arith, none)))

@@ -30,7 +30,7 @@ abbrev pub spelled_step : Step → List ℕ
 spelled_step Read = codes "d:read"
 spelled_step (Worker k a) = codes "w" ++ (decimal k ++ (codes ":" ++ spelled_action a))
 
--- the text of steps: their words, with a blank between each two
+-- the text of steps: their tokens, with a blank between each two
 abbrev pub steps_text : List Step → List ℕ
 steps_text steps = join_by spelled_step (codes " ") steps
 

@@ -1,4 +1,4 @@
--- The steps that a text names: words between spaces, each a step of the dispatcher or of a worker.
+-- The steps that a text names: tokens between spaces, each a step of the dispatcher or of a worker.
 use Rattle.std.specs.Prelude.{ℕ, ◌+◌, ◌==◌, ◌&&◌, nat_lt, nat_le, List, length, not, Bool, if◌then◌else◌, Option, Some, None, Result, Ok, Err, option_map, option_and_then, codes, slice_index, drop, is_none}
 use Rattle.std.specs.List.{filter_map, position, position_or_len, before_first, after_first}
 use Rattle.std.specs.Str.{bytes_eq}
@@ -66,19 +66,19 @@ abbrev pub worker_step : List ℕ → Option Step
 worker_step text =
     if has_colon text then option_and_then (λ worker. option_map (Worker worker) (action_of (after_first is_colon text))) (worker_of (before_first is_colon text)) else None
 
--- the step that a word names, or None
+-- the step that a token names, or None
 unfoldable pub step_of : List ℕ → Option Step
 step_of word = if bytes_eq word (codes "d:read") then Some Read else (if slice_index word 0 == 119 then worker_step (drop 1 word) else None)
 
--- a word that names no step
+-- a token that names no step
 abbrev pub is_bad_word : List ℕ → Bool
 is_bad_word word = is_none (step_of word)
 
--- the steps of words, by the place from 0 of the first that names none: its number, from 1, or the steps of all
+-- the steps of tokens, by the place from 0 of the first that names none: its number, from 1, or the steps of all
 abbrev pub steps_unless : Option ℕ → List (List ℕ) → Result (List Step) ℕ
 steps_unless (Some place) words = Err (place + 1)
 steps_unless None words = Ok (filter_map step_of words)
 
--- the steps of a text, or the number of the first word that names none
+-- the steps of a text, or the number of the first token that names none
 abbrev pub steps_of : List ℕ → Result (List Step) ℕ
 steps_of text = steps_unless (position is_bad_word (words_in text)) (words_in text)

@@ -6,7 +6,7 @@ ghost use Rattle.unique_id.specs.Answers.{texts};
 ghost use Rattle.scheduling.specs.declared.step.Action.{Action};
 ghost use Rattle.step_text.specs.StepForms.{forms, form_text};
 
-/// The dispatcher's step, all of its word.
+/// The dispatcher's step, all of its token.
 pub(crate) const READ: &str = "d:read";
 
 pub(crate) const CLAIM: &str = "claim";

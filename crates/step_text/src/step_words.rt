@@ -1,4 +1,4 @@
-//! One word of a text of steps.
+//! One token of a text of steps.
 
 ghost use Rattle.std.specs.Prelude.{◌≡◌};
 ghost use Rattle.step_text.specs.StepTexts.{is_decimal, number_within, worker_of, node_of, node_action, plain_action};
@@ -101,7 +101,7 @@ fn worker_step(text: &str) -> Option<Step>
     Some(Step::Worker(worker_of(worker)?, action_of(action)?))
 }
 
-/// The step that a word names.
+/// The step that a token names.
 #[tactic(auto, unfolding(crate::specs::StepTexts::step_of))]
 pub fn step_of(word: &str) -> Option<Step>
     ensures { result ≡ step_of word.now }

@@ -20,7 +20,7 @@ use thiserror::Error;
 pub enum StepsFault {
     #[error("no memory")]
     NoMemory,
-    /// The word of this number, from 1, names no step.
+    /// The token of this number, from 1, names no step.
     #[error("no step at {0}")]
     BadStep(usize),
 }
@@ -55,7 +55,7 @@ impl StepsFault {
     }
 }
 
-/// The place, from 0, of the first word that names no step.
+/// The place, from 0, of the first token that names no step.
 fn bad_word(text: &str) -> Option<usize>
     ensures first { result ≡ position is_bad_word (words_in text.now) }
     ensures few { IfSome result (λ place. place ≤ length text.now) }
@@ -65,7 +65,7 @@ fn bad_word(text: &str) -> Option<usize>
         .position(|word| step_of(word).is_none())
 }
 
-/// The steps of the words that name one.
+/// The steps of the tokens that name one.
 fn named_steps(alloc: Global, text: &str) -> Result<Vec<Step>, AllocError>
     ensures { IfOk result (λ steps. steps.items ≡ filter_map step_of (words_in text.now)) }
 {
@@ -75,7 +75,7 @@ fn named_steps(alloc: Global, text: &str) -> Result<Vec<Step>, AllocError>
         .collect(alloc)
 }
 
-/// The steps of a text, in order. Errors: the number, from 1, of the first word that names no step.
+/// The steps of a text, in order. Errors: the number, from 1, of the first token that names no step.
 pub fn parse_steps(alloc: Global, text: &str) -> Result<Vec<Step>, StepsFault>
     ensures exact { GivesSteps result (steps_of text.now) }
     ensures spelled { IfOk result (λ steps. map spelled_step steps.items ≡ words_in text.now) }

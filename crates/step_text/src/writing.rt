@@ -36,7 +36,7 @@ fn push_action(text: &mut String, action: Action) -> Result<(), AllocError>
     }
 }
 
-/// Appends the word of a step.
+/// Appends the token of a step.
 fn push_step(text: &mut String, step: Step) -> Result<(), AllocError>
     ensures { OnOk result (string_bytes text.new ≡ string_bytes text.old ++ spelled_step step) }
 {
@@ -49,7 +49,7 @@ fn push_step(text: &mut String, step: Step) -> Result<(), AllocError>
     }
 }
 
-/// Appends the words of steps, each behind a blank.
+/// Appends the tokens of steps, each behind a blank.
 fn push_others(text: &mut String, steps: &[Step]) -> Result<(), AllocError>
     ensures { OnOk result (string_bytes text.new ≡ string_bytes text.old
         ++ flat_map (λ step. codes " " ++ spelled_step step) steps.now) }
@@ -61,7 +61,7 @@ fn push_others(text: &mut String, steps: &[Step]) -> Result<(), AllocError>
     Ok(())
 }
 
-/// Appends the text of steps: their words, with a blank between each two.
+/// Appends the text of steps: their tokens, with a blank between each two.
 pub fn push_steps(text: &mut String, steps: &[Step]) -> Result<(), AllocError>
     ensures { OnOk result (string_bytes text.new ≡ string_bytes text.old ++ steps_text steps.now) }
 {

@@ -17,7 +17,7 @@ use tag_expr::{TagFault, tag_of};
 /// One key of locks more than a line may have: where so many were found, further ones change nothing.
 const MOST_COUNTED: usize = 17;
 
-/// The verdicts, and the words and keys of the attributes but tags that a line with this first word may have.
+/// The verdicts, and the tokens and keys of the attributes but tags that a line with this keyword may have.
 pub(crate) fn known(alloc: Global, first: Word) -> Result<Vec<&'static str>, AllocError> {
     let mut words = Vec::new(alloc);
     for verdict in Verdict::all() {
@@ -44,7 +44,7 @@ fn form_of(attribute: Attribute) -> &'static str {
     }
 }
 
-/// How the attributes are written that a line with this first word may have.
+/// How the attributes are written that a line with this keyword may have.
 pub(crate) fn attribute_forms(alloc: Global, first: Word) -> Result<String, AllocError> {
     let mut forms = Vec::new(alloc);
     for attribute in Attribute::all() {
@@ -57,7 +57,7 @@ pub(crate) fn attribute_forms(alloc: Global, first: Word) -> Result<String, Allo
     Ok(text)
 }
 
-/// The first words of the lines that may have this attribute, as one is chosen of them; empty where it is none.
+/// The keywords of the lines that may have this attribute, as one is chosen of them; empty where it is none.
 pub(crate) fn lines_with(alloc: Global, attribute: &str) -> Result<String, AllocError> {
     let mut lines = Vec::new(alloc);
     for word in Word::all() {
@@ -70,12 +70,12 @@ pub(crate) fn lines_with(alloc: Global, attribute: &str) -> Result<String, Alloc
     Ok(text)
 }
 
-/// What stands before the first equals sign of a word.
+/// What stands before the first equals sign of a token.
 pub(crate) fn key_of(word: &str) -> &str {
     key_and_value(word).0
 }
 
-/// Whether a word looks like an attribute.
+/// Whether a token looks like an attribute.
 pub(crate) fn looks_like_attribute(word: &str) -> bool {
     word.starts_with('#')
         || word.starts_with('@')
@@ -83,7 +83,7 @@ pub(crate) fn looks_like_attribute(word: &str) -> bool {
         || word == Attribute::Isolated.key()
 }
 
-/// Whether one of the words of a text has this key.
+/// Whether one of the tokens of a text has this key.
 fn is_among(text: &str, key: &str) -> bool {
     let mut found = false;
     for word in text.split(' ') {
@@ -94,7 +94,7 @@ fn is_among(text: &str, key: &str) -> bool {
     found
 }
 
-/// The key of a lock, if the word is one.
+/// The key of a lock, if the token is one.
 fn lock_key(word: &str) -> Option<&str> {
     let (key, value) = key_and_value(word);
     if key == Attribute::Lock.key() {
@@ -120,7 +120,7 @@ fn counted<'a>(seen: &mut [&'a str; MOST_COUNTED], keys: usize, key: &'a str) ->
     }
 }
 
-/// How many keys the words of a text lock, counted up to one more than a line may have, and how
+/// How many keys the tokens of a text lock, counted up to one more than a line may have, and how
 /// many bytes the longest has.
 pub(crate) fn locks_in(text: &str) -> (usize, usize) {
     let mut seen = [""; MOST_COUNTED];
@@ -178,7 +178,7 @@ fn trouble_of_lock(word: &str) -> Option<&'static str> {
     None
 }
 
-/// What is wrong with a mode behind these words.
+/// What is wrong with a mode behind these tokens.
 fn trouble_of_mode(front: &str) -> Option<&'static str> {
     if is_among(front, Attribute::Runs(Mode::Concurrent).key())
         || is_among(front, Attribute::Runs(Mode::SameThread).key())
@@ -188,7 +188,7 @@ fn trouble_of_mode(front: &str) -> Option<&'static str> {
     None
 }
 
-/// What is wrong with this attribute, behind these words, if something is.
+/// What is wrong with this attribute, behind these tokens, if something is.
 fn trouble_of(
     alloc: Global,
     front: &str,
@@ -216,7 +216,7 @@ fn trouble_of(
 }
 
 /// What stands in a text before this rest of it, whose length alone is looked at, so that a long
-/// line is not read again for each word.
+/// line is not read again for each token.
 fn front_of<'a>(text: &'a str, rest: &str) -> &'a str {
     let at = text.len().saturating_sub(rest.len());
     match text.split_at_checked(at) {
@@ -225,7 +225,7 @@ fn front_of<'a>(text: &'a str, rest: &str) -> &'a str {
     }
 }
 
-/// What follows the attributes that are in order, of a line with this first word, whose attributes
+/// What follows the attributes that are in order, of a line with this keyword, whose attributes
 /// and verdict are this text; and what is wrong with the attribute that stands there, if one does.
 pub(crate) fn first_trouble<'a>(
     alloc: Global,

@@ -1,9 +1,9 @@
-//! The words of a line of a suite, and which of them may stand where.
+//! The tokens of a line of a suite, and which keyword may stand where.
 
 use std::alloc::{AllocError, Global};
 use suite_words::{LineWord, Verdict, Word};
 
-/// The words that a line may begin with.
+/// The keywords that a line may begin with.
 pub(crate) fn line_words() -> [&'static str; 7] {
     let [engine, class, test, factory, dynamic, after, property] = LineWord::all();
     [
@@ -68,7 +68,7 @@ pub(crate) fn indentation(line: &str) -> usize {
     line.len().saturating_sub(without_front(line).len())
 }
 
-/// The first word of a text, and what follows it, from its next word on.
+/// The first token of a text, and what follows it, from its next token on.
 pub fn cut(text: &str) -> (&str, &str) {
     match text.split_once(' ') {
         Some((word, rest)) => (word, without_front(rest)),
@@ -76,17 +76,17 @@ pub fn cut(text: &str) -> (&str, &str) {
     }
 }
 
-/// The first word of a line.
+/// The keyword that a line begins with.
 pub(crate) fn first_word(line: &str) -> &str {
     cut(without_front(line)).0
 }
 
-/// Whether a line with this first word declares a node.
+/// Whether a line with this keyword declares a node.
 pub(crate) fn is_node(word: &str) -> bool {
     Word::spelled(word).is_some()
 }
 
-/// Whether a line with this word may stand right below a node with the word above, or at level 0
+/// Whether a line with this keyword may stand right below a node with the keyword above, or at level 0
 /// where there is none.
 pub(crate) fn stands_below(above: Option<Word>, word: LineWord) -> bool {
     match word {
@@ -96,7 +96,7 @@ pub(crate) fn stands_below(above: Option<Word>, word: LineWord) -> bool {
     }
 }
 
-/// Where a line with this word may stand.
+/// Where a line with this keyword may stand.
 pub(crate) fn where_stands(word: LineWord) -> &'static str {
     match word {
         LineWord::Node(Word::Engine) => "an engine stands at level 0, with no spaces in front",

@@ -17,7 +17,7 @@ pub(crate) fn line_at<'a>(lines: &[&'a str], number: usize) -> &'a str
     }
 }
 
-/// Whether the line of this number may begin with this word, by the line that it stands right below.
+/// Whether the line of this number may begin with this keyword, by the line that it stands right below.
 pub(crate) fn may_stand(lines: &[&str], number: usize, first: LineWord) -> bool {
     let indent = indentation(line_at(lines, number));
     let mut stands = stands_below(None, first);
@@ -41,7 +41,7 @@ pub(crate) fn deepest(lines: &[&str], number: usize) -> usize {
     most
 }
 
-/// The word and the name that a line begins with.
+/// The keyword and the name that a line begins with.
 pub(crate) fn named(line: &str) -> (&str, &str) {
     let (word, rest) = cut(without_front(line));
     (word, cut(rest).0)

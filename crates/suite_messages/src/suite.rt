@@ -19,10 +19,10 @@ use descriptor::TreeFault;
 use std::alloc::{AllocError, Global};
 use suite_words::{LineWord, SuiteFault, Verdict, Word};
 
-/// Where a verdict follows, a word with fewer bytes is more of a name, whatever known word is near.
+/// Where a verdict follows, a token with fewer bytes is more of a name, whatever known token is near.
 const SHORTEST_NEAR: usize = 4;
 
-/// One with fewer bytes may be more of a name, though a known word is near.
+/// One with fewer bytes may be more of a name, though a known token is near.
 const SHORTEST_CERTAIN: usize = 6;
 
 /// What the line of an engine has.
@@ -55,7 +55,7 @@ fn limit_passed(alloc: Global, line: &str) -> &'static str {
     }
 }
 
-/// Whether a word that is near to a known one, on a line with this first word and before this text, is
+/// Whether a token that is near to a known one, on a line with this keyword and before this text, is
 /// hardly more of a name: it is long, or a verdict has to stand on the line, and none follows.
 fn is_misspelled(first: Word, word: &str, behind: &str) -> bool {
     word.len() >= SHORTEST_CERTAIN || !(matches!(first, Word::Class) || has_verdict(behind))
@@ -82,8 +82,8 @@ impl<'a> Spot<'a> {
         push_marked_rest(alloc, text, self.line, rest)
     }
 
-    /// Appends what is said of the word with which the rest begins, which may not stand at this place,
-    /// and by which this is meant, if that is known. Answers whether a word is offered in its place.
+    /// Appends what is said of the token with which the rest begins, which may not stand at this place,
+    /// and by which this is meant, if that is known. Answers whether a token is offered in its place.
     fn push_unknown(
         self,
         alloc: Global,
@@ -109,7 +109,7 @@ impl<'a> Spot<'a> {
         Ok(())
     }
 
-    /// Appends what is wrong with a word on the line of an engine, with which this rest begins.
+    /// Appends what is wrong with a token on the line of an engine, with which this rest begins.
     fn push_on_engine(
         self,
         alloc: Global,
@@ -175,7 +175,7 @@ impl<'a> Spot<'a> {
         Ok(())
     }
 
-    /// Appends what is wrong with a word in place of a verdict, with which this rest begins. Right behind
+    /// Appends what is wrong with a token in place of a verdict, with which this rest begins. Right behind
     /// a name it may be more of that.
     fn push_word(
         self,
@@ -233,7 +233,7 @@ impl<'a> Spot<'a> {
         self.push_word(alloc, text, first, rest)
     }
 
-    /// Appends what is wrong behind the first word, which may stand there.
+    /// Appends what is wrong behind the keyword, which may stand there.
     fn push_behind(
         self,
         alloc: Global,
@@ -285,7 +285,7 @@ impl<'a> Spot<'a> {
     }
 
     /// Appends what is wrong with a line, of which this stands behind the spaces in front, and which
-    /// begins with no word of a suite.
+    /// begins with no keyword of a suite.
     fn push_first(self, alloc: Global, text: &mut String, start: &str) -> Result<(), AllocError> {
         let first = cut(start).0;
         if is_of_other_form(start) {

@@ -1,4 +1,4 @@
-//! A name that was written in several words.
+//! A name that was written in several tokens.
 
 use crate::attributes::looks_like_attribute;
 use crate::line::cut;
@@ -8,12 +8,12 @@ use suite_words::Verdict;
 /// How many bytes of a name are shown at most.
 const MOST_SHOWN: usize = 60;
 
-/// Whether one of the words of a text is a verdict.
+/// Whether one of the tokens of a text is a verdict.
 pub(crate) fn has_verdict(text: &str) -> bool {
     text.split(' ').any(|word| Verdict::spelled(word).is_some())
 }
 
-/// A name and the words behind it up to an attribute or a verdict, as one word; only the first of them,
+/// A name and the tokens behind it up to an attribute or a verdict, as one token; only the first of them,
 /// if they are many.
 fn joined(alloc: Global, name: &str, rest: &str) -> Result<String, AllocError> {
     let mut whole = String::from_str(alloc, name)?;
@@ -33,7 +33,7 @@ fn joined(alloc: Global, name: &str, rest: &str) -> Result<String, AllocError> {
     Ok(whole)
 }
 
-/// Appends that this name is one word, where these words stand behind it.
+/// Appends that this name is one word, where these tokens stand behind it.
 pub(crate) fn push_whole_name(
     alloc: Global,
     text: &mut String,

@@ -1,4 +1,4 @@
--- What nodes and bodies a suite has, in words of its tree: of a line no more is looked at than the word that it begins with.
+-- What nodes and bodies a suite has, in terms of its tree: of a line no more is looked at than the keyword that it begins with.
 use Rattle.std.specs.Prelude.{◌≡◌, ◌<◌, ℕ, zero, suc, ◌+◌, List, [], ◌∷◌, ◌++◌, length, codes, if◌then◌else◌, Option, Some, None, option_to_list, IfSome, slice_get}
 use Rattle.std.specs.List.{flat_map}
 use Rattle.std.specs.Option.{is_some, is_none}
@@ -15,7 +15,7 @@ use Rattle.suite_words.specs.Reading.After.{after_body}
 use Rattle.suite_words.specs.Reading.Lines.{says_nothing, first_word}
 use Rattle.suite_words.specs.Reading.Words.{word_of}
 
--- the word of a line that declares a node
+-- the keyword of a line that declares a node
 abbrev pub word_in : List ℕ → Option Word
 word_in line = if says_nothing line then None else word_of (first_word line)
 
@@ -23,7 +23,7 @@ word_in line = if says_nothing line then None else word_of (first_word line)
 abbrev pub words_of : List (List ℕ) → List Word
 words_of lines = flat_map (λ line. option_to_list (word_in line)) lines
 
--- there is a node for each of these words, in order, of which this holds, and no other
+-- there is a node for each of these keywords, in order, of which this holds, and no other
 pub record AreNodesOf (Holds : Word → ℕ → Node → Type 0) (t : Nodes) (words : List Word) : Type 0 where
   pub many : size t ≡ length words + 1
   pub each : (n : ℕ) (word : Word) → slice_get words n ≡ Some word → (node : Node) × (node_at t (suc n) ≡ Some node) × Holds word (suc n) node
@@ -48,7 +48,7 @@ type_by roles.Plain kind (suc parent) (suc above) = codes "nested-class"
 abbrev pub type_at : Nodes → ℕ → Node → List ℕ
 type_at t n node = type_by node.role node.kind (parent_of t n) (parent_of t (parent_of t n))
 
--- node n is what a line of this word declares, and its unique id ends in a segment of its type
+-- node n is what a line of this keyword declares, and its unique id ends in a segment of its type
 pub record IsKind (t : Nodes) (word : Word) (n : ℕ) (node : Node) : Type 0 where
   pub is : IsA t word n node
   pub above : List Segment

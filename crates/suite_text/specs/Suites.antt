@@ -18,7 +18,7 @@ use Rattle.suite_text.specs.Reading.Nodes.{word_on, refusal_on, grown, unless_re
 abbrev pub with_declared : ℕ → LinesRead → ℕ → Declaration → Result LinesRead SuiteFault
 with_declared number read level d = unless_refused number (refusal_on read level d) (grown read level d)
 
--- with the node that a first word declares on its level, with what follows it on its line
+-- with the node that a keyword declares on its level, with what follows it on its line
 abbrev pub with_node_words : ℕ → LinesRead → ℕ → List ℕ → List ℕ → Result LinesRead SuiteFault
 with_node_words number read level first rest = declared_as number (word_on read level) first rest >>= (λ d. with_declared number read level d)
 
@@ -42,11 +42,11 @@ is_property_in read line = length read.path == 0 && is_property line
 abbrev pub with_pair : ℕ → LinesRead → List ℕ → Result LinesRead SuiteFault
 with_pair number read line = with_property number read.properties line >>= (λ properties. Ok (with_properties read properties))
 
--- with what a line of words declares on its level
+-- with what a line that says something declares on its level
 abbrev pub with_words_on : ℕ → LinesRead → ℕ → List ℕ → Result LinesRead SuiteFault
 with_words_on number read level line = if is_property_in read line then with_pair number read line else with_declaration number read level line
 
--- with what a line of words declares
+-- with what a line that says something declares
 abbrev pub with_words : ℕ → LinesRead → List ℕ → Result LinesRead SuiteFault
 with_words number read line = level_of number (length read.path) line >>= (λ level. with_words_on number read level line)
 

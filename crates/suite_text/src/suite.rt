@@ -123,7 +123,7 @@ impl Suite {
         // factory's k-th dynamic test `#k`.
         ensures ids { IfOk result (λ suite. IdsFollow suite.tree) }
         // Each line that declares a node makes one, in order: an engine, a class, a test, a factory or
-        // a dynamic test, by the line's word, with that type in its unique id.
+        // a dynamic test, by the line's keyword, with that type in its unique id.
         ensures kinds { IfOk result (λ suite. AreNodesOf (IsKind suite.tree) suite.tree (words_of (lines text.now))) }
         // Which of these nodes have a body, and an after-body, and their numbers.
         ensures bodies { IfOk result (λ suite. AreNodesOf HasBodies suite.tree (words_of (lines text.now))) }

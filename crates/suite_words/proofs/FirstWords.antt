@@ -1,4 +1,4 @@
--- The words of a text, taken off one by one.
+-- The tokens of a text, taken off one by one.
 use Rattle.std.proofs.Common.{◌≡◌, ℕ, suc, ◌+◌, ◌<◌, inl, inr, List, [], ◌∷◌, length, filter, drop, Bool, true, false, cond, not, ◌==◌, refl, ap, sym, subst, ◌∙◌, arith, length-take}
 use Rattle.std.specs.List.{slice_split, before_first, after_first, position_or_len, prefix_len}
 use Rattle.std.proofs.lemmas.Bool.{cases_lt}
@@ -11,7 +11,7 @@ use Rattle.suite_words.specs.Words.{is_space, words_in}
 abbrev is_word : List ℕ → Bool
 is_word word = not (length word == 0)
 
--- the words of a text are those of its front, up to the first space, and of what follows that space
+-- the tokens of a text are those of its front, up to the first space, and of what follows that space
 cut : (bs : List ℕ) → words_in bs ≡ filter is_word (before_first is_space bs ∷ slice_split is_space (after_first is_space bs))
 cut bs = elim (cases_lt (position_or_len is_space bs) (length bs)) [
   | inl inside ↦ ap (filter is_word) (slice_split_first is_space bs 0 inside)
@@ -41,7 +41,7 @@ keeps_words : (bs : List ℕ) → words_in (without_front bs) ≡ words_in bs
 keeps_words [] = refl
 keeps_words (b ∷ bs) = keeps_more b bs (is_space b) refl (keeps_words bs)
 
--- a text without spaces in front has no bytes, or its front is a word
+-- a text without spaces in front has no bytes, or its front is a token
 data Starts (bs : List ℕ) : Type 0 where
   ends : bs ≡ [] → Starts bs
   goes_on : 0 < length (before_first is_space bs) → Starts bs
@@ -60,7 +60,7 @@ starts : (bs : List ℕ) → Starts (without_front bs)
 starts [] = ends refl
 starts (b ∷ bs) = starts_more b bs (is_space b) refl (starts bs)
 
--- the first word of a text and those after it, or a text without words
+-- the first token of a text and those after it, or a text without tokens
 pub data Front (text : List ℕ) : Type 0 where
   blank : first_word text ≡ [] → words_in text ≡ [] → Front text
   begins : words_in text ≡ first_word text ∷ words_in (after_word text) → Front text

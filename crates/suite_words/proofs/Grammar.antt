@@ -1,4 +1,4 @@
--- Each word of the grammar is listed, and is read as it is spelled.
+-- Each keyword and attribute of the grammar is listed, and is read as it is spelled.
 use Rattle.std.proofs.Common.{◌≡◌, Some, refl, arith}
 use Rattle.std.specs.List.{Contains}
 use Rattle.descriptor.specs.declared.mode.Mode.TheVariants.{SameThread, Concurrent}

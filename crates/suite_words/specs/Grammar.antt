@@ -1,4 +1,4 @@
--- The words of the grammar, each kind in one list, and how they are spelled.
+-- The keywords and attributes of the grammar, each kind in one list, and how they are spelled.
 use Rattle.std.specs.Prelude.{ℕ, Bool, List, [], ◌∷◌, ◌++◌, map, codes, if◌then◌else◌, Option, Some, option_map}
 use Rattle.std.specs.Option.{is_some}
 use Rattle.std.specs.Str.{bytes_eq}
@@ -15,7 +15,7 @@ use Rattle.suite_words.specs.Reading.Verdicts.{status_declared}
 use Rattle.suite_words.specs.Reading.Words.{word_of}
 use Rattle.descriptor.specs.declared.mode.Mode.{Mode}
 
--- the words of lines that declare nodes
+-- the keywords of lines that declare nodes
 abbrev pub words : List Word
 words = Engine ∷ Class ∷ Test ∷ Factory ∷ Dyn ∷ []
 
@@ -27,17 +27,17 @@ word_text Test = codes "test"
 word_text Factory = codes "factory"
 word_text Dyn = codes "dyn"
 
--- the words that a line may begin with
+-- the keywords that a line may begin with
 abbrev pub line_words : List LineWord
 line_words = map Node words ++ After ∷ Property ∷ []
 
--- how such a word is spelled
+-- how such a keyword is spelled
 abbrev pub line_word_text : LineWord → List ℕ
 line_word_text (Node word) = word_text word
 line_word_text After = codes "after"
 line_word_text Property = codes "property"
 
--- the word that a line begins with, if it may
+-- the keyword that a line begins with, if it may
 abbrev pub line_word_of : List ℕ → Option LineWord
 line_word_of text =
     if bytes_eq text (codes "after") then Some After
@@ -67,7 +67,7 @@ abbrev pub mode_text : Mode → List ℕ
 mode_text SameThread = codes "@same_thread"
 mode_text Concurrent = codes "@concurrent"
 
--- the word that an attribute is, or what stands before its equals sign; of a tag, its sign
+-- the token that an attribute is, or what stands before its equals sign; of a tag, its sign
 abbrev pub attribute_text : Attribute → List ℕ
 attribute_text Tag = codes "#"
 attribute_text Spin = codes "spin"
@@ -77,7 +77,7 @@ attribute_text (Runs mode) = mode_text mode
 attribute_text Lock = codes "lock"
 attribute_text Isolated = codes "isolated"
 
--- the word of a line that may have the attribute
+-- the keyword of a line that may have the attribute
 abbrev pub bearer : Attribute → Word
 bearer Tag = Class
 bearer Spin = Test

@@ -1,8 +1,8 @@
--- The words of a text, which stand between its spaces.
+-- The tokens of a text, which stand between its spaces.
 use Rattle.std.specs.Prelude.{ℕ, ◌==◌, List, length, filter, not, Bool}
 use Rattle.std.specs.List.{slice_split}
 
--- the byte between two words
+-- the byte between two tokens
 abbrev pub is_space : ℕ → Bool
 is_space byte = byte == 32
 

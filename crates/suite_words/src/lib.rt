@@ -1,4 +1,4 @@
-//! What a line of a suite says: its words, its attributes, its end, and the node that it declares.
+//! What a line of a suite says: its tokens, its attributes, its end, and the node that it declares.
 
 #![tactic(auto)]
 

@@ -50,7 +50,7 @@ impl Asks {
     }
 }
 
-/// The words of a row, and what it asks for, if the line begins one.
+/// The arguments of a row, and what it asks for, if the line begins one.
 fn row_of(line: &str) -> Option<(&str, Asks)> {
     let (mark, words) = line.split_once(' ')?;
     let asks = match mark {
@@ -95,7 +95,7 @@ fn push_end(alloc: Global, answers: &mut Output, ending: Ending) -> Result<(), A
     answers.push(end_line(alloc, ending)?.as_bytes())
 }
 
-/// Runs the program with these words on a suite, as `main` does where standard error is a terminal or
+/// Runs the program with these arguments on a suite, as `main` does where standard error is a terminal or
 /// is none, and appends what it writes, and how it ends. On a terminal nothing is drawn by the time, and no test takes
 /// any. Behind an output that takes so many bytes stands how it ended in any case.
 fn push_run<T: Threads + Wait + Sync>(

@@ -1,4 +1,4 @@
-//! Runs the program over memory, by rows: the words of a command line, and the lines of a suite. docs/EXAMPLES.md
+//! Runs the program over memory, by rows: the arguments of a command line, and the lines of a suite. docs/EXAMPLES.md
 //! says what the lines of a table are; program_tables prints one.
 #![tactic(auto)]
 

@@ -83,7 +83,8 @@ fn add_factory(
     tests.dynamic(factory, "second", second)
 }
 
-/// Runs these tests with the words of a row, which it takes, and the files that these may name; the failures are counted.
+/// Runs these tests with the arguments of a row, which it takes, and the files that these may name; the failures are
+/// counted.
 pub(crate) fn run_own_tests<T: Threads + Wait + Sync>(
     rt: &T,
     clock: &TableClock,

@@ -1,11 +1,11 @@
-//! What a row says: the words of a command line, and the bytes of a suite.
+//! What a row says: the arguments of a command line, and the bytes of a suite.
 
 use std::alloc::{AllocError, Global};
 
 /// What the keys of the configuration begin with.
 const KEYS: &str = "junit.jupiter.execution.parallel.";
 
-/// The text of a word, in which `\p` stands for what the keys of the configuration begin with.
+/// The text of an argument, in which `\p` stands for what the keys of the configuration begin with.
 fn word_of(alloc: Global, word: &str) -> Result<String, AllocError> {
     match word.split_once("\\p") {
         Some((front, rest)) => format!(in alloc; "{front}{KEYS}{rest}"),
@@ -13,13 +13,13 @@ fn word_of(alloc: Global, word: &str) -> Result<String, AllocError> {
     }
 }
 
-/// Appends a word.
+/// Appends an argument.
 fn push_word(alloc: Global, words: &mut Vec<String>, word: &str) -> Result<(), AllocError> {
     words.push(word_of(alloc, word)?)?;
     Ok(())
 }
 
-/// Appends the words between spaces.
+/// Appends the arguments between spaces.
 fn push_words(alloc: Global, words: &mut Vec<String>, piece: &str) -> Result<(), AllocError> {
     for word in piece.split(' ') {
         if !word.is_empty() {
@@ -29,7 +29,7 @@ fn push_words(alloc: Global, words: &mut Vec<String>, piece: &str) -> Result<(),
     Ok(())
 }
 
-/// Appends the words of a line, cut at spaces; what stands between two `"` is one word, spaces and all.
+/// Appends the arguments of a line, cut at spaces; what stands between two `"` is one argument, spaces and all.
 pub(crate) fn push_line(
     alloc: Global,
     words: &mut Vec<String>,

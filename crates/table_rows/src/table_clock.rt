@@ -24,7 +24,7 @@ impl TableClock {
         }
     }
 
-    /// One that moves, if these words ask how long tests took.
+    /// One that moves, if these arguments ask how long tests took.
     pub(crate) fn of(words: &[String]) -> TableClock {
         let mut clock = TableClock::still();
         if words.iter().any(|word| word.as_str() == "--times") {

@@ -1,4 +1,4 @@
-//! The files that the words of rows name, and what the system tells.
+//! The files that the arguments of rows name, and what the system tells.
 
 use std::alloc::{AllocError, Global};
 use word_files::{Facts, TextFiles};

@@ -1,4 +1,4 @@
--- How much is left in whatever state a run has come to, by the words of the plan.
+-- How much is left in whatever state a run has come to, in terms of the plan.
 use Rattle.std.proofs.Common.{ℕ, ◌+◌, ◌*◌, ◌-◌, ◌≤◌, true, false, List, length, sum_by, refl, subst, arith}
 use Rattle.std.proofs.Math.Nat.{mul-le-mul_right}
 use Rattle.plan_events.specs.declared.outcome.Reply.{Reply}

@@ -1,4 +1,4 @@
--- What a node is, in the words of a suite.
+-- What a node is, in the keywords of a suite.
 use Rattle.std.specs.Prelude.{ℕ, List, Option, Some, None}
 use Rattle.descriptor.specs.declared.kind.Kind.{Kind}
 use Rattle.descriptor.specs.declared.role.Role.{Role}
@@ -9,7 +9,7 @@ use Rattle.suite_words.specs.Reading.Nodes.{segment_kind, kind_declared, role_de
 use Rattle.test_tree.specs.declared.sort.Sort.{Sort}
 use Rattle.test_tree.specs.declared.sort.Sort.TheVariants.{Engine, Class, Nested, Test, Factory, Dynamic}
 
--- the word of a suite's line that declares such a node
+-- the keyword of a suite's line that declares such a node
 abbrev pub word_of : Sort → Word
 word_of Engine = words.Engine
 word_of Class = words.Class

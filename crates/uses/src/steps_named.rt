@@ -6,7 +6,7 @@ ghost use Rattle.suite_words.specs.Words.{words_in};
 use std::alloc::Global;
 use step_text::{StepsFault, parse_steps};
 
-/// How many steps a text names: as many as it has words.
+/// How many steps a text names: as many as it has tokens.
 pub fn step_count(alloc: Global, text: &str) -> Result<usize, StepsFault>
     ensures { IfOk result (λ count. count ≡ length (words_in text.now)) }
 {

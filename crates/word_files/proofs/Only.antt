@@ -1,4 +1,4 @@
--- A text that has words is written by the grammar.
+-- A text that has arguments is written by the grammar.
 use Rattle.std.proofs.Common.{◌≡◌, ℕ, ◌==◌, Bool, true, false, List, [], ◌∷◌, ◌++◌, Option, Some, None, IfSome, append_assoc, fold, if◌then◌else◌, refl, sym, ap, ◌∙◌, subst}
 use Rattle.std.proofs.lemmas.Bool.{eqb-true}
 use Rattle.std.specs.List.{AllByRecursion, flat_map}
@@ -11,7 +11,7 @@ use Rattle.word_files.specs.declared.place.Place.{Place}
 use Rattle.word_files.specs.declared.place.Place.TheVariants.{Between, Comment, Word, Escape, SingleQuotes, DoubleQuotes, DoubleEscape}
 use Rattle.word_files.proofs.Written.{written_in}
 
--- what stands behind a place, up to the end of the text: between words
+-- what stands behind a place, up to the end of the text: between arguments
 record Items (cs : List ℕ) : Type 0 where
   items : List Item
   end : End
@@ -29,7 +29,7 @@ record Said (cs : List ℕ) : Type 0 where
   is : IsRemark said
   after : AfterRemark said cs
 
--- in a word, of which these characters are left
+-- in an argument, of which these characters are left
 data AfterWord (left cs : List ℕ) : Type 0 where
   at_end : cs ≡ left → AfterWord left cs
   at_white : (white : ℕ) (rest : List ℕ) → is_white white ≡ true → cs ≡ left ++ white ∷ rest → Items rest → AfterWord left cs
@@ -74,7 +74,7 @@ Tail SingleQuotes cs = Singles cs
 Tail DoubleQuotes cs = Doubles cs
 Tail DoubleEscape cs = EscapedDoubles cs
 
--- a word whose first character is this
+-- an argument whose first character is this
 record WordRest (c : ℕ) (cs : List ℕ) : Type 0 where
   first : Part
   others : List Part
@@ -92,7 +92,7 @@ after_part : (first : Part) (c : ℕ) (cs rest : List ℕ) (parts : Parts rest) 
 after_part first c cs rest parts same =
     subst (λ (all : List ℕ). AfterWord (part_chars first ++ flat_map part_chars parts.others) all) (sym same) (after_front (part_chars first) (flat_map part_chars parts.others) rest parts.after)
 
--- a character of a word outside quotes
+-- a character of an argument outside quotes
 within : (c : ℕ) (cs : List ℕ) (single double escape : Bool) → is_white c ≡ false → (c == 39) ≡ single → (c == 34) ≡ double → (c == 92) ≡ escape
     → Tail (if single then SingleQuotes else (if double then DoubleQuotes else (if escape then Escape else Word))) cs → WordRest c cs
 within c cs true double escape white is_single is_double is_escape t = record {
@@ -155,7 +155,7 @@ said_items c cs said is_mark is (line_ended rest same more) = record {
       ∙ ap (λ (l : List ℕ). 35 ∷ l) (same ∙ ap (λ (l : List ℕ). said ++ 10 ∷ l) more.same ∙ regroup said (10 ∷ []) (flat_map item_chars more.items) (end_chars more.end));
 }
 
--- a word that begins here
+-- an argument that begins here
 word_items : (c : ℕ) (cs : List ℕ) (first : Part) (others : List Part) → IsPart first → IsFirst first → AllByRecursion IsPart others → AfterWord (part_chars first ++ flat_map part_chars others) (c ∷ cs) → Items (c ∷ cs)
 word_items c cs first others is plain are (at_end same) = record { items = []; end = LastWord first others; are = tt; is = (is, plain, are); same = same }
 word_items c cs first others is plain are (at_white white rest is_space same more) = record {
@@ -250,7 +250,7 @@ items_of text words is =
     let read = fold read_char at_start (chars text) in
     tail (chars text) Between (ap closes (sym (place_behind (chars text) at_start)) ∙ ends_there read.place read.word read.words words is)
 
--- the words of a text are those that it is written for
+-- the arguments of a text are those that it is written for
 pub only_written : (text : Text) (words : List Text) → words_in text ≡ Some words → IsWritten (chars text) words
 only_written text words is =
     let found = items_of text words is in

@@ -1,11 +1,11 @@
--- Lists of words, and their texts.
+-- Lists of arguments, and their texts.
 use Rattle.std.proofs.Common.{◌≡◌, ℕ, ◌+◌, ◌<◌, List, [], ◌∷◌, ◌++◌, length, take, get_or, map, IfOk, Result, Ok, Err, refl, sym, ap, ◌∙◌}
 use Rattle.std.proofs.lemmas.List.{take_more, map-append}
 use Rattle.std.specs.List.{flat_map, join_by}
 use Rattle.word_files.specs.Reading.{Text}
 
 module _ {X : Type 0} (text : X → Text) where
-  -- one word more
+  -- one argument more
   pub texts_more : (words : List X) (i : ℕ) (d : X) → i < length words → map text (take (i + 1) words) ≡ map text (take i words) ++ text (get_or words i d) ∷ []
   texts_more words i d inside = ap (map text) (take_more words i d inside) ∙ map-append text (take i words) (get_or words i d ∷ [])
 
@@ -13,7 +13,7 @@ module _ {X : Type 0} (text : X → Text) where
   others_joined blank [] = refl
   others_joined blank (word ∷ more) = ap (λ rest. (blank ++ text word) ++ rest) (others_joined blank more)
 
-  -- words are joined as their texts are
+  -- arguments are joined as their texts are
   pub texts_joined : (blank : Text) (words : List X) → join_by text blank words ≡ join_by (λ (word : Text). word) blank (map text words)
   texts_joined blank [] = refl
   texts_joined blank (word ∷ more) = ap (λ rest. text word ++ rest) (others_joined blank more)

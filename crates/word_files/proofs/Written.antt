@@ -1,4 +1,4 @@
--- Words that are written by the grammar are read.
+-- Arguments that are written by the grammar are read.
 use Rattle.std.proofs.Common.{◌≡◌, ℕ, List, [], ◌∷◌, ◌++◌, Option, Some, append_assoc, encode_utf8, fold, refl, sym, ap, ◌∙◌}
 use Rattle.std.proofs.lemmas.List.{append-nil}
 use Rattle.std.proofs.lemmas.List.Sums.{fold-append}
@@ -54,7 +54,7 @@ parts_read (p ∷ parts) word words are =
     behind (read_at Word word words) (read_at Word (word ++ part_text p) words) _ (part_chars p) (flat_map part_chars parts) (part_read p word words are.0)
     (parts_read parts (word ++ part_text p) words are.1 ∙ ap (λ (w : Text). read_at Word w words) (append_assoc word (part_text p) (flat_map part_text parts)))
 
--- the first part of a word, between words
+-- the first part of an argument, between arguments
 first_read : (p : Part) (words : List Text) → IsPart p → IsFirst p → fold read_char (read_at Between [] words) (part_chars p) ≡ read_at Word (part_text p) words
 first_read (Alone c) words is first = rw (is.0, is.1, is.2, is.3, first)
 first_read (Behind c) words is first = refl
@@ -94,7 +94,7 @@ end_read NoMore words is = ap Some (sym (append-nil words))
 end_read (LastRemark cs) words is = ap words_read (remark_read cs words is) ∙ ap Some (sym (append-nil words))
 end_read (LastWord first others) words is = ap words_read (word_read first others words is)
 
--- the words that are written are those that are read
+-- the arguments that are written are those that are read
 pub written_read : (items : List Item) (end : End) → AllByRecursion IsItem items → IsEnd end → words_read (fold read_char at_start (written items end)) ≡ Some (words_written items end)
 written_read items end are is =
     ap words_read (fold-append read_char at_start (flat_map item_chars items) (end_chars end))

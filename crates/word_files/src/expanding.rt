@@ -1,4 +1,4 @@
-//! The words that the words of a command line stand for.
+//! The arguments that the arguments of a command line stand for.
 
 ghost use Rattle.std.specs.Prelude.{◌≡◌, ◌≢◌, ℕ, List, map, string_bytes, MatchResult};
 ghost use Rattle.launch_options.specs.declared.fault.LaunchFault.TheVariants.{NoMemory};
@@ -11,7 +11,7 @@ use crate::role::{Before, before_of, files_of, role_of};
 use launch_options::LaunchFault;
 use std::alloc::Global;
 
-/// The words that these stand for by the files that they name.
+/// The arguments that these stand for by the files that they name.
 fn by_files<F: TextFiles>(
     alloc: Global,
     words: &[String],
@@ -36,9 +36,9 @@ fn by_files<F: TextFiles>(
     Ok(all)
 }
 
-/// The words that these stand for, of which the first is the program's name: those of the files that
+/// The arguments that these stand for, of which the first is the program's name: those of the files that
 /// they name, and behind them what the system tells where they ask for it. A file that cannot be read,
-/// or is none of words, is refusal 110 at its number, from 1.
+/// or is none of arguments, is refusal 110 at its number, from 1.
 pub fn expanded_words<F: TextFiles>(
     alloc: Global,
     words: &[String],
@@ -52,7 +52,7 @@ pub fn expanded_words<F: TextFiles>(
     Ok(with_told(alloc, all, facts)?)
 }
 
-/// The name of the file of this number, from 1, among those that the words name.
+/// The name of the file of this number, from 1, among those that the arguments name.
 pub fn file_named(words: &[String], number: usize) -> Option<&str> {
     let mut before = Before::Nothing;
     let mut named = 0usize;

@@ -1,4 +1,4 @@
-//! What the system tells, as words of options.
+//! What the system tells, as arguments of options.
 
 ghost use Rattle.std.specs.Prelude.{◌≡◌, ◌++◌, ◌∷◌, [], false, map, string_bytes, IfOk, OnOk};
 ghost use Rattle.launch_options.specs.Given.{maybe_behind};
@@ -15,7 +15,7 @@ const WORKERS: &str = "--workers";
 /// Its value that asks for a worker for each processor.
 const AUTO: &str = "auto";
 
-/// Both in one word.
+/// Both in one argument.
 const WORKERS_AUTO: &str = "--workers=auto";
 
 /// The option that says how many processors there are.
@@ -30,7 +30,7 @@ const SEED: &str = "--seed";
 /// Its value that asks for any seed.
 const RANDOM: &str = "random";
 
-/// Both in one word.
+/// Both in one argument.
 const SEED_RANDOM: &str = "--seed=random";
 
 /// The greatest number of processors that the option takes.
@@ -48,15 +48,15 @@ pub struct Facts<'a> {
     pub total_shards: Option<&'a str>,
     /// Which of these is run, from 0: Bazel's `TEST_SHARD_INDEX`.
     pub shard_index: Option<&'a str>,
-    /// A seed for words that ask for any.
+    /// A seed for arguments that ask for any.
     pub seed: Option<u64>,
-    /// The name of the machine. No word stands for it.
+    /// The name of the machine. No argument stands for it.
     pub host: Option<&'a str>,
-    /// Whether standard input is a terminal, at which somebody may wait. No word stands for it.
+    /// Whether standard input is a terminal, at which somebody may wait. No argument stands for it.
     pub is_typed: bool,
 }
 
-/// What stands before the first equals sign of a word, or all of it.
+/// What stands before the first equals sign of an argument, or all of it.
 fn name_of(word: &str) -> &str
     ensures { result.now ≡ name_of word.now }
 {
@@ -66,7 +66,7 @@ fn name_of(word: &str) -> &str
     }
 }
 
-/// Whether this option is among the words, with its value in the same word or in the next one.
+/// Whether this option is among the arguments, with its value in the same argument or in the next one.
 fn has_option(words: &[String], name: &str) -> bool
     ensures { result ≡ has_option name.now (map string_bytes words.now) }
 {
@@ -78,8 +78,8 @@ fn has_option(words: &[String], name: &str) -> bool
     false
 }
 
-/// Whether the value of `--workers` is the next word: behind the option, or behind its letter, which may stand behind those
-/// of flags.
+/// Whether the value of `--workers` is the next argument: behind the option, or behind its letter, which may stand
+/// behind those of flags.
 fn awaits_workers(word: &str) -> bool
     ensures { result ≡ awaits_workers word.now }
 {
@@ -91,7 +91,7 @@ fn awaits_workers(word: &str) -> bool
         || word == "-qxj"
 }
 
-/// Whether option and value in one word ask for a worker for each processor, by the option's letter.
+/// Whether option and value in one argument ask for a worker for each processor, by the option's letter.
 fn is_letter_with_auto(word: &str) -> bool
     ensures { result ≡ is_letter_with_auto word.now }
 {
@@ -107,15 +107,15 @@ fn is_letter_with_auto(word: &str) -> bool
         || word == "-qxj=auto"
 }
 
-/// Whether a word asks for a worker for each processor; before it may stand the option that has its value
-/// in this word.
+/// Whether an argument asks for a worker for each processor; before it may stand the option that has its value
+/// in this argument.
 fn asks_here(is_value: bool, word: &str) -> bool
     ensures { result ≡ asks_here is_value word.now }
 {
     word == WORKERS_AUTO || is_letter_with_auto(word) || is_value && word == AUTO
 }
 
-/// Whether the words ask for a worker for each processor.
+/// Whether the arguments ask for a worker for each processor.
 fn asks_for_all(words: &[String]) -> bool
     ensures { result ≡ asks_for_all false (map string_bytes words.now) }
 {
@@ -129,7 +129,7 @@ fn asks_for_all(words: &[String]) -> bool
     false
 }
 
-/// Puts an option and its value behind these words.
+/// Puts an option and its value behind these arguments.
 fn push_option(
     alloc: Global,
     words: &mut Vec<String>,
@@ -144,7 +144,7 @@ fn push_option(
     Ok(())
 }
 
-/// Puts behind these words how many processors there are, where they ask for a worker for each, and
+/// Puts behind these arguments how many processors there are, where they ask for a worker for each, and
 /// do not say that themselves.
 fn push_processors(
     alloc: Global,
@@ -186,7 +186,7 @@ fn shard_text(alloc: Global, index: &str, total: &str) -> Result<String, AllocEr
     format!(in alloc; "{number}/{total}")
 }
 
-/// Puts behind these words which shard is run, where a build server says it, and they do not.
+/// Puts behind these arguments which shard is run, where a build server says it, and they do not.
 fn push_shard(
     alloc: Global,
     words: &mut Vec<String>,
@@ -206,8 +206,8 @@ fn push_shard(
     push_option(alloc, words, SHARD, value)
 }
 
-/// A word, or what stands for it where it asks for any seed; before it may stand the option that has its
-/// value in this word.
+/// An argument, or what stands for it where it asks for any seed; before it may stand the option that has its
+/// value in this argument.
 fn seeded_word(alloc: Global, seed: u64, is_value: bool, word: &str) -> Result<String, AllocError>
     ensures { IfOk result (λ text. string_bytes text ≡ seeded_word seed is_value word.now) }
 {
@@ -220,7 +220,7 @@ fn seeded_word(alloc: Global, seed: u64, is_value: bool, word: &str) -> Result<S
     }
 }
 
-/// These words, with this seed for each that asks for any.
+/// These arguments, with this seed for each that asks for any.
 fn seeded_words(alloc: Global, words: &[String], seed: u64) -> Result<Vec<String>, AllocError>
     ensures { IfOk result (λ all. map string_bytes all.items ≡ seeded_words seed false
         (map string_bytes words.now)) }
@@ -234,7 +234,7 @@ fn seeded_words(alloc: Global, words: &[String], seed: u64) -> Result<Vec<String
     Ok(all)
 }
 
-/// These words, with this seed for each that asks for any; as they stand where there is no seed.
+/// These arguments, with this seed for each that asks for any; as they stand where there is no seed.
 fn with_seed(
     alloc: Global,
     words: Vec<String>,
@@ -249,7 +249,7 @@ fn with_seed(
     }
 }
 
-/// Puts behind these words what the system tells, where they ask for it.
+/// Puts behind these arguments what the system tells, where they ask for it.
 fn push_told(alloc: Global, words: &mut Vec<String>, facts: &Facts<'_>) -> Result<(), AllocError>
     ensures { OnOk result (map string_bytes words.new.items ≡ with_shard (maybe_behind facts.now.shard_index)
         (maybe_behind facts.now.total_shards) (with_processors facts.now.processors
@@ -259,7 +259,7 @@ fn push_told(alloc: Global, words: &mut Vec<String>, facts: &Facts<'_>) -> Resul
     push_shard(alloc, words, facts.shard_index, facts.total_shards)
 }
 
-/// These words, and behind them what the system tells, where they ask for it; and a seed where they ask
+/// These arguments, and behind them what the system tells, where they ask for it; and a seed where they ask
 /// for any.
 pub(crate) fn with_told(
     alloc: Global,

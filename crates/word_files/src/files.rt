@@ -1,4 +1,4 @@
-//! Reading the files that words name.
+//! Reading the files that arguments name.
 
 ghost use Rattle.std.specs.Prelude.{◌≡◌, ◌∷◌, [], Option, map, string_bytes, IfOk, option_map};
 ghost use Rattle.word_files.specs.Expansions.{joined_behind, pieces, words_of};
@@ -23,7 +23,7 @@ pub trait TextFiles {
     ) -> Result<Option<Vec<u8>>, AllocError>;
 }
 
-/// The words of the file of this name, if it can be read and is one of words.
+/// The arguments of the file of this name, if it can be read and is one of arguments.
 fn words_of_file<F: TextFiles>(
     alloc: Global,
     files: &mut F,
@@ -37,7 +37,7 @@ fn words_of_file<F: TextFiles>(
     }
 }
 
-/// One word: this text, and behind it these words, with a blank between each two.
+/// One argument: this text, and behind it these arguments, with a blank between each two.
 fn joined(alloc: Global, front: &str, words: &[String]) -> Result<Vec<String>, AllocError>
     ensures { IfOk result (λ all. map string_bytes all.items ≡ joined_behind front.now (map string_bytes words.now)) }
 {
@@ -48,7 +48,7 @@ fn joined(alloc: Global, front: &str, words: &[String]) -> Result<Vec<String>, A
     Ok(all)
 }
 
-/// The one word that `joined` makes of this text and these words, if there are words.
+/// The one argument that `joined` makes of this text and these arguments, if there are arguments.
 fn maybe_joined(
     alloc: Global,
     front: &str,
@@ -62,7 +62,7 @@ fn maybe_joined(
     }
 }
 
-/// This word alone.
+/// This argument alone.
 fn alone(alloc: Global, word: &str) -> Result<Vec<String>, AllocError>
     ensures { IfOk result (λ all. map string_bytes all.items ≡ word.now ∷ []) }
 {
@@ -71,8 +71,8 @@ fn alone(alloc: Global, word: &str) -> Result<Vec<String>, AllocError>
     Ok(all)
 }
 
-/// The words that a word of this role stands for, if the file that it names can be read and is one of
-/// words.
+/// The arguments that an argument of this role stands for, if the file that it names can be read and is one of
+/// arguments.
 pub(crate) fn pieces_of<F: TextFiles>(
     alloc: Global,
     files: &mut F,

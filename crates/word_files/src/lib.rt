@@ -1,4 +1,4 @@
-//! The words that a program is given, and those that they stand for: words of files, and what the system tells.
+//! The arguments that a program is given, and those that they stand for: arguments of files, and what the system tells.
 #![tactic(auto)]
 
 mod expanding;

@@ -1,42 +1,42 @@
-//! Where a character of a text of words stands, and what it does there.
+//! Where a character of a text of arguments stands, and what it does there.
 
 ghost use Rattle.std.specs.Prelude.{◌≡◌};
 ghost use Rattle.word_files.specs.Places.{is_white, is_plain, within_word, next_place, keeps, ends_word};
 
-/// Where the next character of a text of words stands.
+/// Where the next character of a text of arguments stands.
 #[derive(Clone, Copy)]
 pub(crate) enum Place {
-    /// Between words.
+    /// Between arguments.
     Between,
     /// In a comment.
     Comment,
-    /// In a word, outside quotes.
+    /// In an argument, outside quotes.
     Word,
-    /// In a word, behind a backslash.
+    /// In an argument, behind a backslash.
     Escape,
-    /// In a word, between two `'`.
+    /// In an argument, between two `'`.
     SingleQuotes,
-    /// In a word, between two `"`.
+    /// In an argument, between two `"`.
     DoubleQuotes,
-    /// In a word, between two `"`, behind a backslash.
+    /// In an argument, between two `"`, behind a backslash.
     DoubleEscape,
 }
 
-/// Whether a character is white space between words.
+/// Whether a character is white space between arguments.
 fn is_white(c: char) -> bool
     ensures { result ≡ is_white c }
 {
     c == ' ' || c == '\t' || c == '\n' || c == '\r'
 }
 
-/// Whether a character of a word stands for itself outside quotes.
+/// Whether a character of an argument stands for itself outside quotes.
 fn is_plain(c: char) -> bool
     ensures { result ≡ is_plain c }
 {
     !(is_white(c) || c == '\'' || c == '"' || c == '\\')
 }
 
-/// The place behind a character of a word that stands outside quotes.
+/// The place behind a character of an argument that stands outside quotes.
 fn within_word(c: char) -> Place
     ensures { result ≡ within_word c }
 {
@@ -100,7 +100,7 @@ pub(crate) fn next_place(place: Place, c: char) -> Place
     }
 }
 
-/// Whether this character, which stands at this place, is one of the word's.
+/// Whether this character, which stands at this place, is one of the argument's.
 pub(crate) fn keeps(place: Place, c: char) -> bool
     ensures { result ≡ keeps place c }
 {
@@ -114,7 +114,7 @@ pub(crate) fn keeps(place: Place, c: char) -> bool
     }
 }
 
-/// Whether this character, which stands at this place, ends a word.
+/// Whether this character, which stands at this place, ends an argument.
 pub(crate) fn ends_word(place: Place, c: char) -> bool
     ensures { result ≡ ends_word place c }
 {

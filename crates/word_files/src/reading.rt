@@ -1,4 +1,4 @@
-//! The words of a text.
+//! The arguments of a text.
 
 ghost use Rattle.std.specs.Prelude.{◌≡◌, ◌++◌, ◌∷◌, [], List, Some, map, string_bytes, IfOk, IfSome, OnOk};
 ghost use Rattle.std.specs.List.{AllByRecursion};
@@ -9,7 +9,7 @@ ghost use Rattle.word_files.specs.Reading.{word_after, words_after, words_at, wo
 use crate::place::{Place, ends_word, keeps, next_place};
 use std::alloc::{AllocError, Global};
 
-/// Puts the word that has ended behind the others, and begins another.
+/// Puts the argument that has ended behind the others, and begins another.
 fn end_word(alloc: Global, word: &mut String, words: &mut Vec<String>) -> Result<(), AllocError>
     ensures word { OnOk result (string_bytes word.new ≡ []) }
     ensures words { OnOk result (map string_bytes words.new.items ≡ map string_bytes words.old.items
@@ -19,7 +19,7 @@ fn end_word(alloc: Global, word: &mut String, words: &mut Vec<String>) -> Result
     Ok(())
 }
 
-/// Takes a character into the word, where it is one of the word's, and puts the word behind the others
+/// Takes a character into the argument, where it is one of the argument's, and puts the argument behind the others
 /// where the character ends it.
 fn take_char(
     alloc: Global,
@@ -41,7 +41,7 @@ fn take_char(
     Ok(())
 }
 
-/// The words of a text that ends at this place.
+/// The arguments of a text that ends at this place.
 fn words_at_end(
     place: Place,
     word: String,
@@ -59,7 +59,7 @@ fn words_at_end(
     }
 }
 
-/// The words of a text, read character by character.
+/// The arguments of a text, read character by character.
 fn read_words(alloc: Global, text: &str) -> Result<Option<Vec<String>>, AllocError>
     ensures { IfOk result (λ words. texts_in words ≡ words_in text.now) }
 {
@@ -73,11 +73,11 @@ fn read_words(alloc: Global, text: &str) -> Result<Option<Vec<String>>, AllocErr
     words_at_end(place, word, words)
 }
 
-/// The words of a text, or None where a quote is not closed in it, or nothing stands behind its last
+/// The arguments of a text, or None where a quote is not closed in it, or nothing stands behind its last
 /// backslash.
 pub fn words_in(alloc: Global, text: &str) -> Result<Option<Vec<String>>, AllocError>
     ensures exact { IfOk result (λ words. texts_in words ≡ words_in text.now) }
-    // However words are written, they are read.
+    // However arguments are written, they are read.
     ensures written { IfOk result (λ words. (items : List Item) (end : End) → AllByRecursion IsItem items → IsEnd end
         → chars text.now ≡ written items end → texts_in words ≡ Some (words_written items end)) }
     // And what is read was written so.

@@ -1,38 +1,38 @@
-//! What a word of the command line stands for.
+//! What an argument of the command line stands for.
 
 ghost use Rattle.std.specs.Prelude.{◌≡◌};
 ghost use Rattle.word_files.specs.Roles.{before_of, files_of, named, role_alone, role_of, meaning_of, replayed, unescaped};
 
-/// The option whose value may be the words of a file.
+/// The option whose value may be the arguments of a file.
 const REPLAY: &str = "--replay";
 
-/// What stands before its value in one word.
+/// What stands before its value in one argument.
 const REPLAY_IS: &str = "--replay=";
 
-/// What stands before a word.
+/// What stands before an argument.
 #[derive(Clone, Copy)]
 pub(crate) enum Before {
-    /// Nothing: the word is the program's name.
+    /// Nothing: the argument is the program's name.
     Nothing,
-    /// An option of which the words of a file may be the value.
+    /// An option of which the arguments of a file may be the value.
     Replay,
-    /// Any other word.
+    /// Any other argument.
     Other,
 }
 
-/// What a word stands for.
+/// What an argument stands for.
 #[derive(Clone, Copy)]
 pub(crate) enum Role<'a> {
-    /// This word.
+    /// This argument.
     Itself(&'a str),
-    /// The words of this file.
+    /// The arguments of this file.
     WordsOf(&'a str),
-    /// One word: this text, and behind it the words of this file, with a blank between each two.
+    /// One argument: this text, and behind it the arguments of this file, with a blank between each two.
     Joined(&'a str, &'a str),
 }
 
 impl<'a> Role<'a> {
-    /// The file that the word names, if it names one.
+    /// The file that the argument names, if it names one.
     pub(crate) fn into_file(self) -> Option<&'a str> {
         match self {
             Role::Itself(_) => None,
@@ -42,7 +42,7 @@ impl<'a> Role<'a> {
     }
 }
 
-/// How many files a word names: one, or none.
+/// How many files an argument names: one, or none.
 pub(crate) fn files_of(role: Role<'_>) -> usize
     ensures { result ≡ files_of (meaning_of role.entry) }
 {
@@ -52,7 +52,7 @@ pub(crate) fn files_of(role: Role<'_>) -> usize
     }
 }
 
-/// What stands before the next word, where it is this one.
+/// What stands before the next argument, where it is this one.
 pub(crate) fn before_of(word: &str) -> Before
     ensures { result ≡ before_of word.now }
 {
@@ -63,7 +63,7 @@ pub(crate) fn before_of(word: &str) -> Before
     }
 }
 
-/// What a word stands for, of which this stands behind its first `@`.
+/// What an argument stands for, of which this stands behind its first `@`.
 fn named(rest: &str) -> Role<'_>
     ensures { meaning_of result ≡ named rest.now }
 {
@@ -73,7 +73,7 @@ fn named(rest: &str) -> Role<'_>
     }
 }
 
-/// What a word stands for that is no value of `--replay`.
+/// What an argument stands for that is no value of `--replay`.
 fn unescaped(word: &str) -> Role<'_>
     ensures { meaning_of result ≡ unescaped word.now }
 {
@@ -83,7 +83,7 @@ fn unescaped(word: &str) -> Role<'_>
     }
 }
 
-/// What a word stands for that is this text and, behind it, this value of `--replay`.
+/// What an argument stands for that is this text and, behind it, this value of `--replay`.
 fn replayed<'a>(front: &'a str, value: &'a str, word: &'a str) -> Role<'a>
     ensures { meaning_of result ≡ replayed front.now value.now word.now }
 {
@@ -93,7 +93,7 @@ fn replayed<'a>(front: &'a str, value: &'a str, word: &'a str) -> Role<'a>
     }
 }
 
-/// What a word stands for that stands behind another than `--replay`.
+/// What an argument stands for that stands behind another than `--replay`.
 fn role_alone(word: &str) -> Role<'_>
     ensures { meaning_of result ≡ role_alone word.now }
 {
@@ -109,7 +109,7 @@ fn role_alone(word: &str) -> Role<'_>
     }
 }
 
-/// What a word stands for, with this before it.
+/// What an argument stands for, with this before it.
 pub(crate) fn role_of(before: Before, word: &str) -> Role<'_>
     ensures { meaning_of result ≡ role_of before word.now }
 {

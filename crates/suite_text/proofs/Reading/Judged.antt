@@ -71,7 +71,7 @@ words_lead number read line =
     (λ level. leads_by (is_property_in read line) _ _ _ (with_declaration number read level line) (property_leads number read line)
     (leads_by (is_after line) _ _ _ _ (after_leads number read level (after_word line)) (node_leads number read level (first_word line) (after_word line))))
 
--- a node's line that declares a node has a word that may stand there, and a name
+-- a node's line that declares a node has a keyword that may stand there, and a name
 abbrev pub no_fault : Judged
 no_fault = Ok tt
 

@@ -132,7 +132,7 @@ own_body : (status : Option Status) (n : ℕ) → IfSome (option_map (λ (s : St
 own_body None n = tt
 own_body (Some s) n = refl
 
--- What a line declares below a node of this word.
+-- What a line declares below a node of this keyword.
 record IsDeclared (above : Option Word) (first : List ℕ) (d : Declaration) : Type 0 where
   pub stands : may_stand above d.word ≡ true
   pub word : word_of first ≡ Some d.word
@@ -155,7 +155,7 @@ declared_so number above first rest =
     (λ verdict. Ok (record { word = word; name = first_word rest; attributes = read.0; verdict = verdict; text = text_after_word read.1 }))
     (verdict_has number word (first_word read.1) (text_after_word read.1)) (λ verdict has. record { stands = at.stands; word = at.word_is; verdict = has }))))
 
--- Where a node of a word stands: below node a, which is below node b.
+-- Where a node of a keyword stands: below node a, which is below node b.
 abbrev Fits : Option Word → ℕ → ℕ → Type 0
 Fits None a b = a ≡ 0
 Fits (Some Engine) a b = (0 < a) × (b ≡ 0)
@@ -232,7 +232,7 @@ each_given t n node each = record {
   bodies = record { runs = tt; body = each.bodies.body; after = (refl, refl) };
 }
 
--- an open node is that of a line with its word
+-- an open node is that of a line with its keyword
 abbrev HasWord : List Word → Opened → Type 0
 HasWord words o = (i : ℕ) × (o.node ≡ suc i) × (slice_get words i ≡ Some o.word)
 
@@ -258,7 +258,7 @@ have_taken words path zero o all new = (new, tt)
 have_taken words [] (suc n) o all new = (new, tt)
 have_taken words (x ∷ more) (suc n) o all new = (all.0, have_taken words more n o all.1 new)
 
--- So it is after each line, if these are the words of the lines so far.
+-- So it is after each line, if these are the keywords of the lines so far.
 record IsMade (words : List Word) (read : LinesRead) : Type 0 where
   pub as_many : length read.tree.nodes ≡ length words
   pub size_is : size read.tree ≡ length words + 1

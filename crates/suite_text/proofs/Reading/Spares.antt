@@ -99,7 +99,7 @@ attributes_bare number Test text = not_dyn Test (λ e. cc) (attributes_of number
 attributes_bare number Factory text = not_dyn Factory (λ e. cc) (attributes_of number Factory text)
 attributes_bare number Dyn text = given_dyn (attributes_of number Dyn text) (dyn_locks number no_attributes (words_in text) text refl)
 
--- what a line declares below a node of this word
+-- what a line declares below a node of this keyword
 record IsBareBelow (above : Option Word) (d : Declaration) : Type 0 where
   pub stands : may_stand above d.word ≡ true
   pub locks : d.word ≡ Dyn → d.attributes.locks ≡ []

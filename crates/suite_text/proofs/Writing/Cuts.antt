@@ -1,4 +1,4 @@
--- A text is what was cut off from it: spaces, its first word, and what follows that.
+-- A text is what was cut off from it: spaces, its first token, and what follows that.
 use Rattle.std.proofs.Common.{◌≡◌, ℕ, zero, suc, ◌+◌, ◌<◌, ◌⊎◌, inl, inr, List, [], ◌∷◌, ◌++◌, length, reverse, take, drop, Bool, true, false, cond, not, Some, refl, ap, ap₂, sym, subst, ◌∙◌, arith, length-append, append-nil}
 use Rattle.std.specs.Prelude.{◌==◌}
 use Rattle.std.proofs.lemmas.Bool.Decides.{Decides-eqb}
@@ -40,7 +40,7 @@ pub front_gone : (text : List ℕ) → indent (without_front text) ≡ 0
 front_gone [] = refl
 front_gone (b ∷ bs) = gone_by b bs (is_space b) refl (front_gone bs)
 
--- the first word and what follows it
+-- the first token and what follows it
 record Cut (bs : List ℕ) : Type 0 where
   pub rest : List ℕ
   pub whole : bs ≡ before_first is_space bs ++ rest
@@ -95,7 +95,7 @@ parted text =
     let c = cut (without_front text) in
     record { rest = c.rest; whole = front_of text ∙ ap (λ l. spaces (indent text) ++ l) c.whole; after = c.after; follows = c.follows; word = c.word }
 
--- no word
+-- no token
 word_by : (b : ℕ) (bs : List ℕ) (z : Bool) → is_space b ≡ z → indent (b ∷ bs) ≡ 0 → before_first is_space (b ∷ bs) ≡ [] → b ∷ bs ≡ []
 word_by b bs true e front none = let more = indent_yes b bs e in absurd (omega (arith, more, front))
 word_by b bs false e front none = let some : b ∷ before_first is_space bs ≡ [] = sym (before_no b bs e) ∙ none in absurd (cc)
@@ -107,7 +107,7 @@ no_word (b ∷ bs) front none = word_by b bs (is_space b) refl front none
 pub blank_of : (text : List ℕ) → first_word text ≡ [] → text ≡ spaces (indent text)
 blank_of text none = front_of text ∙ ap (λ l. spaces (indent text) ++ l) (no_word (without_front text) (front_gone text) none) ∙ append-nil (spaces (indent text))
 
--- what follows a word is nothing, or begins with a space
+-- what follows a token is nothing, or begins with a space
 pub follows_is : (rest : List ℕ) → Follows rest → (rest ≡ []) ⊎ (rest ≡ 32 ∷ drop 1 rest)
 follows_is [] h = inl refl
 follows_is (b ∷ bs) h = inr (ap (λ x. x ∷ bs) (space_is b h))
@@ -137,7 +137,7 @@ front_less : (text more : List ℕ) → indent (text ++ more) ≡ 0 → indent t
 front_less [] more h = refl
 front_less (b ∷ bs) more h = front_less_by b bs more (is_space b) refl h
 
--- the text that follows a word
+-- the text that follows a token
 pub record Behind (rest : List ℕ) : Type 0 where
   pub behind : ℕ
   pub trailing : ℕ

@@ -38,7 +38,7 @@ use Rattle.suite_text.proofs.Writing.Locks.{lock_back}
 use Rattle.suite_words.proofs.Reading.Attributes.{of_nothing, at_end, next_read}
 use Rattle.suite_text.proofs.Writing.Words.{Unspaced, Follows, first_is, after_is, first_none, after_none, text_is, follows_spaces, follows_text, front_is, prefix_spaces}
 
--- the words that the format knows are words
+-- the keywords and attributes that the format knows are tokens
 is_word : (w : Word) → IsWord (word_text w)
 is_word Engine = (omega arith, search rules)
 is_word Class = (omega arith, search rules)
@@ -65,7 +65,7 @@ verdict_back Fail = refl
 verdict_back Abort = refl
 verdict_back Disabled = refl
 
--- and none is the word of a property
+-- and none is the keyword of a property
 no_property : (w : Word) → bytes_eq (word_text w) (codes "property") ≡ false
 no_property Engine = refl
 no_property Class = refl
@@ -299,7 +299,7 @@ module _ (number : ℕ) (w : Word) (trailing : ℕ) where
       ap (λ t. verdict_of number w (first_word (left end)) t >>= (λ verdict. Ok (declared name attributes verdict t))) (text_back end h)
       ∙ ap (λ r. r >>= (λ verdict. Ok (declared name attributes verdict (text_said end)))) (verdict_read end h)
 
--- a line of words
+-- a line of tokens
 module _ (number : ℕ) (l : NodeLine) where
   abbrev behind_name : List ℕ
   behind_name = attributes_text l.attributes ++ ending_text l.ending l.trailing
@@ -375,7 +375,7 @@ some_word Test rest = ne_eqb (length (word_text Test ++ rest)) 0 (λ e. omega (a
 some_word Factory rest = ne_eqb (length (word_text Factory ++ rest)) 0 (λ e. omega (arith, e))
 some_word Dyn rest = ne_eqb (length (word_text Dyn ++ rest)) 0 (λ e. omega (arith, e))
 
--- no word of a node is that of an after-body
+-- no keyword of a node is that of an after-body
 no_after : (w : Word) → bytes_eq (word_text w) (codes "after") ≡ false
 no_after Engine = refl
 no_after Class = refl

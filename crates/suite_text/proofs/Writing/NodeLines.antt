@@ -32,7 +32,7 @@ use Rattle.suite_text.proofs.Writing.Lines.{indents}
 use Rattle.suite_text.proofs.Writing.Said.{chosen_some, ok_then, ok_else, ok_same, spelled, zero_empty, some_length, IsSaid, said_so}
 use Rattle.suite_text.proofs.Writing.Words.{Unspaced, Follows, prefix_spaces, after_none, follows_spaces, length_spaces}
 
--- Words.
+-- Tokens.
 word_spelled : (text : List ℕ) (w : Word) → word_of text ≡ Some w → text ≡ word_text w
 word_spelled text =
     let P : Word → Type 0 = λ w. text ≡ word_text w in
@@ -50,11 +50,11 @@ verdict_is text =
     (chosen_some P (bytes_eq text (codes "abort")) Abort _ (spelled text (codes "abort"))
     (chosen_some P (bytes_eq text (codes "disabled")) Disabled _ (spelled text (codes "disabled")) (λ y e. absurd (cc)))))
 
--- before a word there is a space
+-- before a token there is a space
 spaced_off : (rest : List ℕ) → Follows rest → first_word (drop 1 rest) ≢ [] → rest ≡ 32 ∷ drop 1 rest
 spaced_off rest follows some = elim (follows_is rest follows) [ inl none ↦ absurd (some (ap (λ l. first_word (drop 1 l)) none)) | inr e ↦ e ]
 
--- what is left of a text behind a word, with the word in front
+-- what is left of a text behind a token, with the token in front
 behind_space : (rest : List ℕ) → Follows rest → first_word (drop 1 rest) ≢ [] → rest ≡ spaces (suc (indent (drop 1 rest))) ++ (first_word (drop 1 rest) ++ (parted (drop 1 rest)).rest)
 behind_space rest follows some = spaced_off rest follows some ∙ ap (λ l. 32 ∷ l) (parted (drop 1 rest)).whole
 

@@ -70,7 +70,7 @@ pub some_length : {X : Type 0} (xs : List X) → (length xs == 0) ≡ false → 
 some_length [] e = absurd (cc)
 some_length (x ∷ xs) e = omega arith
 
--- Which attribute a word is.
+-- Which attribute a token is.
 abbrev Means : Word → List ℕ → kinds.Attribute → Type 0
 Means w text found.Tag = (takes_tags w && begins_with_sign text) ≡ true
 Means w text found.Spin = is_spin w (key_of text) ≡ true
@@ -96,7 +96,7 @@ means w text =
     (chosen_some (Means w text) (is_slow w (key_of text)) found.Slow _ (λ is. is)
     (chosen_some (Means w text) (is_pulls w (key_of text)) found.Pulls _ (λ is. is) (declared_by w text (may_declare w) refl))))
 
--- A word at its equals sign.
+-- A token at its equals sign.
 equals_by : (b : ℕ) (bs : List ℕ) (z : Bool) → is_equals_sign b ≡ z → (bs ≡ key_of bs ++ (61 ∷ value_of bs)) ⊎ (value_of bs ≡ []) → (b ∷ bs ≡ key_of (b ∷ bs) ++ (61 ∷ value_of (b ∷ bs))) ⊎ (value_of (b ∷ bs) ≡ [])
 equals_by b bs true e more =
     let at : position_or_len is_equals_sign (b ∷ bs) ≡ 0 = ap (λ z. cond (not z) (1 + position_or_len is_equals_sign bs) 0) e in

@@ -126,7 +126,7 @@ sign_less : (text more : List ℕ) → 0 < length text → begins_with_sign (tex
 sign_less [] more some h = absurd (omega (arith, some))
 sign_less (b ∷ bs) more some h = h
 
--- What a text behind the word says.
+-- What a text behind the keyword says.
 record IsRead (number : ℕ) (params next : Parameters) (text : List ℕ) : Type 0 where
   pub property : Property
   pub is : IsProperty property

@@ -1,4 +1,4 @@
--- Words and texts between spaces are read as they are written.
+-- Tokens and texts between spaces are read as they are written.
 use Rattle.std.proofs.Common.{◌≡◌, ℕ, zero, suc, ◌+◌, ◌-◌, ◌<◌, ◌||◌, List, [], ◌∷◌, ◌++◌, length, reverse, take, drop, Bool, true, false, cond, not, ◌⊎◌, inl, inr, refl, ap, sym, subst, ◌∙◌, arith, length-append}
 use Rattle.std.proofs.lemmas.List.{take_at, drop_at, drop-drop, reverse-append}
 use Rattle.std.specs.List.{AllByRecursion, before_first, after_first, position_or_len, prefix_len, suffix_len}
@@ -15,7 +15,7 @@ or_true false = refl
 abbrev pub Unspaced : List ℕ → Type 0
 Unspaced text = AllByRecursion (λ byte. is_space byte ≡ false) text
 
--- what may follow a word: nothing, or a space and more
+-- what may follow a token: nothing, or a space and more
 abbrev pub Follows : List ℕ → Type 0
 Follows [] = Unit {0}
 Follows (byte ∷ bytes) = is_space byte ≡ true
@@ -47,7 +47,7 @@ word_ends (x ∷ w) rest h f =
     let more = word_ends w rest h.1 f in
     omega (arith, next, more)
 
--- a word behind spaces, and before nothing or a space
+-- a token behind spaces, and before nothing or a space
 module _ (n : ℕ) (w rest : List ℕ) (word : IsWord w) (f : Follows rest) where
   pub front_is : without_front (spaces n ++ (w ++ rest)) ≡ w ++ rest
   front_is = front_spaces n (w ++ rest) ∙ word_front w rest word
@@ -60,7 +60,7 @@ module _ (n : ℕ) (w rest : List ℕ) (word : IsWord w) (f : Follows rest) wher
       ap (after_first is_space) front_is ∙ ap (λ k. drop (k + 1) (w ++ rest)) (word_ends w rest word.1 f)
       ∙ sym (drop-drop 1 (length w) (w ++ rest)) ∙ ap (drop 1) (drop_at w rest _ refl)
 
--- no word
+-- no token
 pub first_none : (n : ℕ) → first_word (drop 1 (spaces n)) ≡ []
 first_none zero = refl
 first_none (suc n) = ap (before_first is_space) (no_front n)

@@ -16,7 +16,7 @@ use Rattle.suite_text.specs.Reading.Parts.{LinesRead, above}
 use Rattle.suite_words.specs.Reading.Scripts.{ending}
 use Rattle.suite_words.specs.Reading.After.{after_said, after_body}
 
--- whether a word is that of a class
+-- whether a keyword is that of a class
 abbrev pub is_class : Word → Bool
 is_class Class = true
 is_class word = false
@@ -40,7 +40,7 @@ with_after_body read n said = record {
 abbrev pub given_after_body : ℕ → LinesRead → ℕ → Status × List ℕ → Result LinesRead SuiteFault
 given_after_body number read n said = unless_refused number (after_refusal read.tree n (after_body n)) (with_after_body read n said)
 
--- with what follows the word `after` on a line of this level: the class is judged first, then the verdict
+-- with what follows the keyword `after` on a line of this level: the class is judged first, then the verdict
 abbrev pub with_after_line : ℕ → LinesRead → ℕ → List ℕ → Result LinesRead SuiteFault
 with_after_line number read level rest =
     class_of number read.tree (above read.path level) >>= (λ n. after_said number rest >>= (λ said. given_after_body number read n said))

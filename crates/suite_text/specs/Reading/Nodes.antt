@@ -20,7 +20,7 @@ parent_on read level = node_of_opened (above read.path level)
 abbrev pub place_on : LinesRead → ℕ → ℕ
 place_on read level = next_place read.tree (parent_on read level)
 
--- its word
+-- its keyword
 abbrev pub word_on : LinesRead → ℕ → Option Word
 word_on read level = word_of_opened (above read.path level)
 

@@ -53,7 +53,7 @@ abbrev pub above : List Opened → ℕ → Option Opened
 above path zero = None
 above path (suc level) = slice_get path level
 
--- its word
+-- its keyword
 abbrev pub word_of_opened : Option Opened → Option Word
 word_of_opened opened = option_map (λ o. o.word) opened
 

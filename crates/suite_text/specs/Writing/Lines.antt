@@ -90,9 +90,9 @@ IsTestWord Test = Unit {0}
 IsTestWord Dyn = Unit {0}
 IsTestWord word = ⊥
 
--- whether a line of this word may say it after these: a tag, but not of a dynamic test; how far the body counts, of a test, once, and at most 1,000,000; from how many milliseconds on it is slow, of a test, once, one at least and at most
--- 86,400,000; how many tests it registers, of a factory, once, and at most
--- 4,096; a mode, once, locks and isolation, of any node but an engine and a dynamic test
+-- whether a line of this keyword may say it after these: a tag, but not of a dynamic test; how far the body counts, of a test, once, and at
+-- most 1,000,000; from how many milliseconds on it is slow, of a test, once, one at least and at most 86,400,000; how many tests it
+-- registers, of a factory, once, and at most 4,096; a mode, once, locks and isolation, of any node but an engine and a dynamic test
 abbrev pub MaySay : Word → Attributes → Said → Type 0
 MaySay word before (Tagged tag) = AllByRecursion (λ byte. is_space byte ≡ false) tag × (tag_refusal tag ≡ None) × (takes_tags word ≡ true)
 MaySay word before (Counts digits) = IsTestWord word × (before.spin ≡ None) × (is_number digits ≡ true) × (digits_value 10 digits ≤ 1000000)
@@ -116,7 +116,7 @@ abbrev pub all_said : Attributes → List Attribute → Attributes
 all_said before [] = before
 all_said before (attribute ∷ more) = all_said (said_also before attribute.said) more
 
--- a line of this word may have them in this order
+-- a line of this keyword may have them in this order
 abbrev pub MaySayAll : Word → Attributes → List Attribute → Type 0
 MaySayAll word before [] = Unit {0}
 MaySayAll word before (attribute ∷ more) = MaySay word before attribute.said × MaySayAll word (said_also before attribute.said) more
@@ -154,7 +154,7 @@ MayEnd Dyn None = ⊥
 MayEnd word None = Unit {0}
 MayEnd word (Some end) = IsEnding end
 
--- a line that declares a node: its word, its name behind one space and so many more, its attributes, its verdict, and so many spaces
+-- a line that declares a node: its keyword, its name behind one space and so many more, its attributes, its verdict, and so many spaces
 pub record NodeLine : Type 0 where
   pub word : Word
   pub gap : ℕ
@@ -179,7 +179,7 @@ text_said (Some end) = end.text
 abbrev pub declares : NodeLine → Declaration
 declares l = record { word = l.word; name = l.name; attributes = all_said no_attributes l.attributes; verdict = verdict_said l.ending; text = text_said l.ending }
 
--- it may be written right below a node of this word, or at level 0 where there is none
+-- it may be written right below a node of this keyword, or at level 0 where there is none
 pub record IsNodeLine (above : Option Word) (l : NodeLine) : Type 0 where
   pub stands : may_stand above l.word ≡ true
   pub name : IsWord l.name

@@ -35,13 +35,13 @@ pub record IsKey (b : Between) : Type 0 where
   pub no_sign : begins_with_sign b.text ≡ false
   pub no_equals : AllByRecursion (λ byte. is_equals_sign byte ≡ false) b.text
 
--- what a property's line says: a key and its value; or nothing, with a comment or without; or nothing, and the word is all of it
+-- what a property's line says: a key and its value; or nothing, with a comment or without; or nothing, and the keyword is all of it
 pub data Property : Type 0 where
   Sets : (key value : Between) → Property
   Remarks : (front comment : List ℕ) → Property
   Bare : Property
 
--- what stands behind the word
+-- what stands behind the keyword
 abbrev pub said_text : Property → List ℕ
 said_text (Sets key value) = 32 ∷ (between_text key ++ (61 ∷ between_text value))
 said_text (Remarks front comment) = 32 ∷ (front ++ comment)

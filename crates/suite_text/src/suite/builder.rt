@@ -18,7 +18,7 @@ use unique_id::{Text, UidFault, UniqueId};
 /// The number of a node's after-body, less the node's own: above all numbers of nodes.
 const FIRST_AFTER: u16 = 8_192;
 
-/// A node that the next line may hang below, and the word of its line.
+/// A node that the next line may hang below, and the keyword of its line.
 #[derive(Clone, Copy)]
 pub(crate) struct Opened {
     pub(crate) node: NodeId,
@@ -278,7 +278,7 @@ fn push_script(scripts: &mut Vec<Pending>, script: Option<Pending>)
     }
 }
 
-/// A node that is to be added, the word of its line, and the script of its body.
+/// A node that is to be added, the keyword of its line, and the script of its body.
 #[derive(Drop)]
 struct NewNode {
     word: Word,
@@ -591,7 +591,7 @@ impl SuiteBuilder {
         Ok(())
     }
 
-    /// Reads what follows the word `after` on a line of this level.
+    /// Reads what follows the keyword `after` on a line of this level.
     fn read_after(
         &mut self,
         alloc: Global,
@@ -613,7 +613,7 @@ impl SuiteBuilder {
         }
     }
 
-    /// The word of the node that a line of this level hangs below; none at level 0.
+    /// The keyword of the node that a line of this level hangs below; none at level 0.
     fn word_on(&self, level: usize) -> Option<Word>
         requires { level ≤ length self.now.path }
         ensures { result ≡ word_on self.now level }
@@ -621,7 +621,7 @@ impl SuiteBuilder {
         self.above(level).map(|opened| opened.word)
     }
 
-    /// Reads the line of a node on this level: its first word, and what follows that.
+    /// Reads the line of a node on this level: its keyword, and what follows that.
     fn read_node(
         &mut self,
         alloc: Global,
@@ -663,7 +663,7 @@ impl SuiteBuilder {
         }
     }
 
-    /// Reads a line of words with so many spaces in front: a property's, an after-body's or a node's.
+    /// Reads a line that says something, with so many spaces in front: a property's, an after-body's or a node's.
     fn read_words(
         &mut self,
         alloc: Global,

@@ -23,7 +23,7 @@ fn judge_property(number: usize, line: &str) -> Result<(), SuiteFault>
     }
 }
 
-/// Judges a line below no node: its first word, and what follows that.
+/// Judges a line below no node: its keyword, and what follows that.
 fn judge_node(number: usize, first: &str, rest: &str) -> Result<(), SuiteFault>
     ensures { result ≡ judged_node number None first.now rest.now }
 {
@@ -35,7 +35,7 @@ fn judge_node(number: usize, first: &str, rest: &str) -> Result<(), SuiteFault>
     }
 }
 
-/// Judges a line of words with so many spaces in front, before which nothing was said.
+/// Judges a line that says something, with so many spaces in front, before which nothing was said.
 fn judge_words(number: usize, indentation: usize, line: &str) -> Result<(), SuiteFault>
     requires { indentation ≡ indentation_of line.now }
     ensures { result ≡ judged_words number no_lines line.now }

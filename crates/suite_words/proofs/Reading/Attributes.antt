@@ -14,7 +14,7 @@ use Rattle.suite_words.specs.Words.{words_in}
 use Rattle.suite_words.proofs.FirstWords.{Front, blank, begins, front}
 use Rattle.suite_words.proofs.Reading.Steps.{fails_then, fails_as}
 
--- no word is no attribute
+-- no token is no attribute
 pub of_nothing : (kind : Word) → attribute_of kind [] ≡ None
 of_nothing Engine = refl
 of_nothing Class = refl
@@ -29,7 +29,7 @@ module _ (number : ℕ) (kind : Word) (said : Attributes) (text : List ℕ) wher
   abbrev rest_after : Attributes → Result (Attributes × List ℕ) SuiteFault
   rest_after next = attributes_from number kind next (words_in (after_word text)) (after_word text)
 
-  -- what the attribute that the first word is, if it is one, makes of them
+  -- what the attribute that the first token is, if it is one, makes of them
   abbrev on_found : Option Attribute → Result (Attributes × List ℕ) SuiteFault
   on_found found = option_map_or (λ a. with_attribute number said (first_word text) a >>= rest_after) found (Ok (said, text))
 
@@ -37,7 +37,7 @@ module _ (number : ℕ) (kind : Word) (said : Attributes) (text : List ℕ) wher
   first_of (blank empty no_words) = ap (λ words. attributes_from number kind said words text) no_words ∙ sym (ap on_found (ap (attribute_of kind) empty ∙ of_nothing kind))
   first_of (begins words) = ap (λ ws. attributes_from number kind said ws text) words
 
-  -- where the first word is no attribute, all were read
+  -- where the first token is no attribute, all were read
   pub at_end : attribute_of kind (first_word text) ≡ None → all ≡ Ok (said, text)
   at_end none = first_of (front text) ∙ ap on_found none
 

@@ -18,7 +18,7 @@ abbrev pub ended : ℕ → Option Status → List ℕ → Result (Status × List
 ended number None text = Err (BadLine number)
 ended number (Some status) text = Ok (status, text)
 
--- how the body ends, by what follows the word `after`: a verdict as that of a test, but not `disabled`
+-- how the body ends, by what follows the keyword `after`: a verdict as that of a test, but not `disabled`
 abbrev pub after_said : ℕ → List ℕ → Result (Status × List ℕ) SuiteFault
 after_said number rest = verdict_of number Test (first_word rest) (text_after_word rest) >>= (λ verdict. ended number (status_declared verdict) (text_after_word rest))
 

@@ -23,11 +23,11 @@ use Rattle.suite_words.specs.Reading.Pulls.{is_pulls}
 use Rattle.suite_words.specs.Reading.Slow.{is_slow, limit_of}
 use Rattle.suite_words.specs.Reading.Spins.{key_of, value_of, is_spin, count_of}
 
--- what follows the first number sign of a word
+-- what follows the first number sign of a token
 abbrev pub after_sign : List ℕ → List ℕ
 after_sign text = after_first is_number_sign text
 
--- whether a node of this word may declare a mode, locks and isolation
+-- whether a node of this keyword may declare a mode, locks and isolation
 abbrev pub may_declare : Word → Bool
 may_declare Engine = false
 may_declare Class = true
@@ -35,19 +35,19 @@ may_declare Test = true
 may_declare Factory = true
 may_declare Dyn = false
 
--- the attribute by which a word with this key declares how a node is executed, if it is one
+-- the attribute by which a token with this key declares how a node is executed, if it is one
 abbrev pub declaration_in : List ℕ → List ℕ → Option Attribute
 declaration_in text key =
     if bytes_eq text (codes "@concurrent") then Some (Runs Concurrent)
     else (if bytes_eq text (codes "@same_thread") then Some (Runs SameThread)
     else (if bytes_eq text (codes "isolated") then Some Isolated else (if bytes_eq key (codes "lock") then Some Lock else None)))
 
--- whether a line of this word may have tags: one of a dynamic test has none
+-- whether a line of this keyword may have tags: one of a dynamic test has none
 abbrev pub takes_tags : Word → Bool
 takes_tags Dyn = false
 takes_tags word = true
 
--- the attribute that a word of a line is, if it is one that a node of this word may have
+-- the attribute that a token of a line is, if it is one that a node of this keyword may have
 abbrev pub attribute_of : Word → List ℕ → Option Attribute
 attribute_of word text =
     if takes_tags word && begins_with_sign text then Some Tag else (
@@ -86,7 +86,7 @@ with_mode number said mode = if is_some said.mode then Err (BadLine number) else
 abbrev pub with_lock : ℕ → Attributes → List ℕ → Result Attributes SuiteFault
 with_lock number said value = with_lock_of number said.locks value >>= (λ locks. Ok (record said { locks = locks }))
 
--- with what an attribute says, which is this word of the line
+-- with what an attribute says, which is this token of the line
 abbrev pub with_attribute : ℕ → Attributes → List ℕ → Attribute → Result Attributes SuiteFault
 with_attribute number said text Tag = with_tag_of number said (after_sign text)
 with_attribute number said text Spin = with_spin_of number said (value_of text)
@@ -96,7 +96,7 @@ with_attribute number said text (Runs mode) = with_mode number said mode
 with_attribute number said text Lock = with_lock number said (value_of text)
 with_attribute number said text Isolated = Ok (record said { isolated = true })
 
--- the attributes at the front of these words, after those that were read, and what then follows in the text of the words
+-- the attributes at the front of these tokens, after those that were read, and what then follows in the text of the tokens
 abbrev pub attributes_from : ℕ → Word → Attributes → List (List ℕ) → List ℕ → Result (Attributes × List ℕ) SuiteFault
 attributes_from number word said [] left = Ok (said, left)
 attributes_from number word said (text ∷ more) left =

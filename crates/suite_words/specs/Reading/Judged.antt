@@ -22,7 +22,7 @@ judged_pair (Err fault) = Err (of_property fault)
 abbrev pub judged_property : ℕ → List ℕ → Judged
 judged_property number line = judged_pair (property_of number (after_word line))
 
--- of a node's line that its word may stand there, and that it has a name
+-- of a node's line that its keyword may stand there, and that it has a name
 abbrev pub judged_name : ℕ → List ℕ → Judged
 judged_name number rest = if length (first_word rest) == 0 then Err (BadLine number) else Ok tt
 

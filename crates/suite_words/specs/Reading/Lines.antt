@@ -1,4 +1,4 @@
--- The lines of a suite text, and the indentation, the words and the end of one.
+-- The lines of a suite text, and the indentation, the tokens and the end of one.
 use Rattle.std.specs.Prelude.{ℕ, ◌-◌, ◌/◌, ◌%◌, ◌==◌, ◌||◌, nat_lt, List, [], ◌∷◌, length, take, drop, not, Bool, false, if◌then◌else◌, Result, Ok, Err}
 use Rattle.std.specs.List.{prefix_len, suffix_len, before_first, after_first}
 use Rattle.suite_words.specs.Words.{is_space}
@@ -13,11 +13,11 @@ without_front text = drop (prefix_len is_space text) text
 abbrev pub without_end : List ℕ → List ℕ
 without_end text = take (length text - suffix_len is_space text) text
 
--- the first word of a text, up to the next space; empty where there is none
+-- the first token of a text, up to the next space; empty where there is none
 abbrev pub first_word : List ℕ → List ℕ
 first_word text = before_first is_space (without_front text)
 
--- what follows the first word of a text
+-- what follows the first token of a text
 abbrev pub after_word : List ℕ → List ℕ
 after_word text = after_first is_space (without_front text)
 

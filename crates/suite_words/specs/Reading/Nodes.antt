@@ -76,7 +76,7 @@ abbrev pub script_declared : Declaration → ℕ → Option Pending
 script_declared d n =
     option_map (λ status. record { script = ending n (spin_said d.attributes) d.attributes.slow (pulls_said d.attributes) status d.text; counts = counts_lines d }) (status_declared d.verdict)
 
--- the id of what is declared as the k-th below a node with this word and these segments
+-- the id of what is declared as the k-th below a node with this keyword and these segments
 abbrev pub id_declared : Option Word → List Segment → ℕ → Declaration → List Segment
 id_declared parent segments k d = segments ++ record { kind = segment_kind parent d.word; value = value_declared d k } ∷ []
 
@@ -92,11 +92,11 @@ node_with n segments d = record (plain segments d.name (kind_declared d.word)) {
   tags = d.attributes.tags;
 }
 
--- the node of number n that is declared as the k-th below one with this word and these segments
+-- the node of number n that is declared as the k-th below one with this keyword and these segments
 abbrev pub node_declared : ℕ → Option Word → List Segment → ℕ → Declaration → Node
 node_declared n parent segments k d = node_with n (id_declared parent segments k d) d
 
--- whether the unique id of a node below these segments is over its limits; no word is empty, so nothing else refuses it
+-- whether the unique id of a node below these segments is over its limits; no token is empty, so nothing else refuses it
 abbrev pub is_over_limit : List Segment → Option Word → ℕ → Declaration → Bool
 is_over_limit segments parent k d = is_some (ids.refusal segments (segment_kind parent d.word) (value_declared d k))
 

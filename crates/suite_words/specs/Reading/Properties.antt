@@ -9,7 +9,7 @@ use Rattle.suite_words.specs.declared.suite.fault.SuiteFault.{SuiteFault}
 use Rattle.suite_words.specs.Reading.Faults.{of_property}
 use Rattle.suite_words.specs.Reading.Lines.{first_word, after_word}
 
--- whether a line begins with the word `property`
+-- whether a line begins with the keyword `property`
 abbrev pub is_property : List ℕ → Bool
 is_property line = bytes_eq (first_word line) (codes "property")
 

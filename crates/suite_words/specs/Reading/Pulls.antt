@@ -7,7 +7,7 @@ use Rattle.suite_words.specs.declared.suite.pulls.Pending.{Pending}
 use Rattle.suite_words.specs.declared.suite.words.Word.{Word}
 use Rattle.suite_words.specs.declared.suite.words.Word.TheVariants.{Engine, Class, Test, Factory, Dyn}
 
--- whether a word of a factory has the key `pulls`
+-- whether a token of a factory has the key `pulls`
 abbrev pub is_pulls : Word → List ℕ → Bool
 is_pulls Engine key = false
 is_pulls Class key = false

@@ -8,7 +8,7 @@ use Rattle.suite_words.specs.declared.suite.fault.SuiteFault.TheVariants.{BadLin
 use Rattle.unique_id.specs.Answers.{◌>>=◌}
 use Rattle.suite_words.specs.Reading.Spins.{count_of}
 
--- whether a word of a test, or of a dynamic one, has the key `@slow`
+-- whether a token of a test, or of a dynamic one, has the key `@slow`
 abbrev pub is_slow : Word → List ℕ → Bool
 is_slow Engine key = false
 is_slow Class key = false

@@ -11,7 +11,7 @@ use Rattle.suite_words.specs.declared.suite.fault.SuiteFault.TheVariants.{BadLin
 abbrev pub is_equals_sign : ℕ → Bool
 is_equals_sign byte = byte == 61
 
--- a word up to its first equals sign
+-- a token up to its first equals sign
 abbrev pub key_of : List ℕ → List ℕ
 key_of word = before_first is_equals_sign word
 
@@ -19,7 +19,7 @@ key_of word = before_first is_equals_sign word
 abbrev pub value_of : List ℕ → List ℕ
 value_of word = after_first is_equals_sign word
 
--- whether a word of a test, or of a dynamic one, has the key `spin`
+-- whether a token of a test, or of a dynamic one, has the key `spin`
 abbrev pub is_spin : Word → List ℕ → Bool
 is_spin Engine key = false
 is_spin Class key = false

@@ -32,7 +32,7 @@ verdict_with number word None text = Err (BadLine number)
 verdict_with number word (Some Pass) text = if length text == 0 then Ok (Some Pass) else Err (BadLine number)
 verdict_with number word (Some verdict) text = Ok (Some verdict)
 
--- the verdict that a word, which may be missing, and the text after it are
+-- the verdict that a token, which may be missing, and the text after it are
 abbrev pub verdict_of : ℕ → Word → List ℕ → List ℕ → Result (Option Verdict) SuiteFault
 verdict_of number word first text = if length first == 0 then no_verdict number word else verdict_with number word (verdict_spelled first) text
 

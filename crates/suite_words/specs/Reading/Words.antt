@@ -1,4 +1,4 @@
--- What the words of a line declare.
+-- What the tokens of a line declare.
 use Rattle.std.specs.Prelude.{ℕ, List, length, ◌==◌, codes, Bool, true, false, if◌then◌else◌, Option, Some, None, Result, Ok, Err}
 use Rattle.std.specs.Str.{bytes_eq}
 use Rattle.suite_words.specs.declared.suite.words.Word.{Word}
@@ -25,7 +25,7 @@ pub record Declaration : Type 0 where
 abbrev pub declaration_of : Declared → Declaration
 declaration_of d = record { word = d.word; name = d.name.now; attributes = d.attributes; verdict = d.verdict; text = d.text.now }
 
--- the word with this spelling
+-- the keyword with this spelling
 abbrev pub word_of : List ℕ → Option Word
 word_of text =
     if bytes_eq text (codes "engine") then Some Engine
@@ -33,7 +33,7 @@ word_of text =
     else (if bytes_eq text (codes "test") then Some Test
     else (if bytes_eq text (codes "factory") then Some Factory else (if bytes_eq text (codes "dyn") then Some Dyn else None))))
 
--- whether a word may stand right below a node of the first word, or at level 0 where there is none
+-- whether a keyword may stand right below a node of the first keyword, or at level 0 where there is none
 abbrev pub may_stand : Option Word → Word → Bool
 may_stand None Engine = true
 may_stand (Some Engine) Class = true
@@ -43,29 +43,29 @@ may_stand (Some Class) Factory = true
 may_stand (Some Factory) Dyn = true
 may_stand above word = false
 
--- a word that may stand right below a node of the first word
+-- a keyword that may stand right below a node of the first keyword
 abbrev pub placed : ℕ → Option Word → Option Word → Result Word SuiteFault
 placed number above None = Err (BadLine number)
 placed number above (Some word) = if may_stand above word then Ok word else Err (BadLine number)
 
--- what a node of this word, name and attributes is declared as by what is left of its line
+-- what a node of this keyword, name and attributes is declared as by what is left of its line
 abbrev pub with_verdict : ℕ → Word → List ℕ → Attributes → List ℕ → Result Declaration SuiteFault
 with_verdict number word name attributes rest =
     verdict_of number word (first_word rest) (text_after_word rest)
     >>= (λ verdict. Ok (record { word = word; name = name; attributes = attributes; verdict = verdict; text = text_after_word rest }))
 
--- what a node of this word and name is declared as by what is left of its line, from its attributes on
+-- what a node of this keyword and name is declared as by what is left of its line, from its attributes on
 abbrev pub with_attributes : ℕ → Word → List ℕ → List ℕ → Result Declaration SuiteFault
 with_attributes number word name rest = attributes_of number word rest >>= (λ read. with_verdict number word name read.0 read.1)
 
--- what a node of this word is declared as by what is left of its line, from its name on
+-- what a node of this keyword is declared as by what is left of its line, from its name on
 abbrev pub with_name : ℕ → Word → List ℕ → Result Declaration SuiteFault
 with_name number word rest = if length (first_word rest) == 0 then Err (BadLine number) else with_attributes number word (first_word rest) (after_word rest)
 
--- what a first word declares right below a node of the word above, with what follows it on its line
+-- what a keyword declares right below a node of the keyword above, with what follows it on its line
 abbrev pub declared_as : ℕ → Option Word → List ℕ → List ℕ → Result Declaration SuiteFault
 declared_as number above first rest = placed number above (word_of first) >>= (λ word. with_name number word rest)
 
--- what a line declares right below a node of this word
+-- what a line declares right below a node of this keyword
 abbrev pub declared_by : ℕ → Option Word → List ℕ → Result Declaration SuiteFault
 declared_by number above line = declared_as number above (first_word line) (after_word line)

@@ -10,7 +10,7 @@ use crate::suite::verdicts::{status_of, verdict_in};
 use crate::suite::words::Word;
 use plan_events::Status;
 
-/// The status and the text that the body ends with, by what follows the word `after`: a verdict as
+/// The status and the text that the body ends with, by what follows the keyword `after`: a verdict as
 /// that of a test, but not `disabled`.
 pub fn after_in<'a>(number: usize, rest: &'a str) -> Result<(Status, &'a str), SuiteFault>
     ensures exact { Gives (λ said. (said.0, said.1.now)) result (after_said number rest.now) }

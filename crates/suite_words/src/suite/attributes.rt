@@ -28,13 +28,13 @@ pub const LONGEST_SPIN: u32 = 1_000_000;
 /// The greatest number of tests that a body registers.
 pub const MOST_PULLS: u32 = 4_096;
 
-/// The word by which a node is executed beside others.
+/// The token by which a node is executed beside others.
 const CONCURRENT: &str = "@concurrent";
 
-/// The word by which a node is executed on its parent's thread.
+/// The token by which a node is executed on its parent's thread.
 const SAME_THREAD: &str = "@same_thread";
 
-/// The word by which a node is executed alone.
+/// The token by which a node is executed alone.
 const ISOLATED: &str = "isolated";
 
 /// The key of a lock.
@@ -77,7 +77,7 @@ impl Attribute {
         ]
     }
 
-    /// The word that the attribute is, or what stands before its equals sign; of a tag, its sign.
+    /// The token that the attribute is, or what stands before its equals sign; of a tag, its sign.
     pub fn key(self) -> &'static str
         ensures text { result.now ≡ attribute_text self }
         ensures read { attribute_of (bearer self) result.now ≡ Some self }
@@ -94,7 +94,7 @@ impl Attribute {
         }
     }
 
-    /// The attribute that a word of a line is, where a node of this word may have it.
+    /// The attribute that a token of a line is, where a node of this keyword may have it.
     pub fn of(word: Word, text: &str) -> Option<Attribute>
         ensures { result ≡ attribute_of word text.now }
     {
@@ -118,7 +118,7 @@ impl Attribute {
         }
     }
 
-    /// The attribute that declares how a node is executed, of a word with this key.
+    /// The attribute that declares how a node is executed, of a token with this key.
     fn declaring(text: &str, key: &str) -> Option<Attribute>
         ensures { result ≡ declaration_in text.now key.now }
     {
@@ -256,7 +256,7 @@ impl Attributes {
         Ok(())
     }
 
-    /// Adds what an attribute says, which is this word of the line.
+    /// Adds what an attribute says, which is this token of the line.
     fn add(
         &mut self,
         alloc: Global,
@@ -305,7 +305,7 @@ impl Attributes {
     }
 }
 
-/// What follows the first number sign of a word.
+/// What follows the first number sign of a token.
 fn after_sign(text: &str) -> &str
     ensures { result.now ≡ after_sign text.now }
 {
@@ -319,8 +319,8 @@ fn after_sign(text: &str) -> &str
 #[derive(Clone, Copy)]
 pub(crate) struct Left<'a> {
     pub(crate) rest: &'a str,
-    /// The first word of that.
+    /// The first token of that.
     pub(crate) first: &'a str,
-    /// What follows that word.
+    /// What follows that token.
     pub(crate) after: &'a str,
 }

@@ -1,4 +1,4 @@
-//! The words that a line of a suite may begin with.
+//! The keywords that a line of a suite may begin with.
 
 ghost use Rattle.std.specs.Prelude.{◌≡◌, Some};
 ghost use Rattle.std.specs.List.{Contains};
@@ -7,7 +7,7 @@ ghost use Rattle.suite_words.specs.declared.suite.line_word.LineWord.{LineWord};
 
 use crate::suite::words::Word;
 
-/// The first word of a line.
+/// The keyword with which a line begins.
 #[derive(Clone, Copy)]
 pub enum LineWord {
     /// Of a line that declares a node.
@@ -35,7 +35,7 @@ impl LineWord {
         ]
     }
 
-    /// How the word is spelled.
+    /// How the keyword is spelled.
     #[tactic(auto, using(crate::proofs::Grammar::line_word_back))]
     pub fn spelling(self) -> &'static str
         ensures text { result.now ≡ line_word_text self }
@@ -48,7 +48,7 @@ impl LineWord {
         }
     }
 
-    /// The word with this spelling.
+    /// The keyword with this spelling.
     pub fn spelled(text: &str) -> Option<LineWord>
         ensures { result ≡ line_word_of text.now }
     {

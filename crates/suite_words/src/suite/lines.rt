@@ -1,4 +1,4 @@
-//! The lines of a suite text, and the indentation, the words and the end of one.
+//! The lines of a suite text, and the indentation, the tokens and the end of one.
 
 ghost use Rattle.std.specs.Prelude.{◌≡◌, ◌≢◌, ◌≤◌, ◌==◌, IfOk, IfErr, length};
 ghost use Rattle.std.specs.List.{before_first, after_first};
@@ -59,7 +59,7 @@ fn cut_at_space(text: &str) -> (&str, &str)
     }
 }
 
-/// The first word of a text, empty where there is none, and what follows it.
+/// The first token of a text, empty where there is none, and what follows it.
 pub fn next_word(text: &str) -> (&str, &str)
     ensures word { result.0.now ≡ first_word text.now }
     ensures rest { result.1.now ≡ after_word text.now }

@@ -11,7 +11,7 @@ use crate::suite::lines::next_word;
 use config_params::{Params, Source, property_of};
 use std::alloc::Global;
 
-/// Whether a line begins with the word `property`.
+/// Whether a line begins with the keyword `property`.
 pub fn is_property(line: &str) -> bool
     ensures { result ≡ is_property line.now }
 {

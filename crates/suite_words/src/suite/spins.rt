@@ -7,7 +7,7 @@ ghost use Rattle.suite_words.specs.Reading.Faults.{Gives};
 use crate::number::number_up_to;
 use crate::suite::fault::SuiteFault;
 
-/// The key of a word, which is what stands before its first equals sign, and its value, which
+/// The key of a token, which is what stands before its first equals sign, and its value, which
 /// follows that sign.
 pub fn key_and_value(word: &str) -> (&str, &str)
     ensures key { result.0.now ≡ key_of word.now }

@@ -117,7 +117,7 @@ fn verdict_with(
     }
 }
 
-/// The verdict that a word, empty where it is missing, and the text after it are.
+/// The verdict that a token, empty where it is missing, and the text after it are.
 pub(crate) fn verdict_in(
     number: usize,
     word: Word,

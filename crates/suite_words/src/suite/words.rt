@@ -1,4 +1,4 @@
-//! What the words of a line declare.
+//! What the tokens of a line declare.
 
 ghost use Rattle.std.specs.Prelude.{◌≡◌, ◌≢◌, IfOk, IfErr, Some, Ok};
 ghost use Rattle.std.specs.List.{Contains};
@@ -29,7 +29,7 @@ const FACTORY: &str = "factory";
 
 const DYN: &str = "dyn";
 
-/// The first word of a line that declares a node.
+/// The keyword with which a line begins that declares a node.
 #[derive(Clone, Copy)]
 pub enum Word {
     Engine,
@@ -71,7 +71,7 @@ impl Word {
         ]
     }
 
-    /// How the word is spelled.
+    /// How the keyword is spelled.
     pub fn spelling(self) -> &'static str
         ensures text { result.now ≡ word_text self }
         ensures read { word_of result.now ≡ Some self }
@@ -85,7 +85,7 @@ impl Word {
         }
     }
 
-    /// The word with this spelling.
+    /// The keyword with this spelling.
     pub fn spelled(text: &str) -> Option<Word>
         ensures { result ≡ word_of text.now }
     {
@@ -100,7 +100,7 @@ impl Word {
         }
     }
 
-    /// Whether the word may stand right below a node of this word, or at level 0 where there is
+    /// Whether the keyword may stand right below a node of this keyword, or at level 0 where there is
     /// none.
     pub fn stands_below(self, above: Option<Word>) -> bool
         ensures { result ≡ may_stand above self }
@@ -116,7 +116,7 @@ impl Word {
         }
     }
 
-    /// The type of a node's segment, right below a node of this word or at level 0.
+    /// The type of a node's segment, right below a node of this keyword or at level 0.
     pub fn segment_type(self, above: Option<Word>) -> &'static str
         ensures { result.now ≡ segment_kind above self }
     {
@@ -151,7 +151,7 @@ impl Word {
         }
     }
 
-    /// Whether a node of this word may declare a mode, locks and isolation.
+    /// Whether a node of this keyword may declare a mode, locks and isolation.
     pub(crate) fn may_declare(self) -> bool
         ensures { result ≡ may_declare self }
     {
@@ -161,7 +161,7 @@ impl Word {
         }
     }
 
-    /// Whether a word with this key is the attribute `spin` of a node of this word.
+    /// Whether a token with this key is the attribute `spin` of a node of this keyword.
     pub(crate) fn takes_spin(self, key: &str) -> bool
         ensures { result ≡ is_spin self key.now }
     {
@@ -171,7 +171,7 @@ impl Word {
         }
     }
 
-    /// Whether a word with this key is the attribute `@slow` of a node of this word.
+    /// Whether a token with this key is the attribute `@slow` of a node of this keyword.
     pub(crate) fn takes_slow(self, key: &str) -> bool
         ensures { result ≡ is_slow self key.now }
     {
@@ -181,7 +181,7 @@ impl Word {
         }
     }
 
-    /// Whether a word with this key is the attribute `pulls` of a node of this word.
+    /// Whether a token with this key is the attribute `pulls` of a node of this keyword.
     pub(crate) fn takes_pulls(self, key: &str) -> bool
         ensures { result ≡ is_pulls self key.now }
     {
@@ -243,7 +243,7 @@ impl<'a> Declared<'a> {
     }
 }
 
-/// The word, where it may stand right below a node of the word above.
+/// The keyword, where it may stand right below a node of the keyword above.
 pub fn placed(number: usize, above: Option<Word>, word: Option<Word>) -> Result<Word, SuiteFault>
     ensures exact { Gives (λ word. word) result (placed number above word) }
     ensures real { IfErr result (λ fault. fault ≢ SuiteFault.NoMemory) }
@@ -254,7 +254,7 @@ pub fn placed(number: usize, above: Option<Word>, word: Option<Word>) -> Result<
     }
 }
 
-/// The node of this word and name, with the attributes and the verdict that are left of its line.
+/// The node of this keyword and name, with the attributes and the verdict that are left of its line.
 fn with_attributes<'a>(
     alloc: Global,
     number: usize,
@@ -277,7 +277,7 @@ fn with_attributes<'a>(
     })
 }
 
-/// The node of this word, with the name and all else that is left of its line.
+/// The node of this keyword, with the name and all else that is left of its line.
 fn with_name<'a>(
     alloc: Global,
     number: usize,
@@ -295,7 +295,7 @@ fn with_name<'a>(
     with_attributes(alloc, number, word, name, rest)
 }
 
-/// The node that a line's first word declares below a node of the word above, with what follows it.
+/// The node that a line's keyword declares below a node of the keyword above, with what follows it.
 pub fn declared_as<'a>(
     alloc: Global,
     number: usize,
@@ -304,7 +304,7 @@ pub fn declared_as<'a>(
     rest: &'a str,
 ) -> Result<Declared<'a>, SuiteFault>
     ensures exact { Gives declaration_of result (declared_as number above first.now rest.now) }
-    // Memory is taken only for a word that may stand there, and that a name follows.
+    // Memory is taken only for a keyword that may stand there, and that a name follows.
     ensures no_memory { IfErr result (λ fault. fault ≡ SuiteFault.NoMemory →
         judged_node number above first.now rest.now ≡ Ok tt) }
 {

@@ -1,4 +1,4 @@
--- What clap says of words that it refuses is what they ask for.
+-- What clap says of arguments that it refuses is what they ask for.
 use Rattle.std.proofs.Common.{map, string_bytes}
 use Rattle.std.specs.Prelude.{option_map}
 use Rattle.command_line.proofs.Unread.{asked_after}

@@ -1,4 +1,4 @@
--- Where the words are refused nothing is read and nothing is written; else what they ask for is run.
+-- Where the arguments are refused nothing is read and nothing is written; else what they ask for is run.
 use Rattle.std.proofs.Common.{map, string_bytes}
 use Rattle.command_line.proofs.Running.{words_refused, words_run}
 use Rattle.command_line.proofs.program.run_console.Goals as goal

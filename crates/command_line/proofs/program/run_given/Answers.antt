@@ -1,4 +1,4 @@
--- What the words stand for is run; a file of words that is refused leaves the reader untouched.
+-- What the arguments stand for is run; a file of arguments that is refused leaves the reader untouched.
 use Rattle.std.proofs.Common.{Ok, Err, map, refl, string_bytes}
 use Rattle.command_line.proofs.Told.{listed_expanded}
 use Rattle.command_line.proofs.program.run_given.Goals as goal

@@ -1,4 +1,4 @@
--- The words that were listed are those that were given.
+-- The arguments that were listed are those that were given.
 use Rattle.std.proofs.Common.{refl, string_bytes}
 use Rattle.std.specs.Vec.Iter.{into_iter_items}
 use Rattle.command_line.proofs.Told.{if_err, told_no_words, told_words}

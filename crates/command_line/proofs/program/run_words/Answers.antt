@@ -1,4 +1,4 @@
--- Where the words are refused nothing is read and no run is made; else what they ask for is run.
+-- Where the arguments are refused nothing is read and no run is made; else what they ask for is run.
 use Rattle.std.proofs.Common.{map, string_bytes, inr}
 use Rattle.command_line.proofs.Unread.{unread_answer}
 use Rattle.command_line.proofs.program.run_words.Goals as goal

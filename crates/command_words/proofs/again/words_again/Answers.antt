@@ -1,4 +1,4 @@
--- Each word stands for what it says.
+-- Each argument stands for what it says.
 use Rattle.std.proofs.Common.{map, ap, ◌∙◌, string_bytes}
 use Rattle.command_words.specs.Expansions.{IsUnreadRun}
 use Rattle.command_words.specs.Roles.{before_of, meaning_of, role_of}

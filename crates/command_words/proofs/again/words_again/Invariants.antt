@@ -1,4 +1,4 @@
--- The words so far stand for those that were put behind each other.
+-- The arguments so far stand for those that were put behind each other.
 use Rattle.std.proofs.Common.{map, string_bytes, take}
 use Rattle.command_words.specs.Expansions.{StandFor}
 use Rattle.command_words.proofs.again.words_again.Given as goal

@@ -1,4 +1,4 @@
--- The words of the ids so far.
+-- The arguments of the ids so far.
 use Rattle.std.proofs.Common.{◌≡◌, map, take, string_bytes}
 use Rattle.command_words.specs.RerunWords.{words_with}
 use Rattle.command_words.proofs.rerun.words_with.Given as goal

@@ -1,4 +1,4 @@
--- All of the words are in the list.
+-- All of the arguments are in the list.
 use Rattle.std.proofs.Common.{refl, rules}
 use Rattle.std.proofs.lemmas.Iterator.Adapters.{YieldsList-from_vec}
 use Rattle.std.proofs.lemmas.Iterator.Consumers.{map_from_collect}

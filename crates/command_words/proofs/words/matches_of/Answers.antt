@@ -1,4 +1,4 @@
--- What clap finds is what the words give, and what it refuses gives nothing.
+-- What clap finds is what the arguments give, and what it refuses gives nothing.
 use Rattle.std.proofs.Common.{map, string_bytes}
 use Rattle.clap.specs.Words.{app_of, kind_of}
 use Rattle.command_words.proofs.ByClap.{faultless, faulty, given_by}

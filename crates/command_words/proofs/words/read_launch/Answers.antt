@@ -1,4 +1,4 @@
--- Words that clap refuses are refused; others are judged as their values are.
+-- Arguments that clap refuses are refused; others are judged as their values are.
 use Rattle.std.proofs.Common.{map, string_bytes}
 use Rattle.launch_options.specs.Given.{values_of}
 use Rattle.command_words.proofs.Cutting.{launch_cut, launch_uncut, reports_of, suite_of}

@@ -1,4 +1,4 @@
--- Without an equals sign none stands in the word.
+-- Without an equals sign none stands in the argument.
 use Rattle.std.proofs.Common.{None, refl, lit<, arith}
 use Rattle.std.proofs.lemmas.Grind.{common_steps}
 use Rattle.std.proofs.lemmas.Str.Pattern.{split_once_first}

@@ -1,4 +1,4 @@
--- What is done with the words that the system gave is done by some words.
+-- What is done with the arguments that the system gave is done by some arguments.
 use Rattle.std.proofs.Common.{IfOk, Result, Ok, Err, string_bytes}
 use Rattle.std.specs.IoError.{error_kind}
 use Rattle.std.specs.Vec.Iter.{into_iter_items}

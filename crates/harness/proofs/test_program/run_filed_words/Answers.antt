@@ -1,4 +1,4 @@
--- Where the words are refused no test is run, and no file is touched; else what they ask for is run.
+-- Where the arguments are refused no test is run, and no file is touched; else what they ask for is run.
 use Rattle.std.proofs.Common.{map, string_bytes}
 use Rattle.launch_options.specs.Given.{maybe_behind}
 use Rattle.launch_options.specs.ReportTexts.{parts_of}

@@ -1,4 +1,4 @@
--- What the words stand for is run; where a file of words is refused no other file is touched.
+-- What the arguments stand for is run; where a file of arguments is refused no other file is touched.
 use Rattle.std.proofs.Common.{Ok, Err, map, refl, string_bytes}
 use Rattle.command_line.proofs.Told.{listed_expanded}
 use Rattle.harness.proofs.test_program.run_given_tests.Goals as goal

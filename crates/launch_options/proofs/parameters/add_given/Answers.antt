@@ -1,4 +1,4 @@
--- The words of the request and of the system make the tables of their sources.
+-- The arguments of the request and of the system make the tables of their sources.
 use Rattle.std.proofs.Common.{List, Bor, ap, refl, ◌++◌}
 use Rattle.launch_options.specs.Given.{Text, behind}
 use Rattle.launch_options.specs.Parameters.{pairs_in}

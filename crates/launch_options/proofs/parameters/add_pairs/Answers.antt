@@ -1,4 +1,4 @@
--- One word's pair more.
+-- One argument's pair more.
 use Rattle.launch_options.proofs.Pairing.{pairs_put}
 use Rattle.launch_options.proofs.parameters.add_pairs.Goals as goal
 

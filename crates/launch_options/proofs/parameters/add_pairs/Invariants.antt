@@ -1,4 +1,4 @@
--- The words so far have put their pairs in.
+-- The arguments so far have put their pairs in.
 use Rattle.std.proofs.Common.{◌≡◌, take}
 use Rattle.launch_options.specs.Given.{behind}
 use Rattle.launch_options.specs.Parameters.{pairs_in}

@@ -1,4 +1,4 @@
--- The words of `--workers` come behind those of `--config`.
+-- The arguments of `--workers` come behind those of `--config`.
 use Rattle.std.proofs.Common.{ap}
 use Rattle.launch_options.specs.Given.{behind}
 use Rattle.launch_options.specs.Workers.{words_for}

@@ -1,4 +1,4 @@
--- A word that says a pair leaves the refusal to the others.
+-- An argument that says a pair leaves the refusal to the others.
 use Rattle.std.proofs.Common.{refl}
 use Rattle.launch_options.proofs.Pairing.{pairs_next}
 use Rattle.launch_options.proofs.parameters.judge_pairs.Goals as goal

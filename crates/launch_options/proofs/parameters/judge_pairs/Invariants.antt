@@ -1,4 +1,4 @@
--- The first of the words that are left which says no pair is that of all.
+-- The first of the arguments that are left which says no pair is that of all.
 use Rattle.std.proofs.Common.{◌≡◌, ◌+◌, drop}
 use Rattle.launch_options.specs.Given.{behind}
 use Rattle.launch_options.specs.Parameters.{pairs_refusal}

@@ -1,4 +1,4 @@
--- The three words are those that the number stands for.
+-- The three arguments are those that the number stands for.
 use Rattle.std.proofs.Common.{◌≡◌, ap, ◌∙◌, sym, List, OnOk, fold, subst, arith, codes, ◌++◌, string_bytes}
 use Rattle.std.proofs.lemmas.Grind.{common_steps}
 use Rattle.std.specs.Fmt.{decimal}

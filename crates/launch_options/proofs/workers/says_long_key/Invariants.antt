@@ -1,4 +1,4 @@
--- The words that are left say one of the keys if all do.
+-- The arguments that are left say one of the keys if all do.
 use Rattle.std.proofs.Common.{◌≡◌, drop}
 use Rattle.launch_options.specs.Given.{behind}
 use Rattle.launch_options.specs.Workers.{says_long_key}

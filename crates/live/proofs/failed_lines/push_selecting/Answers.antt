@@ -1,4 +1,4 @@
--- What they are, the words, and the end of the line.
+-- What they are, the arguments, and the end of the line.
 use Rattle.std.proofs.Common.{◌≡◌, ◌∙◌, ◌++◌, List, ℕ, codes, string_bytes, ap, ap₂}
 use Rattle.std.specs.List.{flat_map, list_any}
 use Rattle.live.specs.FailedTexts.{are_some, failure_word, heading, selects_below}

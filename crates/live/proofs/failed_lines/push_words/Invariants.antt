@@ -1,4 +1,4 @@
--- The words of the nodes so far.
+-- The arguments of the nodes so far.
 use Rattle.std.proofs.Common.{◌≡◌, ◌++◌, take, string_bytes}
 use Rattle.std.specs.List.{flat_map}
 use Rattle.live.specs.FailedTexts.{failure_word}

@@ -1,4 +1,4 @@
--- A word with no w in front is no worker's.
+-- A token with no w in front is no worker's.
 use Rattle.std.proofs.Common.{◌≡◌, None, false, ◌==◌, slice_index, lit<, arith}
 use Rattle.std.proofs.lemmas.Grind.{common_steps}
 use Rattle.std.proofs.lemmas.Str.Pattern.{strip_prefix_char}

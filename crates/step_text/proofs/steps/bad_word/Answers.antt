@@ -1,4 +1,4 @@
--- The words are the parts between spaces that are not empty, and each is tested in turn.
+-- The tokens are the parts between spaces that are not empty, and each is tested in turn.
 use Rattle.std.proofs.Common.{ℕ, List, length, not, ◌==◌, lit<, rules}
 use borrow.Author.Tests.{tests}
 use Rattle.std.proofs.lemmas.Iterator.Consumers.{YieldsList-from_filter}

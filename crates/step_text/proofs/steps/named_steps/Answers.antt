@@ -1,4 +1,4 @@
--- The words are the parts between spaces that are not empty, and each gives its step.
+-- The tokens are the parts between spaces that are not empty, and each gives its step.
 use Rattle.std.proofs.Common.{ℕ, List, length, not, ◌==◌, lit<, rules}
 use borrow.Author.Tests.{tests}
 use Rattle.std.proofs.lemmas.Iterator.{items_from_collect}

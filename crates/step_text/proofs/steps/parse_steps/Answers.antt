@@ -1,4 +1,4 @@
--- The words of a text that is read are the spellings of its steps, and those of a refused one of none.
+-- The tokens of a text that is read are the spellings of its steps, and those of a refused one of none.
 use Rattle.std.proofs.Common.{◌≡◌, None, Some, map, arith, ap, sym, ◌∙◌}
 use Rattle.std.proofs.lemmas.Grind.{common_steps}
 use Rattle.std.specs.List.{position, filter_map}

@@ -1,4 +1,4 @@
--- The words of the steps so far.
+-- The tokens of the steps so far.
 use Rattle.std.proofs.Common.{◌≡◌, ◌++◌, codes, take, string_bytes}
 use Rattle.std.specs.List.{flat_map}
 use Rattle.step_text.specs.StepSpelling.{spelled_step}

@@ -1,4 +1,4 @@
--- Each word stands for what it says, by the text of its file.
+-- Each argument stands for what it says, by the text of its file.
 use Rattle.std.proofs.Common.{◌+◌, map, refl, sym, ap, ◌∙◌, arith, string_bytes}
 use Rattle.std.proofs.lemmas.List.{map-append}
 use Rattle.word_files.specs.Reading.{texts_in}

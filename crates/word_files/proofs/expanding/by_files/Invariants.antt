@@ -1,4 +1,4 @@
--- The words so far stand for those that were put behind each other.
+-- The arguments so far stand for those that were put behind each other.
 use Rattle.std.proofs.Common.{◌≤◌, map, string_bytes, take}
 use Rattle.word_files.specs.Expansions.{StandFor}
 use Rattle.word_files.proofs.expanding.by_files.Given as goal

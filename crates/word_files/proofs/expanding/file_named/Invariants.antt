@@ -1,4 +1,4 @@
--- No more files than words were counted.
+-- No more files than arguments were counted.
 use Rattle.std.proofs.Common.{◌≤◌}
 use Rattle.word_files.proofs.expanding.file_named.Given as goal
 

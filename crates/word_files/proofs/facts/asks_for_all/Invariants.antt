@@ -1,4 +1,4 @@
--- The words that are left ask for it if all do.
+-- The arguments that are left ask for it if all do.
 use Rattle.std.proofs.Common.{◌≡◌, drop, false, map, string_bytes}
 use Rattle.word_files.specs.Told.{asks_for_all}
 use Rattle.word_files.proofs.facts.asks_for_all.Given as goal

@@ -1,4 +1,4 @@
--- The option is among the words that are left if it is among all.
+-- The option is among the arguments that are left if it is among all.
 use Rattle.std.proofs.Common.{◌≡◌, drop, map, string_bytes}
 use Rattle.word_files.specs.Told.{has_option}
 use Rattle.word_files.proofs.facts.has_option.Given as goal

@@ -1,4 +1,4 @@
--- The words so far, and those that stand for the words that are left, stand for all.
+-- The arguments so far, and those that stand for the arguments that are left, stand for all.
 use Rattle.std.proofs.Common.{◌≡◌, ◌++◌, drop, false, map, string_bytes}
 use Rattle.word_files.specs.Told.{seeded_words}
 use Rattle.word_files.proofs.facts.seeded_words.Given as goal

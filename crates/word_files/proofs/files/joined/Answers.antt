@@ -1,4 +1,4 @@
--- Words are joined as their texts are.
+-- Arguments are joined as their texts are.
 use Rattle.std.proofs.Common.{◌≡◌, List, [], ◌∷◌, ◌++◌, ap, ◌∙◌, arith, codes, map, string_bytes}
 use Rattle.std.proofs.lemmas.Grind.{common_steps}
 use Rattle.std.specs.List.{join_by}

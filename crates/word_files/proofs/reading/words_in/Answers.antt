@@ -1,4 +1,4 @@
--- Words that are written by the grammar are those that are read.
+-- Arguments that are written by the grammar are those that are read.
 use Rattle.std.proofs.Common.{◌∙◌}
 use Rattle.word_files.proofs.Only.{maybe_written}
 use Rattle.word_files.proofs.Texts.{if_read}

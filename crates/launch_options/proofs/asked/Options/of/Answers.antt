@@ -1,4 +1,4 @@
--- The long words ask for the same, and so does `--max-fail` with one failure.
+-- The long arguments ask for the same, and so does `--max-fail` with one failure.
 use Rattle.launch_options.specs.Asked.{asked_by}
 use Rattle.launch_options.specs.Given.{values_of}
 use Rattle.launch_options.proofs.LongWords.{in_other_words}

@@ -1,4 +1,4 @@
--- What is left, after the attributes so far, gives what the whole text gives, and its first word was cut off.
+-- What is left, after the attributes so far, gives what the whole text gives, and its first token was cut off.
 use Rattle.std.proofs.Common.{◌≡◌, length}
 use denote.Shadow.{shadow}
 use denote.Text.{Utf8}
