@@ -13,7 +13,7 @@ use value_tests::{Failing, Full};
 /// A suite of one passing test.
 pub(crate) const SUITE: &str = "engine e\n  class a.B\n    test t() pass\n";
 
-/// Its feed.
+/// The feed of that suite.
 const FEED: &str = "w1 plan started
 w1 started [engine:e]
 w1 started [engine:e]/[class:a.B]
@@ -133,7 +133,7 @@ pub(crate) fn a_suite_whose_first_or_second_read_fails_is_refused<R: Threads + W
 /// A suite of a passing and a failing test.
 const TWO_TESTS: &str = "engine e\n  class a.B\n    test t() pass\n    test u() fail no\n";
 
-/// Its tree and its summary: 522 bytes.
+/// The tree and the summary of that suite: 522 bytes.
 const TREE: &str = "'-- e [OK]
     '-- a.B [OK]
         +-- t() [OK]
@@ -169,7 +169,7 @@ enum Printed {
 }
 
 impl Printed {
-    /// All of it.
+    /// The whole text that is printed.
     fn text(self) -> &'static str {
         match self {
             Printed::Feed => FEED,

@@ -2,7 +2,7 @@
 
 use suite_messages::{ForeignWords, meant_by};
 
-/// Those that say which tests are run, and in which order.
+/// Options of other programs that say which tests are run, and in which order.
 static CHOOSING: [ForeignWords<'static>; 13] = [
     ForeignWords {
         words: &[
@@ -147,7 +147,7 @@ static CHOOSING: [ForeignWords<'static>; 13] = [
     },
 ];
 
-/// Those that say how tests are run.
+/// Options of other programs that say how tests are run.
 static RUNNING: [ForeignWords<'static>; 10] = [
     ForeignWords {
         words: &[
@@ -283,7 +283,7 @@ static RUNNING: [ForeignWords<'static>; 10] = [
     },
 ];
 
-/// Those that say what is printed.
+/// Options of other programs that say what is printed.
 static PRINTING: [ForeignWords<'static>; 10] = [
     ForeignWords {
         words: &[

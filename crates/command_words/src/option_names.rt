@@ -136,7 +136,7 @@ fn selecting<'a>() -> [ProgramOption<'a>; 6]
     ]
 }
 
-/// Those that leave nodes out, and all but what is to be run again.
+/// The options that leave nodes out, and all but what is to be run again.
 fn excluding<'a>() -> [ProgramOption<'a>; 5]
     ensures { map rule_told result ≡ excluding }
 {
@@ -169,7 +169,7 @@ fn excluding<'a>() -> [ProgramOption<'a>; 5]
     ]
 }
 
-/// Those that say which tags run, which shard, and in which order.
+/// The options that say which tags run, which shard, and in which order.
 fn filtering<'a>() -> [ProgramOption<'a>; 4]
     ensures { map rule_told result ≡ filtering }
 {
@@ -197,7 +197,7 @@ fn filtering<'a>() -> [ProgramOption<'a>; 4]
     ]
 }
 
-/// Those that say with which settings, and how much runs side by side.
+/// The options that say with which settings, and how much runs side by side.
 fn configuring<'a>(subject: Subject<'_>) -> [ProgramOption<'a>; 6]
     ensures { map rule_told result ≡ configuring }
 {
@@ -250,7 +250,7 @@ fn configuring<'a>(subject: Subject<'_>) -> [ProgramOption<'a>; 6]
     ]
 }
 
-/// Those that say what is printed of what happened.
+/// The options that say what is printed of what happened.
 fn printing<'a>() -> [ProgramOption<'a>; 5]
     ensures { map rule_told result ≡ printing }
 {
@@ -281,7 +281,7 @@ fn printing<'a>() -> [ProgramOption<'a>; 5]
     ]
 }
 
-/// Those that say how a run ends, which steps are told, and which are taken.
+/// The options that say how a run ends, which steps are told, and which are taken.
 fn ending<'a>(subject: Subject<'_>) -> [ProgramOption<'a>; 7]
     ensures { map rule_told result ≡ ending }
 {

@@ -22,7 +22,7 @@ fn given_fault(error: &io::Error) -> LaunchFault
     }
 }
 
-/// These arguments, in a list.
+/// The arguments that a system hands out one by one, in a list.
 fn listed(alloc: Global, words: Args) -> Result<Vec<String>, AllocError>
     ensures { IfOk result (λ all. all.items ≡ into_iter_items words) }
 {

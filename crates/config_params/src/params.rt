@@ -64,7 +64,7 @@ impl Params {
 }
 
 impl Params {
-    /// No parameters.
+    /// Parameters of which nothing is said. They take no memory.
     pub fn new(alloc: Global) -> Params
         ensures { result ≡ nothing_said }
     {

@@ -20,9 +20,9 @@ const FACTOR: &str = "junit.jupiter.execution.parallel.config.dynamic.factor";
 /// How the number of workers is found.
 #[derive(Clone, Copy, Drop)]
 pub(crate) enum Strategy {
-    /// So many for each processor.
+    /// A number of workers for each processor.
     Dynamic,
-    /// A number that is given.
+    /// A number of workers in all.
     Fixed,
 }
 

@@ -28,7 +28,7 @@ impl Model for BodyMarks {
 }
 
 impl BodyMarks {
-    /// No mark.
+    /// The marks where no number is marked.
     pub(crate) fn none(alloc: Global) -> Result<BodyMarks, AllocError>
         ensures { IfOk result (λ marks. marks ≡ replicate 65536 false) }
     {

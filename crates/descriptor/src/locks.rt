@@ -36,7 +36,7 @@ impl Model for Locks {
 }
 
 impl Locks {
-    /// No locks.
+    /// The empty list. It takes no memory.
     pub fn new(alloc: Global) -> Locks
         ensures { result ≡ [] }
     {

@@ -24,7 +24,7 @@ struct JobCell {
 }
 
 impl JobCell {
-    /// Nothing is known.
+    /// The cell of a job of which nothing is known yet.
     fn new() -> JobCell {
         JobCell {
             begun: OnceLock::new(),

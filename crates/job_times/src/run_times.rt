@@ -16,7 +16,7 @@ pub struct RunTimes<'s, S: Stopwatch> {
     pub timings: Timings,
 }
 
-/// So many places where nothing is noted.
+/// A place for each of so many nodes, where nothing is noted yet.
 fn places(alloc: Global, nodes: usize) -> Result<Vec<Noted>, AllocError>
     ensures { IfOk result (λ took. took.items ≡ replicate nodes NotYet) }
 {

@@ -71,7 +71,8 @@ fn job_took<S: Stopwatch>(stopwatch: &S, number: Option<BodyId>) -> Option<u64> 
     stopwatch.took(number?)
 }
 
-/// Both together; where one is not known, the other.
+/// The microseconds that a body and its after-body took together, at most as many as 64 bits hold; of one alone where
+/// the other is not known.
 fn both(body: Option<u64>, after: Option<u64>) -> Option<u64> {
     let Some(first) = body else {
         return after;
@@ -105,7 +106,7 @@ fn note_at(took: &mut Vec<Noted>, place: usize, time: Option<u64>)
 }
 
 impl Timings {
-    /// Nothing is known.
+    /// The times of a run of which nothing is known: neither a node's, nor when it began, nor on which machine.
     pub fn none(alloc: Global) -> Timings
         ensures { times_of result ≡ no_times }
     {

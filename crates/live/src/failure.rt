@@ -52,7 +52,7 @@ pub struct Failure {
 }
 
 impl Failure {
-    /// That of a node of the plan, with its text.
+    /// The failure of a node of the plan, with its text.
     pub fn of(
         alloc: Global,
         plan: &Plan,

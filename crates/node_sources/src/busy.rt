@@ -7,7 +7,7 @@ use resource_locks::Plan;
 use std::alloc::{AllocError, Global};
 use std::marker::Model;
 
-/// So many keys are remembered.
+/// How many busy keys a worker remembers at most.
 const MOST: usize = 8;
 
 /// A key, and how it was wanted.

@@ -26,7 +26,7 @@ engine e
     test u() pass
 ";
 
-/// These jobs, each for its body.
+/// A list of two jobs, each under the number of its body.
 fn two_boxed(
     alloc: Global,
     first: BodyId,

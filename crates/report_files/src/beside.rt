@@ -16,7 +16,7 @@ pub struct Beside<'v, 'b, V: Observer, B: Observer> {
 }
 
 impl<'v, 'b, V: Observer, B: Observer> Beside<'v, 'b, V, B> {
-    /// These two watch.
+    /// Both watch a run, and each is shown all of it.
     pub fn new(observer: &'v mut V, other: &'b mut B) -> Beside<'v, 'b, V, B>
         ensures same { result.observer.ghost_name ≡ observer.entry.ghost_name }
         ensures lent { result.observer.now ≡ observer.old }

@@ -18,7 +18,7 @@ use unique_id::Text;
 pub struct KeyLimit {
     /// What the resource is called.
     pub key: Text,
-    /// So many nodes; 0 is for any number.
+    /// How many nodes may hold the key at once; 0 is for any number.
     pub most: u8,
 }
 

@@ -46,7 +46,7 @@ impl Model for LockNames {
 }
 
 impl LockNames {
-    /// Those of the nodes of a tree.
+    /// The name of the global lock, and those of the locks that the nodes of a tree declare, each once, in their order.
     pub fn of(alloc: Global, tree: &Tree) -> Result<LockNames, AllocError>
         ensures names { IfOk result (λ names. names ≡ keys_of (declared_of tree.now)) }
         ensures tree { OnOk result (IsTree tree.now) }

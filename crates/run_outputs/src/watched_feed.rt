@@ -19,10 +19,10 @@ use std::io::Write;
 pub trait NotesTimes {
     ghost use Rattle.job_times.specs.Timings.{Times};
 
-    /// What was noted.
+    /// The times that were noted.
     ghost noted: { Self → Times };
 
-    /// That, to be printed.
+    /// The times that were noted, as they are printed.
     fn timings(&self) -> &Timings
         ensures { times_of result.now ≡ noted self.now };
 }

@@ -55,7 +55,7 @@ impl Counts {
 impl SortCounts {
     ghost use Rattle.run_results.specs.Counts.{counts_with, AreAtMost};
 
-    /// Those of no nodes.
+    /// The counts of no nodes, to which those of each node are added.
     const NONE: SortCounts = SortCounts {
         found: 0,
         skipped: 0,

@@ -39,7 +39,8 @@ impl<'a> Model for Results<'a> {
 }
 
 impl<'a> Results<'a> {
-    /// Those of these events on the plan. An event of a node that the plan lacks tells nothing.
+    /// The results of a run of the plan that had these events. An event of a node that the plan lacks tells nothing. It
+    /// takes one pass over the events.
     pub fn of(alloc: Global, plan: &'a Plan, events: &'a [Event]) -> Result<Results<'a>, AllocError>
         ensures plan { IfOk result (λ results. results.plan ≡ plan.now) }
         ensures events { IfOk result (λ results. results.events ≡ events.now) }

@@ -33,7 +33,7 @@ impl Model for Tally {
 }
 
 impl Tally {
-    /// That of no plan.
+    /// The tally of no plan. It takes no memory.
     pub(crate) fn new(alloc: Global) -> Tally
         ensures { result ≡ record { outline = []; told = [] } }
     {
@@ -43,7 +43,7 @@ impl Tally {
         }
     }
 
-    /// That of a plan of which these events tell.
+    /// The tally of a plan of which these events tell.
     pub(crate) fn of(alloc: Global, plan: &Plan, events: &[Event]) -> Result<Tally, AllocError>
         ensures tree { IfOk result (λ _. IsTree plan.now.tree) }
         ensures outline { IfOk result (λ tally. tally.outline ≡ outline_of plan.now.tree) }

@@ -14,7 +14,7 @@ pub(crate) struct Links {
     pub(crate) next: Vec<Option<NodeId>>,
 }
 
-/// So many places, with no node in them.
+/// A list of so many places, with no node in them.
 fn no_nodes(alloc: Global, many: usize) -> Result<Vec<Option<NodeId>>, AllocError>
     ensures { IfOk result (λ nodes. nodes.items ≡ replicate many None) }
 {

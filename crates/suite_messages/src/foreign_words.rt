@@ -2,7 +2,7 @@
 
 use crate::foreign::{ForeignWords, meant_by};
 
-/// Those that lines begin with.
+/// Words of other programs that lines begin with.
 static LINE_WORDS: [ForeignWords<'static>; 10] = [
     ForeignWords {
         words: &[
@@ -114,7 +114,7 @@ static LINE_WORDS: [ForeignWords<'static>; 10] = [
     },
 ];
 
-/// Those that stand before a verdict.
+/// Words of other programs that stand before a verdict.
 static ATTRIBUTE_WORDS: [ForeignWords<'static>; 13] = [
     ForeignWords {
         words: &[
@@ -240,7 +240,7 @@ static ATTRIBUTE_WORDS: [ForeignWords<'static>; 13] = [
     },
 ];
 
-/// Those that stand in place of a verdict that a body ends with.
+/// Words of other programs that stand in place of a verdict that a body ends with.
 static VERDICT_WORDS: [ForeignWords<'static>; 3] = [
     ForeignWords {
         words: &[

@@ -12,7 +12,7 @@ pub struct SystemTexts<'s, S: Files + AllocGlobal> {
 }
 
 impl<'s, S: Files + AllocGlobal> SystemTexts<'s, S> {
-    /// Those of this system.
+    /// The text files of this system.
     pub fn new(system: &'s S) -> SystemTexts<'s, S> {
         SystemTexts { system }
     }

@@ -35,7 +35,7 @@ pub fn job_number(plan: &Plan, slot: usize) -> Option<BodyId>
     }
 }
 
-/// So many places, or as many as a place for this number needs.
+/// How many places a list has that had so many and is to have one for this number, counted from 0.
 fn with_place(places: usize, number: BodyId) -> usize
     ensures more { places ≤ result }
     ensures place { number < result }
@@ -56,7 +56,7 @@ fn places_for(plan: &Plan) -> usize
     places
 }
 
-/// So many places, with no slot in them.
+/// A list of so many places, with no slot in them.
 fn no_slots(alloc: Global, many: usize) -> Result<Vec<Option<u16>>, AllocError>
     ensures { IfOk result (λ index. index.items ≡ replicate many None) }
 {

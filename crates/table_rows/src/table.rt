@@ -95,7 +95,7 @@ impl Table {
         push_suite_line(alloc, &mut self.suite, line)
     }
 
-    /// The answers.
+    /// The answers to all rows so far, as they are printed.
     pub(crate) fn answers(&self) -> &[u8] {
         self.answers.taken.as_slice()
     }

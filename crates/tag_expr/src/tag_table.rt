@@ -28,7 +28,7 @@ impl Model for TagTable {
 }
 
 impl TagTable {
-    /// No tags.
+    /// The table of no tags. It takes no memory.
     pub(crate) fn new(alloc: Global) -> TagTable
         ensures { result ≡ [] }
     {
@@ -38,7 +38,7 @@ impl TagTable {
         }
     }
 
-    /// The tags.
+    /// The tags, in the order in which they were added.
     pub(crate) fn tags(&self) -> &[Tag]
         ensures { result.now ≡ self.now }
     {

@@ -9,7 +9,7 @@ ghost use Rattle.tag_expr.specs.TokenTexts.{token_read, word_length, word_size, 
 
 use crate::characters::is_sign;
 
-/// A token.
+/// A sign, a call or a word of a tag expression.
 #[derive(Clone, Copy)]
 pub(crate) enum Token<'a> {
     LeftParen,

@@ -35,7 +35,7 @@ pub(crate) enum Code {
 }
 
 impl Plain {
-    /// This function.
+    /// This function, with the proof that it may always be called.
     pub(crate) fn new(run: TestFn) -> Plain
         requires { TestFn.IsAlwaysCallable run }
         ensures { result.run ≡ run }
@@ -53,7 +53,7 @@ impl Plain {
 }
 
 impl Boxed {
-    /// This closure.
+    /// This closure, with the proof that it may always be called.
     pub(crate) fn new(run: TestBox) -> Boxed
         requires { TestBox.IsAlwaysCallable run }
         ensures { result.run ≡ run }

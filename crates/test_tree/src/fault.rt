@@ -18,7 +18,7 @@ const LONGEST_PLACE: usize = 512;
 /// Why a call is refused, and the node, the tag or the key that it speaks of. It takes no memory.
 #[derive(Clone, Copy)]
 pub struct BuildFault {
-    /// Why.
+    /// Why a test or a class was refused.
     pub cause: BuildCause,
     place: InlineText<{ LONGEST_PLACE }>,
 }

@@ -18,7 +18,7 @@ use crate::tests::Tests;
 use descriptor::NodeId;
 use test_bodies::TestFn;
 
-/// This function, as the test of this name.
+/// The test of this name, which runs this function.
 pub fn named(name: &str, run: TestFn) -> NamedTest<'_>
     requires { TestFn.IsAlwaysCallable run }
     ensures name { name_of result ≡ name.now }

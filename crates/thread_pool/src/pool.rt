@@ -66,7 +66,7 @@ pub struct Pool<'s, E, B: Job, K, M: TableBrand<B>, R> {
     gates: &'s [Gate<B, M>],
     // that at which each of their workers runs jobs
     places: &'s [Mutex<K>],
-    /// Those that were started, in order.
+    /// The threads that were started, in order.
     pub started: Vec<JoinHandle<Option<FinishedSeat<B, M>>>>,
     ghost jobs: { MayAnswer B.answers (about_in shared.now.table.table) },
     ghost enough: { length gates.now ≤ vec_capacity started },

@@ -31,7 +31,7 @@ impl Model for CanonicalText {
 }
 
 impl CanonicalText {
-    /// This text.
+    /// The spelling that is this text; a short one is kept in place.
     pub fn of(text: String) -> CanonicalText
         ensures { result ≡ string_bytes text }
     {
@@ -42,7 +42,7 @@ impl CanonicalText {
         CanonicalText { spelled }
     }
 
-    /// No text.
+    /// The empty spelling. It takes no memory.
     pub fn empty() -> CanonicalText
         ensures { result ≡ [] }
     {

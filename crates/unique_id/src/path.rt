@@ -34,7 +34,7 @@ impl Model for Path {
 }
 
 impl Path {
-    /// These segments.
+    /// The path of these segments, which stay in their list.
     pub fn of(segments: Vec<Segment>) -> Path
         ensures { result ≡ segments.items }
     {
@@ -43,7 +43,7 @@ impl Path {
         }
     }
 
-    /// These segments, and one more behind them.
+    /// The path of these segments, of which copies are taken, and one more behind them; up to four stand in place.
     pub fn longer(alloc: Global, front: &[Segment], last: Segment) -> Result<Path, AllocError>
         requires { length front.now ≤ 64 }
         ensures { IfOk result (λ path. path ≡ front.now ++ last ∷ []) }
@@ -68,7 +68,7 @@ impl Path {
         Ok(Path { steps })
     }
 
-    /// The segments.
+    /// The segments, from the root down.
     pub fn as_slice(&self) -> &[Segment]
         ensures { result.now ≡ self.now }
     {

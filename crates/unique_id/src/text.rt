@@ -47,7 +47,7 @@ impl fmt::Debug for Text {
 }
 
 impl Text {
-    /// This text.
+    /// A text with these bytes. A short one stands in place and takes no memory; a longer one may be shared by copies.
     pub fn new(alloc: Global, text: &str) -> Result<Text, AllocError>
         ensures { IfOk result (λ t. t ≡ text.now) }
     {
