@@ -89,7 +89,7 @@ asks app words k request is kind other asked =
       | inr among ↦ asks_by words k request among asked
     ]
 
--- the same of what was made of it, if there was memory for that
+-- what keeps clap from reading the arguments, as a request was made of it, if there was memory for that
 pub asks_if : {X E : Type 0} (request : X → Option InfoRequest) (result : Result X E) (app : App) (words : List Text) (k : ErrorKind) → app ≡ program
     → (is_simple_and_free app ≡ true → (k ≡ kinds.OutOfMemory) ⊎ IsAmong k (fault_of app words)) → IfOk result (λ x. (k ≢ kinds.OutOfMemory) × (request x ≡ request_of k)) → IfOk result (λ x. IsInfoAsked words (request x))
 asks_if request (Ok x) app words k is kind has = asks app words k (request x) is kind has.0 has.1

@@ -49,7 +49,7 @@ module _ (words : List Text) where
   reads_uncut cause (Ok options) same cuts = absurd same
   reads_uncut cause (Err fault) same cuts = record { cut = Err cause; cuts = cuts; asks = ap Err same }
 
-  -- the same of options with reports
+  -- options with reports are judged as the values are that were cut
   pub launch_cut : (values : Values) (result : Result Launch LaunchFault) → CutsWords words (Ok values) → IfOk result (λ launch. AreAsked values (asked_by launch.options)) → IfOk result (λ launch. refusal_of values ≡ None)
       → IfErr result (λ fault. fault ≢ NoMemory → refusal_of values ≡ Some fault) → IfErr result (λ fault. fault ≡ NoMemory → refusal_of values ≡ None) → ReadsWords words (options_in result)
   launch_cut values (Ok launch) cuts asked accepted refused no_memory = reads_cut values (Ok launch.options) cuts asked accepted refused no_memory

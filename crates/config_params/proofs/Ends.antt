@@ -24,7 +24,7 @@ pub front_tabs : (text : List ℕ) (r : Option (Bor (List ℕ))) → ((rest : Li
 front_tabs text None h k = λ b rest is. no_blank b (λ e. h rest (is ∙ ap (λ x. x ∷ rest) e)) (λ e. k rest (is ∙ ap (λ x. x ∷ rest) e))
 front_tabs text (Some x) h k = (9, refl, k)
 
--- the same at the end
+-- a text that does not end with a space
 pub end_spaces : (text : List ℕ) → ((front : List ℕ) → text ≢ front ++ 32 ∷ []) → (b : ℕ) (front : List ℕ) → text ≡ front ++ b ∷ [] → is_blank Spaces b ≡ false
 end_spaces text h b front is = no_space b (λ e. h front (is ∙ ap (λ x. front ++ x ∷ []) e))
 

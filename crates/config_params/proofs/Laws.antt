@@ -23,7 +23,7 @@ others_after params Request key value other h = ap (λ o. option_or (option_or o
 others_after params System key value other h = ap (λ o. option_or (option_or (value_in params.request other) o) (value_in params.file other)) (has_other params.system key value other h)
 others_after params File key value other h = ap (option_or (answer_before params File other)) (has_other params.file key value other h)
 
--- the same of a call that may have run out of memory
+-- what is answered after a call that may have run out of memory
 module _ {X E : Type 0} (old new : Parameters) (source : Source) (key value : List ℕ) where
   pub seen_if_ok : (r : Result X E) → OnOk r (new ≡ with_value old source (key, value)) → OnOk r (answer new key ≡ option_or (answer_before old source key) (Some value))
   seen_if_ok (Ok x) is = ap (λ p. answer p key) is ∙ seen_after old source key value

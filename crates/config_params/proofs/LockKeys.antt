@@ -133,7 +133,7 @@ append_assoc : {A : Type 0} (a b c : List A) → (a ++ b) ++ c ≡ a ++ (b ++ c)
 append_assoc [] b c = refl
 append_assoc (x ∷ a) b c = ap (λ l. x ∷ l) (append_assoc a b c)
 
--- the same behind other keys
+-- the keys of one pair more, behind other keys
 pub one_more : (pairs : List Pair) (i : ℕ) (key : List ℕ) (first before after : List (List ℕ)) → Some key ≡ option_map (λ pair. pair.0) (slice_get pairs i) → before ≡ first ++ limiting (take i pairs)
     → after ≡ before ++ cond (is_some (lock_limited key)) (key ∷ []) [] → after ≡ first ++ limiting (take (i + 1) pairs)
 one_more pairs i key first before after at so_far now =

@@ -60,11 +60,11 @@ module _ {S : Type 0} where
       (λ same. eq-eqb hash (hash_of key) (hashed ∙ ap hash_of ((bytes_eq-Decides (spelling node.id) key).0 same)))
       (was key) (sym (has_text_grown t a node key) ∙ ap (λ x. has_text x key) (sym grown) ∙ has)
 
-  -- the same hashes, as a node of the tree was given an after-body
+  -- the hashes stay those of the tree, as a node of it was given an after-body
   pub hashes_with_after : (t u : Nodes) (n b : ℕ) (s : HashSet ℕ S) → u ≡ with_after t n b → HasHashes t s → HasHashes u s
   hashes_with_after t u n b s given was key has = was key (sym (texts_with_after t b n key) ∙ ap (λ x. has_text x key) (sym given) ∙ has)
 
-  -- the same set beside the same tree
+  -- the hashes of a tree are those of an equal tree
   pub hashes_as : (t u : Nodes) (s : HashSet ℕ S) → t ≡ u → HasHashes t s → HasHashes u s
   hashes_as t u s same was key has = was key (ap (λ x. has_text x key) same ∙ has)
 
@@ -95,6 +95,6 @@ pub put_with_after : (t u : Nodes) (n b : ℕ) (row more : List Bool) → u ≡ 
 put_with_after t u n b row more given may was put c low =
     put c low ∙ ap (cond (is_body c (Some b)) true) (was c low) ∙ sym (bodies_with_after t b n c may) ∙ ap (λ x. has_body x (Some c)) (sym given)
 
--- the same row beside the same tree
+-- the bodies of a tree are those of an equal tree
 pub bodies_as : (t u : Nodes) (row : List Bool) → t ≡ u → HasBodies t row → HasBodies u row
 bodies_as t u row same was b low = was b low ∙ ap (λ x. has_body x (Some b)) same

@@ -79,7 +79,7 @@ module _ {V : Type 0} (saw : PlanParts → V → V → List Telling → Type 0) 
   pub some_watched : (before left old new : Option (List ℕ)) (result : Result ExitStatus LaunchFault) → TakesFrom before left (fault_in result) (λ bytes. IsSeenRun saw first now times asked (suite_read bytes) old new result) → HasSeenSome saw first now
   some_watched before left old new result took = of_run saw first now times (HasSeenSome saw first now) (λ same. inl same) (λ p ts more. inr (p, ts, more)) asked (suite_read took.bytes) old new result took.judged
 
-  -- the same of a suite's run
+  -- a suite's run of which no reports were asked
   pub unreported_run : (ws : List ReportAsked) (before left old new : Option (List ℕ)) (account : Option (List Deed)) (answer : Result ExitStatus LaunchFault) → length ws ≡ 0 → RunsAsked asked before left old new answer
       → TakesFrom before left (fault_in answer) (λ bytes. IsSeenRun saw first now times asked (suite_read bytes) old new answer) → RunsFiled asked (map parts_of ws) times before left old new account account answer
   unreported_run [] before left old new account answer none runs took =

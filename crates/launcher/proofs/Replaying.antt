@@ -36,7 +36,7 @@ use Rattle.run_outputs.specs.Outputs.{replayed, replay_counts, IsReplayOutput}
 pub read_again : (steps : List Step) → AreNamable steps → IsReplay (Some (steps_text steps)) (Some steps)
 read_again steps namable = text_back steps namable
 
--- the same texts, the same feed
+-- equal texts give equal feeds
 same_feed : (p : PlanParts) (a b : TextParts) → ((n : ℕ) → n < size p.tree → text_at a n ≡ text_at b n)
     → (events : List Event) → ((i : ℕ) (e : Event) → slice_get events i ≡ Some e → e.node < size p.tree) → feed_of p a events ≡ feed_of p b events
 same_feed p a b same [] inside = refl

@@ -56,7 +56,7 @@ module _ (asked : Asked) (times : Times) where
   }
   unlisted_run saw first now before left old new (Err fault) took = tt
 
--- the same of a run whose reports were kept, or of which one was not
+-- what holds of a run holds once its reports were kept, or one was not
 pub still_listed : (P : ExitStatus → Type 0) (ran answer : Result ExitStatus LaunchFault) (lost : Option ℕ) → answer ≡ answer_with ran lost → IfOk ran P → IfOk answer P
 still_listed P ran answer lost is listed = subst (λ (r : Result ExitStatus LaunchFault). IfOk r P) (sym is) (kept_or_lost ran lost listed)
   where

@@ -16,7 +16,7 @@ none_of : (p : PlanParts) (ts : List Telling) → AreFailuresOf p ts []
 none_of p [] = tt
 none_of p (t ∷ ts) = tt
 
--- the same of more events
+-- failures of some events are failures of more events
 more_of : (p : PlanParts) (ts more : List Telling) (fs : List Failure) → AreFailuresOf p ts fs → AreFailuresOf p (ts ++ more) fs
 more_of p [] more [] are = none_of p more
 more_of p [] more (f ∷ fs) are = absurd are

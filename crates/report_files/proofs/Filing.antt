@@ -110,7 +110,7 @@ module _ {F K : Type 0} (contents : F → Option (List ℕ)) (deeds : K → Opti
       ∙ ap (λ (n : ℕ). option_or lost (lost_or kept n None)) (let e : 1 + length so.0 ≡ i + 1 = omega (arith, count) in e) in
       (so.0 ++ d ∷ [], does_more (deeds was) (deeds now) (deeds next) so.0 (d ∷ []) so.1 one.1, subst (λ (l : List (Report F)). AreEnded contents l (map parts_of ws) (so.0 ++ d ∷ [])) (sym front) all, is ∙ sym first)
 
-  -- the same of what stands at a place
+  -- one report more is ended, that which stands at this place
   pub ended_at : (was now next : K) (rs : List (Report F)) (i : ℕ) (lost : Option ℕ) (d : ReportAsked) (r : Report F) (kept : Bool) (later : Option ℕ) → AreEndedSo was now rs i lost → i < length rs → i < length ws → r ≡ get_or rs i r
       → ((deed : Deed) × Does (deeds now) (deeds next) (deed ∷ []) × IsEnded contents (parts_of (get_or ws i d)) r deed × (kept ≡ is_kept deed)) → later ≡ option_or lost (lost_or kept (i + 1) None) → AreEndedSo was next rs (i + 1) later
   ended_at was now next rs i lost d r kept later so inside within here one is = ended_next was now next rs i lost (get_or ws i d) r kept later so inside within (get_or_default ws i d (get_or ws i d) within) here one is
@@ -146,7 +146,7 @@ module _ {F : Type 0} (contents : F → Option (List ℕ)) (ws : List ReportAske
           subst (λ (ds : List Deed). Does was after ds) deeds (does_more was before after (openings (take i (map parts_of ws))) [] so next.1),
         )
 
-  -- the same of what stands at a place
+  -- one report more is opened, that which stands at this place
   pub opened_at : (old new : List (Report F)) (before after : Option (List Deed)) (i : ℕ) (d : ReportAsked) → length old ≡ i → AreOpened contents old (map parts_of ws) → Does was before (openings (take i (map parts_of ws))) → (b : Bool) → b ≡ true → OpensNext contents (parts_of (get_or ws i d)) old new before after b
       → i < length ws → (length new ≡ i + 1) × AreOpened contents new (map parts_of ws) × Does was after (openings (take (i + 1) (map parts_of ws)))
   opened_at old new before after i d many are so b is_so next inside = opened_next old new before after i (get_or ws i d) many are so b is_so next inside (get_or_default ws i d (get_or ws i d) inside)

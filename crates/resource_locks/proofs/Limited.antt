@@ -182,7 +182,7 @@ number_use keys (l ∷ s) number q =
       | inr t ↦ (let r = number_use keys s number t in (r.0, ((suc r.1.0.0, r.1.0.1), r.1.1)))
     ]
 
--- the same of two lists of locks
+-- two lists of locks that share a limited key share its number
 share_from : (keys : List (List ℕ)) (limits : List ℕ) (s r : List Lock) (key : List ℕ) (mode other : LockMode) (i : ℕ) → slice_get s i ≡ Some (record { key = key; mode = mode }) → HasLock r key other → 0 < get_or limits (number_of keys key) 0
     → share_numbers limits (numbers_of keys s) (numbers_of keys r) ≡ true
 share_from keys limits [] r key mode other i q there some = absurd (none-some (record { key = key; mode = mode }) q)

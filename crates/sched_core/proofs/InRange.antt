@@ -110,6 +110,6 @@ module _ (p : PlanParts) (answers : List (ℕ × Reply)) (m : Machine) (sound : 
     raises = raises_few;
   }
 
-  -- the same of the task that is not decided yet
+  -- the task that is not decided yet is in range too
   pub undecided : InRange p (state_of m) w seat
   undecided = ranges p sound.plan (replies_of answers) (state_of m) sound.live.kept sound.live.placed w seat is

@@ -61,7 +61,7 @@ pub parts_none : (n : ℕ) → parts_upto n [] ≡ replicate n []
 parts_none zero = refl
 parts_none (suc n) = ap (λ (l : List (List Event)). l ++ [] ∷ []) (parts_none n) ∙ replicate_last n []
 
--- the same of lists in vectors: an event of a worker that has no list
+-- lists in vectors, where an event comes of a worker that has no list
 pub put_out : (n : ℕ) (h : List Event) (e : Event) (lists : List (Vec Event Global)) → ((k : ℕ) → e.worker ≡ k + 1 → length lists ≤ k) → map (λ v. v.items) lists ≡ parts_upto n h → map (λ v. v.items) lists ≡ parts_upto n (h ++ e ∷ [])
 put_out n h e lists out are =
     let count : length lists ≡ n = sym (length-map lists (λ (v : Vec Event Global). v.items)) ∙ ap length are ∙ parts_len n h in

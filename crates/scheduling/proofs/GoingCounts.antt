@@ -115,7 +115,7 @@ module _ (p : PlanParts) (core : IsCorePlan p) (replies : ℕ → List Reply) (l
         in_hand = tt;
       })
 
-  -- the same of a factory in hand
+  -- a factory in hand gives its guard up, and waits or ends
   pub hand_goes_on : (f w k : ℕ) (o : Option ℕ) (counters : List ℕ) (r : Status) → word_of l f ≡ Claimed w → f < length counters → slice_index_or counters f 0 ≡ suc (count_below (owes p l Free f) (size p.tree)) → Goes p replies l counters locks Free (Some (record { factory = f; registered = k; waiting = o }))
       → Goes p replies l (set counters f (slice_index_or counters f 0 - 1)) locks (ends_or_free p f r (slice_index_or counters f 0)) None
   hand_goes_on f w k o counters r claimed inside guarded old =

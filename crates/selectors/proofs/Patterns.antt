@@ -77,7 +77,7 @@ gap_last (byte ∷ pattern) text more (inl (star, (gap, rest, is, filled))) =
 gap_last (byte ∷ pattern) text more (inr (other, (rest, is, filled))) =
     inr (other, (rest ++ more, ap (λ (t : List ℕ). t ++ more) is, gap_last pattern rest more filled))
 
--- the same byte behind both
+-- a byte that is no star, put behind both
 byte_last : (pattern text : List ℕ) (last : ℕ) → eqb last 42 ≡ false → Filled pattern text → Filled (pattern ++ last ∷ []) (text ++ last ∷ [])
 byte_last [] text last other_last h = inr (other_last, ([], ap (λ (t : List ℕ). t ++ last ∷ []) h, refl))
 byte_last (byte ∷ pattern) text last other_last (inl (star, (gap, rest, is, filled))) =
@@ -156,7 +156,7 @@ match_is pattern text = (
   λ m. fits_of (reverse pattern) (reverse text) (reversed pattern text (filled_by pattern text m)),
 )
 
--- the same of a name, if there is one
+-- a name, if there is one, fits a pattern just where it matches it
 pub like : (pattern : List ℕ) (found : Option (List ℕ)) → (is_match_of pattern found ≡ true) ↔ ((name : List ℕ) × (found ≡ Some name) × Matches pattern name)
 like pattern None = (λ h. absurd (cc), λ has. absurd (none-some has.0 has.1))
 like pattern (Some name) = (

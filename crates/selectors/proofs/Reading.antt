@@ -20,7 +20,7 @@ and_true : (a b : Bool) → a ≡ true → (a && b) ≡ b
 and_true true b is = refl
 and_true false b is = absurd (cc)
 
--- the same piece in front of both
+-- a piece without a star, put in front of both
 pub same_front : (piece pattern text : List ℕ) → Plain piece → fits (piece ++ pattern) (piece ++ text) ≡ fits pattern text
 same_front [] pattern text plain = refl
 same_front (byte ∷ piece) pattern text plain =

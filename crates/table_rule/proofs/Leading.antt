@@ -328,7 +328,7 @@ module _ (p : PlanParts) (core : IsCorePlan p) (told : ℕ → List Reply) (s : 
   row_back r Look heard = look_b seat.task refl
   row_back r Raise heard = raise_b seat.task refl
 
-  -- The same row with the reply that the job will give.
+  -- A row that was taken with some reply may be taken with the one that the job will give.
   module _ (t : State) (reply : ℕ → Reply) (may : MayReply p told t reply) (given : Reply) (fits : Fits p reply seat given) where
     of_hand : (hand : Hand) (job : ℕ) → seat.task ≡ Free → seat.hand ≡ Some hand → body_of p.tree hand.factory ≡ Some job → given ≡ reply job
     of_hand hand job e is body = fits job (ap (awaited p seat) e ∙ ap (hand_job p) is ∙ body)

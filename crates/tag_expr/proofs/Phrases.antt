@@ -52,7 +52,7 @@ read_tag end count place ts rest text g is good same = record {
   faultless = λ pending len may. ap (first_fault end operand pending) is ∙ ap (λ o. at_word o (first_fault end operator (settled pending) rest)) good;
 }
 
--- the same of what a function gives of a word
+-- what a function gives of a word, as the grammar reads it
 pub read_word : {R E : Type 0} (node : R → Option Expression) (after : R → List ℕ) (r : Result R E) (end count place : ℕ) (ts : List PlacedToken) (text rest : List ℕ)
     → ts ≡ placed place (word text) ∷ tokens_left end rest → OnOk r (first_bad place (chars text) ≡ None) → IfOk r (λ x. IfSome (node x) (λ e. e ≡ tag text)) → IfOk r (λ x. after x ≡ rest)
     → IfOk r (λ x. IsRead not_phrase end count ts (tokens_left end (after x)) (node x))

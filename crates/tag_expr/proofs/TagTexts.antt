@@ -32,6 +32,6 @@ module _ {S : Type 0} where
       hash_set_updates_text text s n true updates key ∙ ap (cond (bytes_eq text key) true) (was key) ∙ ap (λ x. cond (bytes_eq x key) true (has_tag tags key)) same
       ∙ sym (has_tag_grown tags tag key) ∙ ap (λ x. has_tag x key) (sym grown)
 
-  -- the same texts beside the same tags
+  -- the texts of tags are those of equal tags
   pub texts_as : (tags more : List (List ℕ)) (s : HashSet (String Global) S) → tags ≡ more → HasTexts tags s → HasTexts more s
   texts_as tags more s same was key = was key ∙ ap (λ x. has_tag x key) same

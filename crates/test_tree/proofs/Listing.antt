@@ -17,7 +17,7 @@ module _ {P A : Type 0} (R : P → A → P → Type 0) (xs : List A) (i : ℕ) (
   folds_on p q step last rest = subst (λ (l : List A). FoldsTo R p l last) begins (q, step, rest)
 
   module _ (IsRefused : P → A → Type 0) where
-    -- the same up to one that is refused
+    -- a fold that stops at one that is refused
     pub stops_on : (p q : P) → R p x q → (last : P) → StopsAt R IsRefused q (drop (i + 1) xs) last → StopsAt R IsRefused p (drop i xs) last
     stops_on p q step last rest = subst (λ (l : List A). StopsAt R IsRefused p l last) begins (inr (q, step, rest))
 

@@ -20,7 +20,7 @@ abbrev pub Chain : Nodes → (m w : ℕ) → List ℕ → Type 0
 Chain t m w [] = Unit {0}
 Chain t m w (x ∷ xs) = Step t m w x × Chain t m x xs
 
--- the same of a whole list
+-- a whole list is a chain
 abbrev pub IsChain : Nodes → ℕ → List ℕ → Type 0
 IsChain t m [] = Unit {0}
 IsChain t m (x ∷ xs) = Chain t m x xs

@@ -83,7 +83,7 @@ module _ (t : Nodes) (tree : IsTree t) (order : List ℕ) (is : IsOrder t order)
       grown ∙ ap (pruned_below (reordered t order) (all_kept (reordered t order))) (last ∙ sym (size_same t tree order is))
       ∙ whole (reordered t order) (reordered_tree t tree order is) refl
 
-  -- the same of a node that was read at the next place, of its parent, and of that one's place
+  -- one node more, as it was read at the next place, with its parent and with that one's place
   module _ (b : Nodes) (n x q r : ℕ) (some : 0 < n) (inside : n < size t) (grown : b ≡ so_far t order n) (read : x ≡ get_or order n x) (parent : q ≡ parent_of t x) (place : r ≡ place_in order q) where
     pub read_at : x ≡ get_or order n 0
     read_at = get_or_read order n x (let len : length order ≡ size t = is.listed.counted in omega arith) read 0

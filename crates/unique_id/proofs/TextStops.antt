@@ -196,7 +196,7 @@ same_tail t u ts us h = ap (drop 1) h
 same_head : (t u : List ℕ) (ts us : List (List ℕ)) → t ∷ ts ≡ u ∷ us → t ≡ u
 same_head t u ts us h = ap (λ l. get_or l 0 []) h
 
--- the same behind the first of them
+-- the texts behind the first of them are those of segments too
 tail_of : (t : List ℕ) (ts : List (List ℕ)) (ws : List Written) → AllByRecursion IsSegment ws → t ∷ ts ≡ map segment_text ws → (left : List Written) × AllByRecursion IsSegment left × (ts ≡ map segment_text left)
 tail_of t ts [] all h = absurd (no_pieces t ts h)
 tail_of t ts (w ∷ ws) (one, all) h = (ws, all, same_tail t (segment_text w) ts (map segment_text ws) h)
