@@ -20,10 +20,18 @@ fn property_in(line: &str) -> Option<(&str, &str)> {
     }
 }
 
+/// Whether this line of a suite declares an engine. A property stands before the first of these.
+fn is_engine(line: &str) -> bool {
+    matches!(Word::spelled(cut(line).0), Some(Word::Engine))
+}
+
 /// The value that the last of these lines has for a key.
 fn value_in<'a>(lines: &'a str, key: &str) -> Option<&'a str> {
     let mut found = None;
     for line in lines.lines() {
+        if is_engine(line) {
+            return found;
+        }
         if let Some((other, value)) = property_in(line) {
             if other == key {
                 found = Some(value);
@@ -135,7 +143,12 @@ fn add_line<'a>(
 
 /// Whether no line of a suite's text declares a node: a node stands below an engine.
 fn has_no_engine(lines: &str) -> bool {
-    !lines.lines().any(|line| matches!(Word::spelled(cut(line).0), Some(Word::Engine)))
+    !lines.lines().any(is_engine)
+}
+
+/// Whether a hint may be about a line behind the first engine: one of its locks, or a return in it.
+fn has_locks_or_returns(lines: &str) -> bool {
+    lines.contains("lock=") || lines.contains('\r')
 }
 
 /// Whether the suite of these bytes, which is read, names no node.
@@ -169,7 +182,11 @@ pub fn hints_of<'a>(
         is_off,
         given.system.as_slice(),
     )?;
+    let is_whole = has_locks_or_returns(lines);
     for (index, line) in lines.lines().enumerate() {
+        if !is_whole && is_engine(line) {
+            break;
+        }
         let number = index.saturating_add(1);
         add_line(alloc, &mut hints, number, is_off, line)?;
     }
