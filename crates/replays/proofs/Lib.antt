@@ -1,4 +1,5 @@
 -- That what threads report has a schedule.
 pub mod Scheduled
 pub mod Agreeing
+pub mod AskedFor
 pub mod Headlined

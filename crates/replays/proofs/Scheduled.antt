@@ -18,8 +18,9 @@ use Rattle.sched_core.specs.Replies.{reply_of}
 use Rattle.sched_core.specs.Runs.{run, passed_over, state_or, missed}
 use Rattle.std.proofs.lemmas.Bool.{false≢true}
 use Rattle.std.proofs.lemmas.Option.{same_Some}
-use Rattle.descriptor.specs.Nodes.{bit}
+use Rattle.descriptor.specs.Nodes.{IsTree, bit, body_of}
 use Rattle.resource_locks.specs.Plans.{IsPlan}
+use Rattle.event_history.specs.Plans.{pulls_job}
 use Rattle.scheduling.specs.declared.step.Action.TheVariants.{Claim, Own, Look}
 use Rattle.scheduling.specs.declared.task.Task.{Task}
 use Rattle.scheduling.specs.declared.task.Task.TheVariants.{Free, Opens, Closes}
@@ -32,8 +33,10 @@ use Rattle.sched_core.specs.Taken.{seat_of, looks_free, finds_nothing, free_look
 use Rattle.sched_core.proofs.Taken.{bounded_run, short_run}
 use Rattle.sched_core.specs.Steps.{reply_awaited, reply_for, after_step}
 use Rattle.never_stuck.specs.Reaching.{AllGiven, answer, reply_by}
-use Rattle.table_rule.specs.Reached.{Agrees, IsRunOfCore}
-use Rattle.replays.specs.Schedules.{HasSchedule}
+use Rattle.table_rule.specs.Picture.{AnswerOnce}
+use Rattle.table_rule.specs.Reached.{Agrees, IsHistoryOfRun, IsRunOfCore}
+use Rattle.replays.specs.Schedules.{AgreesAsAsked, HasSchedule}
+use Rattle.replays.proofs.AskedFor.{retold_run}
 
 module _ (p : PlanParts) (answers : List (ℕ × Reply)) where
   -- what is awaited is what was handed in for it
@@ -126,9 +129,41 @@ module _ (p : PlanParts) (answers : List (ℕ × Reply)) where
       plain : (n passed idle most : ℕ) → n ≤ passed + idle + most → passed ≡ 0 → idle ≡ 0 → n ≤ most
       plain n passed idle most some none no_look = omega (arith, some, none, no_look)
 
-  -- Where the answers that are handed in agree with what the jobs told, it has one.
-  pub scheduled : IsPlan p → (workers : ℕ) → workers ≤ 64 → (told : ℕ → List Reply) (events : List Event) → IsRunOfCore p workers told events → Agrees told (reply_of answers) → HasSchedule p answers workers events
-  scheduled plan workers few told events ran agrees =
-      let x = ran (reply_of answers) agrees in
+  -- Where each job has the answer that is handed in, it has one.
+  by_answers : IsPlan p → (workers : ℕ) → workers ≤ 64 → (events : List Event) → IsHistoryOfRun p workers (reply_of answers) events → HasSchedule p answers workers events
+  by_answers plan workers few events x =
       let y = taken (opening p workers) x.steps x.replied in
       record { steps = y.steps; all_taken = y.all; short = few_steps plan workers few y.steps y.all y.none_idle; bounded = few_tries plan workers few y.steps y.all y.none_idle; published = ap (λ (s : State). s.published) y.leads ∙ x.drawn; given = ap (λ (s : State). s.given) y.leads ∙ x.given }
+
+  abbrev first_or : Reply → List Reply → Reply
+  first_or other [] = other
+  first_or other (reply ∷ more) = reply
+
+  module _ (told : ℕ → List Reply) (once : AnswerOnce told) (agrees : AgreesAsAsked p told (reply_of answers)) where
+    -- what each job told; of those that told nothing, the answer that is handed in
+    abbrev reply : ℕ → Reply
+    reply job = first_or (reply_of answers job) (told job)
+
+    as_told : Agrees told reply
+    as_told job i r at = ap (first_or (reply_of answers job)) (once job i r at)
+
+    outcomes : (job : ℕ) → (reply job).outcome ≡ (reply_of answers job).outcome
+    outcomes job = by (told job) refl
+      where
+        by : (list : List Reply) → told job ≡ list → (first_or (reply_of answers job) list).outcome ≡ (reply_of answers job).outcome
+        by [] e = refl
+        by (r ∷ more) e = agrees.outcomes job 0 r (ap (λ l. slice_get l 0) e)
+
+    pulled : (n job : ℕ) → pulls_job p n ≡ true → body_of p.tree n ≡ Some job → reply job ≡ reply_of answers job
+    pulled n job pulls is = by (told job) refl
+      where
+        by : (list : List Reply) → told job ≡ list → first_or (reply_of answers job) list ≡ reply_of answers job
+        by [] e = refl
+        by (r ∷ more) e = agrees.pulled n job 0 r pulls is (ap (λ l. slice_get l 0) e)
+
+    with_answers : IsTree p.tree → (workers : ℕ) → workers ≤ 64 → (events : List Event) → IsRunOfCore p workers told events → IsHistoryOfRun p workers (reply_of answers) events
+    with_answers tree workers few events ran = retold_run p tree reply (reply_of answers) outcomes pulled workers few events (ran reply as_told)
+
+  -- So it has one where the answers that are handed in agree with what the jobs told, as far as the core asks for it.
+  pub scheduled : IsPlan p → (workers : ℕ) → workers ≤ 64 → (told : ℕ → List Reply) (events : List Event) → AnswerOnce told → IsRunOfCore p workers told events → AgreesAsAsked p told (reply_of answers) → HasSchedule p answers workers events
+  scheduled plan workers few told events once ran agrees = by_answers plan workers few events (with_answers told once agrees plan.tree workers few events ran)
