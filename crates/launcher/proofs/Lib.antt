@@ -1,4 +1,3 @@
-pub mod Answered
 pub mod BrokenOff
 pub mod Driving
 pub mod FiledAnswers

@@ -17,7 +17,7 @@ use Rattle.table_rule.specs.declared.view.Slot.{Slot}
 use Rattle.table_rule.specs.declared.view.Slot.TheVariants.{Empty, Body, Answered, Used}
 use Rattle.table_rule.specs.declared.view.SlotState.{SlotState}
 use Rattle.table_rule.specs.declared.view.SlotState.TheVariants.{Unmoved, Out, Left, Noted, Taking, Taken}
-use Rattle.table_rule.specs.Picture.{SaysSo, given_by, that_count, replies_in, replies_of}
+use Rattle.table_rule.specs.Picture.{AreAmong, SaysSo, given_by, that_count, replies_in, replies_of}
 use Rattle.table_rule.specs.Slots.{job_at, job_with, slot_with, slot_for, IsHome}
 use Rattle.table_contents.specs.Prepared.{slot_of, goes_in, unused_after, unused_of, job_in, jobs_from, IsMissing, HasAllJobs, IsRefused}
 use Rattle.table_contents.specs.declared.fault.TableFault.{TableFault}
@@ -208,28 +208,6 @@ module _ {J B : Type 0} (job : J → B) where
   refused p workers ring jobs (Table fault) is = refused_by p workers ring jobs fault is
   refused p workers ring jobs NoWorker is = (is.0, is.1, all_there p jobs is.2)
 
-  -- What a job gives, so does the one that it stands for.
-  module _ (gives : B → Reply → Type 0) (p : PlanParts) (workers ring : ℕ) (jobs : List (ℕ × J)) where
-    abbrev given : J → Reply → Type 0
-    given j = gives (job j)
-
-    pub given_job : (number : ℕ) (reply : Reply) → given_by given (run_of p workers ring jobs) number reply → given_by gives (run_of p workers ring (map stands_for jobs)) number reply
-    given_job number reply is = elim is [ inl x ↦ inl (job x.0, found_some jobs number x.0 x.1, x.2) | inr many ↦ inr many ]
-
-    abbrev pub told_given : (events : List Event) (texts : TextParts) → IsToldAsGiven (given_by given (run_of p workers ring jobs)) p workers events texts → IsToldAsGiven (given_by gives (run_of p workers ring (map stands_for jobs))) p workers events texts
-    told_given events texts is = record { told = is.told; given_so = λ number i reply at. given_job number reply (is.given_so number i reply at); once = is.once; legal = is.legal; texts_are = is.texts_are; ran = is.ran }
-
-    -- and what the job says, so does the one that it stands for
-    pub told_said : (says : B → Outcome → Type 0) (events : List Event) (texts : TextParts) (used : List (ℕ × J)) → IsToldAsSaid (λ j. says (job j)) (given_by given (run_of p workers ring jobs)) p workers events texts used
-        → IsToldAsSaid says (given_by gives (run_of p workers ring (map stands_for jobs))) p workers events texts (map stands_for used)
-    told_said says events texts used said = record {
-      is = told_given events texts said.is;
-      says_so = λ i number b at. (let x = back used i number b at in let was = said.says_so i number x.of x.stands in (was.0, was.1, subst (SaysSo says p number was.0) x.is was.2));
-      alone = λ i number b at. (let x = back used i number b at in said.alone i number x.of x.stands);
-      few = (let few = said.few in let long = length-map used stands_for in omega (arith, few, long));
-      each = λ number ran. (let x = said.each number ran in (x.0, job x.1, there used x.0 number x.1 x.2));
-    }
-
   -- What is said by the replies of the jobs.
   module _ (answers : B → List Reply) where
     abbrev told : J → List Reply
@@ -240,7 +218,7 @@ module _ {J B : Type 0} (job : J → B) where
     same_in (x ∷ xs) number = ap (λ (l : List Reply). cond (x.0 == number) (answers (job x.1)) l) (same_in xs number)
 
     module _ (p : PlanParts) (workers ring : ℕ) (jobs : List (ℕ × J)) where
-      same_replies : replies_of told (run_of p workers ring jobs) ≡ replies_of answers (run_of p workers ring (map stands_for jobs))
+      pub same_replies : replies_of told (run_of p workers ring jobs) ≡ replies_of answers (run_of p workers ring (map stands_for jobs))
       same_replies = λ i number. that_count p number (same_in jobs number i)
 
       pub may_answer : JobsMayAnswer answers (run_of p workers ring (map stands_for jobs)) → JobsMayAnswer told (run_of p workers ring jobs)
@@ -270,3 +248,36 @@ module _ {J B : Type 0} (job : J → B) where
         read = l.read;
         ended = subst (λ (replies : ℕ → List Reply). HasEnded replies (run_of p workers ring (map stands_for jobs)) l.state (map stands_for left)) same_replies (ended (replies_of told (run_of p workers ring jobs)) p workers ring jobs left l.state l.ended);
       }
+
+      -- What a job gives, so does the one that it stands for.
+      module _ (gives : B → Reply → Type 0) where
+        abbrev given : J → Reply → Type 0
+        given j = gives (job j)
+
+        pub given_job : (number : ℕ) (reply : Reply) → given_by given (run_of p workers ring jobs) number reply → given_by gives (run_of p workers ring (map stands_for jobs)) number reply
+        given_job number reply is = elim is [ inl x ↦ inl (job x.0, found_some jobs number x.0 x.1, x.2) | inr many ↦ inr many ]
+
+        abbrev pub told_given : (events : List Event) (texts : TextParts) → IsToldAsGiven (given_by given (run_of p workers ring jobs)) (replies_of told (run_of p workers ring jobs)) p workers events texts
+            → IsToldAsGiven (given_by gives (run_of p workers ring (map stands_for jobs))) (replies_of answers (run_of p workers ring (map stands_for jobs))) p workers events texts
+        told_given events texts is = record {
+          ran = record {
+            told = is.ran.told;
+            given_so = λ number i reply at. given_job number reply (is.ran.given_so number i reply at);
+            among = subst (λ (replies : ℕ → List Reply). AreAmong is.ran.told replies) same_replies is.ran.among;
+            once = is.ran.once;
+            of_core = is.ran.of_core;
+          };
+          legal = is.legal;
+          texts_are = is.texts_are;
+        }
+
+        -- and what the job says, so does the one that it stands for
+        pub told_said : (says : B → Outcome → Type 0) (events : List Event) (texts : TextParts) (used : List (ℕ × J)) → IsToldAsSaid (λ j. says (job j)) (given_by given (run_of p workers ring jobs)) (replies_of told (run_of p workers ring jobs)) p workers events texts used
+            → IsToldAsSaid says (given_by gives (run_of p workers ring (map stands_for jobs))) (replies_of answers (run_of p workers ring (map stands_for jobs))) p workers events texts (map stands_for used)
+        told_said says events texts used said = record {
+          is = told_given events texts said.is;
+          says_so = λ i number b at. (let x = back used i number b at in let was = said.says_so i number x.of x.stands in (was.0, was.1, subst (SaysSo says p number was.0) x.is was.2));
+          alone = λ i number b at. (let x = back used i number b at in said.alone i number x.of x.stands);
+          few = (let few = said.few in let long = length-map used stands_for in omega (arith, few, long));
+          each = λ number ran. (let x = said.each number ran in (x.0, job x.1, there used x.0 number x.1 x.2));
+        }

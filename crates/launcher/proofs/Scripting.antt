@@ -22,13 +22,15 @@ use Rattle.event_history.specs.Plans.{Sort, Leaf, Holder, Maker, pulls_job, sort
 use Rattle.event_history.specs.Results.{Jobs, NoJob, Alone, Pulled, Around, jobs_by, jobs_of, after_run, HasReply, HasAnswer, EndsAfter, Ends}
 use Rattle.event_history.proofs.Histories.{legal_by}
 use Rattle.sched_core.specs.Replies.{reply_of, replies_of as replies_by}
-use Rattle.table_rule.specs.Picture.{replies_in}
+use Rattle.table_rule.specs.Picture.{AreAmong, replies_in, replies_of}
 use Rattle.table_rule.specs.Slots.{slot_count, is_body_slot, after_slot, job_at, job_with}
 use Rattle.table_rule.proofs.Jobs.{body_job, after_job_at, after_is, one_slot_each, far}
+use Rattle.table_rule.proofs.ThatCount.{counted_among}
 use Rattle.table_contents.specs.Prepared.{HasAllJobs}
 use Rattle.worker_pool.proofs.Handed.{body_inside, after_inside, replies_found}
 use Rattle.worker_pool.specs.Premises.{JobsMayAnswer}
 use Rattle.worker_pool.specs.Reports.{run_of}
+use Rattle.replays.specs.Schedules.{AgreesAsAsked}
 use Rattle.ready_runs.specs.declared.scripted.ScriptedJob.{ScriptedJob}
 use Rattle.ready_runs.specs.Scripted.{replies_left, asked_reply, is_pulled_slot, IsScripted, AreScripted}
 
@@ -184,3 +186,17 @@ module _ (p : PlanParts) (tree : IsTree p.tree) (answers : List (ℕ × Reply)) 
 
   pub legal_as_said : (workers : ℕ) (h : List Event) → IsLegal p told workers h → IsLegal p (replies_by answers) workers h
   legal_as_said workers h = legal_by p told (replies_by answers) h (by_result h) workers
+
+  only_that : (one reply : Reply) (place : ℕ) → slice_get (one ∷ []) place ≡ Some reply → reply ≡ one
+  only_that one reply zero q = sym (same_Some one reply q)
+  only_that one reply (suc place) q = absurd (none-some reply q)
+
+  -- what the jobs told in a run is what the suite says, as far as the core asks for it
+  pub told_as_said : (workers ring : ℕ) (heard : ℕ → List Reply) → AreAmong heard (replies_of replies_left (run_of p workers ring jobs)) → AgreesAsAsked p heard (reply_of answers)
+  told_as_said workers ring heard among = record {
+    outcomes = λ job i reply at. (let x = may job i reply at in said job x.0 reply x.1);
+    pulled = λ n job i reply pulls is at. (let x = may job i reply at in only_that (reply_of answers job) reply x.0 (ap (λ (l : List Reply). slice_get l x.0) (sym (factory_answers n job pulls is)) ∙ x.1));
+  }
+    where
+      may : (job i : ℕ) (reply : Reply) → slice_get (heard job) i ≡ Some reply → (place : ℕ) × (slice_get (told job) place ≡ Some reply)
+      may job i reply at = (let x = among job i reply at in counted_among replies_left (run_of p workers ring jobs) job x.0 reply x.1)

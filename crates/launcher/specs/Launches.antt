@@ -16,7 +16,7 @@ use Rattle.launch_options.specs.Asked.{Asked}
 use Rattle.launch_options.specs.declared.fault.LaunchFault.{LaunchFault}
 use Rattle.launch_options.specs.declared.fault.LaunchFault.TheVariants.{NoMemory}
 use Rattle.run_outputs.specs.declared.exit_status.ExitStatus.{ExitStatus}
-use Rattle.table_rule.specs.Picture.{given_by}
+use Rattle.table_rule.specs.Picture.{given_by, replies_of}
 use Rattle.worker_pool.specs.Reports.{run_of, IsToldAsSaid}
 use Rattle.worker_pool.specs.declared.report.Report.{Report}
 use Rattle.launcher.specs.Programs.{HasRun, IsPrintedOf}
@@ -47,7 +47,7 @@ module _ {B : Type 0} (answers : B → List Reply) (gives : B → Reply → Type
   pub record IsRunOver (ran : Report B) (answer : Result ExitStatus LaunchFault) : Type 0 where
     pub plan : ran.plan ≡ p
     pub has : HasRun answers gives settings.workers asked.ring p jobs ran.events.items ran.texts ran.unused_jobs.items
-    pub said : IsToldAsSaid says (given_by gives (run_of p settings.workers asked.ring jobs)) p settings.workers ran.events.items ran.texts ran.used_jobs.items
+    pub said : IsToldAsSaid says (given_by gives (run_of p settings.workers asked.ring jobs)) (replies_of answers (run_of p settings.workers asked.ring jobs)) p settings.workers ran.events.items ran.texts ran.used_jobs.items
     pub seen : HasSeenMore saw p (tellings_of ran.texts ran.events.items) first now
     pub printed : IsPrintedTo asked (IsPrintedOf known asked settings p ran.events.items ran.texts times) old new answer
 

@@ -20,6 +20,7 @@ use Rattle.junit_report.specs.Expectations.{IsPrintedAsExpected}
 use Rattle.never_stuck.specs.Reaching.{NeverStuck}
 use Rattle.suite_text.specs.Reading.Parts.{SuiteParts}
 use Rattle.table_rule.specs.Picture.{given_by, replies_of}
+use Rattle.table_rule.specs.Reached.{Agrees}
 use Rattle.table_rule.specs.Slots.{job_with}
 use Rattle.run_table.specs.Balance.{IsBalanced, IsUsed}
 use Rattle.worker_pool.specs.Reports.{run_of, AreTexts, IsToldAsGiven}
@@ -69,21 +70,22 @@ pub record IsHistoryBy (workers : ℕ) (p : PlanParts) (reply : ℕ → Reply) (
 -- of jobs that may answer so, and that give their replies so
 module _ {B : Type 0} (answers : B → List Reply) (gives : B → Reply → Type 0) where
   -- What is known of a run of these jobs by so many workers that is over, by its own parts: the history, the texts of its nodes, and the
-  -- jobs that are left. There is one reply of each job, such that the history is one in which the jobs gave these replies.
+  -- jobs that are left. There is one reply of each job, such that the history is one in which the jobs gave these replies, and is that of a
+  -- run of the core in which each job replies just this (`gave.ran.of_core reply agrees`).
   pub record HasRun (workers ring : ℕ) (p : PlanParts) (jobs : List (ℕ × B)) (history : List Event) (texts : TextParts) (left : List (ℕ × B)) : Type 0 where
     -- the history is legal by what the jobs may answer, and the texts of its nodes are by that too;
     pub may_be : IsLegal p (replies_of answers (run_of p workers ring jobs)) workers history
     pub may_say : AreTexts p (replies_of answers (run_of p workers ring jobs)) history texts
-    -- and both are by one reply of each job, which of a job that was used is one that it may give
+    -- and both are by what the jobs gave: by the very call of the job, but where a factory's job asked for more dynamic tests than there are;
+    pub gave : IsToldAsGiven (given_by gives (run_of p workers ring jobs)) (replies_of answers (run_of p workers ring jobs)) p workers history texts
+    -- which is one reply of each job, of a job that was used one that it may give
     pub reply : ℕ → Reply
+    pub agrees : Agrees gave.ran.told reply
     pub given : (number : ℕ) → IsUsed p history number → (place : ℕ) × (slice_get (replies_of answers (run_of p workers ring jobs) number) place ≡ Some (reply number))
     pub published : IsHistoryBy workers p reply history
     pub are : AreTexts p (one_each reply) history texts
     -- and unless the plan fails fast what is printed of it is as expected by these replies
     pub as_expected : p.fail_fast ≡ false → IsPrintedAsExpected p reply history texts
-    -- and each reply was given so: by the very call of the job, but where a factory's job asked for more dynamic tests than there are; and
-    -- the history is that of a run of the core in which each job replies just this (`gave.ran`);
-    pub gave : IsToldAsGiven (given_by gives (run_of p workers ring jobs)) p workers history texts
     -- the jobs that were used are just those of the nodes that have finished, each once; all others are left
     pub balanced : IsBalanced p jobs history left
 

@@ -15,7 +15,7 @@ ghost use Rattle.run_outputs.specs.Outputs.{is_run};
 ghost use Rattle.resource_locks.specs.Declarations.{declared_of};
 ghost use Rattle.resource_locks.specs.Hoisted.{IsGuarded};
 ghost use Rattle.table_contents.specs.Prepared.{HasAllJobs, IsRightRing};
-ghost use Rattle.table_rule.specs.Picture.{given_by};
+ghost use Rattle.table_rule.specs.Picture.{given_by, replies_of};
 ghost use Rattle.worker_pool.specs.Premises.{JobsMayAnswer};
 ghost use Rattle.worker_pool.specs.Reports.{run_of, IsToldAsSaid};
 
@@ -79,8 +79,9 @@ pub fn launch<
     ensures plan { IfOk result (λ ran. ran.plan ≡ plan) }
     ensures ran { IfOk result (λ ran. HasRun B.answers B.gives workers ring plan jobs.items ran.events.items ran.texts
         ran.unused_jobs.items) }
-    ensures said { IfOk result (λ ran. IsToldAsSaid B.says (given_by B.gives (run_of plan workers ring jobs.items)) plan
-        workers ran.events.items ran.texts ran.used_jobs.items) }
+    ensures said { IfOk result (λ ran. IsToldAsSaid B.says (given_by B.gives (run_of plan workers ring jobs.items))
+        (replies_of B.answers (run_of plan workers ring jobs.items)) plan workers ran.events.items ran.texts
+        ran.used_jobs.items) }
     ensures seen { IfOk result (λ ran. HasSeenMore V.saw plan (tellings_of ran.texts ran.events.items) observer.old
         observer.new) }
     ensures unseen { IfErr result (λ _. observer.new ≡ observer.old) }

@@ -155,9 +155,11 @@ fn run_noted<
     ensures texts { IfOk result (λ report. AreTexts plan
         (replies_of B.answers (run_of plan workers ring (untimed timed.entry.items))) report.events.items report.texts) }
     ensures given { IfOk result (λ report. IsToldAsGiven (given_by B.gives (run_of plan workers ring (untimed timed.entry.items)))
-        plan workers report.events.items report.texts) }
+        (replies_of B.answers (run_of plan workers ring (untimed timed.entry.items))) plan workers report.events.items
+        report.texts) }
     ensures said { IfOk result (λ report. IsToldAsSaid B.says
-        (given_by B.gives (run_of plan workers ring (untimed timed.entry.items))) plan workers report.events.items
+        (given_by B.gives (run_of plan workers ring (untimed timed.entry.items)))
+        (replies_of B.answers (run_of plan workers ring (untimed timed.entry.items))) plan workers report.events.items
         report.texts report.used_jobs.items) }
     ensures left { IfOk result (λ report. IsLeft (replies_of B.answers (run_of plan workers ring (untimed timed.entry.items)))
         (run_of plan workers ring (untimed timed.entry.items)) report.events.items report.unused_jobs.items) }
@@ -206,10 +208,11 @@ pub fn run_timed<
     ensures mine { IfOk result (λ report. AreParts workers report.events.items (map (λ l. l.items) report.mine.items)) }
     ensures texts { IfOk result (λ report. AreTexts plan (replies_of B.answers (run_of plan workers ring jobs.items))
         report.events.items report.texts) }
-    ensures given { IfOk result (λ report. IsToldAsGiven (given_by B.gives (run_of plan workers ring jobs.items)) plan
-        workers report.events.items report.texts) }
+    ensures given { IfOk result (λ report. IsToldAsGiven (given_by B.gives (run_of plan workers ring jobs.items))
+        (replies_of B.answers (run_of plan workers ring jobs.items)) plan workers report.events.items report.texts) }
     ensures said { IfOk result (λ report. IsToldAsSaid B.says (given_by B.gives (run_of plan workers ring jobs.items))
-        plan workers report.events.items report.texts report.used_jobs.items) }
+        (replies_of B.answers (run_of plan workers ring jobs.items)) plan workers report.events.items report.texts
+        report.used_jobs.items) }
     ensures left { IfOk result (λ report. IsLeft (replies_of B.answers (run_of plan workers ring jobs.items))
         (run_of plan workers ring jobs.items) report.events.items report.unused_jobs.items) }
     ensures balanced { IfOk result (λ report. IsBalanced plan jobs.items report.events.items report.unused_jobs.items) }

@@ -45,20 +45,23 @@ given_texts p replies told workers made read texts legal legal_told are gives n 
     was = are.texts_are workers legal n low
 
 abbrev pub given_reported : {B : Type 0} (given : ℕ → Reply → Type 0) (key : About B) (replies : ℕ → List Reply) (d : DispatcherFacts) (events : List Event) (texts : TextParts) → events ≡ d.read → IsLegal key.plan replies key.workers events → AreTextsRead key.plan replies d.slots d.read texts
-    → IsOver d.read → HasGiven given key d → IsToldAsGiven given key.plan key.workers events texts
+    → IsOver d.read → HasGiven given replies key d → IsToldAsGiven given replies key.plan key.workers events texts
 given_reported given key replies d events texts same legal are over has = record {
-  told = has.told;
-  given_so = has.given_so;
-  once = has.once;
+  ran = record {
+    told = has.told;
+    given_so = has.given_so;
+    among = has.among;
+    once = has.once;
+    of_core = subst (λ (l : List Event). IsRunOfCore key.plan key.workers has.told l) (sym same) (at_the_end d.read over (IsRunOfCore key.plan key.workers has.told d.read) has.ran);
+  };
   legal = subst (λ (l : List Event). IsLegal key.plan has.told key.workers l) (sym same) has.legal;
   texts_are = subst (λ (l : List Event). AreTexts key.plan has.told l texts) (sym same)
       (given_texts key.plan replies has.told key.workers d.slots d.read texts (subst (λ (l : List Event). IsLegal key.plan replies key.workers l) same legal) has.legal are has.texts);
-  ran = subst (λ (l : List Event). IsRunOfCore key.plan key.workers has.told l) (sym same) (at_the_end d.read over (IsRunOfCore key.plan key.workers has.told d.read) has.ran);
 }
 
 -- and what the jobs say that come back used
 pub said_reported : {B : Type 0} (says : B → Outcome → Type 0) (given : ℕ → Reply → Type 0) (key : About B) (replies : ℕ → List Reply) (d : DispatcherFacts) (events : List Event) (texts : TextParts) (used : List (ℕ × B)) → events ≡ d.read → IsLegal key.plan replies key.workers events → AreTextsRead key.plan replies d.slots d.read texts
-    → IsOver d.read → HasSaid says given key d used → IsToldAsSaid says given key.plan key.workers events texts used
+    → IsOver d.read → HasSaid says given replies key d used → IsToldAsSaid says given replies key.plan key.workers events texts used
 said_reported says given key replies d events texts used same legal are over has = record {
   is = given_reported given key replies d events texts same legal are over has.is;
   says_so = has.says_so;

@@ -32,13 +32,13 @@ returns-in_err-settings-clause-no_memory g c =
 pub returns-clause-watched : goal.returns-clause-watched
 returns-clause-watched g c =
     program_run g.B.Job.answers g.B.Job.gives (asked_by c.args.options.now) (program_parts c.args.program.tree c.args.program.properties) c.args.program.jobs.items g.V.Observer.saw c.args.observer.now c.run_planned-answer.new.observer (times_of c.run_planned-answer.new.times.timings) c.in_ok-settings.field-0.settings c.in_ok-settings.field-0.plan c.in_ok-settings.ensures.ready
-    c.in_ok-settings.ensures.steps c.in_ok-settings.field-0.is_missing c.in_ok-settings.ensures.missing (g.W.Write.contents c.args.writer.now) _ c.run_planned-answer.result c.answer_unless.result c.answer_unless.ensures c.run_planned-answer.ensures.exact
+    c.in_ok-settings.ensures.options c.in_ok-settings.field-0.is_missing c.in_ok-settings.ensures.missing (g.W.Write.contents c.args.writer.now) _ c.run_planned-answer.result c.answer_unless.result c.answer_unless.ensures c.run_planned-answer.ensures.exact
 
 pub returns-clause-exact : goal.returns-clause-exact
 returns-clause-exact g c =
     unseen_run (asked_by c.args.options.now) (program_parts c.args.program.tree c.args.program.properties) g.B.Job.answers g.B.Job.gives c.args.program.jobs.items g.V.Observer.saw c.args.observer.now c.run_planned-answer.new.observer (times_of c.run_planned-answer.new.times.timings) _ _ c.answer_unless.result
     (program_run g.B.Job.answers g.B.Job.gives (asked_by c.args.options.now) (program_parts c.args.program.tree c.args.program.properties) c.args.program.jobs.items g.V.Observer.saw c.args.observer.now c.run_planned-answer.new.observer (times_of c.run_planned-answer.new.times.timings) c.in_ok-settings.field-0.settings c.in_ok-settings.field-0.plan c.in_ok-settings.ensures.ready
-    c.in_ok-settings.ensures.steps c.in_ok-settings.field-0.is_missing c.in_ok-settings.ensures.missing (g.W.Write.contents c.args.writer.now) _ c.run_planned-answer.result c.answer_unless.result c.answer_unless.ensures c.run_planned-answer.ensures.exact)
+    c.in_ok-settings.ensures.options c.in_ok-settings.field-0.is_missing c.in_ok-settings.ensures.missing (g.W.Write.contents c.args.writer.now) _ c.run_planned-answer.result c.answer_unless.result c.answer_unless.ensures c.run_planned-answer.ensures.exact)
 
 pub returns-clause-no_memory : goal.returns-clause-no_memory
 returns-clause-no_memory g c =

@@ -17,4 +17,4 @@ returns-in-Ok g c =
     let done = c.launch_planned-answer in
     inr
     (planned_launch g.B.Job.answers g.B.Job.gives g.B.Job.says g.V.Observer.saw c.args.observer.now done.new.observer (times_of done.new.times.timings) (asked_by c.args.options.now) c.args.program.jobs.items (g.W.Write.contents c.args.writer.now) (g.W.Write.contents done.new.writer) (program_parts c.args.program.tree c.args.program.properties) ready.settings ready.plan
-    c.in-Ok.ensures.ready c.in-Ok.ensures.steps ready.is_missing c.in-Ok.ensures.missing done.result.ran done.result.answer c.answer_unless.result done.ensures c.answer_unless.ensures)
+    c.in-Ok.ensures.ready c.in-Ok.ensures.options ready.is_missing c.in-Ok.ensures.missing done.result.ran done.result.answer c.answer_unless.result done.ensures c.answer_unless.ensures)

@@ -51,8 +51,8 @@ returns-in-Ok-clause-texts g c =
 pub returns-in-Ok-clause-given : goal.returns-in-Ok-clause-given
 returns-in-Ok-clause-given g c =
     let key = run_of c.args.plan c.args.workers c.args.ring (untimed c.args.timed.items) in
-    carried c.untimed_report.ensures.same (λ r. IsToldAsGiven (given_by g.B.Job.gives key) c.args.plan c.args.workers r.events.items r.texts)
-    (told_given (λ t. t.job) g.B.Job.gives c.args.plan c.args.workers c.args.ring c.args.timed.items c.in-Ok.report.events.items c.in-Ok.report.texts c.in-Ok.ensures.given)
+    carried c.untimed_report.ensures.same (λ r. IsToldAsGiven (given_by g.B.Job.gives key) (replies_of g.B.Job.answers key) c.args.plan c.args.workers r.events.items r.texts)
+    (told_given (λ t. t.job) g.B.Job.answers c.args.plan c.args.workers c.args.ring c.args.timed.items g.B.Job.gives c.in-Ok.report.events.items c.in-Ok.report.texts c.in-Ok.ensures.given)
 
 pub untimed_report-requires-clause-used_room : goal.untimed_report-requires-clause-used_room
 untimed_report-requires-clause-used_room g c = (let few = c.in-Ok.ensures.said.few in omega (arith, few, c.requires.used_room))
@@ -60,9 +60,9 @@ untimed_report-requires-clause-used_room g c = (let few = c.in-Ok.ensures.said.f
 pub returns-in-Ok-clause-said : goal.returns-in-Ok-clause-said
 returns-in-Ok-clause-said g c =
     let key = run_of c.args.plan c.args.workers c.args.ring (untimed c.args.timed.items) in
-    carried c.untimed_report.ensures.same (λ r. IsToldAsSaid g.B.Job.says (given_by g.B.Job.gives key) c.args.plan c.args.workers r.events.items r.texts c.untimed_report.result.used_jobs.items)
-    (carried c.untimed_report.ensures.used (λ js. IsToldAsSaid g.B.Job.says (given_by g.B.Job.gives key) c.args.plan c.args.workers c.in-Ok.report.events.items c.in-Ok.report.texts js)
-    (told_said (λ t. t.job) g.B.Job.gives c.args.plan c.args.workers c.args.ring c.args.timed.items g.B.Job.says c.in-Ok.report.events.items c.in-Ok.report.texts c.in-Ok.report.used_jobs.items c.in-Ok.ensures.said))
+    carried c.untimed_report.ensures.same (λ r. IsToldAsSaid g.B.Job.says (given_by g.B.Job.gives key) (replies_of g.B.Job.answers key) c.args.plan c.args.workers r.events.items r.texts c.untimed_report.result.used_jobs.items)
+    (carried c.untimed_report.ensures.used (λ js. IsToldAsSaid g.B.Job.says (given_by g.B.Job.gives key) (replies_of g.B.Job.answers key) c.args.plan c.args.workers c.in-Ok.report.events.items c.in-Ok.report.texts js)
+    (told_said (λ t. t.job) g.B.Job.answers c.args.plan c.args.workers c.args.ring c.args.timed.items g.B.Job.gives g.B.Job.says c.in-Ok.report.events.items c.in-Ok.report.texts c.in-Ok.report.used_jobs.items c.in-Ok.ensures.said))
 
 pub returns-in-Ok-clause-left : goal.returns-in-Ok-clause-left
 returns-in-Ok-clause-left g c =

@@ -25,12 +25,12 @@ returns-in-Ok-timed_jobs-clause-texts g c =
 
 pub returns-in-Ok-timed_jobs-clause-given : goal.returns-in-Ok-timed_jobs-clause-given
 returns-in-Ok-timed_jobs-clause-given g c =
-    carried (sym c.in-Ok-timed_jobs.ensures.jobs) (λ js. IfOk c.run_noted.result (λ r. IsToldAsGiven (given_by g.B.Job.gives (run_of c.args.plan c.args.workers c.args.ring js)) c.args.plan c.args.workers r.events.items r.texts)) c.run_noted.ensures.given
+    carried (sym c.in-Ok-timed_jobs.ensures.jobs) (λ js. IfOk c.run_noted.result (λ r. IsToldAsGiven (given_by g.B.Job.gives (run_of c.args.plan c.args.workers c.args.ring js)) (replies_of g.B.Job.answers (run_of c.args.plan c.args.workers c.args.ring js)) c.args.plan c.args.workers r.events.items r.texts)) c.run_noted.ensures.given
 
 pub returns-in-Ok-timed_jobs-clause-said : goal.returns-in-Ok-timed_jobs-clause-said
 returns-in-Ok-timed_jobs-clause-said g c =
     carried (sym c.in-Ok-timed_jobs.ensures.jobs)
-    (λ js. IfOk c.run_noted.result (λ r. IsToldAsSaid g.B.Job.says (given_by g.B.Job.gives (run_of c.args.plan c.args.workers c.args.ring js)) c.args.plan c.args.workers r.events.items r.texts r.used_jobs.items)) c.run_noted.ensures.said
+    (λ js. IfOk c.run_noted.result (λ r. IsToldAsSaid g.B.Job.says (given_by g.B.Job.gives (run_of c.args.plan c.args.workers c.args.ring js)) (replies_of g.B.Job.answers (run_of c.args.plan c.args.workers c.args.ring js)) c.args.plan c.args.workers r.events.items r.texts r.used_jobs.items)) c.run_noted.ensures.said
 
 pub returns-in-Ok-timed_jobs-clause-left : goal.returns-in-Ok-timed_jobs-clause-left
 returns-in-Ok-timed_jobs-clause-left g c =

@@ -46,7 +46,7 @@ returns-clause-report g c =
           are;
       given = given_reported (given_by g.B.Job.gives key) key replies state events after.texts q.noted is.legal are q.over c.close-plan.ensures.given;
       said = said_reported g.B.Job.says (given_by g.B.Job.gives key) key replies state events after.texts c.close-plan.result.used.items q.noted is.legal are q.over
-          (at_the_end state.read q.over (HasSaid g.B.Job.says (given_by g.B.Job.gives key) key state c.close-plan.result.used.items) c.close-plan.ensures.said);
+          (at_the_end state.read q.over (HasSaid g.B.Job.says (given_by g.B.Job.gives key) replies key state c.close-plan.result.used.items) c.close-plan.ensures.said);
       left = record { state = state; read = sym q.noted; ended = c.close-plan.ensures.ends };
       balanced = balance_reported key.plan key.jobs jobs state.read events q.noted q.over c.close-plan.ensures.balanced;
     }
