@@ -13,6 +13,7 @@ use crate::answer::silent_outcome;
 use crate::channel::Channel;
 use crate::heard::{Answer, Heard};
 use crate::silence::Silence;
+use descriptor::NodeId;
 use job_places::Place;
 use plan_events::{Job, Outcome, Pull};
 use reports::push_note;
@@ -127,7 +128,7 @@ impl<R: Read, W: Write> Channel<R, W> {
 }
 
 impl<R: Read, W: Write> Place<HostJob> for Channel<R, W> {
-    fn run(&mut self, job: &mut HostJob) -> Outcome {
+    fn run(&mut self, _node: NodeId, job: &mut HostJob) -> Outcome {
         self.serve(job)
     }
 }

@@ -3,13 +3,15 @@
 ghost use Rattle.std.specs.Prelude.{◌≡◌, ◌<◌, [], length};
 ghost use Rattle.plan_events.specs.Jobs.{GivesOutcome, IsRun, unpulled};
 
+use descriptor::NodeId;
 use plan_events::{Job, Outcome};
 
 /// A place at which jobs are run. Each worker of a run has one of its own, so two jobs are never at the same place at
 /// once: it may be the channel to a process, or a connection to a database.
 pub trait Place<B: Job> {
-    /// Runs a job here, and answers how it ended: what the job may answer, gives, and says once it was run.
-    fn run(&mut self, job: &mut B) -> Outcome
+    /// Runs the job of this node here, and answers how it ended: what the job may answer, gives, and says once it was
+    /// run.
+    fn run(&mut self, node: NodeId, job: &mut B) -> Outcome
         requires { 0 < length (unpulled (B.answers job.old)) }
         ensures outcome { IsRun (B.answers job.old) result }
         ensures given { GivesOutcome (B.gives job.old) result }
@@ -19,7 +21,7 @@ pub trait Place<B: Job> {
 
 /// The place of jobs that need nothing: they run themselves.
 impl<B: Job> Place<B> for () {
-    fn run(&mut self, job: &mut B) -> Outcome {
+    fn run(&mut self, _node: NodeId, job: &mut B) -> Outcome {
         job.run()
     }
 }

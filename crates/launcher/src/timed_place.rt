@@ -1,5 +1,6 @@
 //! A place at which jobs are run that a stopwatch takes note of.
 
+use descriptor::NodeId;
 use job_places::Place;
 use job_times::{Stopwatch, TimedJob};
 use plan_events::{Job, Outcome};
@@ -12,9 +13,9 @@ pub struct TimedPlace<K> {
 }
 
 impl<'s, B: Job, S: Stopwatch, K: Place<B>> Place<TimedJob<'s, B, S>> for TimedPlace<K> {
-    fn run(&mut self, job: &mut TimedJob<'s, B, S>) -> Outcome {
+    fn run(&mut self, node: NodeId, job: &mut TimedJob<'s, B, S>) -> Outcome {
         job.stopwatch.begin(job.number);
-        let outcome = self.place.run(&mut job.job);
+        let outcome = self.place.run(node, &mut job.job);
         job.stopwatch.end(job.number);
         outcome
     }

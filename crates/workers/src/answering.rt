@@ -64,7 +64,7 @@ pub(crate) fn run<B: Job, K: Place<B>>(
     ensures hand { seat.new.hand ≡ seat.old.hand }
     ensures told { IsTold seat.old.seat seat.new.seat seat.old.task seat.old.hand node }
 {
-    let Outcome { status, text } = place.run(&mut job);
+    let Outcome { status, text } = place.run(node, &mut job);
     let Ok(()) = seat.text_in(table, node, status, Note::Own(text), job) else {
         unreachable!()
     };
