@@ -1,5 +1,6 @@
 -- The definitions that contracts cite.
 pub mod Answers
+pub mod Asking
 pub mod Channels
 pub mod HostJobs
 pub mod Lines

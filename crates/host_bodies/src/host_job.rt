@@ -4,6 +4,7 @@ ghost use Rattle.std.specs.Prelude.{◌≡◌, [], codes, length, IfOk};
 ghost use Rattle.reports.specs.Json.{note_line};
 ghost use Rattle.plan_events.specs.Jobs.{GivesOutcome, IsRun};
 ghost use Rattle.host_bodies.specs.Answers.{Tells};
+ghost use Rattle.host_bodies.specs.Asking.{unasked_channel, HasLedTo};
 ghost use Rattle.host_bodies.specs.Channels.{link_of};
 ghost use Rattle.host_bodies.specs.HostJobs.{gives_told, is_asked, replies_left, says_heard, IsAskedFor, IsTold};
 ghost use Rattle.host_bodies.specs.Replies.{replies_by, IsSayable};
@@ -128,6 +129,10 @@ impl<R: Read, W: Write> Channel<R, W> {
 }
 
 impl<R: Read, W: Write> Place<HostJob> for Channel<R, W> {
+    ghost led = { HasLedTo W.contents R.remaining };
+
+    ghost unasked = { unasked_channel W.contents R.remaining };
+
     fn run(&mut self, _node: NodeId, job: &mut HostJob) -> Outcome {
         self.serve(job)
     }

@@ -13,6 +13,10 @@ pub struct TimedPlace<K> {
 }
 
 impl<'s, B: Job, S: Stopwatch, K: Place<B>> Place<TimedJob<'s, B, S>> for TimedPlace<K> {
+    ghost led = { λ first now. K.led first.place now.place };
+
+    ghost unasked = { λ timed. K.unasked timed.place };
+
     fn run(&mut self, node: NodeId, job: &mut TimedJob<'s, B, S>) -> Outcome {
         job.stopwatch.begin(job.number);
         let outcome = self.place.run(node, &mut job.job);

@@ -6,6 +6,7 @@ ghost use Rattle.table_rule.specs.Picture.{gives_in, replies_in};
 ghost use Rattle.table_rule.specs.Plays.{makes};
 ghost use Rattle.table_rule.specs.declared.view.SlotState.TheVariants.{Out, Noted};
 ghost use Rattle.plan_events.specs.declared.outcome.Reply.{Reply as ReplyValue};
+ghost use Rattle.job_places.specs.Leading.{GoesOnFrom};
 ghost use Rattle.run_table.specs.Answering.{registered_by, IsToldAs};
 ghost use Rattle.run_table.specs.Handles.{about_at, about_in, plan_at, ready_at, worker_at};
 ghost use Rattle.run_table.specs.Moved.{job_slot};
@@ -63,6 +64,7 @@ pub(crate) fn run<B: Job, K: Place<B>>(
     ensures task { seat.new.task ≡ seat.old.task }
     ensures hand { seat.new.hand ≡ seat.old.hand }
     ensures told { IsTold seat.old.seat seat.new.seat seat.old.task seat.old.hand node }
+    ensures led { GoesOnFrom K.led place.old place.new }
 {
     let Outcome { status, text } = place.run(node, &mut job);
     let Ok(()) = seat.text_in(table, node, status, Note::Own(text), job) else {
@@ -85,6 +87,7 @@ fn run_awaited<B: Job, K: Place<B>>(
     ensures goes_on { GoesOn seat.old.seat seat.new.seat }
     ensures decided { is_decided (ready_at seat.new.seat).seat.task ≡ true }
     ensures steady { (phase : Phase) → Steady phase seat.old.seat → ReadySteady phase seat.new.seat }
+    ensures led { GoesOnFrom K.led place.old place.new }
 {
     if let Some(job) = seat.body_out(table, node) {
         run(table, seat, place, node, job);
@@ -106,6 +109,7 @@ pub(crate) fn answer<B: Job, K: Place<B>>(
     requires steady { (phase : Phase) × Steady phase seat.old.seat }
     ensures goes_on { GoesOn seat.old.seat seat.new.seat }
     ensures steady { (phase : Phase) → Steady phase seat.old.seat → Steady phase seat.new.seat }
+    ensures led { GoesOnFrom K.led place.old place.new }
 {
     run_awaited(table, seat, place, node);
     go_on_decided(table, seat, sources);

@@ -7,6 +7,7 @@ ghost use Rattle.plan_events.specs.Jobs.{unpulled};
 ghost use Rattle.scheduling.specs.declared.seat.Hand.{Hand as HandValue};
 ghost use Rattle.scheduling.specs.declared.task.Task.TheVariants.{Free};
 ghost use Rattle.table_rule.specs.Picture.{gives_in, replies_in};
+ghost use Rattle.job_places.specs.Leading.{GoesOnFrom};
 ghost use Rattle.run_table.specs.Handles.{about_at, about_in, guard_due_at, plan_at};
 ghost use Rattle.run_table.specs.Seats.{IsSeatOf};
 ghost use Rattle.plan_events.specs.declared.outcome.Reply.{Reply as ReplyValue};
@@ -64,6 +65,7 @@ fn see_tests_through<B: Job, K: Place<B>, R: Wait>(
         Steady (AtTests factory asked) seat.new.seat }
     ensures free { seat.new.task ≡ Free }
     ensures idle { (h : HandValue) → seat.new.hand ≡ Some h → h.waiting ≡ None }
+    ensures led { GoesOnFrom K.led place.old place.new }
 {
     for _ in rt.forever() {
         let gave_up = run_tasks(rt, table, seat, place, sources);
@@ -172,6 +174,7 @@ fn run_factory<B: Job, K: Place<B>>(
         × GivesAfter asked (gives_in B.gives (about_at seat.old.seat).jobs number) (B.gives job) }
     ensures goes_on { GoesOn seat.old.seat seat.new.seat }
     ensures steady { Steady AtNodes seat.new.seat }
+    ensures led { GoesOnFrom K.led place.old place.new }
 {
     run(table, seat, place, factory, job);
     let_go(table, seat);
@@ -195,6 +198,7 @@ pub(crate) fn pull_tests<B: Job, K: Place<B>, R: Wait>(
     requires steady { Steady AtNodes seat.old.seat }
     ensures goes_on { GoesOn seat.old.seat seat.new.seat }
     ensures steady { Steady AtNodes seat.new.seat }
+    ensures led { GoesOnFrom K.led place.old place.new }
 {
     let factory = held.factory;
     let tests = table.plan().tree().children(factory).len();

@@ -6,6 +6,7 @@ ghost use Rattle.scheduling.specs.declared.task.Opening.TheVariants.{Backing};
 ghost use Rattle.scheduling.specs.declared.task.Closing.TheVariants.{Settling};
 ghost use Rattle.scheduling.specs.declared.task.Task.TheVariants.{Opens, Closes};
 ghost use Rattle.table_rule.specs.Plays.{back_due};
+ghost use Rattle.job_places.specs.Leading.{GoesOnFrom};
 ghost use Rattle.run_table.specs.Handles.{about_in, event_due_at, offer_due_at};
 ghost use Rattle.run_table.specs.Seats.{IsSeatOf};
 ghost use Rattle.workers.specs.Going.{GoesOn, HasRoom};
@@ -220,6 +221,7 @@ pub(crate) fn go_on_opening<B: Job, K: Place<B>, R: Wait>(
     requires steady { (phase : Phase) × Steady phase seat.old.seat }
     ensures goes_on { GoesOn seat.old.seat seat.new.seat }
     ensures steady { (phase : Phase) → Steady phase seat.old.seat → Steady phase seat.new.seat }
+    ensures led { GoesOnFrom K.led place.old place.new }
 {
     match opening {
         Opening::Registering => seat.draw_due(table),
@@ -255,6 +257,7 @@ pub(crate) fn go_on_closing<B: Job, K: Place<B>, R: Wait>(
     requires steady { (phase : Phase) × Steady phase seat.old.seat }
     ensures goes_on { GoesOn seat.old.seat seat.new.seat }
     ensures steady { (phase : Phase) → Steady phase seat.old.seat → Steady phase seat.new.seat }
+    ensures led { GoesOnFrom K.led place.old place.new }
 {
     match closing {
         Closing::AwaitingAfter => answer(table, seat, place, sources, node),

@@ -2,6 +2,7 @@
 
 ghost use Rattle.std.specs.Prelude.{◌≡◌, true, None};
 ghost use Rattle.scheduling.specs.declared.task.Task.TheVariants.{Free};
+ghost use Rattle.job_places.specs.Leading.{GoesOnFrom};
 ghost use Rattle.run_table.specs.Handles.{about_in, worker_at};
 ghost use Rattle.run_table.specs.Seats.{IsSeatOf, SameSeat};
 ghost use Rattle.workers.specs.Going.{Continues, GoesOn};
@@ -33,6 +34,7 @@ pub(crate) fn run_tasks<B: Job, K: Place<B>, R: Wait>(
     ensures goes_on { GoesOn seat.old.seat seat.new.seat }
     ensures steady { (phase : Phase) → Steady phase seat.old.seat → Steady phase seat.new.seat }
     ensures free { seat.new.task ≡ Free }
+    ensures led { GoesOnFrom K.led place.old place.new }
 {
     let mut gave_up = false;
     for _ in rt.forever() {
@@ -65,6 +67,7 @@ fn see_through<B: Job, K: Place<B>, R: Wait>(
     ensures steady { Steady AtNodes seat.new.seat }
     ensures free { seat.new.task ≡ Free }
     ensures empty { seat.new.hand ≡ None }
+    ensures led { GoesOnFrom K.led place.old place.new }
 {
     for _ in rt.forever() {
         run_tasks(rt, table, seat, place, sources);
@@ -91,6 +94,7 @@ fn take_and_see_through<B: Job, K: Place<B>, R: Wait>(
     ensures goes_on { GoesOn seat.old.seat seat.new.seat }
     ensures free { seat.new.task ≡ Free }
     ensures empty { seat.new.hand ≡ None }
+    ensures led { GoesOnFrom K.led place.old place.new }
 {
     if take_node(table, seat, sources) {
         see_through(rt, table, seat, place, sources);
@@ -118,6 +122,7 @@ pub fn work<B: Job, K: Place<B>, R: Wait>(
     ensures free { seat.new.task ≡ Free }
     ensures empty { seat.new.hand ≡ None }
     ensures over { (worker_at seat.new.seat).over ≡ true }
+    ensures led { GoesOnFrom K.led place.old place.new }
 {
     sources.attach(seat.place());
     for _ in rt.forever() {

@@ -46,6 +46,7 @@ loop-init g c =
       some = factory_may g.B.Job.answers (about_of c.args.table.now.table.shared.key) old.seat.me.0.about f j.0 (g.B.Job.answers c.take_job-job.result) c.requires.jobs c.requires.table.about pulls j.1 j.2;
       left = subst (λ a. (number : ℕ) × (body_of a.plan.tree f ≡ Some number) × LeftAfter 0 (replies_in g.B.Job.answers a.jobs number) (g.B.Job.answers c.take_job-job.result) × GivesAfter 0 (gives_in g.B.Job.gives a.jobs number) (g.B.Job.gives c.take_job-job.result))
           (sym took.goes_on.same.about) (j.0, j.1, none_asked 0 _ _ refl j.2, none_given 0 (gives_in g.B.Job.gives old.seat.me.0.about.jobs j.0) (g.B.Job.gives c.take_job-job.result) refl j.3);
+      led = λ first it. it;
     }
 
 pub see_tests_through-requires-clause-table : goal.see_tests_through-requires-clause-table
@@ -76,6 +77,7 @@ loop-preserved g c =
             more_left c.loop.asked _ (g.B.Job.answers c.loop.job) (g.B.Job.answers c.next-in-loop.new.self) j.2 (said.left ∙ ap (λ r. left_by r (g.B.Job.answers c.loop.job)) c.in-More.is),
             more_given c.loop.asked (gives_in g.B.Job.gives c.loop.seat.seat.me.0.about.jobs j.0) (g.B.Job.gives c.loop.job) (g.B.Job.gives c.next-in-loop.new.self) _ c.in-More.is j.3 c.next-in-loop.ensures.given,
           );
+      led = λ first it. c.see_tests_through.ensures.led first (c.loop.invariant.led first it);
     }
 
 pub tell_too_many-requires-clause-job : goal.tell_too_many-requires-clause-job

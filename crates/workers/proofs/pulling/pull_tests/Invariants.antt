@@ -3,6 +3,7 @@ use Rattle.descriptor.specs.Nodes.{body_of}
 use Rattle.scheduling.specs.declared.seat.Hand.{Hand}
 use Rattle.scheduling.specs.declared.task.Task.TheVariants.{Free}
 use Rattle.table_rule.specs.Picture.{gives_in, replies_in}
+use Rattle.job_places.specs.Leading.{GoesOnFrom}
 use Rattle.run_table.specs.Seats.{IsSeatOf}
 use Rattle.workers.specs.Inside.Answering.{GivesAfter, LeftAfter}
 use Rattle.workers.specs.Going.{GoesOn}
@@ -19,4 +20,5 @@ invariant-loop g l = record {
   few : l.asked ≤ l.tests;
   some : 0 < length (g.B.Job.answers l.job);
   left : (number : ℕ) × (body_of l.seat.seat.me.0.about.plan.tree l.factory ≡ Some number) × LeftAfter l.asked (replies_in g.B.Job.answers l.seat.seat.me.0.about.jobs number) (g.B.Job.answers l.job) × GivesAfter l.asked (gives_in g.B.Job.gives l.seat.seat.me.0.about.jobs number) (g.B.Job.gives l.job);
+  led : GoesOnFrom g.K.Place.led l.fn.place l.place;
 }

@@ -4,7 +4,7 @@ use Rattle.workers.proofs.Outgoing.{then_goes}
 use Rattle.workers.proofs.pulling.see_tests_through.Goals as goal
 
 pub loop-init : goal.loop-init
-loop-init g c = record { table = c.requires.table; goes_on = goes_itself _; steady = λ f a it. it }
+loop-init g c = record { table = c.requires.table; goes_on = goes_itself _; steady = λ f a it. it; led = λ first it. it }
 
 pub run_tasks-gave_up-requires-clause-steady : goal.run_tasks-gave_up-requires-clause-steady
 run_tasks-gave_up-requires-clause-steady g c = (let s = c.requires.steady in (AtTests s.0 s.1, c.loop.invariant.steady s.0 s.1 s.2))
@@ -23,6 +23,7 @@ loop-preserved-then-not-take_test g c = record {
   table = then_still _ _ _ _ c.loop.invariant.table c.run_tasks-gave_up.ensures.goes_on.same c.take_test.ensures.goes_on.same;
   goes_on = then_goes _ _ _ (then_goes _ _ _ c.loop.invariant.goes_on c.run_tasks-gave_up.ensures.goes_on) c.take_test.ensures.goes_on;
   steady = λ f a it. c.take_test.ensures.steady f a (c.run_tasks-gave_up.ensures.steady (AtTests f a) (c.loop.invariant.steady f a it));
+  led = λ first it. c.run_tasks-gave_up.ensures.led first (c.loop.invariant.led first it);
 }
 
 pub loop-preserved : goal.loop-preserved
@@ -30,4 +31,5 @@ loop-preserved g c = record {
   table = then_still _ _ _ _ c.loop.invariant.table c.run_tasks-gave_up.ensures.goes_on.same c.take_test.ensures.goes_on.same;
   goes_on = then_goes _ _ _ (then_goes _ _ _ c.loop.invariant.goes_on c.run_tasks-gave_up.ensures.goes_on) c.take_test.ensures.goes_on;
   steady = λ f a it. c.take_test.ensures.steady f a (c.run_tasks-gave_up.ensures.steady (AtTests f a) (c.loop.invariant.steady f a it));
+  led = λ first it. c.run_tasks-gave_up.ensures.led first (c.loop.invariant.led first it);
 }

@@ -1,3 +1,4 @@
+use Rattle.job_places.specs.Leading.{GoesOnFrom}
 use Rattle.run_table.specs.Seats.{IsSeatOf}
 use Rattle.workers.specs.Going.{GoesOn}
 use Rattle.workers.specs.Inside.Steady.{Steady, AtNodes}
@@ -8,4 +9,5 @@ invariant-loop g l = record {
   table : IsSeatOf l.table.table l.seat.seat;
   goes_on : GoesOn l.fn.seat.seat l.seat.seat;
   steady : Steady AtNodes l.seat.seat;
+  led : GoesOnFrom g.K.Place.led l.fn.place l.place;
 }

@@ -4,7 +4,7 @@ use Rattle.workers.proofs.Outgoing.{then_goes}
 use Rattle.workers.proofs.working.work.Goals as goal
 
 pub loop-init : goal.loop-init
-loop-init g c = record { table = c.requires.table; goes_on = goes_itself _; free = c.requires.free; empty = c.requires.empty }
+loop-init g c = record { table = c.requires.table; goes_on = goes_itself _; free = c.requires.free; empty = c.requires.empty; led = λ first it. it }
 
 pub take_and_see_through-requires-clause-table : goal.take_and_see_through-requires-clause-table
 take_and_see_through-requires-clause-table g c = still_of _ _ _ c.loop.invariant.table c.is_over.ensures.goes_on.same
@@ -18,6 +18,7 @@ loop-preserved g c =
       goes_on = then_goes _ _ _ (then_goes _ _ _ c.loop.invariant.goes_on over.goes_on) seen.goes_on;
       free = seen.free;
       empty = seen.empty;
+      led = λ first it. seen.led first (c.loop.invariant.led first it);
     }
 
 pub returns-then-is_over-clause-same : goal.returns-then-is_over-clause-same

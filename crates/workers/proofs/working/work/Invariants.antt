@@ -1,5 +1,6 @@
 use Rattle.std.proofs.Common.{◌≡◌, None}
 use Rattle.scheduling.specs.declared.task.Task.TheVariants.{Free}
+use Rattle.job_places.specs.Leading.{GoesOnFrom}
 use Rattle.run_table.specs.Seats.{IsSeatOf}
 use Rattle.workers.specs.Going.{GoesOn}
 use Rattle.workers.proofs.working.work.Given as goal
@@ -10,4 +11,5 @@ invariant-loop g l = record {
   goes_on : GoesOn l.fn.seat.seat l.seat.seat;
   free : l.seat.task ≡ Free;
   empty : l.seat.hand ≡ None;
+  led : GoesOnFrom g.K.Place.led l.fn.place l.place;
 }

@@ -1,0 +1,2 @@
+-- What clauses say of places.
+pub mod Leading
