@@ -1,6 +1,6 @@
 //! A channel to a host.
 
-ghost use Rattle.std.specs.Prelude.{◌≡◌, ◌+◌, ◌≤◌, ◌⊎◌, ◌∷◌, ◌++◌, [], IfOk, IfErr, None, length, take};
+ghost use Rattle.std.specs.Prelude.{◌≡◌, ◌+◌, ◌≤◌, ◌⊎◌, ◌∷◌, ◌++◌, ◌↔◌, [], true, IfOk, IfErr, None, length, take};
 ghost use Rattle.std.specs.Str.{IsUtf8};
 ghost use Rattle.std.specs.Io.KnownBytes.{Appends};
 ghost use Rattle.host_bodies.specs.Answers.{Tells};
@@ -95,6 +95,13 @@ impl<R: Read, W: Write> Channel<R, W> {
             scratch: Scratch::new(alloc),
             closed: None,
         })
+    }
+
+    /// Whether it is open: each request so far was answered.
+    pub fn is_open(&self) -> bool
+        ensures { result ≡ true ↔ (link_of W.contents R.remaining self.now).closed ≡ None }
+    {
+        self.closed.is_none()
     }
 
     /// Writes a request, and reads a line into the room.

@@ -136,4 +136,8 @@ impl<R: Read, W: Write> Place<HostJob> for Channel<R, W> {
     fn run(&mut self, _node: NodeId, job: &mut HostJob) -> Outcome {
         self.serve(job)
     }
+
+    fn is_open(&self) -> bool {
+        Channel::is_open(self)
+    }
 }

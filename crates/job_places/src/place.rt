@@ -23,6 +23,9 @@ pub trait Place<B: Job> {
         ensures over { B.answers job.new ≡ [] }
         ensures led { GoesOnFrom led self.old self.new };
 
+    /// Whether jobs are still run here. A place that is closed answers each at once, and none as it should.
+    fn is_open(&self) -> bool;
+
     /// A place that was asked for nothing.
     ghost unasked: { (place : Self) → led place place };
 }
@@ -35,5 +38,9 @@ impl<B: Job> Place<B> for () {
 
     fn run(&mut self, _node: NodeId, job: &mut B) -> Outcome {
         job.run()
+    }
+
+    fn is_open(&self) -> bool {
+        true
     }
 }

@@ -23,6 +23,10 @@ impl<'s, B: Job, S: Stopwatch, K: Place<B>> Place<TimedJob<'s, B, S>> for TimedP
         job.stopwatch.end(job.number);
         outcome
     }
+
+    fn is_open(&self) -> bool {
+        self.place.is_open()
+    }
 }
 
 /// A place for each worker that a run may have, for jobs that need none.
