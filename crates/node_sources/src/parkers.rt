@@ -27,6 +27,8 @@ pub struct Parkers {
     waiting_for_room: AtomicU64,
     // not 0: the dispatcher parks
     waiting_for_events: AtomicU64,
+    // how many workers have a place that is open; until the first threads are started as many more as there are workers
+    open: AtomicU64,
     workers: Vec<Parker>,
     state: Parker,
 }
@@ -38,6 +40,7 @@ impl Drop for Parkers {
             waiting_for_keys: _,
             waiting_for_room: _,
             waiting_for_events: _,
+            open: _,
             workers: _,
             state: _,
         } = self;
@@ -56,6 +59,7 @@ impl Parkers {
             waiting_for_keys: AtomicU64::new(0),
             waiting_for_room: AtomicU64::new(0),
             waiting_for_events: AtomicU64::new(0),
+            open: AtomicU64::new(u64::from(workers)),
             workers: parkers,
             state: Parker::new(),
         })
@@ -106,6 +110,27 @@ impl Parkers {
     /// Whether no worker parks for want of a node.
     pub fn are_empty(&self) -> bool {
         self.idle.load(Ordering::SeqCst) == 0
+    }
+
+    /// The thread of one worker more is started, and its place is open.
+    pub fn open_place(&self) {
+        self.open.fetch_add(1, Ordering::SeqCst);
+    }
+
+    /// The first threads are started: from now on no place counts whose thread is not.
+    pub fn begin(&self) {
+        self.open
+            .fetch_sub(self.workers.len() as u64, Ordering::SeqCst);
+    }
+
+    /// The place of one worker is closed.
+    pub(crate) fn close_place(&self) {
+        self.open.fetch_sub(1, Ordering::SeqCst);
+    }
+
+    /// Whether the places of all workers are closed.
+    pub(crate) fn are_all_closed(&self) -> bool {
+        self.open.load(Ordering::SeqCst) == 0
     }
 
     /// There will be no more nodes.

@@ -136,6 +136,7 @@ impl<
             return false;
         };
         self.started.push_reserved(handle);
+        shared.parkers.open_place();
         deal_seat(rt, shared, gate, seat);
         true
     }

@@ -100,6 +100,7 @@ fn tell_run<
     if pool.is_empty() {
         return Err(NotBegun::NoThread);
     }
+    shared.parkers.begin();
     dispatch(rt, shared, &mut pool, state, observer);
     take_back(rt, shared, pool.into_started(), &mut state.seat);
     Ok(())

@@ -75,12 +75,14 @@ fn look_at<B: Job>(table: &RunTable<B>, seat: &mut WorkerSeat<B>, node: NodeId) 
     status
 }
 
-/// Takes this node, if it is offered to any or to this worker and no key of it was busy, and says whether it did.
+/// Takes this node, if it is offered to this worker, or to any and it takes such, and no key of it was busy, and says
+/// whether it did.
 fn take<B: Job>(
     table: &RunTable<B>,
     seat: &mut WorkerSeat<B>,
     sources: &Sources,
     node: NodeId,
+    takes_any: bool,
 ) -> bool
     requires table { IsSeatOf table.now.table seat.old.seat }
     requires free { seat.old.task ≡ Free }
@@ -96,19 +98,20 @@ fn take<B: Job>(
         return false;
     }
     match status {
-        NodeStatus::Ready(None) => claim(table, seat, node),
+        NodeStatus::Ready(None) if takes_any => claim(table, seat, node),
         NodeStatus::Ready(Some(place)) if place == seat.place() => own(table, seat, node),
         _ => false,
     }
 }
 
-/// Takes the next node of this circle which is offered to any or to this worker, and answers it; or
+/// Takes the next node of this circle which is offered to this worker, or to any if it takes such, and answers it; or
 /// None, once none is left of the circle.
 fn take_next<B: Job>(
     table: &RunTable<B>,
     seat: &mut WorkerSeat<B>,
     sources: &Sources,
     circle: &mut Circle,
+    takes_any: bool,
 ) -> Option<NodeId>
     requires table { IsSeatOf table.now.table seat.old.seat }
     requires free { seat.old.task ≡ Free }
@@ -123,18 +126,20 @@ fn take_next<B: Job>(
 {
     while let Some(number) = circle.next() {
         let node = NodeId::new(number as u16);
-        if take(table, seat, sources, node) {
+        if take(table, seat, sources, node, takes_any) {
             return Some(node);
         }
     }
     None
 }
 
-/// Takes a node by one round, or by a look round the circle behind so many rounds, and says whether it did.
+/// Takes a node by one round, or by a look round the circle behind so many rounds, and says whether it did. If it takes
+/// none that is offered to any it looks round the circle at once, where what is offered to it is found too.
 pub(crate) fn take_node<B: Job>(
     table: &RunTable<B>,
     seat: &mut WorkerSeat<B>,
     sources: &mut Sources,
+    takes_any: bool,
 ) -> bool
     requires table { IsSeatOf table.now.table seat.old.seat }
     requires free { seat.old.task ≡ Free }
@@ -144,11 +149,11 @@ pub(crate) fn take_node<B: Job>(
     ensures free { result ≡ false → seat.new.task ≡ Free }
     ensures empty { seat.new.hand ≡ None }
 {
-    if sources.goes_a_round() {
+    if takes_any && sources.goes_a_round() {
         return take_ready(table, seat, sources);
     }
     let mut circle = Circle::behind(sources.last(), table.plan().tree().len());
-    let node = take_next(table, seat, sources, &mut circle);
+    let node = take_next(table, seat, sources, &mut circle, takes_any);
     sources.found(node);
     node.is_some()
 }

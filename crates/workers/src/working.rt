@@ -79,7 +79,17 @@ fn see_through<B: Job, K: Place<B>, R: Wait>(
     unreachable!()
 }
 
-/// Takes a node, if it finds one, and sees it through.
+/// Whether a worker takes nodes that are offered to any: its place is open, or no worker's is.
+fn takes_any<B: Job, K: Place<B>>(place: &K, sources: &mut Sources) -> bool {
+    if place.is_open() {
+        return true;
+    }
+    sources.close();
+    sources.are_all_closed()
+}
+
+/// Takes a node, if it finds one, and sees it through. While its place is closed, and another's is open, it takes only
+/// what is offered to it alone.
 fn take_and_see_through<B: Job, K: Place<B>, R: Wait>(
     rt: &R,
     table: &RunTable<B>,
@@ -96,8 +106,11 @@ fn take_and_see_through<B: Job, K: Place<B>, R: Wait>(
     ensures empty { seat.new.hand ≡ None }
     ensures led { GoesOnFrom K.led place.old place.new }
 {
-    if take_node(table, seat, sources) {
+    let takes_any = takes_any(place, sources);
+    if take_node(table, seat, sources, takes_any) {
         see_through(rt, table, seat, place, sources);
+    } else if !takes_any {
+        sources.nap(rt, table.plan());
     }
 }
 
