@@ -1,6 +1,6 @@
 //! The names of what is looked at, and what answers whether it holds.
 
-use crate::{boxed, lanes, meeting, moments, ring, rows, stepping};
+use crate::{boxed, hosts, lanes, meeting, moments, ring, rows, stepping};
 use std::alloc::Global;
 use std::sync::Wait;
 use std::thread::Threads;
@@ -17,6 +17,12 @@ pub fn holds_of_run<R: Threads + Wait + Sync>(rt: &R, alloc: Global, name: &str)
         }
         "bodies_run_side_by_side_where_they_may" => {
             meeting::bodies_run_side_by_side_where_they_may(rt, alloc)
+        }
+        "a_host_that_ended_is_asked_for_no_other_class" => {
+            hosts::a_host_that_ended_is_asked_for_no_other_class(rt, alloc)
+        }
+        "the_rest_fails_where_all_hosts_ended" => {
+            hosts::the_rest_fails_where_all_hosts_ended(rt, alloc)
         }
         "a_long_test_is_watched" => moments::a_long_test_is_watched(rt, alloc),
         "room_is_made_by_reading" => ring::room_is_made_by_reading(rt, alloc),

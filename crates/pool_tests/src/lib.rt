@@ -4,6 +4,7 @@
 
 mod behaviours;
 mod boxed;
+mod hosts;
 mod lanes;
 mod meeting;
 mod moments;
