@@ -1,6 +1,7 @@
 -- The line `after`: how the after-body of a class ends.
-use Rattle.std.specs.Prelude.{ℕ, ◌+◌, List, codes, Bool, Option, Some, None, Result, Ok, Err}
+use Rattle.std.specs.Prelude.{ℕ, List, codes, Bool, Option, Some, None, Result, Ok, Err}
 use Rattle.std.specs.Str.{bytes_eq}
+pub use Rattle.descriptor.specs.Bodies.{after_body}
 use Rattle.plan_events.specs.declared.status.Status.{Status}
 use Rattle.suite_words.specs.declared.suite.fault.SuiteFault.{SuiteFault}
 use Rattle.suite_words.specs.declared.suite.fault.SuiteFault.TheVariants.{BadLine}
@@ -21,7 +22,3 @@ ended number (Some status) text = Ok (status, text)
 -- how the body ends, by what follows the keyword `after`: a verdict as that of a test, but not `disabled`
 abbrev pub after_said : ℕ → List ℕ → Result (Status × List ℕ) SuiteFault
 after_said number rest = verdict_of number Test (first_word rest) (text_after_word rest) >>= (λ verdict. ended number (status_declared verdict) (text_after_word rest))
-
--- the number of the after-body of node n: above those of all bodies, which are numbers of nodes
-abbrev pub after_body : ℕ → ℕ
-after_body n = 8192 + n

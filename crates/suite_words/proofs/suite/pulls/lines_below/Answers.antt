@@ -6,7 +6,7 @@ use Rattle.suite_words.proofs.suite.pulls.lines_below.Goals as goal
 
 pub overflow_cast-result : goal.overflow_cast-result
 overflow_cast-result c =
-    let few : length c.children.result.now ≤ 16384 = subst (λ l. length l ≤ 4096) (sym c.children.ensures) (few_children c.args.tree.now c.args.node c.len.ensures.tree) in
+    let few : length c.children.result.now ≤ 16384 = subst (λ l. length l ≤ 16384) (sym c.children.ensures) (few_children c.args.tree.now c.args.node c.len.ensures.tree) in
     omega (arith, few)
 
 pub returns-then-index-len-clause-few : goal.returns-then-index-len-clause-few
