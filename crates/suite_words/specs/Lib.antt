@@ -1,4 +1,5 @@
 pub mod Grammar
+pub mod Limits
 pub mod Numbers
 pub mod Words
 pub mod Reading

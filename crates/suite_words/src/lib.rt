@@ -2,10 +2,12 @@
 
 #![tactic(auto)]
 
+mod limits;
 mod number;
 mod script;
 mod suite;
 
+pub use limits::{LONGEST_SUITE, byte_limit, node_limit};
 pub use number::{is_number, number_up_to};
 pub use script::Script;
 pub use suite::{

@@ -37,7 +37,7 @@ impl fmt::Display for SuiteFault {
                 write_line(f, *line, "an indentation that no line above can take")
             }
             SuiteFault::MissingVerdict(line) => write_line(f, *line, "no verdict"),
-            SuiteFault::TooLarge => f.write_str("more than 1048576 bytes"),
+            SuiteFault::TooLarge => f.write_str("more bytes than a suite may have"),
             SuiteFault::Refused { fault, line } => write!(f, "line {line}: {fault}"),
             SuiteFault::BadProperty(fault) => write!(f, "{fault}"),
         }
