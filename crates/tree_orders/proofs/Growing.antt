@@ -49,7 +49,7 @@ module _ (u : Nodes) (tree : IsTree u) where
     may : MayTake b above
     may = taken u (all_kept u) tree closed b n above some inside is (kept n inside) number
 
-    fits : (node : Node) → node_at u n ≡ Some node → refusal b above node ≡ None
+    fits : (node : Node) → node_at u n ≡ Some node → refusal 16383 b above node ≡ None
     fits node told = not_refused u (all_kept u) tree closed b n above some inside is (kept n inside) number node told
 
     more : (node : Node) (c : Nodes) → node_at u n ≡ Some node → c ≡ appended b above node → c ≡ pruned_below u (all_kept u) (n + 1)
@@ -70,7 +70,7 @@ module _ (t : Nodes) (tree : IsTree t) (order : List ℕ) (is : IsOrder t order)
     pub next_may : MayTake b above
     next_may = may (reordered t order) (reordered_tree t tree order is) b n above some (low n inside) grown as_parent
 
-    pub next_fits : (node : Node) → node_at t (get_or order n 0) ≡ Some node → refusal b above node ≡ None
+    pub next_fits : (node : Node) → node_at t (get_or order n 0) ≡ Some node → refusal 16383 b above node ≡ None
     next_fits node told = fits (reordered t order) (reordered_tree t tree order is) b n above some (low n inside) grown as_parent node (told_at t tree order is n ∙ told)
 
     -- and is the last of the tree of so many nodes
@@ -108,7 +108,7 @@ module _ (t : Nodes) (tree : IsTree t) (order : List ℕ) (is : IsOrder t order)
     pub put_may : MayTake b r
     put_may = next_may b n r some inside grown placed
 
-    pub put_fits : (node : Node) → node_at t x ≡ Some node → refusal b r node ≡ None
+    pub put_fits : (node : Node) → node_at t x ≡ Some node → refusal 16383 b r node ≡ None
     put_fits node told = next_fits b n r some inside grown placed node (ap (node_at t) (sym read_at) ∙ told)
 
     pub put_more : (node : Node) (c : Nodes) → node_at t x ≡ Some node → c ≡ appended b r node → c ≡ so_far t order (n + 1)

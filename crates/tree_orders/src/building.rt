@@ -8,10 +8,10 @@ ghost use Rattle.tree_orders.specs.Orders.{reordered};
 
 use crate::parent::parent;
 use crate::place::place_in;
-use descriptor::{Node, NodeId, Tree, TreeBuilder, TreeFault};
+use descriptor::{Node, NodeId, NodeLimit, Tree, TreeBuilder, TreeFault};
 use std::alloc::{AllocError, Global};
 
-/// Adds a node that is not refused.
+/// Adds a node that is not refused where there may be as many as in any tree.
 fn add(
     alloc: Global,
     builder: &mut TreeBuilder,
@@ -19,10 +19,10 @@ fn add(
     node: Node,
 ) -> Result<(), AllocError>
     requires may_take { MayTake builder.old parent }
-    requires accepted { refusal builder.old parent node ≡ None }
+    requires accepted { refusal 16383 builder.old parent node ≡ None }
     ensures { OnOk result (builder.new ≡ appended builder.old parent node) }
 {
-    match builder.add(alloc, parent, node) {
+    match builder.add(alloc, NodeLimit::most(), parent, node) {
         Ok(_) => Ok(()),
         Err(TreeFault::NoMemory) => Err(AllocError),
         Err(_) => unreachable!(),
