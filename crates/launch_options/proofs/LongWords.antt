@@ -18,6 +18,7 @@ in_other_words given asked are number is = record {
   processors = are.processors;
   workers = refl;
   ring = are.ring;
+  most_nodes = are.most_nodes;
   tests = are.tests;
   selected = are.selected;
   fail_fast = are.fail_fast;

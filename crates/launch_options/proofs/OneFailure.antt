@@ -31,6 +31,7 @@ in_a_number given asked are passed one is so = record {
   processors = are.processors;
   workers = are.workers;
   ring = are.ring;
+  most_nodes = are.most_nodes;
   tests = are.tests;
   selected = are.selected;
   fail_fast = are.fail_fast ∙ ap (λ (b : Bool). b || is_some given.max_fail) so;

@@ -23,6 +23,7 @@ use Rattle.step_text.specs.StepTexts.{steps_of}
 use Rattle.launch_options.specs.DetailsTexts.{details_asked}
 use Rattle.launch_options.specs.Failures.{fails_fast, max_fail_named, tolerated_asked, unless_both}
 use Rattle.launch_options.specs.Given.{Text, Values}
+use Rattle.launch_options.specs.NodeLimits.{most_nodes_named}
 use Rattle.launch_options.specs.Parameters.{processors_named, ring_named, drive_named, params_refusal}
 use Rattle.launch_options.specs.ReportTexts.{reports_refusal}
 use Rattle.launch_options.specs.SeedTexts.{seed_named}
@@ -30,7 +31,7 @@ use Rattle.launch_options.specs.ShardTexts.{shard_named}
 use Rattle.launch_options.specs.Workers.{params_said, unless_twice, workers_asked}
 
 -- what is asked for: what is to run, with which parameters and how many processors, how many workers `--workers` has said, if it
--- is given, how many events may be shown that are not told yet, what is printed and how, whether there have to be tests, or, where a
+-- is given, how many events may be shown that are not told yet, how many nodes a suite may have besides the plan, if that is said, what is printed and how, whether there have to be tests, or, where a
 -- shard is asked for, whether something has to be selected, whether nothing more is to start once nodes have failed, and after how many failures a run is to go on all the same, whether the steps of a run are to be printed,
 -- whether it is to be told how long tests took, the steps that are to be replayed, if any are, whether a replay that passes one over is to have status 1, and how many workers are to take those of the fixed schedule, if any are
 pub record Asked : Type 0 where
@@ -39,6 +40,7 @@ pub record Asked : Type 0 where
   pub processors : ℕ
   pub workers : Option ℕ
   pub ring : ℕ
+  pub most_nodes : Option ℕ
   pub details : Details
   pub theme : Theme
   pub fail_if_no_tests : Bool
@@ -59,6 +61,7 @@ asked_by options = record {
   processors = options.processors;
   workers = options.workers;
   ring = options.ring;
+  most_nodes = options.most_nodes;
   details = options.details;
   theme = options.theme;
   fail_if_no_tests = options.fail_if_no_tests;
@@ -186,18 +189,23 @@ workers_refusal given = option_or (unless_named (workers_asked given)) (unless_t
 abbrev pub failures_refusal : Values → Option LaunchFault
 failures_refusal given = option_or (unless_named (max_fail_named given.max_fail)) (unless_both given.fail_fast given.max_fail)
 
--- why the values are refused: what is asked for by a name or by a number, then a number of workers, then a number of failures, then a shard, then a seed, then reports, then
+-- why `--most-nodes` is refused: for what is no number of nodes that a suite may be allowed
+abbrev pub nodes_refusal : Values → Option LaunchFault
+nodes_refusal given = unless_named (most_nodes_named given.most_nodes)
+
+-- why the values are refused: what is asked for by a name or by a number, then a number of workers, then a number of failures, then one of nodes, then a shard, then a seed, then reports, then
 -- the texts that are read, and what says no pair
 abbrev pub refusal_of : Values → Option LaunchFault
 refusal_of given =
     option_or (names_refusal given) (
     option_or (workers_refusal given) (
     option_or (failures_refusal given) (
+    option_or (nodes_refusal given) (
     option_or (shard_refusal given) (
     option_or (seed_refusal given) (
     option_or (reports_refusal given.reports given.replay (details_asked given.quiet given.details)) (
     option_or (texts_refusal given) (
-    params_refusal given)))))))
+    params_refusal given))))))))
 
 -- the values ask for this
 pub record AreAsked (given : Values) (asked : Asked) : Type 0 where
@@ -206,6 +214,7 @@ pub record AreAsked (given : Values) (asked : Asked) : Type 0 where
   pub processors : processors_named given.processors ≡ Some asked.processors
   pub workers : workers_asked given ≡ Some asked.workers
   pub ring : ring_named given.ring ≡ Some asked.ring
+  pub most_nodes : most_nodes_named given.most_nodes ≡ Some asked.most_nodes
   -- where a shard is asked for, `--fail-if-no-tests` is about all that is selected, and not about the shard
   pub tests : asked.fail_if_no_tests ≡ (given.fail_if_no_tests && not (is_some asked.request.shard))
   pub selected : asked.fail_if_nothing_selected ≡ (given.fail_if_no_tests && is_some asked.request.shard)

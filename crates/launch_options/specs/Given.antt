@@ -34,6 +34,7 @@ pub record Values : Type 0 where
   pub fail_if_no_tests : Bool
   pub fail_fast : Bool
   pub max_fail : Option Text
+  pub most_nodes : Option Text
   pub schedule : Bool
   pub times : Bool
 
@@ -76,6 +77,7 @@ values_of given = record {
   fail_if_no_tests = given.fail_if_no_tests;
   fail_fast = given.fail_fast;
   max_fail = maybe_behind given.max_fail;
+  most_nodes = maybe_behind given.most_nodes;
   schedule = given.schedule;
   times = given.times;
 }

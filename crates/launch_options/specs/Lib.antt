@@ -3,6 +3,7 @@ pub mod DetailsTexts
 pub mod Failures
 pub mod Faults
 pub mod Given
+pub mod NodeLimits
 pub mod Parameters
 pub mod ReportTexts
 pub mod SeedTexts

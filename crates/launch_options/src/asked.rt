@@ -6,6 +6,7 @@ ghost use Rattle.table_rule.specs.Limits.{IsRightRing};
 
 use crate::details::Details;
 use config_params::Params;
+use descriptor::NodeLimit;
 use run_results::Theme;
 use scheduling::Step;
 use selectors::Request;
@@ -26,6 +27,8 @@ pub struct Options {
     pub spread: Option<Params>,
     /// How many events of a run on threads may be shown that were not told yet, from 1 to 16,384.
     pub ring: u32,
+    /// How many nodes a suite may have besides the plan, if `--most-nodes` says it.
+    pub most_nodes: Option<NodeLimit>,
     pub details: Details,
     /// The signs of the tree.
     pub theme: Theme,
@@ -63,6 +66,7 @@ impl Drop for Options {
             workers: _,
             spread: _,
             ring: _,
+            most_nodes: _,
             details: _,
             theme: _,
             fail_if_no_tests: _,

@@ -55,6 +55,8 @@ pub struct Given<'a> {
     pub fail_fast: bool,
     /// `--max-fail`.
     pub max_fail: Option<&'a str>,
+    /// `--most-nodes`.
+    pub most_nodes: Option<&'a str>,
     /// `--schedule`.
     pub schedule: bool,
     /// `--times`.
@@ -88,6 +90,7 @@ impl Drop for Given<'_> {
             fail_if_no_tests: _,
             fail_fast: _,
             max_fail: _,
+            most_nodes: _,
             schedule: _,
             times: _,
         } = self;

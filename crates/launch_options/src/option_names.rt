@@ -56,6 +56,8 @@ pub const FAIL_FAST: &str = "fail-fast";
 
 pub const MAX_FAIL: &str = "max-fail";
 
+pub const MOST_NODES: &str = "most-nodes";
+
 pub const SCHEDULE: &str = "schedule";
 
 pub const TIMES: &str = "times";

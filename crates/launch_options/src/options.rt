@@ -10,6 +10,7 @@ ghost use Rattle.launch_options.specs.DetailsTexts.{details_asked as details_of_
 ghost use Rattle.launch_options.specs.Asked.{unless_named, IsReplay, refusal_of, AreAsked, spelled, IsExpression};
 ghost use Rattle.launch_options.specs.Asked.{AreExpressions, names_refusal, texts_refusal};
 ghost use Rattle.launch_options.specs.Failures.{max_fail_named as max_fail_of_name, tolerated_asked, with_max_fail};
+ghost use Rattle.launch_options.specs.NodeLimits.{most_nodes_named as most_nodes_of_name};
 ghost use Rattle.launch_options.specs.Parameters.{drive_named as drive_of_name, IsRightDrive, params_refusal};
 ghost use Rattle.launch_options.specs.SeedTexts.{seed_named as seed_of_name};
 ghost use Rattle.launch_options.specs.ShardTexts.{shard_named as shard_of_name};
@@ -23,6 +24,7 @@ use crate::failures::{fails_fast, tolerated_given};
 use crate::fault::LaunchFault;
 use crate::given::Given;
 use crate::judged::judge_texts;
+use crate::most_nodes::most_nodes_named;
 use crate::parameters::{drive_named, judge_params, params_given, processors_named, ring_named};
 use crate::reports::judge_reports;
 use crate::seeds::seed_named;
@@ -30,6 +32,7 @@ use crate::shards::shard_named;
 use crate::themes::theme_of;
 use crate::workers::{spread_given, workers_given};
 use config_params::Params;
+use descriptor::NodeLimit;
 use run_results::Theme;
 use scheduling::Step;
 use selectors::{Request, Selector, SelectorKind, Shard};
@@ -241,7 +244,7 @@ fn is_dealt(so: bool, shard: &Option<Shard>) -> bool
     }
 }
 
-/// The options of values that were judged, with these choices, so many workers and tolerated failures,
+/// The options of values that were judged, with these choices, so many workers, tolerated failures and nodes,
 /// this shard and this seed among them.
 fn options_of(
     alloc: Global,
@@ -249,6 +252,7 @@ fn options_of(
     choices: Choices,
     workers: Option<u32>,
     tolerated: u16,
+    most_nodes: Option<NodeLimit>,
     shard: Option<Shard>,
     seed: Option<u64>,
 ) -> Result<Options, AllocError>
@@ -261,6 +265,7 @@ fn options_of(
     requires right_drive { IsRightDrive choices.drive }
     requires workers { workers_asked (values_of given.now) ≡ Some workers }
     requires tolerated { tolerated_asked (values_of given.now) ≡ Some tolerated }
+    requires most_nodes { most_nodes_of_name (maybe_behind given.now.most_nodes) ≡ Some most_nodes }
     requires shard { shard_of_name (maybe_behind given.now.shard) ≡ Some shard }
     requires seed { seed_of_name (maybe_behind given.now.seed) ≡ Some seed }
     ensures asked { IfOk result (λ options. AreAsked (values_of given.now) (asked_by options)) }
@@ -279,6 +284,7 @@ fn options_of(
         workers,
         spread,
         ring: choices.ring,
+        most_nodes,
         details: choices.details,
         theme: choices.theme,
         fail_if_no_tests: needs_tests,
@@ -298,7 +304,7 @@ impl Options {
     /// 105, and so are details beside `--quiet`, and so is what is no number of processors from 1 to 1,024, what is no number of places of
     /// the ring from 1 to 16,384, what is no number of workers of the fixed schedule from 1 to 64,
     /// what is no number of workers from 1 to 64 and not `auto`, or stands beside one of its keys in
-    /// `--config`, what is no number of failures from 1 to 4,095, or stands beside `--fail-fast`, what names no shard, what is no seed, and what asks for no report, for two in one file, or for one of
+    /// `--config`, what is no number of failures from 1 to 4,095, or stands beside `--fail-fast`, what is no number of nodes from 4,095 to 16,383, what names no shard, what is no seed, and what asks for no report, for two in one file, or for one of
     /// nothing that is run; then a token in the text of `--replay` that names no
     /// step is refusal 104, at its number; then a text that spells no selector is refusal 40, and an
     /// empty pattern of names refusal 43, at its number; then an expression of `--include-tag`, and then of `--exclude-tag`,
@@ -322,10 +328,13 @@ impl Options {
         let choices = choices_of(given)?;
         let workers = workers_given(given, choices.processors)?;
         let tolerated = tolerated_given(given)?;
+        let most_nodes = most_nodes_named(given.most_nodes)?;
         let shard = shard_named(given.shard)?;
         let seed = seed_named(given.seed)?;
         judge_reports(given, choices.details)?;
         judge_values(alloc, given)?;
-        Ok(options_of(alloc, given, choices, workers, tolerated, shard, seed)?)
+        Ok(options_of(
+            alloc, given, choices, workers, tolerated, most_nodes, shard, seed,
+        )?)
     }
 }
