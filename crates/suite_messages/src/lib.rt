@@ -14,6 +14,7 @@ mod near_names;
 mod nearest;
 mod place;
 mod plain_lines;
+mod sizes;
 mod suite;
 mod whole_name;
 

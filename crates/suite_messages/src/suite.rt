@@ -13,9 +13,10 @@ use crate::line::{
 use crate::lines::{deepest, line_at, may_stand, same_node};
 use crate::marked::{push_marked, push_marked_rest};
 use crate::place::Place;
+use crate::sizes::{too_many_bytes, too_many_nodes};
 use crate::whole_name::{has_verdict, push_whole_name};
 use config_params::ParamsFault;
-use descriptor::TreeFault;
+use descriptor::{NodeLimit, TreeFault};
 use std::alloc::{AllocError, Global};
 use suite_words::{LineWord, SuiteFault, Verdict, Word};
 
@@ -361,17 +362,19 @@ impl<'a> Spot<'a> {
         push_marked(alloc, text, self.line, spaces)
     }
 
-    /// Appends which limit the line of a node is over.
+    /// Appends which limit the line of a node is over, where so many nodes were asked for.
     fn push_node(
         self,
         alloc: Global,
         text: &mut String,
         fault: TreeFault,
+        most: Option<NodeLimit>,
         same: usize,
     ) -> Result<(), AllocError> {
         let (_, name) = cut(without_front(self.line));
+        let too_many = too_many_nodes(alloc, most)?;
         let said = match fault {
-            TreeFault::TooMany => "with this node the suite has more than 4,095",
+            TreeFault::TooMany => too_many.as_str(),
             TreeFault::DoubleId =>
                 "the same word and name stand below the same line already: give it another name",
             TreeFault::OverLimit => limit_passed(alloc, self.line),
@@ -428,11 +431,12 @@ fn push_property(
     spot.push_said(alloc, text, cut(without_front(line)).1, said)
 }
 
-/// Appends what is wrong with a line of these.
+/// Appends what is wrong with a line of these, where so many nodes were asked for.
 fn push_line(
     alloc: Global,
     text: &mut String,
     fault: SuiteFault,
+    most: Option<NodeLimit>,
     lines: &[&str],
 ) -> Result<(), AllocError> {
     match fault {
@@ -460,21 +464,23 @@ fn push_line(
                 TreeFault::DoubleId => same_node(lines, number),
                 _ => 0,
             };
-            Spot { line, number }.push_node(alloc, text, fault, same)
+            Spot { line, number }.push_node(alloc, text, fault, most, same)
         }
         SuiteFault::BadProperty(fault) => push_property(alloc, text, lines, fault),
     }
 }
 
-/// Appends what is wrong with the suite of these bytes.
+/// Appends what is wrong with the suite of these bytes, which was read as one of so many nodes, if
+/// that was asked for.
 pub fn push_suite(
     alloc: Global,
     text: &mut String,
     fault: SuiteFault,
+    most: Option<NodeLimit>,
     bytes: &[u8],
 ) -> Result<(), AllocError> {
     if let SuiteFault::TooLarge = fault {
-        return text.push_str("A suite has at most 1,048,576 bytes.\n");
+        return text.push_str(too_many_bytes(most));
     }
     let (front, is_text) = text_of(bytes);
     if !is_text {
@@ -482,5 +488,5 @@ pub fn push_suite(
         return push_bytes(alloc, text, number as usize, front);
     }
     let lines: Vec<&str> = front.lines().collect(alloc)?;
-    push_line(alloc, text, fault, lines.as_slice())
+    push_line(alloc, text, fault, most, lines.as_slice())
 }
