@@ -21,7 +21,7 @@ use Rattle.launch_options.specs.declared.fault.LaunchFault.{LaunchFault}
 use Rattle.launch_options.specs.declared.fault.LaunchFault.TheVariants.{NoMemory, Suite as OfSuite, BadWords, BadStep, BadReport, CutReport, UnreadRun, BadSavedLine, UnreadWords, BadSelector, BadTags, BadPair, BadSettings, NothingMatches, TooManyKeys, TooManyWorkers, NoWorker, Reading, Writing}
 use Rattle.run_outputs.specs.declared.exit_status.ExitStatus.{ExitStatus}
 use Rattle.run_outputs.specs.Missing.{IsJudged, answer_unless, is_missing}
-use Rattle.ready_runs.specs.ReadyPrograms.{FailsProgram, program_refusal, steps_refusal}
+use Rattle.ready_runs.specs.ReadyPrograms.{FailsProgram, program_refusal, suite_option_refusal}
 use Rattle.launcher.specs.Programs.{HasJobs, IsJobsOutput, IsPrintedJobs, IsProgramOutput, IsProgramRun, IsSeenProgram, IsSeenProgramRun, IsSeenSelectedOutput, IsSelectedBy, IsSelectedOutput}
 use Rattle.ready_runs.specs.Ready.{IsReady, TakesMemory}
 use Rattle.launcher.specs.Watched.{HasLiveFeed, IsAnswered, LacksBy, SeesRefusal, cut_in}
@@ -119,7 +119,7 @@ planned_memory asked parts settings p ready (Ok status) = tt
 planned_memory asked parts settings p ready (Err fault) = λ same. ready_takes asked parts settings p [] ready
 
 module _ {B L : Type 0} (answers : B → List Reply) (gives : B → Reply → Type 0) (asked : Asked) (parts : SuiteParts) (jobs : List (ℕ × B)) (saw : PlanParts → L → L → List Telling → Type 0) (first now : L) (times : Times) (settings : Settings) (p : PlanParts) (ready : IsReady asked parts settings p [])
-    (no_steps : steps_refusal asked.replay asked.drive ≡ None) where
+    (of_programs : suite_option_refusal asked.replay asked.drive asked.most_nodes ≡ None) where
   abbrev Shows : List ℕ → ExitStatus → Type 0
   Shows = IsSeenProgram answers gives None saw first now times asked settings p jobs
 
@@ -127,7 +127,7 @@ module _ {B L : Type 0} (answers : B → List Reply) (gives : B → Reply → Ty
   Lacks fault = LacksBy (is_run None asked.details) fault × SeesRefusal first now Shows fault
 
   accepted : program_refusal asked parts ≡ None
-  accepted = same_refusal asked parts no_steps ∙ ready.accepted
+  accepted = same_refusal asked parts of_programs ∙ ready.accepted
 
   abbrev Selected : List ℕ → ExitStatus → Type 0
   Selected = IsSelectedBy (λ settings p. IsSeenProgram answers gives None saw first now times asked settings p jobs) asked parts
@@ -142,8 +142,8 @@ module _ {B L : Type 0} (answers : B → List Reply) (gives : B → Reply → Ty
   }
 
   fails_by : (b : Bool) → is_run None asked.details ≡ b → (fault : LaunchFault) → LacksBy b fault → FailsProgram asked parts fault
-  fails_by true runs fault why = elim why [ inl is ↦ rw is (no_steps, ready_takes asked parts settings p [] ready) | inr is ↦ rw is (accepted, runs) ]
-  fails_by false runs fault is = rw is (no_steps, ready_takes asked parts settings p [] ready)
+  fails_by true runs fault why = elim why [ inl is ↦ rw is (of_programs, ready_takes asked parts settings p [] ready) | inr is ↦ rw is (accepted, runs) ]
+  fails_by false runs fault is = rw is (of_programs, ready_takes asked parts settings p [] ready)
 
   fails : (fault : LaunchFault) → Lacks fault → FailsProgram asked parts fault × SeesRefusal first now Selected fault
   fails fault why = (

@@ -1,8 +1,9 @@
 -- What the reading of a suite comes to, and what was taken from the reader.
-use Rattle.std.specs.Prelude.{◌≡◌, ℕ, ◌<◌, ◌≤◌, List, length, Option, Some, None, Result, Ok, Err}
+use Rattle.std.specs.Prelude.{◌≡◌, ℕ, ◌+◌, ◌<◌, ◌≤◌, List, length, Option, Some, None, Result, Ok, Err}
 use Rattle.std.specs.Io.KnownBytes.{Consumes, IsAtEnd}
 use Rattle.launch_options.specs.declared.fault.LaunchFault.{LaunchFault}
 use Rattle.launch_options.specs.declared.fault.LaunchFault.TheVariants.{NoMemory, Suite, BadWords, BadStep, BadReport, CutReport, UnreadRun, BadSavedLine, UnreadWords, BadSelector, BadTags, BadPair, BadSettings, NothingMatches, TooManyKeys, TooManyWorkers, NoWorker, Reading, Writing}
+use Rattle.suite_words.specs.Limits.{byte_limit}
 use Rattle.suite_words.specs.declared.suite.fault.SuiteFault.{SuiteFault}
 use Rattle.suite_text.specs.Reading.Parts.{SuiteParts}
 use Rattle.suite_text.specs.Suites.{suite_parts}
@@ -47,17 +48,21 @@ abbrev pub fault_in : {A : Type 0} → Result A LaunchFault → Option LaunchFau
 fault_in (Ok a) = None
 fault_in (Err fault) = Some fault
 
--- how far a reader was read that gave so many bytes: where it failed, or memory ran out, not to the end of what may be read,
--- so neither stands in place of a suite that is too large; else to that end or to its own
-abbrev pub EndsAs : Option LaunchFault → ℕ → Option (List ℕ) → Type 0
-EndsAs (Some Reading) count new = count < 1048577
-EndsAs (Some NoMemory) count new = count < 1048577
-EndsAs fault count new = count < 1048577 → IsAtEnd new
+-- how many bytes of a suite are read at most, where so many nodes were asked for: one more than it may have tells that there are too many
+abbrev pub most_read : Option ℕ → ℕ
+most_read most = byte_limit most + 1
 
--- some bytes were taken from the reader, at most 1,048,577, and these are what was judged
-pub record TakesFrom (old new : Option (List ℕ)) (fault : Option LaunchFault) (Judged : List ℕ → Type 0) : Type 0 where
+-- how far a reader was read that gave so many bytes, where there may be so many at most: where it failed, or memory ran out, not to the end
+-- of what may be read, so neither stands in place of a suite that is too large; else to that end or to its own
+abbrev pub EndsAs : (limit : ℕ) → Option LaunchFault → ℕ → Option (List ℕ) → Type 0
+EndsAs limit (Some Reading) count new = count < limit
+EndsAs limit (Some NoMemory) count new = count < limit
+EndsAs limit fault count new = count < limit → IsAtEnd new
+
+-- some bytes were taken from the reader, at most so many, and these are what was judged
+pub record TakesFrom (limit : ℕ) (old new : Option (List ℕ)) (fault : Option LaunchFault) (Judged : List ℕ → Type 0) : Type 0 where
   pub bytes : List ℕ
   pub consumed : Consumes old new bytes
-  pub fits : length bytes ≤ 1048577
-  pub ends : EndsAs fault (length bytes) new
+  pub fits : length bytes ≤ limit
+  pub ends : EndsAs limit fault (length bytes) new
   pub judged : Judged bytes

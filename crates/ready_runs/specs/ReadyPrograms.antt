@@ -15,20 +15,22 @@ use Rattle.run_outputs.specs.Outputs.{is_run}
 abbrev pub program_parts : Nodes → Parameters → SuiteParts
 program_parts tree properties = record { tree = tree; scripts = []; properties = properties }
 
--- why steps are refused that are to be replayed, or those of the fixed schedule: nobody knows beforehand what the jobs answer
-abbrev pub steps_refusal : (replay : Option (List Step)) (drive : Option ℕ) → Option LaunchFault
-steps_refusal (Some steps) drive = Some BadWords
-steps_refusal None (Some workers) = Some BadWords
-steps_refusal None None = None
+-- why options are refused that are for suites alone: steps that are to be replayed, or those of the fixed schedule, since nobody knows
+-- beforehand what the jobs answer, and a number of nodes, since the program has built its tree before the words are read
+abbrev pub suite_option_refusal : (replay : Option (List Step)) (drive most_nodes : Option ℕ) → Option LaunchFault
+suite_option_refusal (Some steps) drive most_nodes = Some BadWords
+suite_option_refusal None (Some workers) most_nodes = Some BadWords
+suite_option_refusal None None (Some most) = Some BadWords
+suite_option_refusal None None None = None
 
--- why a program is not run: that steps are to be taken, and then what a suite is refused for
+-- why a program is not run: what is for suites alone, and then what a suite is refused for
 abbrev pub program_refusal : Asked → SuiteParts → Option LaunchFault
-program_refusal asked parts = option_or (steps_refusal asked.replay asked.drive) (run_refusal asked parts)
+program_refusal asked parts = option_or (suite_option_refusal asked.replay asked.drive asked.most_nodes) (run_refusal asked parts)
 
 -- a program is refused by its first refusal, and want of memory stands in place of none that is judged before; where nothing refuses
 -- it there may be no thread to run it
 abbrev pub FailsProgram : Asked → SuiteParts → LaunchFault → Type 0
-FailsProgram asked parts NoMemory = (steps_refusal asked.replay asked.drive ≡ None) × TakesMemory asked parts
+FailsProgram asked parts NoMemory = (suite_option_refusal asked.replay asked.drive asked.most_nodes ≡ None) × TakesMemory asked parts
 FailsProgram asked parts BadWords = program_refusal asked parts ≡ Some BadWords
 FailsProgram asked parts (BadSettings fault) = program_refusal asked parts ≡ Some (BadSettings fault)
 FailsProgram asked parts (NothingMatches number) = program_refusal asked parts ≡ Some (NothingMatches number)

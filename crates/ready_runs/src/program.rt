@@ -4,7 +4,7 @@ ghost use Rattle.std.specs.Prelude.{◌≡◌, [], None, Some, IfOk, IfErr, stri
 ghost use Rattle.launch_options.specs.Asked.{asked_by};
 ghost use Rattle.run_outputs.specs.Missing.{is_missing};
 ghost use Rattle.ready_runs.specs.Ready.{IsReady};
-ghost use Rattle.ready_runs.specs.ReadyPrograms.{FailsProgram, program_parts, steps_refusal};
+ghost use Rattle.ready_runs.specs.ReadyPrograms.{FailsProgram, program_parts, suite_option_refusal};
 ghost use Rattle.run_outputs.specs.WarningTexts.{head_of};
 
 use crate::plan::{SelectedPlan, crewed_plan};
@@ -27,17 +27,22 @@ pub struct PlannedProgram {
     pub head: String,
 }
 
-/// Refused is that steps are to be replayed, or that they are to be those of the fixed schedule (105).
-fn refuse_steps(options: &Options) -> Result<(), LaunchFault>
-    ensures accepted { IfOk result (λ _. steps_refusal (asked_by options.now).replay options.now.drive ≡ None) }
+/// Refused is that steps are to be replayed, that they are to be those of the fixed schedule, or that a suite may have so
+/// many nodes (105).
+fn refuse_suite_options(options: &Options) -> Result<(), LaunchFault>
+    ensures accepted { IfOk result (λ _. suite_option_refusal (asked_by options.now).replay options.now.drive
+        options.now.most_nodes ≡ None) }
     ensures refused { IfErr result (λ fault. (fault ≡ LaunchFault.BadWords)
-        × (steps_refusal (asked_by options.now).replay options.now.drive ≡ Some fault)) }
+        × (suite_option_refusal (asked_by options.now).replay options.now.drive options.now.most_nodes ≡ Some fault)) }
 {
     match &options.replay {
         Some(_) => Err(LaunchFault::BadWords),
         None => match options.drive {
             Some(_) => Err(LaunchFault::BadWords),
-            None => Ok(()),
+            None => match options.most_nodes {
+                Some(_) => Err(LaunchFault::BadWords),
+                None => Ok(()),
+            },
         },
     }
 }
@@ -51,14 +56,15 @@ pub fn planned_program<S: Stopwatch>(
     tree: Tree,
     times: &mut RunTimes<'_, S>,
 ) -> Result<PlannedProgram, LaunchFault>
-    ensures steps { IfOk result (λ _. steps_refusal (asked_by options.now).replay options.now.drive ≡ None) }
+    ensures options { IfOk result (λ _. suite_option_refusal (asked_by options.now).replay options.now.drive
+        options.now.most_nodes ≡ None) }
     ensures ready { IfOk result (λ planned. IsReady (asked_by options.now) (program_parts tree properties)
         planned.settings planned.plan []) }
     ensures missing { IfOk result (λ planned. planned.is_missing ≡ is_missing (asked_by options.now) tree) }
     ensures head { IfOk result (λ planned. string_bytes planned.head ≡ head_of options.now.details planned.settings.warnings) }
     ensures refused { IfErr result (FailsProgram (asked_by options.now) (program_parts tree properties)) }
 {
-    refuse_steps(options)?;
+    refuse_suite_options(options)?;
     let settings = settings_over(options, &properties)?;
     let selected = crewed_plan(alloc, options, &settings, tree, &properties)?;
     drop(properties);
