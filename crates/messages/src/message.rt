@@ -13,7 +13,7 @@ use crate::values::{
     push_unread_suite, push_words,
 };
 use config_params::SettingsFault;
-use launch_options::{CutCause, CutOutput, Given, LaunchFault};
+use launch_options::{CutCause, CutOutput, Given, LaunchFault, most_nodes_named};
 use std::alloc::{AllocError, Global};
 use std::fmt;
 use suite_messages::{printable, push_suite};
@@ -95,15 +95,19 @@ fn push_refused_settings(
     }
 }
 
-/// Appends what is wrong with a suite, where that is what is run.
+/// Appends what is wrong with a suite, where that is what is run by these values.
 fn push_refused_suite(
     alloc: Global,
     text: &mut String,
     fault: SuiteFault,
+    given: &Given<'_>,
     subject: Subject<'_>,
 ) -> Result<(), AllocError> {
     match subject {
-        Subject::Suite(bytes) => push_suite(alloc, text, fault, bytes),
+        Subject::Suite(bytes) => {
+            let most = most_nodes_named(given.most_nodes).unwrap_or(None);
+            push_suite(alloc, text, fault, most, bytes)
+        }
         Subject::Tests(_) => Ok(()),
     }
 }
@@ -127,7 +131,7 @@ fn push_details(
 ) -> Result<(), AllocError> {
     match fault {
         LaunchFault::NoMemory => Ok(()),
-        LaunchFault::Suite(fault) => push_refused_suite(alloc, text, fault, subject),
+        LaunchFault::Suite(fault) => push_refused_suite(alloc, text, fault, given, subject),
         LaunchFault::BadWords => push_refused_words(alloc, text, given, subject),
         LaunchFault::BadStep(number) => push_step(alloc, text, number, given),
         LaunchFault::BadSelector(refused) => push_selector(alloc, text, refused.number, given),

@@ -95,7 +95,7 @@ fn push_over(
     options: &Options,
     suite: &[u8],
 ) -> Result<(), AllocError> {
-    match Suite::read(alloc, suite) {
+    match Suite::read(alloc, options.most_nodes, suite) {
         Ok(suite) => push_asked(alloc, text, fault, options, &suite.properties, &suite.tree),
         Err(_) => Ok(()),
     }

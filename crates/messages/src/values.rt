@@ -9,12 +9,12 @@ use crate::options::{exclusion_of, form_of, option_of, pair_option};
 use crate::subject::Subject;
 use config_params::ParamsFault;
 use launch_options::option_names::{
-    CONFIG, DETAILS, DETAILS_THEME, DRIVE, EXCLUDE_TAG, INCLUDE_TAG, MAX_FAIL, PROCESSORS, REPLAY,
-    REPORT, RERUN, RING, SEED, SHARD, WORKERS,
+    CONFIG, DETAILS, DETAILS_THEME, DRIVE, EXCLUDE_TAG, INCLUDE_TAG, MAX_FAIL, MOST_NODES,
+    PROCESSORS, REPLAY, REPORT, RERUN, RING, SEED, SHARD, SUITE, WORKERS,
 };
 use launch_options::{
-    Details, Given, drive_named, has_long_key, max_fail_named, processors_named, report_in,
-    ring_named, seed_named, shard_named, theme_names, theme_of, workers_named,
+    Details, Given, drive_named, has_long_key, max_fail_named, most_nodes_named, processors_named,
+    report_in, ring_named, seed_named, shard_named, theme_names, theme_of, workers_named,
 };
 use selectors::SelectorKind;
 use std::alloc::{AllocError, Global};
@@ -150,11 +150,22 @@ fn push_shard(alloc: Global, text: &mut String, given: &Given<'_>) -> Result<(),
     }
 }
 
+/// Appends why `--most-nodes` is refused, if it is: it is no such number; and else why `--shard` is.
+fn push_most_nodes(alloc: Global, text: &mut String, given: &Given<'_>) -> Result<(), AllocError> {
+    match given.most_nodes {
+        Some(value) if most_nodes_named(given.most_nodes).is_err() => {
+            text.push_str("--most-nodes is a number from 4,095 to 16,383, in digits alone\n")?;
+            push_option(alloc, text, MOST_NODES, value, 0)
+        }
+        Some(_) | None => push_shard(alloc, text, given),
+    }
+}
+
 /// Appends why `--max-fail` is refused, if it is: it is no such number, or `--fail-fast` is given too;
-/// and else why `--shard` is.
+/// and else why `--most-nodes` is.
 fn push_max_fail(alloc: Global, text: &mut String, given: &Given<'_>) -> Result<(), AllocError> {
     let Some(value) = given.max_fail else {
-        return push_shard(alloc, text, given);
+        return push_most_nodes(alloc, text, given);
     };
     if max_fail_named(given.max_fail).is_err() {
         text.push_str("--max-fail is a number from 1 to 4,095, in digits alone\n")?;
@@ -164,7 +175,7 @@ fn push_max_fail(alloc: Global, text: &mut String, given: &Given<'_>) -> Result<
         text.push_str("--fail-fast says --max-fail 1: leave one of the two out\n")?;
         return push_option(alloc, text, MAX_FAIL, value, 0);
     }
-    push_shard(alloc, text, given)
+    push_most_nodes(alloc, text, given)
 }
 
 /// Appends why `--workers` is refused with this value, if it is: it is no number of workers, or
@@ -190,8 +201,8 @@ fn push_workers(
 }
 
 /// Appends which of the values that stand for something is none, or stands beside what it may not: what `--details`, then `--details-theme`, then
-/// `--processors`, then `--ring`, then `--drive`, then `--workers`, then `--max-fail`, then `--shard`, then `--seed`,
-/// and then `--report` may be.
+/// `--processors`, then `--ring`, then `--drive`, then `--workers`, then `--max-fail`, then `--most-nodes`, then `--shard`,
+/// then `--seed`, and then `--report` may be.
 pub(crate) fn push_words(
     alloc: Global,
     text: &mut String,
@@ -235,19 +246,27 @@ pub(crate) fn push_words(
 }
 
 /// Appends which option asks for what a program's own tests do not have: steps that are taken in a run whose bodies nobody
-/// has scripted, or a suite.
+/// has scripted, a suite, or how many nodes one may have.
 pub(crate) fn push_suite_option(text: &mut String, given: &Given<'_>) -> Result<(), AllocError> {
-    if given.replay.is_none() && given.drive.is_none() {
-        return text.push_str("--suite is for suites alone: the tests are the program's own\n");
+    let steps = match (given.replay, given.drive) {
+        (Some(_), _) => Some(REPLAY),
+        (None, Some(_)) => Some(DRIVE),
+        (None, None) => None,
+    };
+    if let Some(option) = steps {
+        return write!(
+            text,
+            "--{option} is for suites alone: what real tests answer nobody knows before they have run\n"
+        );
     }
-    let option = if given.replay.is_some() {
-        REPLAY
+    let option = if given.suite.is_some() {
+        SUITE
     } else {
-        DRIVE
+        MOST_NODES
     };
     write!(
         text,
-        "--{option} is for suites alone: what real tests answer nobody knows before they have run\n"
+        "--{option} is for suites alone: the tests are the program's own\n"
     )
 }
 
