@@ -65,12 +65,17 @@ filtering = repeated (codes "include-tag")
     ∷ single (codes "seed")
     ∷ []
 
--- those that say which suite, with which settings, and how much runs side by side
+-- those that say which suite, and with which settings
 abbrev pub configuring : List Rule
 configuring = single (codes "suite")
+    ∷ single (codes "most-nodes")
     ∷ repeated (codes "config")
     ∷ repeated (codes "system")
-    ∷ single (codes "processors")
+    ∷ []
+
+-- those that say how much runs side by side
+abbrev pub running : List Rule
+running = single (codes "processors")
     ∷ with_letter 106 (single (codes "workers"))
     ∷ single (codes "ring")
     ∷ []
@@ -84,12 +89,16 @@ printing = single (codes "details")
     ∷ flag (codes "times")
     ∷ []
 
--- those that say how a run ends, which steps are told, and which are taken
+-- those that say how a run ends
 abbrev pub ending : List Rule
 ending = flag (codes "fail-if-no-tests")
     ∷ with_letter 120 (flag (codes "fail-fast"))
     ∷ single (codes "max-fail")
-    ∷ flag (codes "schedule")
+    ∷ []
+
+-- those that say which steps are told, and which are taken
+abbrev pub replaying : List Rule
+replaying = flag (codes "schedule")
     ∷ single (codes "replay")
     ∷ flag (codes "fail-if-passed-over")
     ∷ single (codes "drive")
@@ -105,4 +114,4 @@ bare_program = record { top = record (new_shape (codes "console")) { has_version
 
 -- the program and all of its options, of which some have a letter: j (106), k (107), q (113) and x (120)
 abbrev pub program : App
-program = fold with_rules bare_program (selecting ∷ excluding ∷ filtering ∷ configuring ∷ printing ∷ ending ∷ [])
+program = fold with_rules bare_program (selecting ∷ excluding ∷ filtering ∷ configuring ∷ running ∷ printing ∷ ending ∷ replaying ∷ [])

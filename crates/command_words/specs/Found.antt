@@ -80,6 +80,7 @@ values_in rows = record {
   fail_if_no_tests = is_found (codes "fail-if-no-tests") rows;
   fail_fast = is_found (codes "fail-fast") rows;
   max_fail = first_of (codes "max-fail") rows;
+  most_nodes = first_of (codes "most-nodes") rows;
   schedule = is_found (codes "schedule") rows;
   times = is_found (codes "times") rows;
 }
@@ -111,6 +112,7 @@ nothing_given = record {
   fail_if_no_tests = false;
   fail_fast = false;
   max_fail = None;
+  most_nodes = None;
   schedule = false;
   times = false;
 }

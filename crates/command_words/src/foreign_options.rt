@@ -148,7 +148,7 @@ static CHOOSING: [ForeignWords<'static>; 13] = [
 ];
 
 /// Options of other programs that say how tests are run.
-static RUNNING: [ForeignWords<'static>; 10] = [
+static RUNNING: [ForeignWords<'static>; 11] = [
     ForeignWords {
         words: &[
             "--threads",
@@ -236,6 +236,10 @@ static RUNNING: [ForeignWords<'static>; 10] = [
             "--fail-after",
         ],
         meant: "write --max-fail N",
+    },
+    ForeignWords {
+        words: &["--max-nodes", "--node-limit", "--max-tests", "--max-size"],
+        meant: "write --most-nodes N",
     },
     ForeignWords {
         words: &[

@@ -11,9 +11,9 @@ use launch_options::Given;
 use launch_options::option_names::{
     CONFIG, DETAILS, DETAILS_THEME, DRIVE, EXCLUDE_CLASS, EXCLUDE_METHOD, EXCLUDE_NAME,
     EXCLUDE_PACKAGE, EXCLUDE_TAG, EXCLUDE_UNIQUE_ID, FAIL_FAST, FAIL_IF_NO_TESTS,
-    FAIL_IF_PASSED_OVER, INCLUDE_NAME, INCLUDE_TAG, MAX_FAIL, PROCESSORS, QUIET, REPLAY, REPORT,
-    RERUN, RING, SCHEDULE, SEED, SELECT_CLASS, SELECT_METHOD, SELECT_PACKAGE, SELECT_UNIQUE_ID,
-    SHARD, SUITE, SYSTEM, TIMES, WORKERS,
+    FAIL_IF_PASSED_OVER, INCLUDE_NAME, INCLUDE_TAG, MAX_FAIL, MOST_NODES, PROCESSORS, QUIET,
+    REPLAY, REPORT, RERUN, RING, SCHEDULE, SEED, SELECT_CLASS, SELECT_METHOD, SELECT_PACKAGE,
+    SELECT_UNIQUE_ID, SHARD, SUITE, SYSTEM, TIMES, WORKERS,
 };
 use selectors::SelectorKind;
 use std::alloc::{AllocError, Global};
@@ -171,6 +171,7 @@ pub(crate) fn given_in<'a>(alloc: Global, matches: &ArgMatches<'a>) -> Result<Gi
         fail_if_no_tests: is_found(matches, FAIL_IF_NO_TESTS),
         fail_fast: is_found(matches, FAIL_FAST),
         max_fail: found(matches, MAX_FAIL),
+        most_nodes: found(matches, MOST_NODES),
         schedule: is_found(matches, SCHEDULE),
         times: is_found(matches, TIMES),
     })
@@ -205,6 +206,7 @@ pub(crate) fn nothing_given<'a>(alloc: Global) -> Given<'a>
         fail_if_no_tests: false,
         fail_fast: false,
         max_fail: None,
+        most_nodes: None,
         schedule: false,
         times: false,
     }

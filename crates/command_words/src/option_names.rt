@@ -2,7 +2,8 @@
 
 ghost use Rattle.std.specs.Prelude.{◌≡◌, ◌∷◌, [], IfOk, false, fold, map};
 ghost use Rattle.clap.specs.Words.{app_of, rule_of, with_rule};
-ghost use Rattle.command_words.specs.Commands.{configuring, ending, excluding, filtering, printing, selecting};
+ghost use Rattle.command_words.specs.Commands.{configuring, ending, excluding, filtering, printing, replaying, running};
+ghost use Rattle.command_words.specs.Commands.{selecting};
 ghost use Rattle.command_words.specs.Commands.{flag, maybe_lettered, bare_program, program, repeated, rule_by, rule_told, single};
 ghost use Rattle.command_words.specs.Commands.{with_letter, with_rules};
 
@@ -11,9 +12,9 @@ use clap::{Arg, ArgAction, Command};
 use launch_options::option_names::{
     CONFIG, DETAILS, DETAILS_THEME, DRIVE, EXCLUDE_CLASS, EXCLUDE_METHOD, EXCLUDE_NAME,
     EXCLUDE_PACKAGE, EXCLUDE_TAG, EXCLUDE_UNIQUE_ID, FAIL_FAST, FAIL_IF_NO_TESTS,
-    FAIL_IF_PASSED_OVER, INCLUDE_NAME, INCLUDE_TAG, MAX_FAIL, PROCESSORS, QUIET, REPLAY, REPORT,
-    RERUN, RING, SCHEDULE, SEED, SELECT_CLASS, SELECT_METHOD, SELECT_PACKAGE, SELECT_UNIQUE_ID,
-    SHARD, SUITE, SYSTEM, TIMES, WORKERS,
+    FAIL_IF_PASSED_OVER, INCLUDE_NAME, INCLUDE_TAG, MAX_FAIL, MOST_NODES, PROCESSORS, QUIET,
+    REPLAY, REPORT, RERUN, RING, SCHEDULE, SEED, SELECT_CLASS, SELECT_METHOD, SELECT_PACKAGE,
+    SELECT_UNIQUE_ID, SHARD, SUITE, SYSTEM, TIMES, WORKERS,
 };
 use messages::Subject;
 use std::alloc::{AllocError, Global};
@@ -92,7 +93,10 @@ fn help_by<'a>(subject: Subject<'_>, suite: &'a str, tests: &'a str) -> &'a str 
     }
 }
 
-/// Why a program's own tests have no option by which steps are taken.
+/// Why a program's own tests have no option that says which suite is read, or how large it may be.
+const IS_OF_SUITES: &str = "Is refused: the tests are the program's own";
+
+/// Why they have none by which steps are taken.
 const IS_REFUSED: &str = "Is refused: what real tests answer nobody knows before they have run";
 
 /// The options that say which nodes run, and those that look at the names of tests.
@@ -197,8 +201,8 @@ fn filtering<'a>() -> [ProgramOption<'a>; 4]
     ]
 }
 
-/// The options that say with which settings, and how much runs side by side.
-fn configuring<'a>(subject: Subject<'_>) -> [ProgramOption<'a>; 6]
+/// The options that say which suite is run, and with which settings.
+fn configuring<'a>(subject: Subject<'_>) -> [ProgramOption<'a>; 4]
     ensures { map rule_told result ≡ configuring }
 {
     [
@@ -208,7 +212,16 @@ fn configuring<'a>(subject: Subject<'_>) -> [ProgramOption<'a>; 6]
             help_by(
                 subject,
                 "Reads the suite from this file, and not from standard input",
-                "Is refused: the tests are the program's own",
+                IS_OF_SUITES,
+            ),
+        ),
+        single(
+            MOST_NODES,
+            "N",
+            help_by(
+                subject,
+                "Most nodes that the suite may have, 4095 to 16383 [default: 4095]",
+                IS_OF_SUITES,
             ),
         ),
         repeated(
@@ -229,6 +242,14 @@ fn configuring<'a>(subject: Subject<'_>) -> [ProgramOption<'a>; 6]
                 "Sets a parameter over the tests",
             ),
         ),
+    ]
+}
+
+/// The options that say how much runs side by side.
+fn running<'a>() -> [ProgramOption<'a>; 3]
+    ensures { map rule_told result ≡ running }
+{
+    [
         single(
             PROCESSORS,
             "N",
@@ -281,8 +302,8 @@ fn printing<'a>() -> [ProgramOption<'a>; 5]
     ]
 }
 
-/// The options that say how a run ends, which steps are told, and which are taken.
-fn ending<'a>(subject: Subject<'_>) -> [ProgramOption<'a>; 7]
+/// The options that say how a run ends.
+fn ending<'a>() -> [ProgramOption<'a>; 3]
     ensures { map rule_told result ≡ ending }
 {
     [
@@ -299,6 +320,14 @@ fn ending<'a>(subject: Subject<'_>) -> [ProgramOption<'a>; 7]
             "N",
             "Starts nothing more once N nodes have failed, 1 to 4095",
         ),
+    ]
+}
+
+/// The options that say which steps are told, and which are taken.
+fn replaying<'a>(subject: Subject<'_>) -> [ProgramOption<'a>; 4]
+    ensures { map rule_told result ≡ replaying }
+{
+    [
         flag(
             SCHEDULE,
             help_by(
@@ -411,11 +440,13 @@ fn with_settings<'a>(
     subject: Subject<'_>,
 ) -> Result<Command<'a>, AllocError>
     ensures { IfOk result (λ longer. app_of longer ≡ fold with_rules (app_of command.entry)
-        (configuring ∷ printing ∷ ending ∷ [])) }
+        (configuring ∷ running ∷ printing ∷ ending ∷ replaying ∷ [])) }
 {
     let command = with_all(alloc, command, configuring(subject).as_slice())?;
+    let command = with_all(alloc, command, running().as_slice())?;
     let command = with_all(alloc, command, printing().as_slice())?;
-    with_all(alloc, command, ending(subject).as_slice())
+    let command = with_all(alloc, command, ending().as_slice())?;
+    with_all(alloc, command, replaying(subject).as_slice())
 }
 
 /// The program without its options, of this version.

@@ -27,6 +27,7 @@ returns c = λ i. record {
   fail_if_no_tests = c.is_found-3.ensures i;
   fail_fast = c.is_found-4.ensures i;
   max_fail = c.found-11.ensures i;
+  most_nodes = c.found-12.ensures i;
   schedule = c.is_found-5.ensures i;
   times = c.is_found-6.ensures i;
 }
