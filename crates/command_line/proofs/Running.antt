@@ -1,5 +1,5 @@
 -- What the arguments gave is run, or refused, whatever the reader is.
-use Rattle.std.proofs.Common.{◌≡◌, ◌⊎◌, ◌∙◌, ℕ, Bool, true, false, List, take, Option, IfErr, IfSome, None, Some, Result, Ok, Err, inl, inr, refl, ap, subst, sym}
+use Rattle.std.proofs.Common.{◌≡◌, ◌⊎◌, ◌∙◌, ℕ, Bool, true, false, List, Option, IfErr, IfSome, None, Some, Result, Ok, Err, inl, inr, refl, ap, subst, sym}
 use Rattle.std.specs.Io.KnownBytes.{Keeps}
 use Rattle.std.specs.Result.{IsErrAnd}
 use Rattle.command_words.specs.Infos.{AsksForNothing}
@@ -11,7 +11,7 @@ use Rattle.launch_options.specs.declared.fault.LaunchFault.{LaunchFault}
 use Rattle.launch_options.specs.declared.fault.LaunchFault.TheVariants.{BadWords, NoMemory, Reading}
 use Rattle.messages.specs.Sentences.{sentence_of}
 use Rattle.launcher.specs.Runs.{IsRun, is_writing}
-use Rattle.ready_runs.specs.Reading.{TakesFrom, fault_in}
+use Rattle.ready_runs.specs.Reading.{TakesFrom, fault_in, front_read, most_read}
 use Rattle.run_outputs.specs.declared.exit_status.ExitStatus.{ExitStatus}
 use Rattle.suite_text.specs.Reading.Bytes.{suite_read}
 use Rattle.report_files.specs.Deeds.{Deed}
@@ -29,8 +29,8 @@ module _ {R W : Type 0} (remaining : R → Option (List ℕ)) (contents : W → 
 
   -- arguments that ask for something
   pub words_run : (options : Options) (result : Result ExitStatus LaunchFault) (before after : R) (left : Option (List ℕ)) (old new : W) → ReadsWords words (Ok options)
-      → IfSome (remaining before) (λ bytes. IsRun (asked_by options) (suite_read (take 1048577 bytes)) (contents old) (contents new) result)
-      → TakesFrom (remaining before) left (fault_in result) (λ bytes. IsRun (asked_by options) (suite_read bytes) (contents old) (contents new) result)
+      → IfSome (remaining before) (λ bytes. IsRun (asked_by options) (front_read options.most_nodes bytes) (contents old) (contents new) result)
+      → TakesFrom (most_read options.most_nodes) (remaining before) left (fault_in result) (λ bytes. IsRun (asked_by options) (suite_read options.most_nodes bytes) (contents old) (contents new) result)
       → IfErr result (λ fault. is_writing fault ≡ false → Keeps (contents old) (contents new)) → IsConsoleRun remaining contents words before after left old new result
   words_run options result before after left old new reads exact takes quiet = record { options = Ok options; reads = reads; runs = record { exact = exact; reads = takes; quiet = quiet } }
 

@@ -4,7 +4,6 @@ ghost use Rattle.command_line.specs.Sources.{source_remaining};
 
 use std::alloc::Global;
 use std::io::{self, Read};
-use suite_text::LONGEST_SUITE;
 
 /// Where a suite is read from.
 #[derive(Drop)]
@@ -33,10 +32,13 @@ pub(crate) struct Kept<'r, R> {
     pub(crate) bytes: Vec<u8>,
 }
 
-/// Nothing yet, with room for the longest suite, so that what is kept is not moved again; where
-/// there is no such room it is made as it is needed.
+/// How many bytes there is room for at first: as many as a suite may have where no number of nodes was asked for.
+const FIRST_ROOM: usize = 1_048_576;
+
+/// Nothing yet, with room for a suite of the usual size, so that what is kept of it is not moved again; where there is no
+/// such room, or more is kept, it is made as it is needed.
 pub(crate) fn nothing_kept(alloc: Global) -> Vec<u8> {
-    Vec::with_capacity(alloc, LONGEST_SUITE).unwrap_or_else(|_| Vec::new(alloc))
+    Vec::with_capacity(alloc, FIRST_ROOM).unwrap_or_else(|_| Vec::new(alloc))
 }
 
 impl<R: Read> Read for Kept<'_, R> {

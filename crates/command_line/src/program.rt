@@ -9,6 +9,7 @@ ghost use Rattle.launch_options.specs.Asked.{asked_by};
 ghost use Rattle.launch_options.specs.Given.{maybe_behind};
 ghost use Rattle.launch_options.specs.ReportTexts.{parts_of};
 ghost use Rattle.messages.specs.Sentences.{sentence_of};
+ghost use Rattle.ready_runs.specs.Reading.{most_read as most_read_of};
 ghost use Rattle.command_line.specs.Runs.{Closes, IsConsoleRun, IsFileRun, IsMainRun, IsSourceRun, IsTimedRun};
 ghost use Rattle.command_line.specs.Runs.{IsToldMeanwhile, waiting_said};
 ghost use Rattle.command_line.specs.GivenRuns.{AnswersWords, IsGivenRun};
@@ -19,7 +20,8 @@ use crate::kept::{Kept, SuiteSource, nothing_kept};
 use crate::slow_tests::run_quiet;
 use crate::terminal::run_shown;
 use command_words::{Launch, all_words, given_words, read_launch, read_options};
-use launcher::{ExitStatus, LaunchFault, run_options};
+use launch_options::Options;
+use launcher::{ExitStatus, LaunchFault, most_read, run_options};
 use live::Failures;
 use messages::Subject;
 use report_files::ReportFiles;
@@ -29,11 +31,7 @@ use std::io::{self, Read, Write};
 use std::sync::Wait;
 use std::thread::Threads;
 use std::time::Clock;
-use suite_text::LONGEST_SUITE;
 use word_files::{Facts, TextFiles};
-
-/// How many bytes are read of a file: one more than a suite may have.
-const MOST_READ: usize = LONGEST_SUITE + 1;
 
 /// Runs the suite that the reader holds, with the options that the arguments give; the first argument is
 /// the program's name. Arguments that give no options are refused as `read_options` says, and then
@@ -148,6 +146,13 @@ fn run_source<
     ending
 }
 
+/// How many bytes are read of a file that has a suite: one more than it may have by these options.
+fn bytes_wanted(options: &Options) -> usize
+    ensures { result ≡ most_read_of options.now.most_nodes }
+{
+    most_read(options.most_nodes)
+}
+
 /// Runs what these arguments asked for of the suite that this file has, and touches no reader; a file that cannot be
 /// read is refusal 106.
 fn run_file<
@@ -179,7 +184,7 @@ fn run_file<
         (map parts_of launch.entry.reports.items) writer.old writer.new errors.old errors.new files.old files.new result }
 {
     let subject = Subject::Suite(&[]);
-    match texts.bytes(alloc, name, MOST_READ) {
+    match texts.bytes(alloc, name, bytes_wanted(&launch.options)) {
         Ok(Some(bytes)) => {
             let mut kept = Kept::<R> {
                 source: SuiteSource::File(bytes.as_slice()),

@@ -86,7 +86,8 @@ pub(crate) fn run_quiet<
         (R.remaining reader.new) (W.contents writer.old) (W.contents writer.new) (K.deeds files.old) (K.deeds files.new)
         result (option_map string_bytes slowest.new) }
 {
-    let stopwatch = times_by(alloc, clock, launch.options.times);
+    let nodes = launch.options.tree_limit();
+    let stopwatch = times_by(alloc, clock, nodes, launch.options.times);
     let mut times = times_for(alloc, clock, host, launch.options.times, &stopwatch);
     let mut tests = SlowTests::new(alloc);
     let mut lines = SlowLines::new(errors, &stopwatch, &mut tests, failures);

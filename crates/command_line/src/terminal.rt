@@ -93,7 +93,8 @@ pub(crate) fn run_shown<
         (R.remaining reader.new) (W.contents writer.old) (W.contents writer.new) (K.deeds files.old) (K.deeds files.new)
         result (option_map string_bytes slowest.new) }
 {
-    let stopwatch = times_by(alloc, clock, true);
+    let nodes = launch.options.tree_limit();
+    let stopwatch = times_by(alloc, clock, nodes, true);
     let mut times = times_for(alloc, clock, host, launch.options.times, &stopwatch);
     let mut summary = Summary::new(alloc);
     let mut running = Running::new(alloc);

@@ -5,10 +5,15 @@ use run_moments::moment_by;
 use std::alloc::Global;
 use std::time::Clock;
 
-/// What takes note, by this clock, of when tests begin and end, if that is asked for, or once a limit is set, if there is
-/// memory for it; else it takes none, and knows nothing.
-pub fn times_by<C: Clock>(alloc: Global, clock: &C, is_asked: bool) -> JobTimes<'_, C> {
-    let times = JobTimes::off(alloc, clock);
+/// What takes note, by this clock, of when the tests of a tree of so many nodes at most begin and end, if that is asked for,
+/// or once a limit is set, if there is memory for it; else it takes none, and knows nothing.
+pub fn times_by<C: Clock>(
+    alloc: Global,
+    clock: &C,
+    nodes: usize,
+    is_asked: bool,
+) -> JobTimes<'_, C> {
+    let times = JobTimes::off(alloc, clock, nodes);
     if is_asked {
         times.turn_on();
     }

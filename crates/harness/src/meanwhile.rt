@@ -100,7 +100,7 @@ fn run_jobs_quiet<
         (W.contents writer.old) (W.contents writer.new)
         (K.deeds files.old) (K.deeds files.new) result (option_map string_bytes slowest.new) }
 {
-    let stopwatch = times_by(alloc, clock, launch.options.times);
+    let stopwatch = times_by(alloc, clock, program.tree.len(), launch.options.times);
     let mut times = times_for(alloc, clock, host, launch.options.times, &stopwatch);
     let mut tests = SlowTests::new(alloc);
     let mut lines = SlowLines::new(errors, &stopwatch, &mut tests, failures);
@@ -179,7 +179,7 @@ fn run_jobs_drawn<
         (W.contents writer.old) (W.contents writer.new)
         (K.deeds files.old) (K.deeds files.new) result (option_map string_bytes slowest.new) }
 {
-    let stopwatch = times_by(alloc, clock, true);
+    let stopwatch = times_by(alloc, clock, program.tree.len(), true);
     let mut times = times_for(alloc, clock, host, launch.options.times, &stopwatch);
     let mut summary = Summary::new(alloc);
     let mut running = Running::new(alloc);

@@ -6,14 +6,10 @@ use std::alloc::{AllocError, Global};
 use std::sync::OnceLock;
 use std::time::Clock;
 
-/// So many numbers have a cell. A suite and a program's own tests give bodies the numbers of their nodes, and after-bodies
-/// those from 8,192 on.
-const NUMBERS: usize = 16_384;
-
 /// How many microseconds a second has.
 const MICROSECONDS: u64 = 1_000_000;
 
-/// What is known of the job of one number. Each is written once, by any thread.
+/// What is known of a job. Each is written once, by any thread.
 #[derive(Drop)]
 struct JobCell {
     // in microseconds of the clock
@@ -50,12 +46,22 @@ impl JobCell {
     }
 }
 
+/// The cells of a node: that of its body, and that of its after-body.
+#[derive(Drop)]
+struct NodeCells {
+    body: JobCell,
+    after: JobCell,
+}
+
 /// Takes note of times by a clock, which may go back or fail: what was not read is not known. It has no cells, and reads
-/// no clock, until somebody asks for times or sets a limit.
+/// no clock, until somebody asks for times or sets a limit. A suite and a program's own tests give bodies the numbers of
+/// their nodes, and after-bodies those behind the greatest number of a node.
 pub struct JobTimes<'c, C: Clock> {
     alloc: Global,
-    // that of each number from 0; none before they are made, or where there was no memory
-    cells: OnceLock<Vec<JobCell>>,
+    // so many nodes have cells
+    nodes: usize,
+    // those of each node from 0; none before they are made, or where there was no memory
+    cells: OnceLock<Vec<NodeCells>>,
     clock: &'c C,
 }
 
@@ -63,6 +69,7 @@ impl<'c, C: Clock> Drop for JobTimes<'c, C> {
     fn drop(self) {
         let Self {
             alloc: _,
+            nodes: _,
             cells,
             clock: _,
         } = self;
@@ -70,32 +77,36 @@ impl<'c, C: Clock> Drop for JobTimes<'c, C> {
     }
 }
 
-/// A cell for each number.
-fn cells_for(alloc: Global) -> Result<Vec<JobCell>, AllocError> {
-    let mut cells = Vec::with_capacity(alloc, NUMBERS)?;
-    for _number in 0..NUMBERS {
-        cells.push(JobCell::new())?;
+/// The cells of so many nodes.
+fn cells_for(alloc: Global, nodes: usize) -> Result<Vec<NodeCells>, AllocError> {
+    let mut cells = Vec::with_capacity(alloc, nodes)?;
+    for _node in 0..nodes {
+        cells.push(NodeCells {
+            body: JobCell::new(),
+            after: JobCell::new(),
+        })?;
     }
     Ok(cells)
 }
 
 impl<'c, C: Clock> JobTimes<'c, C> {
-    /// Nothing is known of any job, and no note is taken.
-    pub fn off(alloc: Global, clock: &'c C) -> JobTimes<'c, C> {
+    /// Nothing is known of any job, and no note is taken; later it may be of the jobs of so many nodes, the plan included.
+    pub fn off(alloc: Global, clock: &'c C, nodes: usize) -> JobTimes<'c, C> {
         JobTimes {
             alloc,
+            nodes,
             cells: OnceLock::new(),
             clock,
         }
     }
 
-    /// From now on note is taken of each job, if there is memory for it. Of a job whose number is 16,384 or more nothing is
-    /// ever known.
+    /// From now on note is taken of each job, if there is memory for it. Of those of a node behind the ones that it was made
+    /// for nothing is ever known.
     pub fn turn_on(&self) {
         if self.cells.get().is_some() {
             return;
         }
-        if let Ok(cells) = cells_for(self.alloc) {
+        if let Ok(cells) = cells_for(self.alloc, self.nodes) {
             let _ = self.cells.try_set(cells);
         }
     }
@@ -114,7 +125,11 @@ impl<'c, C: Clock> JobTimes<'c, C> {
 
     /// What is known of the job of this number, if it has a cell.
     fn cell(&self, number: BodyId) -> Option<&JobCell> {
-        self.cells.get()?.get(number.index())
+        let cells = self.cells.get()?;
+        match number.after_of() {
+            Some(node) => Some(&cells.get(node.index())?.after),
+            None => Some(&cells.get(number.index())?.body),
+        }
     }
 
     /// The microseconds that the clock shows, if it can be read.

@@ -1,6 +1,6 @@
 //! What each value means that arguments give the options of a run.
 
-ghost use Rattle.std.specs.Prelude.{◌≡◌, ◌≢◌, ◌&&◌, not, ℕ, true, List, Some, None, option_map, IfOk, IfErr, OnOk};
+ghost use Rattle.std.specs.Prelude.{◌≡◌, ◌≢◌, ◌+◌, ◌&&◌, not, ℕ, true, List, Some, None, option_map, IfOk, IfErr, OnOk};
 ghost use Rattle.std.specs.List.{filter_map};
 ghost use Rattle.std.specs.Option.{is_some, option_or};
 ghost use Rattle.launch_options.specs.declared.fault.LaunchFault.TheVariants.{NoMemory};
@@ -16,6 +16,7 @@ ghost use Rattle.launch_options.specs.SeedTexts.{seed_named as seed_of_name};
 ghost use Rattle.launch_options.specs.ShardTexts.{shard_named as shard_of_name};
 ghost use Rattle.launch_options.specs.Parameters.{processors_named as processors_of_name, ring_named as ring_of_name};
 ghost use Rattle.launch_options.specs.Workers.{in_long_words, workers_asked};
+ghost use Rattle.suite_words.specs.Limits.{node_limit};
 ghost use Rattle.table_rule.specs.Limits.{IsRightRing};
 
 use crate::asked::Options;
@@ -38,6 +39,7 @@ use scheduling::Step;
 use selectors::{Request, Selector, SelectorKind, Shard};
 use std::alloc::{AllocError, Global};
 use step_text::parse_steps;
+use suite_words::node_limit;
 use tag_expr::TagExpr;
 
 /// What `--details` asks for.
@@ -300,6 +302,13 @@ fn options_of(
 }
 
 impl Options {
+    /// How many nodes the tree of a suite may have, the plan included.
+    pub fn tree_limit(&self) -> usize
+        ensures { result ≡ node_limit self.now.most_nodes + 1 }
+    {
+        node_limit(self.most_nodes).nodes() + 1
+    }
+
     /// The options that these values ask for. Details and themes that are none of ours are refusal
     /// 105, and so are details beside `--quiet`, and so is what is no number of processors from 1 to 1,024, what is no number of places of
     /// the ring from 1 to 16,384, what is no number of workers of the fixed schedule from 1 to 64,

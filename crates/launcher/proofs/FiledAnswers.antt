@@ -10,7 +10,7 @@ use Rattle.launch_options.specs.ReportTexts.{parts_of}
 use Rattle.launch_options.specs.declared.fault.LaunchFault.{LaunchFault}
 use Rattle.launch_options.specs.declared.reports.ReportAsked.{ReportAsked}
 use Rattle.launcher.specs.Runs.{IsSeenRun}
-use Rattle.ready_runs.specs.Reading.{TakesFrom, fault_in}
+use Rattle.ready_runs.specs.Reading.{TakesFrom, fault_in, most_read}
 use Rattle.run_outputs.specs.Outputs.{is_run}
 use Rattle.run_outputs.specs.declared.exit_status.ExitStatus.{ExitStatus}
 use Rattle.listeners.specs.Listeners.{Telling}
@@ -43,16 +43,16 @@ opened_with {F} contents Runs Files ws account was now b n ran answer ds many op
     all_up (Err fault) is = all_given_up contents n ws ds (subst (λ (l : List (Report F)). AreOpened contents l ws) (sym is) opened) ended ∙ ap givings_up (take_all (length n) ws (omega (arith, same, many)))
 
 module _ {F : Type 0} (contents : F → Option (List ℕ)) (asked : Asked) (times : Times) (ws : List Wanted) (b n : List (Report F)) (ds : List Deed) (many : length b ≡ length ws) (opened : AreOpened contents b ws) (same : length n ≡ length b) (ended : AreEnded contents n ws ds) where
-  filed : (ran : Result ExitStatus LaunchFault) (old new : Option (List ℕ)) (bytes : List ℕ) → IfOk ran (λ status. IsReportedRun contents asked times (suite_read bytes) old new status b n) → IfOk ran (λ status. IsFiledRun asked ws times (suite_read bytes) old new status ds)
-  filed (Ok status) old new bytes is = filed_run contents asked times (suite_read bytes) old new status ws b n ds many same opened ended is
+  filed : (ran : Result ExitStatus LaunchFault) (old new : Option (List ℕ)) (bytes : List ℕ) → IfOk ran (λ status. IsReportedRun contents asked times (suite_read asked.most_nodes bytes) old new status b n) → IfOk ran (λ status. IsFiledRun asked ws times (suite_read asked.most_nodes bytes) old new status ds)
+  filed (Ok status) old new bytes is = filed_run contents asked times (suite_read asked.most_nodes bytes) old new status ws b n ds many same opened ended is
   filed (Err fault) old new bytes is = tt
 
   -- they are filed by what was run, and what was done with them in the end
   pub opened_run : (before left old new : Option (List ℕ)) (account was now : Option (List Deed)) (ran answer : Result ExitStatus LaunchFault) → Does account was (openings ws) → RunsAsked asked before left old new ran
-      → (is_run asked.replay asked.details ≡ true → TakesFrom before left (fault_in ran) (λ bytes. IfOk ran (λ status. IsReportedRun contents asked times (suite_read bytes) old new status b n))) → IfErr ran (λ fault. n ≡ b) → Does was now ds → answer ≡ answer_with ran (first_lost 1 ds)
+      → (is_run asked.replay asked.details ≡ true → TakesFrom (most_read asked.most_nodes) before left (fault_in ran) (λ bytes. IfOk ran (λ status. IsReportedRun contents asked times (suite_read asked.most_nodes bytes) old new status b n))) → IfErr ran (λ fault. n ≡ b) → Does was now ds → answer ≡ answer_with ran (first_lost 1 ds)
       → IsOpenedRun asked ws times before left old new account now answer
   opened_run before left old new account was now ran answer opening runs reported refused ending answers =
-      opened_with contents (RunsAsked asked before left old new) (FilesRun asked ws times before left old new) ws account was now b n ran answer ds many opened opening runs (λ is. judged_too before left (fault_in ran) (reported is) (filed ran old new)) refused same ending ended answers
+      opened_with contents (RunsAsked asked before left old new) (FilesRun asked ws times before left old new) ws account was now b n ran answer ds many opened opening runs (λ is. judged_too (most_read asked.most_nodes) before left (fault_in ran) (reported is) (filed ran old new)) refused same ending ended answers
 
 -- where no report is asked for, none is opened and none is kept
 pub unreported_with : (Runs : Result ExitStatus LaunchFault → Type 0) (Files : Result ExitStatus LaunchFault → List Deed → Type 0) (account : Option (List Deed)) (answer : Result ExitStatus LaunchFault) → Runs answer → Files answer [] → IsOpenedWith Runs Files [] account account answer
@@ -76,17 +76,17 @@ unreported_with Runs Files account answer runs files = record {
 
 module _ {V : Type 0} (saw : PlanParts → V → V → List Telling → Type 0) (first now : V) (times : Times) (asked : Asked) where
   -- whoever watched has seen something, or nothing
-  pub some_watched : (before left old new : Option (List ℕ)) (result : Result ExitStatus LaunchFault) → TakesFrom before left (fault_in result) (λ bytes. IsSeenRun saw first now times asked (suite_read bytes) old new result) → HasSeenSome saw first now
-  some_watched before left old new result took = of_run saw first now times (HasSeenSome saw first now) (λ same. inl same) (λ p ts more. inr (p, ts, more)) asked (suite_read took.bytes) old new result took.judged
+  pub some_watched : (before left old new : Option (List ℕ)) (result : Result ExitStatus LaunchFault) → TakesFrom (most_read asked.most_nodes) before left (fault_in result) (λ bytes. IsSeenRun saw first now times asked (suite_read asked.most_nodes bytes) old new result) → HasSeenSome saw first now
+  some_watched before left old new result took = of_run saw first now times (HasSeenSome saw first now) (λ same. inl same) (λ p ts more. inr (p, ts, more)) asked (suite_read asked.most_nodes took.bytes) old new result took.judged
 
   -- a suite's run of which no reports were asked
   pub unreported_run : (ws : List ReportAsked) (before left old new : Option (List ℕ)) (account : Option (List Deed)) (answer : Result ExitStatus LaunchFault) → length ws ≡ 0 → RunsAsked asked before left old new answer
-      → TakesFrom before left (fault_in answer) (λ bytes. IsSeenRun saw first now times asked (suite_read bytes) old new answer) → RunsFiled asked (map parts_of ws) times before left old new account account answer
+      → TakesFrom (most_read asked.most_nodes) before left (fault_in answer) (λ bytes. IsSeenRun saw first now times asked (suite_read asked.most_nodes bytes) old new answer) → RunsFiled asked (map parts_of ws) times before left old new account account answer
   unreported_run [] before left old new account answer none runs took =
-      inr (unreported_with (RunsAsked asked before left old new) (FilesRun asked [] times before left old new) account answer runs (λ is. judged_too before left (fault_in answer) took (none_filed is)))
+      inr (unreported_with (RunsAsked asked before left old new) (FilesRun asked [] times before left old new) account answer runs (λ is. judged_too (most_read asked.most_nodes) before left (fault_in answer) took (none_filed is)))
     where
-      none_filed : is_run asked.replay asked.details ≡ true → (bytes : List ℕ) → IsSeenRun saw first now times asked (suite_read bytes) old new answer → IfOk answer (λ status. IsFiledRun asked [] times (suite_read bytes) old new status [])
-      none_filed is bytes seen = of_loaded_run saw first now times (λ p history texts. AreFiledOf asked.theme p history texts (times_asked asked.times times) [] []) (λ p history texts more. inr refl) asked (suite_read bytes) old new is seen.loaded answer seen.reads seen.runs
+      none_filed : is_run asked.replay asked.details ≡ true → (bytes : List ℕ) → IsSeenRun saw first now times asked (suite_read asked.most_nodes bytes) old new answer → IfOk answer (λ status. IsFiledRun asked [] times (suite_read asked.most_nodes bytes) old new status [])
+      none_filed is bytes seen = of_loaded_run saw first now times (λ p history texts. AreFiledOf asked.theme p history texts (times_asked asked.times times) [] []) (λ p history texts more. inr refl) asked (suite_read asked.most_nodes bytes) old new is seen.loaded answer seen.reads seen.runs
   unreported_run (w ∷ ws) before left old new account answer none runs took = absurd (omega (arith, none))
 
 -- the files could not be opened

@@ -11,7 +11,7 @@ use Rattle.suite_text.specs.Suites.{suite_parts}
 use Rattle.suite_text.specs.declared.suite.Suite.{Suite}
 use Rattle.suite_words.specs.declared.suite.fault.SuiteFault.{SuiteFault}
 use Rattle.launch_options.specs.Asked.{Asked}
-use Rattle.ready_runs.specs.Reading.{FailsToRead, ReadsSuite, TakesFrom, fault_in}
+use Rattle.ready_runs.specs.Reading.{FailsToRead, ReadsSuite, TakesFrom, fault_in, most_read}
 use Rattle.launcher.specs.Runs.{IsRun, IsSeenRun, IsSeenSuiteRun, IsSuiteRun}
 use Rattle.run_outputs.specs.declared.exit_status.ExitStatus.{ExitStatus}
 use Rattle.launch_options.specs.declared.fault.LaunchFault.{LaunchFault}
@@ -28,7 +28,7 @@ module _ (asked : Asked) (old new : Option (List ℕ)) where
   run_unread fault read (Ok status) same fails = absurd same
   run_unread fault read (Err e) same fails = record { loaded = Err fault; reads = fails; runs = ap Err same }
 
-module _ (old new : Option (List ℕ)) where
+module _ (most : Option ℕ) (old new : Option (List ℕ)) where
   -- a run of the suite that was read: it does not fail as a reader does
   ends_run : (asked : Asked) (suite : SuiteParts) (was is : Option (List ℕ)) (result : Result ExitStatus LaunchFault) → IsSuiteRun asked suite was is result → fault_in result ≢ Some Reading
   ends_run asked suite was is (Ok status) run same = cc
@@ -54,16 +54,16 @@ module _ (old new : Option (List ℕ)) where
 
   -- a suite was read, and run
   pub takes_run : (asked : Asked) (suite : Suite) (was is : Option (List ℕ)) (result : Result ExitStatus LaunchFault) (Comes : List ℕ → Type 0) → IsSuiteRun asked (suite_parts suite) was is result
-      → ((bytes : List ℕ) → ReadsSuite (suite_read bytes) (Ok suite) → Comes bytes) → TakesFrom old new None (λ read. ReadsSuite (suite_read read) (Ok suite)) → TakesFrom old new (fault_in result) Comes
+      → ((bytes : List ℕ) → ReadsSuite (suite_read most bytes) (Ok suite) → Comes bytes) → TakesFrom (most_read most) old new None (λ read. ReadsSuite (suite_read most read) (Ok suite)) → TakesFrom (most_read most) old new (fault_in result) Comes
   takes_run asked suite was is result Comes run comes taken =
-      takes_as old new None (fault_in result) (λ read. ReadsSuite (suite_read read) (Ok suite)) Comes comes
-      (λ read ok end. ends_whole (fault_in result) (length read) new (ends_run asked (suite_parts suite) was is result run) (λ same. read_small read (suite_parts suite) ok) end) taken
+      takes_as (most_read most) old new None (fault_in result) (λ read. ReadsSuite (suite_read most read) (Ok suite)) Comes comes
+      (λ read ok end. ends_whole (most_read most) (fault_in result) (length read) new (ends_run asked (suite_parts suite) was is result run) (λ same. read_small most read (suite_parts suite) ok) end) taken
 
   -- and where none was read nothing is run
-  pub takes_none : (fault : LaunchFault) (result : Result ExitStatus LaunchFault) (Comes : List ℕ → Type 0) → IsErrAnd result (λ e. e ≡ fault) → ((bytes : List ℕ) → FailsToRead (suite_read bytes) fault → Comes bytes)
-      → TakesFrom old new (Some fault) (λ read. FailsToRead (suite_read read) fault) → TakesFrom old new (fault_in result) Comes
+  pub takes_none : (fault : LaunchFault) (result : Result ExitStatus LaunchFault) (Comes : List ℕ → Type 0) → IsErrAnd result (λ e. e ≡ fault) → ((bytes : List ℕ) → FailsToRead (suite_read most bytes) fault → Comes bytes)
+      → TakesFrom (most_read most) old new (Some fault) (λ read. FailsToRead (suite_read most read) fault) → TakesFrom (most_read most) old new (fault_in result) Comes
   takes_none fault (Ok status) Comes same comes taken = absurd same
-  takes_none fault (Err e) Comes same comes taken = rw same (takes_as old new (Some fault) (Some fault) (λ read. FailsToRead (suite_read read) fault) Comes comes (λ read fails ends. ends) taken)
+  takes_none fault (Err e) Comes same comes taken = rw same (takes_as (most_read most) old new (Some fault) (Some fault) (λ read. FailsToRead (suite_read most read) fault) Comes comes (λ read fails ends. ends) taken)
 
 module _ {L : Type 0} (saw : PlanParts → L → L → List Telling → Type 0) (first now : L) (times : Times) (asked : Asked) (old new : Option (List ℕ)) where
   -- a suite was read, and this is the answer of a run that somebody watches

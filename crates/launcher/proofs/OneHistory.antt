@@ -15,7 +15,7 @@ use Rattle.launch_options.specs.declared.fault.LaunchFault.{LaunchFault}
 use Rattle.run_outputs.specs.declared.exit_status.ExitStatus.{ExitStatus}
 use Rattle.launcher.specs.Reports.{IsPrintedRun}
 use Rattle.launcher.specs.Runs.{IsSeenRun, IsSeenSuiteRun, IsSeenSuiteOutput, RunsLoaded}
-use Rattle.ready_runs.specs.Reading.{ReadsSuite, TakesFrom, fault_in}
+use Rattle.ready_runs.specs.Reading.{ReadsSuite, TakesFrom, fault_in, most_read}
 use Rattle.ready_runs.specs.Ready.{answers_of, plan_in}
 use Rattle.launcher.specs.Watched.{SeesTextBy, HasSeenPrinted}
 use Rattle.run_outputs.specs.Outputs.{is_run}
@@ -105,8 +105,8 @@ run_with asked times read old new status gives is = record {
 }
 
 -- of what was read something else is judged too
-pub judged_too : {A B : List ℕ → Type 0} (before left : Option (List ℕ)) (fault : Option LaunchFault) → TakesFrom before left fault A → ((bytes : List ℕ) → A bytes → B bytes) → TakesFrom before left fault B
-judged_too before left fault took gives = record { bytes = took.bytes; consumed = took.consumed; fits = took.fits; ends = took.ends; judged = gives took.bytes took.judged }
+pub judged_too : {A B : List ℕ → Type 0} (limit : ℕ) (before left : Option (List ℕ)) (fault : Option LaunchFault) → TakesFrom limit before left fault A → ((bytes : List ℕ) → A bytes → B bytes) → TakesFrom limit before left fault B
+judged_too limit before left fault took gives = record { bytes = took.bytes; consumed = took.consumed; fits = took.fits; ends = took.ends; judged = gives took.bytes took.judged }
 
 under_ok : {P Q : Type 0} (result : Result ExitStatus LaunchFault) → (P → Q) → IfOk result (λ status. P) → IfOk result (λ status. Q)
 under_ok (Ok status) gives is = gives is
@@ -135,9 +135,9 @@ module _ {V : Type 0} (saw : PlanParts → V → V → List Telling → Type 0) 
   recorded_of : (p : PlanParts) (ts : List Telling) → first.other.now.recorded ≡ Nothing → HasSeenMore Both p ts first now → IsRecorded p ts now.other.now.recorded
   recorded_of p ts fresh more = recorded_by p ts (subst (λ (r : Recorded). IsRecorded p [] r) (sym fresh) refl) more
 
-  module _ (times : Times) (asked : Asked) (before left old new : Option (List ℕ)) (result : Result ExitStatus LaunchFault) (took : TakesFrom before left (fault_in result) (λ bytes. IsSeenRun Both first now times asked (suite_read bytes) old new result)) where
+  module _ (times : Times) (asked : Asked) (before left old new : Option (List ℕ)) (result : Result ExitStatus LaunchFault) (took : TakesFrom (most_read asked.most_nodes) before left (fault_in result) (λ bytes. IsSeenRun Both first now times asked (suite_read asked.most_nodes bytes) old new result)) where
     of_both : (Holds : Type 0) → (now ≡ first → Holds) → ((p : PlanParts) (ts : List Telling) → Both p first now ts → Holds) → Holds
-    of_both Holds same seen = of_run Both first now times Holds same (λ p ts more. seen p ts (both_seen p ts more)) asked (suite_read took.bytes) old new result took.judged
+    of_both Holds same seen = of_run Both first now times Holds same (λ p ts more. seen p ts (both_seen p ts more)) asked (suite_read asked.most_nodes took.bytes) old new result took.judged
 
     pub still_same : now.observer.ghost_name ≡ first.observer.ghost_name
     still_same = of_both (now.observer.ghost_name ≡ first.observer.ghost_name) (λ same. ap (λ (b : Beside V Recording). b.observer.ghost_name) same) (λ p ts both. both.same)
@@ -146,10 +146,10 @@ module _ {V : Type 0} (saw : PlanParts → V → V → List Telling → Type 0) 
     some_seen = of_both (HasSeenSome saw first.observer.now now.observer.now) (λ same. inl (ap (λ (b : Beside V Recording). b.observer.now) same)) (λ p ts both. inr (p, ts, both.seen))
 
     module _ (fresh : first.other.now.recorded ≡ Nothing) where
-      pub run_recorded : is_run asked.replay asked.details ≡ true → TakesFrom before left (fault_in result) (λ bytes. IfOk result (λ status. IsRecordedRun asked times (suite_read bytes) old new status now.other.now.recorded))
+      pub run_recorded : is_run asked.replay asked.details ≡ true → TakesFrom (most_read asked.most_nodes) before left (fault_in result) (λ bytes. IfOk result (λ status. IsRecordedRun asked times (suite_read asked.most_nodes bytes) old new status now.other.now.recorded))
       run_recorded runs =
-          judged_too before left (fault_in result) took
-          (λ bytes is. of_loaded_run Both first now times (λ p history texts. IsRecorded p (tellings_of texts history) now.other.now.recorded) (λ p history texts. recorded_of p (tellings_of texts history) fresh) asked (suite_read bytes) old new runs is.loaded result is.reads is.runs)
+          judged_too (most_read asked.most_nodes) before left (fault_in result) took
+          (λ bytes is. of_loaded_run Both first now times (λ p history texts. IsRecorded p (tellings_of texts history) now.other.now.recorded) (λ p history texts. recorded_of p (tellings_of texts history) fresh) asked (suite_read asked.most_nodes bytes) old new runs is.loaded result is.reads is.runs)
 
       pub run_unrecorded : is_run asked.replay asked.details ≡ false → IfOk result (λ status. now.other.now.recorded ≡ Nothing)
       run_unrecorded unrun = under_ok result (λ same. ap (λ (b : Beside V Recording). b.other.now.recorded) same ∙ fresh) (unseen_loaded Both first now times asked old new unrun took.judged.loaded result took.judged.runs)
@@ -167,7 +167,7 @@ module _ {F : Type 0} (contents : F → Option (List ℕ)) where
   reports_of theme p history texts times Lacking was now is each = inr each
 
   pub run_reported : (asked : Asked) (times : Times) (before left old new : Option (List ℕ)) (status : ExitStatus) (recorded : Recorded) (was now : List (Report F)) → IsRecordedIn contents asked.theme (times_asked asked.times times) recorded was now
-      → TakesFrom before left None (λ bytes. IsRecordedRun asked times (suite_read bytes) old new status recorded) → TakesFrom before left None (λ bytes. IsReportedRun contents asked times (suite_read bytes) old new status was now)
+      → TakesFrom (most_read asked.most_nodes) before left None (λ bytes. IsRecordedRun asked times (suite_read asked.most_nodes bytes) old new status recorded) → TakesFrom (most_read asked.most_nodes) before left None (λ bytes. IsReportedRun contents asked times (suite_read asked.most_nodes bytes) old new status was now)
   run_reported asked times before left old new status recorded was now each took =
-      judged_too before left None took
-      (λ bytes is. run_with asked times (suite_read bytes) old new status (λ p history texts kept. reports_of asked.theme p history texts (times_asked asked.times times) recorded was now kept each) is)
+      judged_too (most_read asked.most_nodes) before left None took
+      (λ bytes is. run_with asked times (suite_read asked.most_nodes bytes) old new status (λ p history texts kept. reports_of asked.theme p history texts (times_asked asked.times times) recorded was now kept each) is)

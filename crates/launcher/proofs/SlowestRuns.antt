@@ -8,7 +8,7 @@ use Rattle.resource_locks.specs.Plans.{PlanParts}
 use Rattle.launch_options.specs.Asked.{Asked}
 use Rattle.launch_options.specs.declared.fault.LaunchFault.{LaunchFault}
 use Rattle.launcher.specs.Runs.{IsSeenRun}
-use Rattle.ready_runs.specs.Reading.{TakesFrom, fault_in}
+use Rattle.ready_runs.specs.Reading.{TakesFrom, fault_in, most_read}
 use Rattle.run_outputs.specs.Outputs.{is_run}
 use Rattle.run_outputs.specs.declared.exit_status.ExitStatus.{ExitStatus}
 use Rattle.listeners.specs.Listeners.{Telling, tellings_of}
@@ -38,20 +38,20 @@ module _ (asked : Asked) (times : Times) where
 
   -- a list that is made of what was recorded of a run is of its plan
   pub listed_run : (before left old new : Option (List ℕ)) (recorded : Recorded) (slowest : Option (List ℕ)) (result : Result ExitStatus LaunchFault)
-      → (is_run asked.replay asked.details ≡ true → TakesFrom before left (fault_in result) (λ bytes. IfOk result (λ status. IsRecordedRun asked times (suite_read bytes) old new status recorded)))
+      → (is_run asked.replay asked.details ≡ true → TakesFrom (most_read asked.most_nodes) before left (fault_in result) (λ bytes. IfOk result (λ status. IsRecordedRun asked times (suite_read asked.most_nodes bytes) old new status recorded)))
       → (is_run asked.replay asked.details ≡ false → IfOk result (λ status. recorded ≡ Nothing)) → IsSlowestOf asked.times times recorded slowest → IfOk result (λ status. IsSlowestRun asked times before left old new status slowest)
   listed_run before left old new recorded slowest (Ok status) ran unran of = record {
-    listed = λ runs. judged_too before left None (ran runs) (λ bytes kept. listed_of (suite_read bytes) old new recorded slowest of status kept);
+    listed = λ runs. judged_too (most_read asked.most_nodes) before left None (ran runs) (λ bytes kept. listed_of (suite_read asked.most_nodes bytes) old new recorded slowest of status kept);
     unrun = λ none. slowest_of_nothing asked.times times recorded slowest (unran none) of;
   }
   listed_run before left old new recorded slowest (Err fault) ran unran of = tt
 
   -- where nothing was recorded none is made
   pub unlisted_run : {V : Type 0} (saw : PlanParts → V → V → List Telling → Type 0) (first now : V) (before left old new : Option (List ℕ)) (result : Result ExitStatus LaunchFault)
-      → TakesFrom before left (fault_in result) (λ bytes. IsSeenRun saw first now times asked (suite_read bytes) old new result) → IfOk result (λ status. IsSlowestRun asked times before left old new status None)
+      → TakesFrom (most_read asked.most_nodes) before left (fault_in result) (λ bytes. IsSeenRun saw first now times asked (suite_read asked.most_nodes bytes) old new result) → IfOk result (λ status. IsSlowestRun asked times before left old new status None)
   unlisted_run saw first now before left old new (Ok status) took = record {
     listed = λ runs.
-        judged_too before left None took (λ bytes seen. of_loaded_run saw first now times (λ p history texts. IsSlowestIn asked.times times p None) (λ p history texts more. tt) asked (suite_read bytes) old new runs seen.loaded (Ok status) seen.reads seen.runs);
+        judged_too (most_read asked.most_nodes) before left None took (λ bytes seen. of_loaded_run saw first now times (λ p history texts. IsSlowestIn asked.times times p None) (λ p history texts more. tt) asked (suite_read asked.most_nodes bytes) old new runs seen.loaded (Ok status) seen.reads seen.runs);
     unrun = λ none. refl;
   }
   unlisted_run saw first now before left old new (Err fault) took = tt

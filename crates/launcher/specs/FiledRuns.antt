@@ -1,5 +1,5 @@
 -- A run of which reports are kept in files besides what it prints.
-use Rattle.std.specs.Prelude.{◌≡◌, ◌⊎◌, ℕ, true, false, List, [], ◌∷◌, ◌++◌, take, Option, IfOk, IfErr, IfSome, Result, Err}
+use Rattle.std.specs.Prelude.{◌≡◌, ◌⊎◌, ℕ, true, false, List, [], ◌∷◌, ◌++◌, Option, IfOk, IfErr, IfSome, Result, Err}
 use Rattle.std.specs.Io.KnownBytes.{Appends, Keeps}
 use Rattle.job_times.specs.Timings.{Times, times_asked}
 use Rattle.plan_events.specs.declared.event.Event.{Event}
@@ -11,7 +11,7 @@ use Rattle.suite_words.specs.declared.suite.fault.SuiteFault.{SuiteFault}
 use Rattle.launch_options.specs.Asked.{Asked}
 use Rattle.launch_options.specs.declared.fault.LaunchFault.{LaunchFault}
 use Rattle.launcher.specs.Runs.{IsRun, is_writing}
-use Rattle.ready_runs.specs.Reading.{TakesFrom, fault_in}
+use Rattle.ready_runs.specs.Reading.{TakesFrom, fault_in, front_read, most_read}
 use Rattle.run_outputs.specs.Outputs.{is_run}
 use Rattle.run_outputs.specs.declared.exit_status.ExitStatus.{ExitStatus}
 use Rattle.run_results.specs.declared.theme.Theme.{Theme}
@@ -52,8 +52,8 @@ IsFiledRun asked wanted times read old new status ends = IsRunWith (λ p history
 -- what is asked for is run: what the reader held, or, whatever it tells of its bytes, what it gave is what is judged; and nothing is
 -- written on a refusal but that the writer failed
 pub record RunsAsked (asked : Asked) (before after old new : Option (List ℕ)) (result : Result ExitStatus LaunchFault) : Type 0 where
-  pub exact : IfSome before (λ bytes. IsRun asked (suite_read (take 1048577 bytes)) old new result)
-  pub reads : TakesFrom before after (fault_in result) (λ bytes. IsRun asked (suite_read bytes) old new result)
+  pub exact : IfSome before (λ bytes. IsRun asked (front_read asked.most_nodes bytes) old new result)
+  pub reads : TakesFrom (most_read asked.most_nodes) before after (fault_in result) (λ bytes. IsRun asked (suite_read asked.most_nodes bytes) old new result)
   pub quiet : IfErr result (λ fault. is_writing fault ≡ false → Keeps old new)
 
 -- the files of these reports could not be opened: nothing is read, nothing is written
@@ -78,7 +78,7 @@ pub record IsOpenedWith (Runs : Result ExitStatus LaunchFault → Type 0) (Files
 -- in the end each report is filed of the history that is printed, if a plan is run
 abbrev pub FilesRun : Asked → List Wanted → Times → (before left old new : Option (List ℕ)) → Result ExitStatus LaunchFault → List Deed → Type 0
 FilesRun asked wanted times before left old new ran ends =
-    is_run asked.replay asked.details ≡ true → TakesFrom before left (fault_in ran) (λ bytes. IfOk ran (λ status. IsFiledRun asked wanted times (suite_read bytes) old new status ends))
+    is_run asked.replay asked.details ≡ true → TakesFrom (most_read asked.most_nodes) before left (fault_in ran) (λ bytes. IfOk ran (λ status. IsFiledRun asked wanted times (suite_read asked.most_nodes bytes) old new status ends))
 
 -- the files of these reports were opened, and what is asked for is run
 abbrev pub IsOpenedRun : Asked → List Wanted → Times → (before left old new : Option (List ℕ)) → (was now : Option (List Deed)) → Result ExitStatus LaunchFault → Type 0

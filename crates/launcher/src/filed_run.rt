@@ -4,7 +4,7 @@ ghost use Rattle.std.specs.Prelude.{◌≡◌, IfOk, IfErr, IsTrue, List, Option
 ghost use Rattle.job_times.specs.Timings.{times_of};
 ghost use Rattle.launch_options.specs.Asked.{asked_by};
 ghost use Rattle.launch_options.specs.ReportTexts.{parts_of};
-ghost use Rattle.ready_runs.specs.Reading.{TakesFrom, fault_in};
+ghost use Rattle.ready_runs.specs.Reading.{TakesFrom, fault_in, most_read};
 ghost use Rattle.run_outputs.specs.Outputs.{is_run};
 ghost use Rattle.suite_text.specs.Reading.Bytes.{suite_read};
 ghost use Rattle.report_files.specs.Deeds.{Deed, Does};
@@ -53,9 +53,10 @@ fn run_listed<
         (W.contents writer.old) (W.contents writer.new) result }
     ensures watched { HasSeenSome V.saw beside.old.observer.now beside.new.observer.now }
     ensures reported { is_run (asked_by options.now).replay (asked_by options.now).details ≡ true →
-        TakesFrom (R.remaining reader.old) (R.remaining reader.new) (fault_in result)
+        TakesFrom (most_read options.now.most_nodes) (R.remaining reader.old) (R.remaining reader.new) (fault_in result)
         (λ bytes. IfOk result (λ status. IsReportedRun F.contents (asked_by options.now) (times_of times.new.timings)
-        (suite_read bytes) (W.contents writer.old) (W.contents writer.new) status reports.old reports.new)) }
+        (suite_read options.now.most_nodes bytes) (W.contents writer.old) (W.contents writer.new) status reports.old
+        reports.new)) }
     ensures refused { IfErr result (λ _. reports.new ≡ reports.old) }
     ensures many { length reports.new ≡ length reports.old }
     ensures slowest { IfOk result (λ status. IsSlowestRun (asked_by options.now) (times_of times.new.timings)
@@ -100,9 +101,10 @@ fn run_beside<
         (W.contents writer.old) (W.contents writer.new) result }
     ensures watched { HasSeenSome V.saw observer.old observer.new }
     ensures reported { is_run (asked_by options.now).replay (asked_by options.now).details ≡ true →
-        TakesFrom (R.remaining reader.old) (R.remaining reader.new) (fault_in result)
+        TakesFrom (most_read options.now.most_nodes) (R.remaining reader.old) (R.remaining reader.new) (fault_in result)
         (λ bytes. IfOk result (λ status. IsReportedRun F.contents (asked_by options.now) (times_of times.new.timings)
-        (suite_read bytes) (W.contents writer.old) (W.contents writer.new) status reports.old reports.new)) }
+        (suite_read options.now.most_nodes bytes) (W.contents writer.old) (W.contents writer.new) status reports.old
+        reports.new)) }
     ensures refused { IfErr result (λ _. reports.new ≡ reports.old) }
     ensures many { length reports.new ≡ length reports.old }
     ensures slowest { IfOk result (λ status. IsSlowestRun (asked_by options.now) (times_of times.new.timings)

@@ -24,7 +24,7 @@ pub use launch_options::{
 pub use launched::{Launched, launch_to};
 pub use program::{Program, run_jobs};
 pub use program_launch::launch_program;
-pub use ready_runs::{ReadFault, read_front, read_suite};
+pub use ready_runs::{ReadFault, most_read, read_front, read_suite};
 pub use report::launch;
 pub use reported_run::run_reported;
 pub use run::{run_options, run_options_watched, run_suite};

@@ -1,11 +1,11 @@
 //! A run of which reports are written besides what it prints.
 
-ghost use Rattle.std.specs.Prelude.{◌≡◌, IfOk, IfErr, IfSome, false, length, take, true};
+ghost use Rattle.std.specs.Prelude.{◌≡◌, IfOk, IfErr, IfSome, false, length, true};
 ghost use Rattle.std.specs.Io.KnownBytes.{Keeps};
 ghost use Rattle.job_times.specs.Timings.{times_of};
 ghost use Rattle.launch_options.specs.Asked.{asked_by};
 ghost use Rattle.launcher.specs.Runs.{IsRun, is_writing};
-ghost use Rattle.ready_runs.specs.Reading.{TakesFrom, fault_in};
+ghost use Rattle.ready_runs.specs.Reading.{TakesFrom, fault_in, front_read, most_read};
 ghost use Rattle.run_outputs.specs.Outputs.{is_run};
 ghost use Rattle.suite_text.specs.Reading.Bytes.{suite_read};
 ghost use Rattle.launcher.specs.ReportedRuns.{HasSeenSome, IsRecordedRun, IsReportedRun};
@@ -34,18 +34,19 @@ fn run_recorded<T: Threads + Wait + Sync, R: Read, W: Write, V: Observer, S: Sto
     requires fresh { beside.old.other.now.recorded ≡ Recorded.Nothing }
     ensures same { beside.new.observer.ghost_name ≡ beside.old.observer.ghost_name }
     ensures exact { IfSome (R.remaining reader.old)
-        (λ bytes. IsRun (asked_by options.now) (suite_read (take 1048577 bytes)) (W.contents writer.old)
+        (λ bytes. IsRun (asked_by options.now) (front_read options.now.most_nodes bytes) (W.contents writer.old)
         (W.contents writer.new) result) }
-    ensures reads { TakesFrom (R.remaining reader.old) (R.remaining reader.new) (fault_in result)
-        (λ bytes. IsRun (asked_by options.now) (suite_read bytes) (W.contents writer.old) (W.contents writer.new)
-        result) }
+    ensures reads { TakesFrom (most_read options.now.most_nodes) (R.remaining reader.old) (R.remaining reader.new)
+        (fault_in result) (λ bytes. IsRun (asked_by options.now) (suite_read options.now.most_nodes bytes)
+        (W.contents writer.old) (W.contents writer.new) result) }
     ensures quiet { IfErr result (λ fault. is_writing fault ≡ false →
         Keeps (W.contents writer.old) (W.contents writer.new)) }
     ensures seen { HasSeenSome V.saw beside.old.observer.now beside.new.observer.now }
     ensures recorded { is_run (asked_by options.now).replay (asked_by options.now).details ≡ true →
-        TakesFrom (R.remaining reader.old) (R.remaining reader.new) (fault_in result)
+        TakesFrom (most_read options.now.most_nodes) (R.remaining reader.old) (R.remaining reader.new) (fault_in result)
         (λ bytes. IfOk result (λ status. IsRecordedRun (asked_by options.now) (times_of times.new.timings)
-        (suite_read bytes) (W.contents writer.old) (W.contents writer.new) status beside.new.other.now.recorded)) }
+        (suite_read options.now.most_nodes bytes) (W.contents writer.old) (W.contents writer.new) status
+        beside.new.other.now.recorded)) }
     ensures unrecorded { is_run (asked_by options.now).replay (asked_by options.now).details ≡ false →
         IfOk result (λ _. beside.new.other.now.recorded ≡ Recorded.Nothing) }
 {
@@ -76,26 +77,28 @@ pub fn run_reported<
     requires fresh { beside.old.other.now.recorded ≡ Recorded.Nothing }
     ensures same { beside.new.observer.ghost_name ≡ beside.old.observer.ghost_name }
     ensures exact { IfSome (R.remaining reader.old)
-        (λ bytes. IsRun (asked_by options.now) (suite_read (take 1048577 bytes)) (W.contents writer.old)
+        (λ bytes. IsRun (asked_by options.now) (front_read options.now.most_nodes bytes) (W.contents writer.old)
         (W.contents writer.new) result) }
-    ensures reads { TakesFrom (R.remaining reader.old) (R.remaining reader.new) (fault_in result)
-        (λ bytes. IsRun (asked_by options.now) (suite_read bytes) (W.contents writer.old) (W.contents writer.new)
-        result) }
+    ensures reads { TakesFrom (most_read options.now.most_nodes) (R.remaining reader.old) (R.remaining reader.new)
+        (fault_in result) (λ bytes. IsRun (asked_by options.now) (suite_read options.now.most_nodes bytes)
+        (W.contents writer.old) (W.contents writer.new) result) }
     ensures quiet { IfErr result (λ fault. is_writing fault ≡ false →
         Keeps (W.contents writer.old) (W.contents writer.new)) }
     ensures watched { HasSeenSome V.saw beside.old.observer.now beside.new.observer.now }
     // One history witnesses what is printed and every report, and so do these times.
     ensures reported { is_run (asked_by options.now).replay (asked_by options.now).details ≡ true →
-        TakesFrom (R.remaining reader.old) (R.remaining reader.new) (fault_in result)
+        TakesFrom (most_read options.now.most_nodes) (R.remaining reader.old) (R.remaining reader.new) (fault_in result)
         (λ bytes. IfOk result (λ status. IsReportedRun F.contents (asked_by options.now) (times_of times.new.timings)
-        (suite_read bytes) (W.contents writer.old) (W.contents writer.new) status reports.old reports.new)) }
+        (suite_read options.now.most_nodes bytes) (W.contents writer.old) (W.contents writer.new) status reports.old
+        reports.new)) }
     ensures refused { IfErr result (λ _. reports.new ≡ reports.old) }
     ensures many { length reports.new ≡ length reports.old }
     // The same history is what was recorded; where nothing is run nothing was.
     ensures recorded { is_run (asked_by options.now).replay (asked_by options.now).details ≡ true →
-        TakesFrom (R.remaining reader.old) (R.remaining reader.new) (fault_in result)
+        TakesFrom (most_read options.now.most_nodes) (R.remaining reader.old) (R.remaining reader.new) (fault_in result)
         (λ bytes. IfOk result (λ status. IsRecordedRun (asked_by options.now) (times_of times.new.timings)
-        (suite_read bytes) (W.contents writer.old) (W.contents writer.new) status beside.new.other.now.recorded)) }
+        (suite_read options.now.most_nodes bytes) (W.contents writer.old) (W.contents writer.new) status
+        beside.new.other.now.recorded)) }
     ensures unrecorded { is_run (asked_by options.now).replay (asked_by options.now).details ≡ false →
         IfOk result (λ _. beside.new.other.now.recorded ≡ Recorded.Nothing) }
 {

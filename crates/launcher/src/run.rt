@@ -1,6 +1,6 @@
 //! A run: from the bytes of a reader to the bytes of a writer.
 
-ghost use Rattle.std.specs.Prelude.{◌≡◌, ◌≢◌, ◌<◌, ◌≤◌, None, Some, IfOk, IfErr, IfSome, false, take, string_bytes};
+ghost use Rattle.std.specs.Prelude.{◌≡◌, ◌≢◌, ◌<◌, ◌≤◌, None, Some, IfOk, IfErr, IfSome, false, string_bytes};
 ghost use Rattle.std.specs.Io.KnownBytes.{Keeps};
 ghost use Rattle.job_times.specs.Timings.{times_of};
 ghost use Rattle.suite_text.specs.Reading.Bytes.{suite_read};
@@ -8,7 +8,7 @@ ghost use Rattle.suite_text.specs.Reading.Parts.{SuiteParts};
 ghost use Rattle.suite_text.specs.Suites.{suite_parts};
 ghost use Rattle.ready_runs.specs.Ready.{IsReady};
 ghost use Rattle.launcher.specs.Runs.{IsRun, IsSuiteRun, IsUnrun};
-ghost use Rattle.ready_runs.specs.Reading.{TakesFrom};
+ghost use Rattle.ready_runs.specs.Reading.{TakesFrom, front_read, most_read};
 ghost use Rattle.launcher.specs.Runs.{IsSeenOutput, IsSeenReadyRun, IsSeenRun, IsSeenSuiteRun};
 ghost use Rattle.ready_runs.specs.Ready.{TakesMemory};
 ghost use Rattle.ready_runs.specs.Reading.{fault_in};
@@ -260,19 +260,20 @@ pub fn run_options_watched<
     times: &mut RunTimes<'_, S>,
 ) -> Result<ExitStatus, LaunchFault>
     ensures exact { IfSome (R.remaining reader.old)
-        (λ bytes. IsRun (asked_by options.now) (suite_read (take 1048577 bytes)) (W.contents writer.old)
+        (λ bytes. IsRun (asked_by options.now) (front_read options.now.most_nodes bytes) (W.contents writer.old)
         (W.contents writer.new) result) }
     // Also of a reader that tells nothing of its bytes: what is judged is what it gave, at most so many bytes.
-    ensures reads { TakesFrom (R.remaining reader.old) (R.remaining reader.new) (fault_in result)
-        (λ bytes. IsRun (asked_by options.now) (suite_read bytes) (W.contents writer.old) (W.contents writer.new)
-        result) }
+    ensures reads { TakesFrom (most_read options.now.most_nodes) (R.remaining reader.old) (R.remaining reader.new)
+        (fault_in result) (λ bytes. IsRun (asked_by options.now) (suite_read options.now.most_nodes bytes)
+        (W.contents writer.old) (W.contents writer.new) result) }
     ensures quiet { IfErr result (λ fault. is_writing fault ≡ false →
         Keeps (W.contents writer.old) (W.contents writer.new)) }
-    ensures watched { TakesFrom (R.remaining reader.old) (R.remaining reader.new) (fault_in result)
-        (λ bytes. IsSeenRun V.saw observer.old observer.new (times_of times.new.timings) (asked_by options.now)
-        (suite_read bytes) (W.contents writer.old) (W.contents writer.new) result) }
+    ensures watched { TakesFrom (most_read options.now.most_nodes) (R.remaining reader.old) (R.remaining reader.new)
+        (fault_in result) (λ bytes. IsSeenRun V.saw observer.old observer.new (times_of times.new.timings)
+        (asked_by options.now) (suite_read options.now.most_nodes bytes) (W.contents writer.old) (W.contents writer.new)
+        result) }
 {
-    let suite = read_suite(alloc, reader)?;
+    let suite = read_suite(alloc, options.most_nodes, reader)?;
     run_suite(rt, alloc, options, suite, writer, observer, times)
 }
 
@@ -285,12 +286,12 @@ pub fn run_options<T: Threads + Wait + Sync, R: Read, W: Write>(
     writer: &mut W,
 ) -> Result<ExitStatus, LaunchFault>
     ensures exact { IfSome (R.remaining reader.old)
-        (λ bytes. IsRun (asked_by options.now) (suite_read (take 1048577 bytes)) (W.contents writer.old)
+        (λ bytes. IsRun (asked_by options.now) (front_read options.now.most_nodes bytes) (W.contents writer.old)
         (W.contents writer.new) result) }
     // Also of a reader that tells nothing of its bytes: what is judged is what it gave, at most so many bytes.
-    ensures reads { TakesFrom (R.remaining reader.old) (R.remaining reader.new) (fault_in result)
-        (λ bytes. IsRun (asked_by options.now) (suite_read bytes) (W.contents writer.old) (W.contents writer.new)
-        result) }
+    ensures reads { TakesFrom (most_read options.now.most_nodes) (R.remaining reader.old) (R.remaining reader.new)
+        (fault_in result) (λ bytes. IsRun (asked_by options.now) (suite_read options.now.most_nodes bytes)
+        (W.contents writer.old) (W.contents writer.new) result) }
     ensures quiet { IfErr result (λ fault. is_writing fault ≡ false →
         Keeps (W.contents writer.old) (W.contents writer.new)) }
 {

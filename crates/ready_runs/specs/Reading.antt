@@ -1,10 +1,11 @@
 -- What the reading of a suite comes to, and what was taken from the reader.
-use Rattle.std.specs.Prelude.{◌≡◌, ℕ, ◌+◌, ◌<◌, ◌≤◌, List, length, Option, Some, None, Result, Ok, Err}
+use Rattle.std.specs.Prelude.{◌≡◌, ℕ, ◌+◌, ◌<◌, ◌≤◌, List, length, take, Option, Some, None, Result, Ok, Err}
 use Rattle.std.specs.Io.KnownBytes.{Consumes, IsAtEnd}
 use Rattle.launch_options.specs.declared.fault.LaunchFault.{LaunchFault}
 use Rattle.launch_options.specs.declared.fault.LaunchFault.TheVariants.{NoMemory, Suite, BadWords, BadStep, BadReport, CutReport, UnreadRun, BadSavedLine, UnreadWords, BadSelector, BadTags, BadPair, BadSettings, NothingMatches, TooManyKeys, TooManyWorkers, NoWorker, Reading, Writing}
 use Rattle.suite_words.specs.Limits.{byte_limit}
 use Rattle.suite_words.specs.declared.suite.fault.SuiteFault.{SuiteFault}
+use Rattle.suite_text.specs.Reading.Bytes.{suite_read}
 use Rattle.suite_text.specs.Reading.Parts.{SuiteParts}
 use Rattle.suite_text.specs.Suites.{suite_parts}
 use Rattle.suite_text.specs.declared.suite.Suite as suites
@@ -51,6 +52,10 @@ fault_in (Err fault) = Some fault
 -- how many bytes of a suite are read at most, where so many nodes were asked for: one more than it may have tells that there are too many
 abbrev pub most_read : Option ℕ → ℕ
 most_read most = byte_limit most + 1
+
+-- what bytes are as a suite of which only so many are read
+abbrev pub front_read : Option ℕ → List ℕ → Result SuiteParts SuiteFault
+front_read most bytes = suite_read most (take (most_read most) bytes)
 
 -- how far a reader was read that gave so many bytes, where there may be so many at most: where it failed, or memory ran out, not to the end
 -- of what may be read, so neither stands in place of a suite that is too large; else to that end or to its own

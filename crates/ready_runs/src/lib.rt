@@ -12,7 +12,7 @@ mod slow_limits;
 
 pub use bytes::{ReadFault, read_front};
 pub use program::{PlannedProgram, planned_program};
-pub use reading::read_suite;
+pub use reading::{most_read, read_suite};
 pub use ready::{ReadyRun, ready_run};
 pub use scripted::{ScriptedJob, scripted_jobs};
 pub use slow_limits::{set_default_limits, set_limits, set_script_limits};

@@ -1,9 +1,9 @@
 //! The reading of a suite.
 
-ghost use Rattle.std.specs.Prelude.{◌≡◌, IfOk, IfSome, take};
+ghost use Rattle.std.specs.Prelude.{◌≡◌, IfOk, IfSome};
 ghost use Rattle.resource_locks.specs.Spares.{HasBareSpares};
 ghost use Rattle.suite_text.specs.Reading.Bytes.{suite_read};
-ghost use Rattle.ready_runs.specs.Reading.{ReadsSuite, TakesFrom, fault_in, most_read};
+ghost use Rattle.ready_runs.specs.Reading.{ReadsSuite, TakesFrom, fault_in, front_read, most_read};
 
 use crate::bytes::read_front;
 use descriptor::NodeLimit;
@@ -13,9 +13,9 @@ use std::io::Read;
 use suite_text::Suite;
 use suite_words::byte_limit;
 
-/// How many bytes are read at most where so many nodes were asked for: one more than a suite may have tells that there
+/// How many bytes of a suite are read at most where so many nodes were asked for: one more than a suite may have tells that there
 /// are too many.
-fn most_read(most: Option<NodeLimit>) -> usize
+pub fn most_read(most: Option<NodeLimit>) -> usize
     ensures { result ≡ most_read most }
 {
     byte_limit(most) + 1
@@ -29,7 +29,7 @@ pub fn read_suite<R: Read>(
     reader: &mut R,
 ) -> Result<Suite, LaunchFault>
     ensures exact { IfSome (R.remaining reader.old)
-        (λ bytes. ReadsSuite (suite_read most (take (most_read most) bytes)) result) }
+        (λ bytes. ReadsSuite (front_read most bytes) result) }
     ensures reads { TakesFrom (most_read most) (R.remaining reader.old) (R.remaining reader.new) (fault_in result)
         (λ bytes. ReadsSuite (suite_read most bytes) result) }
     // No dynamic test declares a lock, and no engine is a factory.

@@ -1,9 +1,9 @@
 //! Calls `launcher`: a suite in memory is run, and what is printed is appended to a vector.
 
-ghost use Rattle.std.specs.Prelude.{Some, take};
+ghost use Rattle.std.specs.Prelude.{Some};
 ghost use Rattle.launch_options.specs.Asked.{asked_by};
 ghost use Rattle.launcher.specs.Runs.{IsRun};
-ghost use Rattle.suite_text.specs.Reading.Bytes.{suite_read};
+ghost use Rattle.ready_runs.specs.Reading.{front_read};
 
 use launcher::{ExitStatus, LaunchFault, Options, run_options};
 use std::alloc::Global;
@@ -18,7 +18,7 @@ pub fn run_text<T: Threads + Wait + Sync>(
     suite: &[u8],
     output: &mut Vec<u8>,
 ) -> Result<ExitStatus, LaunchFault>
-    ensures { IsRun (asked_by options.now) (suite_read (take 1048577 suite.now)) (Some output.old.items)
+    ensures { IsRun (asked_by options.now) (front_read options.now.most_nodes suite.now) (Some output.old.items)
         (Some output.new.items) result }
 {
     let mut left = suite;

@@ -7,7 +7,7 @@ ghost use Rattle.event_history.specs.History.{IsComplete};
 ghost use Rattle.job_times.specs.Timings.{is_noted};
 
 use crate::threaded_run::two_jobs;
-use descriptor::{BodyId, NodeId, Tree};
+use descriptor::{BodyId, MOST_NODES, NodeId, Tree};
 use job_times::{JobTimes, RunTimes, Stopwatch, Timings};
 use launcher::{bare_places, run_timed};
 use plan_events::Event;
@@ -50,7 +50,7 @@ pub fn run_two_timed<R: Threads + Wait + Sync + Clock>(
     let Ok(jobs) = two_jobs(alloc, first, second) else {
         return None;
     };
-    let stopwatch = JobTimes::off(alloc, rt);
+    let stopwatch = JobTimes::off(alloc, rt, MOST_NODES);
     stopwatch.turn_on();
     let places = bare_places();
     match run_timed(

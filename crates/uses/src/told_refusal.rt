@@ -1,11 +1,11 @@
 //! Calls `messages`: a suite in memory is run, and if the run is refused its message comes back.
 
-ghost use Rattle.std.specs.Prelude.{◌≡◌, Some, Err, IfErr, take};
+ghost use Rattle.std.specs.Prelude.{◌≡◌, Some, Err, IfErr};
 ghost use Rattle.launch_options.specs.Asked.{asked_by};
 ghost use Rattle.launcher.specs.Runs.{IsRun};
 ghost use Rattle.launch_options.specs.declared.fault.LaunchFault.{LaunchFault as Fault};
 ghost use Rattle.messages.specs.Sentences.{sentence_of};
-ghost use Rattle.suite_text.specs.Reading.Bytes.{suite_read};
+ghost use Rattle.ready_runs.specs.Reading.{front_read};
 
 use crate::suite_output::run_text;
 use launcher::{ExitStatus, Given, Options};
@@ -25,7 +25,7 @@ pub fn run_or_say<T: Threads + Wait + Sync>(
     output: &mut Vec<u8>,
 ) -> Result<ExitStatus, Message>
     ensures said { IfErr result (λ message. (fault : Fault) × (message.sentence.now ≡ sentence_of fault)
-        × IsRun (asked_by options.now) (suite_read (take 1048577 suite.now)) (Some output.old.items)
+        × IsRun (asked_by options.now) (front_read options.now.most_nodes suite.now) (Some output.old.items)
         (Some output.new.items) (Err fault)) }
 {
     match run_text(rt, alloc, options, suite, output) {

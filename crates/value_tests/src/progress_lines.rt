@@ -46,7 +46,7 @@ fn leave_moments<E: Write>(alloc: Global, terminal: &mut E, step: u64) {
     let mut summary = Summary::new(alloc);
     let mut failures = Failures::new(alloc);
     let mut running = Running::new(alloc);
-    let times = JobTimes::off(alloc, &clock);
+    let times = JobTimes::off(alloc, &clock, 1);
     let mut slow = SlowTests::new(alloc);
     let mut progress = Progress::new(
         alloc,

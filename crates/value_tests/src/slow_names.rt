@@ -16,7 +16,7 @@ const SUITE: &str = "engine e\n  class a.B\n    test t() pass\n    test u() pass
 /// of the clock is half a second after the one before.
 fn written(alloc: Global, events: &[Event]) -> Option<Vec<u8>> {
     let clock = Ticking::by(500);
-    let times = JobTimes::off(alloc, &clock);
+    let times = JobTimes::off(alloc, &clock, 5);
     times.turn_on();
     let plan = plan_of(alloc, SUITE)?;
     let texts = Texts::new(alloc, plan.tree()).ok()?;
