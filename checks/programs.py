@@ -4,9 +4,9 @@ import os
 import subprocess
 import sys
 
-from kept_programs import answering
+from kept_programs import answering, proved_program, taken_program
 from source_sums import NoKit
-from unproved import CannotBuild
+from unproved import CannotBuild, unproved_program
 
 TOP = os.path.dirname(os.path.dirname(os.path.abspath(__file__)))
 PREFIX = "junit.jupiter.execution.parallel."
@@ -29,6 +29,17 @@ def built(crate: str) -> str:
 def built_console() -> str:
     """The path of the program itself."""
     return built("console")
+
+
+def console_of(kind: str) -> str:
+    """The path of the program of these sources that is `proved`, which has to be here, or `unproved`."""
+    try:
+        if kind == "unproved":
+            return str(unproved_program("console", is_fast=True))
+        program = proved_program("console") or taken_program("console")
+    except (CannotBuild, NoKit) as why:
+        sys.exit(f"console cannot be built: {why}")
+    return str(program) if program else sys.exit("no proved program of these sources is here: ./console --proved makes it")
 
 
 def ran(program, words, given, seconds, processors=None, **how):

@@ -221,3 +221,14 @@ class Maker:
                 if self.left > 0:
                     self.add_class(engine)
         return plan
+
+
+def many_tests(tests, classes):
+    """A suite of so many tests that pass, in an engine's classes, of which none has two tests more than another."""
+    plan = Node("plan", "")
+    engine = plan.add("engine", "e")
+    for number in range(classes):
+        made = engine.add("class", f"a.C{number:03d}")
+        for place in range((number + 1) * tests // classes - number * tests // classes):
+            made.add("test", f"t{place:03d}()", verdict=Verdict("pass"))
+    return plan
