@@ -4,8 +4,8 @@
 checks/reports.py [SUITES] [SEED]     200 suites and the seed 1 where they are not given
   --program PATH                      another program than the one of these sources
 Each suite is made at random, with names and texts that have to be escaped, some with settings that are
-warned of, and run by one worker, some with a schedule. The JSON has to say what the feed says, the XML
-what the definitions say of the suite, as many tests as the summary and a failure where the status is 1,
+warned of, and run by one worker, some with a schedule. The JSON has to say what the feed says, the tree with its
+summary and the XML what the definitions say of the suite, the XML as many tests and a failure where the status is 1,
 the list which tests and factories would be run, and the nodes of the plan in which modes and with which locks
 they would be. Each has to be that and nothing else. Of shards each has to list the tests that it gets, and all
 together tell in their feeds what a run of the whole tells, and fail if that does. The last line
@@ -16,6 +16,8 @@ import argparse
 import json
 import sys
 import xml.etree.ElementTree as xml
+from collections import Counter
+from itertools import zip_longest
 from random import Random
 from xml.dom import minidom
 from xml.parsers.expat import ExpatError
@@ -33,6 +35,8 @@ TYPES |= {"test": "TEST", "dyn": "TEST"}
 MODE = "junit.jupiter.execution.parallel.mode."
 KEYS = [f"{MODE}default", f"{MODE}classes.default"]
 LOCK_MODES = {"r": "READ", "rw": "READ_WRITE"}
+MARKS = {"SUCCESSFUL": "✔", "FAILED": "✘", "ABORTED": "■", "SKIPPED": "↷"}
+COUNTED = ("found", "skipped", "started", "aborted", "successful", "failed")
 PARALLEL = ["--config", "junit.jupiter.execution.parallel.enabled=true"]
 # One worker, so that nothing else changes.
 PARALLEL += ["--config", "junit.jupiter.execution.parallel.config.strategy=fixed"]
@@ -142,7 +146,7 @@ def class_name(plan, node):
     engine = [above.name for above in (node, *node.ancestors()) if above.word == "engine"][0]
     if not names:
         return engine
-    several = sum(1 for one in plan.nodes if one.word == "engine") > 1
+    several = len(plan.children(plan.root)) > 1
     return f"{engine}/" * several + "$".join(reversed(names))
 
 
@@ -205,6 +209,45 @@ def judge_xml(plan, text, told):
         tests += sum(1 for case in cases if case.word != "factory")
     same("the number of tests", tests, told.tests)
     same("whether something failed", bad > 0, told.status == 1)
+
+
+def tree_lines(plan, node, front=""):
+    """The lines of the tree below a node, which have this in front."""
+    told = [child for child in plan.children(node) if not plan.is_silent(child)]
+    for child in told:
+        branch, bar = ("├─ ", "│  ") if child is not told[-1] else ("└─ ", "   ")
+        end, text = outcome_of(plan, child)
+        said = f" {printed(text)}" if text and end != "SUCCESSFUL" else ""
+        yield f"{front}{branch}{printed(child.name)} {MARKS[end]}{said}"
+        yield from tree_lines(plan, child, front + bar)
+
+
+def counts_of(plan, node):
+    """As what a node counts in the summary."""
+    end = outcome_of(plan, node)[0]
+    if end == "NOT RUN" and node.word == "dyn":
+        return []
+    if end == "NOT RUN":
+        is_skipped = any(outcome_of(plan, above)[0] == "SKIPPED" for above in node.ancestors())
+        return ["found", "skipped"] if is_skipped else ["found"]
+    return ["found", "skipped"] if end == "SKIPPED" else ["found", "started", end.lower()]
+
+
+def tree_of(plan):
+    """The tree and the summary of a run to its end."""
+    lines = [*tree_lines(plan, plan.root), "Test run finished"]
+    counts = {"containers": Counter(), "tests": Counter()}
+    for node in plan.nodes[1:]:
+        counts["tests" if node.word in ("test", "dyn") else "containers"].update(counts_of(plan, node))
+    lines += [f"[{counts[kind][what]:10} {f'{kind} {what}':21} ]" for kind in counts for what in COUNTED]
+    return "".join(f"{line}\n" for line in lines)
+
+
+def judge_tree(plan, text, warnings):
+    """Behind the warnings a line of each node that is told of, and the twelve counts."""
+    said = [f"WARNING {key}" for key in warnings] + tree_of(plan).split("\n")[:-1]
+    for found, wanted in zip_longest(text.split("\n")[:-1], said):
+        same("a line of the tree", found, wanted)
 
 
 def units_of(plan):
@@ -327,8 +370,10 @@ class Reports:
         words = ["--schedule"] * (random.random() < 0.3)
         name = f"suite {number} of seed {seed}"
         status, feed = self.ran("testfeed", suite, *words)
-        told = Told(status, feed, bool(words), self.text("summary", suite))
+        tree = self.text("tree", suite)
+        told = Told(status, feed, bool(words), tree)
         self.judge(f"{name}, json", lambda: judge_json(plan, self.text("json", suite, *words), told))
+        self.judge(f"{name}, tree", lambda: judge_tree(plan, tree, told.warnings))
         self.judge(f"{name}, xml", lambda: judge_xml(plan, self.text("xml", suite, *words), told))
         self.judge(f"{name}, list", lambda: judge_list(plan, self.text("list", suite, *words)))
         form, count = random.choice(["", "hash:"]), random.randrange(1, 5)
