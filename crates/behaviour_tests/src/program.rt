@@ -63,6 +63,7 @@ pub(crate) fn feed_options(alloc: Global) -> Options {
         workers: None,
         spread: None,
         ring: 1024,
+        most_nodes: None,
         details: Details::Testfeed,
         theme: Theme::Unicode,
         fail_if_no_tests: false,
