@@ -40,7 +40,7 @@ fn refuse_suite_options(options: &Options) -> Result<(), LaunchFault>
         None => match options.drive {
             Some(_) => Err(LaunchFault::BadWords),
             None => match options.most_nodes {
-                Some(_) => Err(LaunchFault::BadWords),
+                Some(_limit) => Err(LaunchFault::BadWords),
                 None => Ok(()),
             },
         },
