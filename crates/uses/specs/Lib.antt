@@ -1,4 +1,5 @@
 -- The definitions that contracts cite.
+pub mod Counting
 pub mod Ending
 pub mod OrderResults
 pub mod Passing

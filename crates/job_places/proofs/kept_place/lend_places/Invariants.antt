@@ -1,0 +1,10 @@
+use Rattle.std.proofs.Common.{◌≡◌, ◌≤◌, vec_len, vec_capacity}
+use Rattle.job_places.specs.Leading.{AreLedFrom}
+use Rattle.job_places.proofs.kept_place.lend_places.Given as goal
+
+abbrev pub invariant-loop-number : goal.invariant-loop-number
+invariant-loop-number g l = record {
+  led : AreLedFrom g.K.Place.led g.M.PlacesBrand.came l.places;
+  many : vec_len l.lent ≡ l.number;
+  room : l.number-end ≤ vec_capacity l.lent;
+}
